@@ -1,0 +1,58 @@
+-- Bitonic: its counts are the shares of the sum of its row.
+use Rattle.std.proofs.Common.{◌≡◌, ℕ, zero, suc, ◌-◌, ◌/◌, ◌<◌, ◌^◌, List, length, take, drop, refl, sym, ap₂, ◌∙◌, arith}
+use Rattle.std.specs.List.{sum}
+use Rattle.cn_spec.specs.Step.{steps, IsStep}
+use Rattle.cn_spec.specs.Networks.{IsRow, merge, bitonic}
+use Rattle.cn_spec.proofs.Shares.{shares}
+use Rattle.cn_spec.proofs.Rows.{half_row, front_row, back_row, sum_take_drop}
+use Rattle.cn_spec.proofs.Merger.{merge_row, sum_merge, merge_is_step}
+
+pub single_is_step : (x : List ℕ) → length x ≡ 1 → IsStep x
+single_is_step x e = record { no_less = λ i j l h. absurd (omega arith); at_most_one_more = λ i j l h. absurd (omega arith) }
+
+-- a row with the step property and this sum
+pub row_steps : (level m : ℕ) (x : List ℕ) → IsRow level x → sum x ≡ m → IsStep x → x ≡ steps m (2 ^ level)
+row_steps level m x e f s = shares x s ∙ ap₂ steps f e
+
+pub bitonic_row : (level : ℕ) (x : List ℕ) → IsRow level x → IsRow level (bitonic level x)
+unfolding bitonic
+bitonic_row zero x e = e
+bitonic_row (suc level) x e = merge_row level _ _ (bitonic_row level _ (front_row level x e)) (bitonic_row level _ (back_row level x e))
+
+pub sum_bitonic : (level : ℕ) (x : List ℕ) → IsRow level x → sum (bitonic level x) ≡ sum x
+unfolding bitonic
+sum_bitonic zero x e = refl
+sum_bitonic (suc level) x e =
+    let f = front_row level x e in
+    let g = back_row level x e in
+    omega (
+      arith,
+      sum_merge level (bitonic level (take (2 ^ level) x)) (bitonic level (drop (2 ^ level) x)) (bitonic_row level _ f) (bitonic_row level _ g),
+      sum_bitonic level (take (2 ^ level) x) f,
+      sum_bitonic level (drop (2 ^ level) x) g,
+      sum_take_drop (2 ^ level) x,
+    )
+
+pub bitonic_is_step : (level : ℕ) (x : List ℕ) → IsRow level x → IsStep (bitonic level x)
+unfolding bitonic
+bitonic_is_step zero x e = single_is_step x e
+bitonic_is_step (suc level) x e =
+    let f = front_row level x e in
+    let g = back_row level x e in
+    merge_is_step level _ _ (bitonic_row level _ f) (bitonic_row level _ g) (bitonic_is_step level _ f) (bitonic_is_step level _ g)
+
+pub bitonic_steps : (level : ℕ) (x : List ℕ) → IsRow level x → bitonic level x ≡ steps (sum x) (2 ^ level)
+bitonic_steps level x e = row_steps level (sum x) (bitonic level x) (bitonic_row level x e) (sum_bitonic level x e) (bitonic_is_step level x e)
+
+-- ---- its recursion
+
+pub bitonic_zero : (x : List ℕ) → bitonic 0 x ≡ x
+unfolding bitonic
+bitonic_zero x = refl
+
+pub bitonic_turn : (level : ℕ) (x : List ℕ) → 0 < level → IsRow level x → bitonic level x ≡ merge (level - 1) (bitonic (level - 1) (take (length x / 2) x)) (bitonic (level - 1) (drop (length x / 2) x))
+unfolding bitonic
+bitonic_turn zero x h e = absurd (omega arith)
+bitonic_turn (suc level) x h e =
+    let k : level ≡ suc level - 1 = omega arith in
+    ap₂ (λ l n. merge l (bitonic l (take n x)) (bitonic l (drop n x))) k (sym (half_row level x e))

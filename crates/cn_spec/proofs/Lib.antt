@@ -1,0 +1,16 @@
+pub mod Sums
+pub mod Shares
+pub mod Names
+pub mod EachBelow
+pub mod Interleave
+pub mod Tree
+pub mod Pairs
+pub mod Layers
+pub mod Rows
+pub mod Merger
+pub mod Bitonic
+pub mod Cochains
+pub mod Chains
+pub mod Blocks
+pub mod Periodic
+pub mod Flows

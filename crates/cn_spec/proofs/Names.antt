@@ -1,0 +1,118 @@
+-- The names that the exits give out are the numbers below m, each once.
+use Rattle.std.proofs.Common.{◌≡◌, ℕ, zero, suc, ◌+◌, ◌-◌, ◌*◌, ◌/◌, ◌%◌, ◌≤◌, ◌<◌, ◌≢◌, ◌↔◌, ◌⊎◌, List, [], ◌∷◌, ◌++◌, map, refl, sym, ap, ap₂, ◌∙◌, inl, inr, subst, subst₂, append_assoc, arith}
+use Rattle.std.proofs.Math.Nat.{le-div_iff_mul-le, div-add-mod', mod-add-div}
+use Rattle.std.proofs.lemmas.Nat.{mod_below, div-mul-add, mod-mul-add}
+use Rattle.std.proofs.lemmas.List.FromFn.{map-range_with_len_more}
+use Rattle.std.proofs.lemmas.List.Sorted.{IsPermutation-refl, IsPermutation-trans, IsPermutation-append_left, IsPermutation-append_right, IsPermutation-append_comm}
+use Rattle.std.specs.List.{range_with_len, flat_map}
+use Rattle.std.specs.List.Sorted.{IsPermutation}
+use Rattle.cn_spec.specs.Step.{step, name_of, names_at, names, IsEachBelow}
+use Rattle.cn_spec.proofs.Shares.{step_is}
+
+-- a name is below m where its visit is below the share of its exit
+pub name-below : (m w i v : ℕ) → i < w → (v < step m w i) ↔ (name_of w i v < m)
+name-below m w i v h = (λ l. to l, λ l. from l)
+  where
+    pos : 0 < w
+    pos = omega arith
+
+    to : v < step m w i → i + w * v < m
+    to l = let k : (v + 1) * w ≤ m + w - 1 - i = (le-div_iff_mul-le pos).0 (omega arith) in omega arith
+
+    from : i + w * v < m → v < step m w i
+    from l = let k : v + 1 ≤ step m w i = (le-div_iff_mul-le pos).1 (omega arith) in omega arith
+
+-- exit and visit are the remainder and the quotient of the name
+pub exit_of-name_of : (w i v : ℕ) → i < w → (name_of w i v % w ≡ i) × (name_of w i v / w ≡ v)
+exit_of-name_of w i v h =
+    let e : name_of w i v ≡ v * w + i = omega arith in
+    (ap (λ n. n % w) e ∙ mod-mul-add v w i h, ap (λ n. n / w) e ∙ div-mul-add v w i h)
+
+pub name_of-exit_of : (w n : ℕ) → name_of w (n % w) (n / w) ≡ n
+name_of-exit_of w n = mod-add-div n w
+
+-- ---- one more token
+
+pub range_more : (a n : ℕ) → range_with_len a (suc n) ≡ range_with_len a n ++ (a + n) ∷ []
+range_more a zero = ap (λ k. k ∷ []) (omega arith)
+range_more a (suc n) = ap (λ r. a ∷ r) (range_more (a + 1) n ∙ ap (λ k. range_with_len (a + 1) n ++ k ∷ []) (omega arith))
+
+-- the share of the exit m mod w grows by one, and no other
+step_next : (m w i : ℕ) → i < w → i ≡ m % w → (step m w i ≡ m / w) × (step (suc m) w i ≡ m / w + 1)
+step_next m w i h e =
+    let k : m / w * w + m % w ≡ m = div-add-mod' m w in
+    (step_is m w i (m / w) h (omega arith) (omega arith), step_is (suc m) w i (m / w + 1) h (omega arith) (omega arith))
+
+step_stays : (m w i : ℕ) → i < w → i ≢ m % w → step (suc m) w i ≡ step m w i
+step_stays m w i h e = elim (below_or_above i (m % w) e) [ inl l ↦ low l | inr l ↦ high l ]
+  where
+    below_or_above : (a b : ℕ) → a ≢ b → (a < b) ⊎ (b < a)
+    below_or_above a b n = grind arith
+
+    k : m / w * w + m % w ≡ m
+    k = div-add-mod' m w
+
+    r : m % w < w
+    r = mod_below m w (omega arith)
+
+    low : i < m % w → step (suc m) w i ≡ step m w i
+    low l = step_is (suc m) w i (m / w + 1) h (omega arith) (omega arith) ∙ sym (step_is m w i (m / w + 1) h (omega arith) (omega arith))
+
+    high : m % w < i → step (suc m) w i ≡ step m w i
+    high l = step_is (suc m) w i (m / w) h (omega arith) (omega arith) ∙ sym (step_is m w i (m / w) h (omega arith) (omega arith))
+
+names_next : (m w i : ℕ) → i < w → i ≡ m % w → names_at (suc m) w i ≡ names_at m w i ++ m ∷ []
+names_next m w i h e =
+    let s : (step m w i ≡ m / w) × (step (suc m) w i ≡ m / w + 1) = step_next m w i h e in
+    let n : name_of w i (m / w) ≡ m = ap (λ j. name_of w j (m / w)) e ∙ name_of-exit_of w m in
+    ap (λ c. map (name_of w i) (range_with_len 0 c)) s.1
+    ∙ map-range_with_len_more (name_of w i) 0 (m / w) (m / w) (omega arith)
+    ∙ ap₂ (λ c j. map (name_of w i) (range_with_len 0 c) ++ j ∷ []) (sym s.0) n
+
+names_stay : (m w i : ℕ) → i < w → i ≢ m % w → names_at (suc m) w i ≡ names_at m w i
+names_stay m w i h e = ap (λ c. map (name_of w i) (range_with_len 0 c)) (step_stays m w i h e)
+
+-- f and g agree but at k, where g has one more
+same_flat_map : (f g : ℕ → List ℕ) (a n : ℕ) → ((i : ℕ) → a ≤ i → i < a + n → g i ≡ f i) → flat_map g (range_with_len a n) ≡ flat_map f (range_with_len a n)
+same_flat_map f g a zero e = refl
+same_flat_map f g a (suc n) e = ap₂ (λ s t. s ++ t) (e a (omega arith) (omega arith)) (same_flat_map f g (a + 1) n (λ i l h. e i (omega arith) (omega arith)))
+
+one_more : (f g : ℕ → List ℕ) (k x a n : ℕ) → a ≤ k → k < a + n → g k ≡ f k ++ x ∷ [] → ((i : ℕ) → i < a + n → i ≢ k → g i ≡ f i)
+    → IsPermutation (flat_map f (range_with_len a n) ++ x ∷ []) (flat_map g (range_with_len a n))
+one_more f g k x a zero l h e s = absurd (omega arith)
+one_more f g k x a (suc n) l h e s = elim (here_or_later a k l) [ inl i ↦ here i | inr i ↦ later i (one_more f g k x (a + 1) n) ]
+  where
+    rest : List ℕ
+    rest = flat_map f (range_with_len (a + 1) n)
+
+    here_or_later : (a k : ℕ) → a ≤ k → (a ≡ k) ⊎ (a < k)
+    here_or_later a k l = grind arith
+
+    here : a ≡ k → IsPermutation (flat_map f (range_with_len a (suc n)) ++ x ∷ []) (flat_map g (range_with_len a (suc n)))
+    here i =
+        let p : IsPermutation (f a ++ (rest ++ x ∷ [])) (f a ++ (x ∷ [] ++ rest)) = IsPermutation-append_right (f a) (rest ++ x ∷ []) (x ∷ [] ++ rest) (IsPermutation-append_comm rest (x ∷ [])) in
+        let q : f a ++ (x ∷ [] ++ rest) ≡ flat_map g (range_with_len a (suc n)) =
+        sym (append_assoc (f a) (x ∷ []) rest)
+        ∙ ap₂ (λ s t. s ++ t) (sym (ap g i ∙ e ∙ ap (λ j. f j ++ x ∷ []) (sym i))) (sym (same_flat_map f g (a + 1) n (λ j l h. s j (omega arith) (omega arith)))) in
+        subst₂ IsPermutation (sym (append_assoc (f a) rest (x ∷ []))) q p
+
+    later : a < k → (a + 1 ≤ k → k < a + 1 + n → g k ≡ f k ++ x ∷ [] → ((i : ℕ) → i < a + 1 + n → i ≢ k → g i ≡ f i) → IsPermutation (rest ++ x ∷ []) (flat_map g (range_with_len (a + 1) n)))
+        → IsPermutation (flat_map f (range_with_len a (suc n)) ++ x ∷ []) (flat_map g (range_with_len a (suc n)))
+    later i ih =
+        subst₂ IsPermutation (sym (append_assoc (f a) rest (x ∷ []))) (ap (λ r. r ++ flat_map g (range_with_len (a + 1) n)) (sym (s a (omega arith) (omega arith))))
+        (IsPermutation-append_right (f a) _ _ (ih (omega arith) (omega arith) e (λ j h n. s j (omega arith) n)))
+
+no_names : (w a n : ℕ) → a + n ≤ w → flat_map (names_at 0 w) (range_with_len a n) ≡ []
+no_names w a zero l = refl
+no_names w a (suc n) l =
+    let e : step 0 w a ≡ 0 = step_is 0 w a 0 (omega arith) (omega arith) (omega arith) in
+    ap₂ (λ c r. map (name_of w a) (range_with_len 0 c) ++ r) e (no_names w (a + 1) n (omega arith))
+
+-- the names of m tokens over w exits
+pub names-each_below : (m w : ℕ) → 0 < w → IsEachBelow m (names m w)
+names-each_below zero w h = subst (IsPermutation []) (sym (no_names w 0 w (omega arith))) (IsPermutation-refl [])
+names-each_below (suc m) w h =
+    let r : m % w < w = mod_below m w h in
+    IsPermutation-trans _ _ _
+    (subst (λ xs. IsPermutation xs (names m w ++ m ∷ [])) (sym (range_more 0 m ∙ ap (λ k. range_with_len 0 m ++ k ∷ []) (omega arith))) (IsPermutation-append_left (m ∷ []) (range_with_len 0 m) (names m w) (names-each_below m w h)))
+    (one_more (names_at m w) (names_at (suc m) w) (m % w) m 0 w (omega arith) (omega arith) (names_next m w (m % w) r refl) (λ i l n. names_stay m w i (omega arith) n))

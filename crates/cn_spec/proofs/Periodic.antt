@@ -1,0 +1,52 @@
+-- Periodic: its counts are the shares of the sum of its row.
+use Rattle.std.proofs.Common.{◌≡◌, ℕ, zero, suc, ◌+◌, ◌-◌, ◌≤◌, ◌<◌, ◌^◌, List, refl, ap, ◌∙◌, le_refl, arith}
+use Rattle.std.specs.List.{sum}
+use Rattle.cn_spec.specs.Step.{steps, IsStep}
+use Rattle.cn_spec.specs.Networks.{IsRow, block, blocks, periodic}
+use Rattle.cn_spec.proofs.Bitonic.{row_steps}
+use Rattle.cn_spec.proofs.Chains.{StepChains, all_step_chains}
+use Rattle.cn_spec.proofs.Blocks.{block_row, sum_block, block-chains}
+
+pub blocks_row : (n level : ℕ) (x : List ℕ) → IsRow level x → IsRow level (blocks n level x)
+unfolding blocks
+blocks_row zero level x e = e
+blocks_row (suc n) level x e = blocks_row n level (block level x) (block_row level x e)
+
+pub sum_blocks : (n level : ℕ) (x : List ℕ) → IsRow level x → sum (blocks n level x) ≡ sum x
+unfolding blocks
+sum_blocks zero level x e = refl
+sum_blocks (suc n) level x e = sum_blocks n level (block level x) (block_row level x e) ∙ sum_block level x e
+
+blocks-is_step : (n level : ℕ) (x : List ℕ) → n ≤ level → IsRow level x → StepChains n x → IsStep (blocks n level x)
+unfolding blocks
+blocks-is_step zero level x l e h = h
+blocks-is_step (suc n) level x l e h = blocks-is_step n level (block level x) (omega arith) (block_row level x e) (block-chains level n x l e h)
+
+pub periodic_row : (level : ℕ) (x : List ℕ) → IsRow level x → IsRow level (periodic level x)
+unfolding periodic
+periodic_row level x e = blocks_row level level x e
+
+pub sum_periodic : (level : ℕ) (x : List ℕ) → IsRow level x → sum (periodic level x) ≡ sum x
+unfolding periodic
+sum_periodic level x e = sum_blocks level level x e
+
+pub periodic_is_step : (level : ℕ) (x : List ℕ) → IsRow level x → IsStep (periodic level x)
+unfolding periodic
+periodic_is_step level x e = blocks-is_step level level x (le_refl level) e (all_step_chains level x e)
+
+pub periodic_steps : (level : ℕ) (x : List ℕ) → IsRow level x → periodic level x ≡ steps (sum x) (2 ^ level)
+periodic_steps level x e = row_steps level (sum x) (periodic level x) (periodic_row level x e) (sum_periodic level x e) (periodic_is_step level x e)
+
+-- ---- one turn of a loop, its start and its end
+
+pub periodic_blocks : (level : ℕ) (x : List ℕ) → periodic level x ≡ blocks level level x
+unfolding periodic
+periodic_blocks level x = refl
+
+pub blocks_more : (n i level : ℕ) (x : List ℕ) → i < n → blocks (n - i) level x ≡ blocks (n - (i + 1)) level (block level x)
+unfolding blocks
+blocks_more n i level x h = let e : n - i ≡ suc (n - (i + 1)) = omega arith in ap (λ k. blocks k level x) e
+
+pub blocks_all : (n i level : ℕ) (x : List ℕ) → n ≤ i → blocks (n - i) level x ≡ x
+unfolding blocks
+blocks_all n i level x h = let e : n - i ≡ 0 = omega arith in ap (λ k. blocks k level x) e

@@ -1,0 +1,62 @@
+-- How long the parts of a row are, and that they are all of it.
+use Rattle.std.proofs.Common.{◌≡◌, ℕ, zero, suc, ◌+◌, ◌-◌, ◌*◌, ◌/◌, ◌≤◌, ◌<◌, ◌^◌, List, length, take, drop, sym, ap, ◌∙◌, subst, length-drop, length-take-le, arith}
+use Rattle.std.proofs.Math.Nat.{pow-suc}
+use Rattle.std.proofs.lemmas.List.Sums.{sum_by-take-drop}
+use Rattle.std.specs.List.{sum}
+use Rattle.cn_spec.specs.Networks.{IsRow, evens, odds, layer}
+use Rattle.cn_spec.proofs.Pairs.{firsts, seconds, length_firsts, length_seconds, evens_firsts, odds_seconds, sum_firsts_seconds}
+use Rattle.cn_spec.proofs.Layers.{length_layer}
+
+pub half_row : (level : ℕ) (x : List ℕ) → IsRow (suc level) x → length x / 2 ≡ 2 ^ level
+half_row level x e = omega (arith, pow-suc 2 level)
+
+pub firsts_row : (level : ℕ) (x : List ℕ) → IsRow (suc level) x → IsRow level (firsts x)
+firsts_row level x e = length_firsts x ∙ half_row level x e
+
+pub seconds_row : (level : ℕ) (x : List ℕ) → IsRow (suc level) x → IsRow level (seconds x)
+seconds_row level x e = length_seconds x ∙ half_row level x e
+
+pub evens_row : (level : ℕ) (x : List ℕ) → IsRow (suc level) x → IsRow level (evens x)
+evens_row level x e = ap length (evens_firsts x) ∙ firsts_row level x e
+
+pub odds_row : (level : ℕ) (x : List ℕ) → IsRow (suc level) x → IsRow level (odds x)
+odds_row level x e = ap length (odds_seconds x) ∙ seconds_row level x e
+
+pub front_row : (level : ℕ) (x : List ℕ) → IsRow (suc level) x → IsRow level (take (2 ^ level) x)
+front_row level x e = length-take-le (2 ^ level) x (omega (arith, pow-suc 2 level))
+
+pub back_row : (level : ℕ) (x : List ℕ) → IsRow (suc level) x → IsRow level (drop (2 ^ level) x)
+back_row level x e = omega (arith, length-drop (2 ^ level) x, pow-suc 2 level)
+
+pub layer_row : (level : ℕ) (x y : List ℕ) → IsRow level x → IsRow level y → IsRow (suc level) (layer x y)
+layer_row level x y e f = length_layer x y (e ∙ sym f) ∙ ap (λ n. n * 2) e ∙ sym (pow-suc 2 level)
+
+pub power_below : (level : ℕ) → 0 < level → 2 ^ (level - 1) * 2 ≡ 2 ^ level
+power_below zero h = absurd (omega arith)
+power_below (suc level) h = let k : suc level - 1 ≡ level = omega arith in ap (λ n. 2 ^ n * 2) k ∙ sym (pow-suc 2 level)
+
+-- ---- sums
+
+pub sum_pairs : (level : ℕ) (x : List ℕ) → IsRow (suc level) x → sum (firsts x) + sum (seconds x) ≡ sum x
+sum_pairs level x e = sum_firsts_seconds (2 ^ level) x (e ∙ pow-suc 2 level)
+
+pub sum_evens_odds : (level : ℕ) (x : List ℕ) → IsRow (suc level) x → sum (evens x) + sum (odds x) ≡ sum x
+sum_evens_odds level x e = rw (evens_firsts x, odds_seconds x) (sum_pairs level x e)
+
+pub sum_take_drop : (n : ℕ) (x : List ℕ) → sum (take n x) + sum (drop n x) ≡ sum x
+sum_take_drop n x = omega (arith, sum_by-take-drop (λ (y : ℕ). y) x n)
+
+pub sum_drop_le : (n : ℕ) (x : List ℕ) → sum (drop n x) ≤ sum x
+sum_drop_le n x = omega (arith, sum_take_drop n x)
+
+-- the subsequences of a row of the level above k
+pub record PartsEvenly (k : ℕ) (x : List ℕ) : Type 0 where
+  pub even : IsRow k (evens x)
+  pub odd : IsRow k (odds x)
+  pub all : sum (evens x) + sum (odds x) ≡ sum x
+
+pub parts_evenly : (level : ℕ) (x : List ℕ) → 0 < level → IsRow level x → PartsEvenly (level - 1) x
+parts_evenly zero x h e = absurd (omega arith)
+parts_evenly (suc level) x h e =
+    let k : level ≡ suc level - 1 = omega arith in
+    subst (λ l. PartsEvenly l x) k (record { even = evens_row level x e; odd = odds_row level x e; all = sum_evens_odds level x e })

@@ -1,0 +1,11 @@
+use Rattle.cn_spec.proofs.Bitonic.{bitonic_steps, bitonic_is_step, sum_bitonic}
+use Rattle.cn_spec.proofs.laws.bitonic_counts.Goals as goal
+
+pub returns-clause-shares : goal.returns-clause-shares
+returns-clause-shares c = bitonic_steps
+
+pub returns-clause-is_step : goal.returns-clause-is_step
+returns-clause-is_step c = bitonic_is_step
+
+pub returns-clause-conserves : goal.returns-clause-conserves
+returns-clause-conserves c = sum_bitonic

@@ -1,0 +1,3 @@
+pub mod Step
+pub mod Networks
+pub mod Sums

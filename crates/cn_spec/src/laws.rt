@@ -1,0 +1,99 @@
+//! The laws of counts, names and networks. Each function does nothing: its contract is the law, and a caller opens it
+//! by a call.
+
+ghost use Rattle.std.specs.Prelude.{◌≡◌, ◌+◌, ◌%◌, ◌/◌, ◌^◌, ◌<◌, ◌↔◌, ℕ, suc, List, [], ◌∷◌, length};
+ghost use Rattle.std.specs.List.{sum};
+ghost use Rattle.cn_spec.specs.Step.{IsEachBelow, IsStep, half, name_of, names, step, steps};
+ghost use Rattle.cn_spec.specs.Networks.{HasStepChains, IsRow, a_cochain, b_cochain, bitonic, block, merge, periodic, tree};
+ghost use Rattle.cn_spec.specs.Sums.{IsOnceBelow};
+
+/// A row of counts has the step property exactly where each count is its share of the sum
+/// (Aspnes, Herlihy, Shavit 1994, section 2.2).
+pub fn step_is_shares()
+    ensures { (counts : List ℕ) → IsStep counts ↔ (counts ≡ steps (sum counts) (length counts)) }
+{}
+
+/// The two halves of what passes a balancer, and the shares of all exits, are the whole: no token is lost or made.
+pub fn shares_conserve()
+    ensures halves { (n : ℕ) → half n 0 + half n 1 ≡ n }
+    ensures shares { (m w : ℕ) → 0 < w → sum (steps m w) ≡ m }
+{}
+
+/// The names that the exits give out among m tokens are the numbers below m, each once; and a name tells its exit and
+/// its visit.
+pub fn names_are_tight()
+    ensures each_once { (m w : ℕ) → 0 < w → IsEachBelow m (names m w) }
+    ensures below { (m w i v : ℕ) → i < w → (v < step m w i) ↔ (name_of w i v < m) }
+    ensures read { (w i v : ℕ) → i < w → (name_of w i v % w ≡ i) × (name_of w i v / w ≡ v) }
+    ensures written { (w n : ℕ) → name_of w (n % w) (n / w) ≡ n }
+{}
+
+/// A list in which each number below m stands once, and no other number, is an order of those numbers.
+pub fn once_below_is_each_below()
+    ensures { (m : ℕ) (xs : List ℕ) → IsOnceBelow m xs → IsEachBelow m xs }
+{}
+
+/// The merger of two rows with the step property has it (Aspnes, Herlihy, Shavit 1994, section 3), and no token is
+/// lost or made.
+pub fn merger_counts()
+    ensures is_step { (level : ℕ) (x y : List ℕ) → IsRow level x → IsRow level y → IsStep x → IsStep y → IsStep (merge level x y) }
+    ensures shares { (level : ℕ) (x y : List ℕ) → IsRow level x → IsRow level y → IsStep x → IsStep y
+        → merge level x y ≡ steps (sum x + sum y) (2 ^ suc level) }
+    ensures is_row { (level : ℕ) (x y : List ℕ) → IsRow level x → IsRow level y → IsRow (suc level) (merge level x y) }
+    ensures conserves { (level : ℕ) (x y : List ℕ) → IsRow level x → IsRow level y → sum (merge level x y) ≡ sum x + sum y }
+{}
+
+/// The bitonic network's counts are the shares of what enters, whatever enters (Aspnes, Herlihy, Shavit 1994,
+/// section 3): so they have the step property, and no token is lost or made.
+pub fn bitonic_counts()
+    ensures shares { (level : ℕ) (x : List ℕ) → IsRow level x → bitonic level x ≡ steps (sum x) (2 ^ level) }
+    ensures is_step { (level : ℕ) (x : List ℕ) → IsRow level x → IsStep (bitonic level x) }
+    ensures conserves { (level : ℕ) (x : List ℕ) → IsRow level x → sum (bitonic level x) ≡ sum x }
+{}
+
+/// The chains of a row's own level are its single counts, so each has the step property; and the chain of level 0 is
+/// the row (Aspnes, Herlihy, Shavit 1994, section 4).
+pub fn highest_and_lowest_chains()
+    ensures highest { (level : ℕ) (x : List ℕ) → IsRow level x → HasStepChains level x }
+    ensures lowest { (x : List ℕ) → HasStepChains 0 x ↔ IsStep x }
+{}
+
+/// A block lowers by one the level of the chains that have the step property (Aspnes, Herlihy, Shavit 1994, section 4),
+/// a block over two wires is one balancer, and no token is lost or made.
+pub fn block_lowers_chains()
+    ensures lowers { (level i : ℕ) (x : List ℕ) → i < level → IsRow level x → HasStepChains (suc i) x → HasStepChains i (block level x) }
+    ensures pair { (a b : ℕ) → block 1 (a ∷ b ∷ []) ≡ half (a + b) 0 ∷ half (a + b) 1 ∷ [] }
+    ensures is_row { (level : ℕ) (x : List ℕ) → IsRow level x → IsRow level (block level x) }
+    ensures conserves { (level : ℕ) (x : List ℕ) → IsRow level x → sum (block level x) ≡ sum x }
+{}
+
+/// The periodic network's counts are the shares of what enters, whatever enters (Aspnes, Herlihy, Shavit 1994,
+/// section 4): so they have the step property, and no token is lost or made.
+pub fn periodic_counts()
+    ensures shares { (level : ℕ) (x : List ℕ) → IsRow level x → periodic level x ≡ steps (sum x) (2 ^ level) }
+    ensures is_step { (level : ℕ) (x : List ℕ) → IsRow level x → IsStep (periodic level x) }
+    ensures conserves { (level : ℕ) (x : List ℕ) → IsRow level x → sum (periodic level x) ≡ sum x }
+{}
+
+/// The tree's counts are the shares of what enters (Shavit, Zemach 1996, section 2): so they have the step property,
+/// and no token is lost or made.
+pub fn tree_counts()
+    ensures shares { (level m : ℕ) → tree level m ≡ steps m (2 ^ level) }
+    ensures is_step { (level m : ℕ) → IsStep (tree level m) }
+    ensures conserves { (level m : ℕ) → sum (tree level m) ≡ m }
+{}
+
+/// Small rows, computed.
+#[tactic(auto, unfolding(crate::specs::Networks::merge, crate::specs::Networks::bitonic, crate::specs::Networks::block, crate::specs::Networks::blocks, crate::specs::Networks::periodic, crate::specs::Networks::tree))]
+pub fn worked_rows()
+    ensures bitonic_five { bitonic 2 (0 ∷ 0 ∷ 0 ∷ 5 ∷ []) ≡ 2 ∷ 1 ∷ 1 ∷ 1 ∷ [] }
+    ensures bitonic_split { bitonic 2 (1 ∷ 0 ∷ 1 ∷ 0 ∷ []) ≡ 1 ∷ 1 ∷ 0 ∷ 0 ∷ [] }
+    ensures bitonic_wide { bitonic 3 (9 ∷ 0 ∷ 4 ∷ 0 ∷ 0 ∷ 7 ∷ 1 ∷ 30 ∷ []) ≡ steps 51 8 }
+    ensures merger_crossed { merge 1 (1 ∷ 0 ∷ []) (1 ∷ 0 ∷ []) ≡ 1 ∷ 1 ∷ 0 ∷ 0 ∷ [] }
+    ensures merger_wide { merge 2 (3 ∷ 2 ∷ 2 ∷ 2 ∷ []) (1 ∷ 1 ∷ 1 ∷ 0 ∷ []) ≡ 2 ∷ 2 ∷ 2 ∷ 2 ∷ 1 ∷ 1 ∷ 1 ∷ 1 ∷ [] }
+    ensures cochain_a { a_cochain (0 ∷ 1 ∷ 2 ∷ 3 ∷ 4 ∷ 5 ∷ 6 ∷ 7 ∷ []) ≡ 0 ∷ 3 ∷ 4 ∷ 7 ∷ [] }
+    ensures cochain_b { b_cochain (0 ∷ 1 ∷ 2 ∷ 3 ∷ 4 ∷ 5 ∷ 6 ∷ 7 ∷ []) ≡ 1 ∷ 2 ∷ 5 ∷ 6 ∷ [] }
+    ensures one_block_is_not_enough { block 2 (2 ∷ 0 ∷ 0 ∷ 0 ∷ []) ≡ 1 ∷ 0 ∷ 1 ∷ 0 ∷ [] }
+    ensures periodic_two { periodic 2 (2 ∷ 0 ∷ 0 ∷ 0 ∷ []) ≡ 1 ∷ 1 ∷ 0 ∷ 0 ∷ [] }
+    ensures tree_three { tree 2 3 ≡ 1 ∷ 1 ∷ 1 ∷ 0 ∷ [] }
+{}
