@@ -1,0 +1,188 @@
+-- The exits of a plan.
+use Rattle.std.proofs.Common.{◌≡◌, ℕ, zero, suc, ◌+◌, ◌<◌, ◌≤◌, inl, inr, Bool, true, false, List, [], ◌∷◌, length, get_or, set, map, refl, ap, sym, ◌∙◌, arith, Option, Some, None, subst, add-zero}
+use Rattle.std.specs.Option.{is_none}
+use Rattle.std.proofs.lemmas.Bool.{cases_eq, eq-eqb, ne_eqb, eqb-true, false_from_ne_true}
+use Rattle.std.proofs.lemmas.List.{map-set, set-get_or, get_or-set_same, get_or-set_other, length-map, get_or-map, get_or_default}
+use Rattle.cn_wiring.specs.declared.end.End.{End}
+use Rattle.cn_wiring.specs.declared.end.End.TheVariants.{Balancer, Exit}
+use Rattle.cn_spec.specs.Sums.{when, total_where, times}
+use Rattle.cn_wiring.specs.Plan.{Plan, ends_at, passages, IsFlow, loose, Each, HasLevel}
+use Rattle.cn_wiring.specs.Table.{Table, is_end, sum_at, Stands, LeadsOn, IsWellFormed, IsFullFlow, balancer_of, plan_of_table, EndsInOrder, HasDepth}
+use Rattle.cn_wiring.specs.InsideDraft.{IsOrderly}
+use Rattle.cn_spec.specs.declared.limits.TheConstants.{MOST_ENDS}
+use Rattle.cn_spec.proofs.Sums.{total_where-none}
+use Rattle.cn_wiring.proofs.Join.{below_from_loose, loose_in}
+
+-- a member of the list
+pub times-member : (xs : List ℕ) (i : ℕ) → i < length xs → 1 ≤ times (get_or xs i 0) xs
+unfolding times
+times-member [] i h = elim h [ ]
+times-member (x ∷ xs) zero h = rw (eq-eqb x x refl) (omega arith)
+times-member (x ∷ xs) (suc i) h = omega (arith, times-member xs i (omega arith))
+
+-- two places with one member
+times-two : (xs : List ℕ) (i j : ℕ) → i < j → j < length xs → get_or xs i 0 ≡ get_or xs j 0 → 2 ≤ times (get_or xs j 0) xs
+unfolding times
+times-two [] i j h k e = elim k [ ]
+times-two (x ∷ xs) i zero h k e = absurd (omega arith)
+times-two (x ∷ xs) zero (suc j) h k e = rw (eq-eqb x (get_or xs j 0) e) (omega (arith, times-member xs j (omega arith)))
+times-two (x ∷ xs) (suc i) (suc j) h k e = omega (arith, times-two xs i j (omega arith) (omega arith) e)
+
+-- a member has a place
+place_of : (xs : List ℕ) (w : ℕ) → 1 ≤ times w xs → (i : ℕ) × (i < length xs) × (get_or xs i 0 ≡ w)
+unfolding times
+place_of [] w h = absurd (omega arith)
+place_of (x ∷ xs) w h =
+    elim (cases_eq x w) [
+      | inl e ↦ (0, omega arith, e)
+      | inr d ↦ let r = place_of xs w (let k = rw (ne_eqb x w d) at h in omega arith) in (suc r.0, omega (arith, r.1), r.2)
+    ]
+
+at_most_one : (es : List (Option ℕ)) (w : ℕ) → loose_in es w ≤ 1
+at_most_one es w = elim (is_none (get_or es w (Some 0))) as (λ t. when t 1 ≤ 1) [ true ↦ omega arith | false ↦ omega arith ]
+
+-- where the exits are loose wires, all different
+abbrev pub Apart : List (Option ℕ) → List ℕ → Type 0
+Apart es ws = (w : ℕ) → times w ws ≤ when (is_none (get_or es w (Some 0))) 1
+
+pub exit_below : (es : List (Option ℕ)) (ws : List ℕ) (i : ℕ) → Apart es ws → i < length ws → get_or ws i 0 < length es
+exit_below es ws i h k = below_from_loose es (get_or ws i 0) (let a = h (get_or ws i 0) in let b = times-member ws i k in omega arith)
+
+none_there : (es : List (Option ℕ)) (ws : List ℕ) (i : ℕ) → Apart es ws → i < length ws → get_or es (get_or ws i 0) (Some 0) ≡ None
+none_there es ws i h k =
+    elim (get_or es (get_or ws i 0) (Some 0)) as (λ o. 1 ≤ when (is_none o) 1 → o ≡ None) [ None ↦ λ _. refl | Some x ↦ λ l. absurd (omega arith) ]
+    (let a = h (get_or ws i 0) in let b = times-member ws i k in omega arith)
+
+-- the first i exits have their wires
+pub record Closed (ends : List (Option ℕ)) (exits : List ℕ) (closed : List End) (i : ℕ) : Type 0 where
+  pub plan : map balancer_of closed ≡ ends
+  pub at_exits : (j : ℕ) → j < i → get_or closed (get_or exits j 0) (Balancer 0) ≡ Exit j
+
+pub Closed-none : (ends : List (Option ℕ)) (exits : List ℕ) (closed : List End) → map balancer_of closed ≡ ends → Closed ends exits closed 0
+Closed-none ends exits closed e = record { plan = e; at_exits = λ j l. absurd (omega arith) }
+
+pub Closed-more : (ends : List (Option ℕ)) (exits : List ℕ) (closed : List End) (i : ℕ) → Apart ends exits → i < length exits → Closed ends exits closed i
+    → Closed ends exits (set closed (get_or exits i 0) (Exit i)) (i + 1)
+Closed-more ends exits closed i h k c =
+    let w : ℕ = get_or exits i 0 in
+    let same : set ends w None ≡ ends = rw (← none_there ends exits i h k) (set-get_or ends w (Some 0)) in
+    let n : length closed ≡ length ends = sym (length-map closed balancer_of) ∙ ap length c.plan in
+    let here : w < length closed = let b = exit_below ends exits i h k in omega arith in
+    record {
+      plan = map-set balancer_of closed w (Exit i) ∙ ap (λ es. set es w None) c.plan ∙ same;
+      at_exits = λ j l.
+          elim (cases_eq j i) [
+            | inl e ↦ rw e (get_or-set_same closed w (Exit i) (Balancer 0) here)
+            | inr d ↦
+                get_or-set_other closed w (get_or exits j 0) (Exit i) (Balancer 0) (λ e. let two = times-two exits j i (omega arith) k e in let a = h w in let m = at_most_one ends w in omega arith)
+                ∙ c.at_exits j (omega arith)
+          ];
+    }
+
+-- What a table with the wires of a plan closed by exits is.
+total_where-map : {A B : Type 0} → (p : B → Bool) (g : A → B) (xs : List A) (f : ℕ → ℕ) → total_where p (map g xs) f ≡ total_where (λ x. p (g x)) xs f
+unfolding total_where
+total_where-map p g [] f = refl
+total_where-map p g (x ∷ xs) f = rw (total_where-map p g xs (λ u. f (suc u)))
+
+total_where-tests : {A : Type 0} → (p q : A → Bool) (xs : List A) (f : ℕ → ℕ) → ((x : A) → p x ≡ q x) → total_where p xs f ≡ total_where q xs f
+unfolding total_where
+total_where-tests p q [] f h = refl
+total_where-tests p q (x ∷ xs) f h = rw (h x, total_where-tests p q xs (λ u. f (suc u)) h)
+
+same_test : (b : ℕ) (e : End) → ends_at b (balancer_of e) ≡ is_end (Balancer b) e
+same_test b (Balancer c) = refl
+same_test b (Exit i) = refl
+
+pub into-passages : (t : Table) (b : ℕ) (f : ℕ → ℕ) → passages (plan_of_table t) b f ≡ sum_at t (Balancer b) f
+into-passages t b f = total_where-map (ends_at b) balancer_of t.ends f ∙ total_where-tests _ (is_end (Balancer b)) t.ends f (same_test b)
+
+pub flow-plan : (t : Table) (f : ℕ → ℕ) → IsFullFlow t f → IsFlow (plan_of_table t) f
+flow-plan t f p b h =
+    let q = p b h in
+    rw (into-passages t b f, add-zero) q
+
+-- one place passes
+total_where-one : {A : Type 0} → (p : A → Bool) (xs : List A) (w : ℕ) (d : A) (f : ℕ → ℕ) → w < length xs → p (get_or xs w d) ≡ true → ((u : ℕ) → u < length xs → p (get_or xs u d) ≡ true → u ≡ w) → total_where p xs f ≡ f w
+unfolding total_where
+total_where-one p [] w d f h e o = elim h [ ]
+total_where-one p (x ∷ xs) zero d f h e o =
+    let none = total_where-none p xs d (λ u. f (suc u)) (λ u k. false_from_ne_true (p (get_or xs u d)) (λ q. let z = o (suc u) (omega arith) q in omega arith)) in
+    rw (e, none) (omega arith)
+total_where-one p (x ∷ xs) (suc w) d f h e o =
+    let off : p x ≡ false = false_from_ne_true (p x) (λ q. let z = o 0 (omega arith) q in omega arith) in
+    let rest = total_where-one p xs w d (λ u. f (suc u)) (omega arith) e (λ u k q. let z = o (suc u) (omega arith) q in omega arith) in
+    rw (off, rest) (omega arith)
+
+is_exit : (i : ℕ) (e : End) → is_end (Exit i) e ≡ true → e ≡ Exit i
+is_exit i (Balancer b) q = absurd (cc)
+is_exit i (Exit j) q = ap Exit (eqb-true j i q)
+
+-- a table whose plan is d, and in which exits, all loose wires of d, end in order
+module _ (t : Table) (d : Plan) (exits : List ℕ) (o : IsOrderly d) (plan : plan_of_table t ≡ d) (all : (w : ℕ) → times w exits ≡ loose d w) (order : EndsInOrder t exits) where
+  ends_map : map balancer_of t.ends ≡ d.ends
+  ends_map = ap (λ e. e.ends) plan
+
+  wires : length t.ends ≡ length d.ends
+  wires = sym (length-map t.ends balancer_of) ∙ ap length ends_map
+
+  told : (u : ℕ) → u < length t.ends → balancer_of (get_or t.ends u (Balancer 0)) ≡ get_or d.ends u None
+  told u h = sym (get_or-map balancer_of t.ends u (Balancer 0) None h) ∙ ap (λ es. get_or es u None) ends_map
+
+  -- an exit's wire is the one that the list has
+  only : (u i : ℕ) → u < length t.ends → get_or t.ends u (Balancer 0) ≡ Exit i → (i < length exits) × (u ≡ get_or exits i 0)
+  only u i h e =
+      let none : get_or d.ends u None ≡ None = sym (told u h) ∙ ap balancer_of e in
+      let below : u < length d.ends = omega (arith, wires) in
+      let none' : get_or d.ends u (Some 0) ≡ None = get_or_default d.ends u (Some 0) None below ∙ none in
+      let one : loose d u ≡ 1 = rw none' in
+      let r = place_of exits u (let a = all u in omega arith) in
+      let same : get_or t.ends u (Balancer 0) ≡ Exit r.0 = rw r.2 at (order r.0 r.1) in
+      let two : Exit i ≡ Exit r.0 = sym e ∙ same in
+      let ij : i ≡ r.0 = cc in
+      (omega (arith, r.1), rw ij (sym r.2))
+
+  pub out-is : (i : ℕ) (f : ℕ → ℕ) → i < length exits → sum_at t (Exit i) f ≡ f (get_or exits i 0)
+  out-is i f h =
+      total_where-one (is_end (Exit i)) t.ends (get_or exits i 0) (Balancer 0) f
+      (let b = exit_below d.ends exits i (λ w. let a = all w in omega arith) h in omega (arith, wires))
+      (rw (order i h, eq-eqb i i refl))
+      (λ u k q. (only u i k (is_exit i (get_or t.ends u (Balancer 0)) q)).1)
+
+  entries_is : t.entries ≡ d.entries
+  entries_is = ap (λ e. e.entries) plan
+
+  balancers_is : t.balancers ≡ d.balancers
+  balancers_is = ap (λ e. e.balancers) plan
+
+  was : (u b : ℕ) → u < length t.ends → get_or t.ends u (Balancer 0) ≡ Balancer b → get_or d.ends u None ≡ Some b
+  was u b h e = sym (told u h) ∙ ap balancer_of e
+
+  into-is : (b : ℕ) (f : ℕ → ℕ) → sum_at t (Balancer b) f ≡ passages d b f
+  into-is b f = sym (into-passages t b f) ∙ ap (λ e. passages e b f) plan
+
+  pub closed-formed : (1 ≤ length exits) × (length exits ≤ MOST_ENDS) → t.width ≡ length exits → IsWellFormed t
+  closed-formed count width = record {
+    entries = let a = o.entries in (omega (arith, entries_is), omega (arith, entries_is));
+    width = (omega arith, omega arith);
+    balancers = let a = o.balancers in omega (arith, balancers_is);
+    wires = let a = o.wires in omega (arith, wires, entries_is, balancers_is);
+    stands = λ u h.
+        elim (get_or t.ends u (Balancer 0)) as (λ e. get_or t.ends u (Balancer 0) ≡ e → Stands t e) [
+          | Balancer b ↦ λ e. let a = (o.ends u b (was u b h e)).0 in omega (arith, balancers_is)
+          | Exit i ↦ λ e. let a = (only u i h e).0 in omega arith
+        ] refl;
+    forward = λ u h.
+        elim (get_or t.ends u (Balancer 0)) as (λ e. get_or t.ends u (Balancer 0) ≡ e → LeadsOn t u e) [
+          | Balancer b ↦ λ e. let a = (o.ends u b (was u b h e)).1 in omega (arith, entries_is)
+          | Exit i ↦ λ e. tt
+        ] refl;
+    degree = λ b h. rw (into-is b (λ _. 1)) (o.degree b (omega (arith, balancers_is)));
+    exits = λ i h. out-is i (λ _. 1) (omega arith);
+  }
+
+  pub closed-depth : (n : ℕ) → Each (HasLevel d n) exits → HasDepth t n
+  closed-depth n h i w k e =
+      let r = only w i k e in
+      let l : HasLevel d n w = h w (let m = times-member exits i r.0 in rw r.1 m) in
+      subst (λ p. HasLevel p n w) (sym plan) l

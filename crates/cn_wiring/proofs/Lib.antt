@@ -1,0 +1,13 @@
+pub mod Flow
+pub mod Conserve
+pub mod Entries
+pub mod Join
+pub mod Builds
+pub mod Layers
+pub mod PlanFlow
+pub mod Close
+pub mod Tables
+pub mod Arrivals
+pub mod Levels
+pub mod Finished
+pub mod Rows

@@ -1,0 +1,37 @@
+use Rattle.std.proofs.Common.{◌≡◌, ◌<◌, [], ◌∷◌, ◌++◌, length, set, Some, None, arith, rules, sym, ap}
+use Rattle.cn_wiring.specs.Plan.{AllLoose}
+use Rattle.cn_wiring.specs.InsideDraft.{plan_of}
+use Rattle.cn_wiring.proofs.Join.{one_stands, builds-grown, orderly-grown, halves-forked, flow-unforked}
+use Rattle.cn_wiring.proofs.draft.Draft.fork.Goals as goal
+
+pub index_mut-requires : goal.index_mut-requires
+index_mut-requires c =
+    let both : AllLoose (plan_of c.self.inside) (c.args.wire ∷ []) = rw (← c.self.view_is) at c.requires.one in
+    let stand = one_stands (plan_of c.self.inside) c.args.wire both in
+    let len : length c.self.inside.ends.items ≡ length c.reserve.new.self.items = ap length (sym c.reserve.ensures.items) in
+    omega (arith, c.reserve.new.self.ok.0)
+
+pub invariant_of-self-2 : goal.invariant_of-self-2
+invariant_of-self-2 c =
+    let items : c.push-2.new.self.items ≡ (set c.self.inside.ends.items c.args.wire (Some c.self.inside.balancers) ++ None ∷ []) ++ None ∷ [] = search rules in
+    let both : AllLoose (plan_of c.self.inside) (c.args.wire ∷ []) = rw (← c.self.view_is) at c.requires.one in
+    let room : c.self.inside.balancers < 65536 = rw (← c.self.view_is) at c.requires.room in
+    rw items (orderly-grown (plan_of c.self.inside) (c.args.wire ∷ []) c.self.invariant both room (omega arith, omega arith))
+
+pub returns-clause-built : goal.returns-clause-built
+returns-clause-built c =
+    let items : c.push-2.new.self.items ≡ (set c.self.inside.ends.items c.args.wire (Some c.self.inside.balancers) ++ None ∷ []) ++ None ∷ [] = search rules in
+    let both : AllLoose (plan_of c.self.inside) (c.args.wire ∷ []) = rw (← c.self.view_is) at c.requires.one in
+    rw (items, ← c.self.view_is) (builds-grown (plan_of c.self.inside) (c.args.wire ∷ []) c.self.invariant both)
+
+pub returns-clause-halves : goal.returns-clause-halves
+returns-clause-halves c =
+    let items : c.push-2.new.self.items ≡ (set c.self.inside.ends.items c.args.wire (Some c.self.inside.balancers) ++ None ∷ []) ++ None ∷ [] = search rules in
+    let both : AllLoose (plan_of c.self.inside) (c.args.wire ∷ []) = rw (← c.self.view_is) at c.requires.one in
+    rw items (halves-forked (plan_of c.self.inside) c.args.wire c.self.invariant both)
+
+pub returns-clause-flows : goal.returns-clause-flows
+returns-clause-flows c =
+    let items : c.push-2.new.self.items ≡ (set c.self.inside.ends.items c.args.wire (Some c.self.inside.balancers) ++ None ∷ []) ++ None ∷ [] = search rules in
+    let both : AllLoose (plan_of c.self.inside) (c.args.wire ∷ []) = rw (← c.self.view_is) at c.requires.one in
+    rw (items, ← c.self.view_is) (flow-unforked (plan_of c.self.inside) c.args.wire c.self.invariant both)

@@ -1,0 +1,9 @@
+pub mod Plan
+pub mod Table
+pub mod Network
+pub mod InsideWiring
+pub mod InsideDraft
+pub mod Widths
+pub mod Faults
+pub mod Levels
+pub mod Built

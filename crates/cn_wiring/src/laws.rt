@@ -1,0 +1,11 @@
+//! The laws of counting networks. Each function does nothing: its contract is the law, and a caller opens it by a call.
+
+ghost use Rattle.std.specs.Prelude.{ℕ};
+ghost use Rattle.cn_wiring.specs.Levels.{IsLevel};
+ghost use Rattle.cn_wiring.specs.Network.{IsNetwork, Network};
+
+/// Each wire of a counting network has one level: 0 for an entry, one more than the inputs of its balancer for an output,
+/// and the depth of the network for the wire of each exit.
+pub fn wires_have_levels()
+    ensures { (network : Network) → IsNetwork network → (level : ℕ → ℕ) × IsLevel network.table network.depth level }
+{}
