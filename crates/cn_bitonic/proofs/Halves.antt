@@ -1,0 +1,127 @@
+-- The halves of a bitonic network, and the network of its halves.
+use Rattle.std.proofs.Common.{◌≡◌, ℕ, zero, suc, ◌+◌, ◌*◌, ◌/◌, ◌^◌, ◌<◌, ◌≤◌, List, ◌++◌, length, take, drop, refl, sym, ◌∙◌, subst, arith}
+use Rattle.std.proofs.lemmas.List.{drop-map, take-append-drop, take-map}
+use Rattle.std.proofs.lemmas.Nat.{pow_pos}
+use Rattle.std.proofs.Math.Nat.{pow-succ'}
+use Rattle.cn_spec.specs.Networks.{IsRow, bitonic}
+use Rattle.cn_spec.specs.declared.limits.TheConstants.{MOST_BALANCERS}
+use Rattle.cn_spec.proofs.Rows.{back_row, front_row, half_row}
+use Rattle.cn_spec.proofs.Sums.{times-append}
+use Rattle.cn_wiring.specs.Plan.{Plan, AllLoose}
+use Rattle.cn_wiring.proofs.Builds.{Builds-beside, Builds-loose, Builds-same, Builds-sized, Builds-then}
+use Rattle.cn_bitonic.specs.Parts.{BuildsBitonic, BuildsMerger}
+use Rattle.cn_bitonic.specs.Sizes.{balancers_of, depth_of}
+use Rattle.cn_bitonic.proofs.Mergers.{Gives, HasRoom, length_outs, same_level}
+
+-- a plan has room for the bitonic network over x
+abbrev pub HasPlace : Plan → List ℕ → Type 0
+HasPlace d x = (level : ℕ) × IsRow level x × (d.balancers + balancers_of level ≤ MOST_BALANCERS)
+
+-- what the bitonic network over x gives
+abbrev pub Counted : Plan → Plan → List ℕ → List ℕ → Type 0
+Counted old new x y = (level : ℕ) → IsRow level x → BuildsBitonic old new x y level
+
+depth_suc : (n : ℕ) → depth_of (suc n) ≡ depth_of n + (n + 1)
+depth_suc n = omega arith
+
+half_pow : (n : ℕ) → 2 ^ suc n / 2 ≡ 2 ^ n
+half_pow n = let e = pow-succ' 2 n in omega arith
+
+balancers_suc : (n : ℕ) → balancers_of (suc n) ≡ (balancers_of n + balancers_of n) + (n + 1) * 2 ^ n
+balancers_suc zero = refl
+balancers_suc (suc n) = go (depth_of (suc n)) (depth_of (suc (suc n))) (depth_suc (suc n))
+  where
+    go : (d e : ℕ) → e ≡ d + (suc n + 1) → 2 ^ suc (suc n) / 2 * e ≡ (2 ^ suc n / 2 * d + 2 ^ suc n / 2 * d) + (suc n + 1) * 2 ^ suc n
+    go d e h = rw (h, half_pow (suc n), half_pow n, pow-succ' 2 n) (omega arith)
+
+-- a row of level n + 1 over which a plan can build
+record Splittable (d : Plan) (x : List ℕ) (n : ℕ) : Type 0 where
+  row : IsRow (suc n) x
+  room : d.balancers + ((balancers_of n + balancers_of n) + (n + 1) * 2 ^ n) ≤ MOST_BALANCERS
+  there : AllLoose d (take (2 ^ n) x ++ drop (2 ^ n) x)
+
+splittable : (d : Plan) (x : List ℕ) → (length x ≡ 1 → ⊥) → HasPlace d x → AllLoose d x → (n : ℕ) × Splittable d x n
+splittable d x many place there = go place.0 place.1 place.2
+  where
+    go : (level : ℕ) → IsRow level x → d.balancers + balancers_of level ≤ MOST_BALANCERS → (n : ℕ) × Splittable d x n
+    go zero row r = absurd (many row)
+    go (suc n) row r = (n, record { row = row; room = let e = balancers_suc n in omega (arith, r, e); there = rw (take-append-drop (2 ^ n) x) there })
+
+front_loose : {d : Plan} {x : List ℕ} {n : ℕ} → Splittable d x n → AllLoose d (take (2 ^ n) x)
+front_loose {d} {x} {n} s w = let t = s.there w in omega (arith, times-append w (take (2 ^ n) x) (drop (2 ^ n) x))
+
+-- each half is shorter
+shorter : (n : ℕ) (x part : List ℕ) → IsRow (suc n) x → IsRow n part → length part < length x
+shorter n x part row r = let l : length x ≡ 2 * 2 ^ n = row ∙ pow-succ' 2 n in omega (arith, pow_pos n, r)
+
+-- what the network over the first half is asked
+pub front_asked : (d : Plan) (x front : List ℕ) → front ≡ take (length x / 2) x
+    → (length x ≡ 1 → ⊥) → HasPlace d x → AllLoose d x
+    → (length front < length x) × (HasPlace d front × AllLoose d front)
+front_asked d x front e many place there =
+    let (n, s) = splittable d x many place there in
+    let row = front_row n x s.row in
+    let r = s.room in
+    let fits : d.balancers + balancers_of n ≤ MOST_BALANCERS = omega (arith, r) in
+    rw (e, half_row n x s.row) (shorter n x (take (2 ^ n) x) s.row row, ((n, row, fits), front_loose s))
+
+-- and over the second
+pub back_asked : (d e : Plan) (x front back y : List ℕ) → front ≡ take (length x / 2) x → back ≡ drop (length x / 2) x
+    → (length x ≡ 1 → ⊥) → HasPlace d x → AllLoose d x → Counted d e front y
+    → (length back < length x) × (HasPlace e back × AllLoose e back)
+back_asked d e x front back y p q many place there first =
+    let (n, s) = splittable d x many place there in
+    let row = back_row n x s.row in
+    let first' : Counted d e (take (2 ^ n) x) y = rw (p, half_row n x s.row) at first in
+    let built = (first' n (front_row n x s.row)).built in
+    let r = s.room in
+    let made = built.balancers in
+    let fits : e.balancers + balancers_of n ≤ MOST_BALANCERS = omega (arith, r, made) in
+    rw (q, half_row n x s.row) (shorter n x (drop (2 ^ n) x) s.row row, ((n, row, fits), Builds-loose (drop (2 ^ n) x) s.there built))
+
+-- the networks over both halves
+pub record BothHalves (d e f : Plan) (x y y2 : List ℕ) (n : ℕ) : Type 0 where
+  whole : Splittable d x n
+  first : BuildsBitonic d e (take (2 ^ n) x) y n
+  second : BuildsBitonic e f (drop (2 ^ n) x) y2 n
+
+pub both_halves : (d e f : Plan) (x front back y y2 : List ℕ) → front ≡ take (length x / 2) x → back ≡ drop (length x / 2) x
+    → (length x ≡ 1 → ⊥) → HasPlace d x → AllLoose d x → Counted d e front y → Counted e f back y2
+    → (n : ℕ) × BothHalves d e f x y y2 n
+both_halves d e f x front back y y2 p q many place there first second =
+    let (n, s) = splittable d x many place there in
+    let first' : Counted d e (take (2 ^ n) x) y = rw (p, half_row n x s.row) at first in
+    let second' : Counted e f (drop (2 ^ n) x) y2 = rw (q, half_row n x s.row) at second in
+    (n, record { whole = s; first = first' n (front_row n x s.row); second = second' n (back_row n x s.row) })
+
+-- what their merger is asked
+pub merger_asked : {d e f : Plan} {x y y2 : List ℕ} {n : ℕ} → BothHalves d e f x y y2 n → HasRoom f y y2 × AllLoose f (y ++ y2)
+merger_asked {d} {e} {f} {x} {y} {y2} {n} b =
+    let r = b.whole.room in
+    let made = b.first.built.balancers in
+    let made2 = b.second.built.balancers in
+    let both = Builds-beside b.whole.there b.first.built b.second.built in
+    let fits : f.balancers + (n + 1) * 2 ^ n ≤ MOST_BALANCERS = omega (arith, r, made, made2) in
+    ((n, b.first.row, b.second.row, fits), λ w. let t = b.whole.there w in let j = both.loosed w in omega arith)
+
+counted_suc : {d e f g : Plan} {x y y2 z : List ℕ} {n : ℕ} → BothHalves d e f x y y2 n → BuildsMerger f g y y2 z n → BuildsBitonic d g x z (suc n)
+unfolding bitonic
+counted_suc {d} {e} {f} {g} {x} {y} {y2} {z} {n} b m = record {
+  built =
+      let both = rw (take-append-drop (2 ^ n) x) at (Builds-beside b.whole.there b.first.built b.second.built) in
+      Builds-sized (depth_of (suc n)) (balancers_of (suc n)) (depth_suc n) (balancers_suc n) (Builds-then both m.built);
+  row = length_outs m ∙ sym (pow-succ' 2 n);
+  flow = λ h k.
+      let j = m.built.flow h k in
+      m.flow h k ∙ rw (b.first.flow h (b.second.built.flow h j), b.second.flow h j, take-map h (2 ^ n) x, drop-map h (2 ^ n) x);
+}
+
+pub counted_all : {d e f g : Plan} {x y y2 : List ℕ} (n : ℕ) (z : List ℕ) → BothHalves d e f x y y2 n → Gives f g y y2 z → Counted d g x z
+counted_all {d} {e} {f} {g} {x} {y} {y2} n z b gives level row =
+    subst (λ l. BuildsBitonic d g x z l) (sym (same_level (length x) (suc n) level b.whole.row row)) (counted_suc b (gives n b.first.row))
+
+-- a wire alone
+pub counted_one : {d : Plan} {x : List ℕ} (y : List ℕ) → length x ≡ 1 → y ≡ x → Counted d d x y
+unfolding bitonic
+counted_one {d} {x} y one e zero row = rw e (record { built = Builds-same d x; row = row; flow = λ h k. refl })
+counted_one {d} {x} y one e (suc n) row = absurd (let t = row ∙ pow-succ' 2 n in omega (arith, t))

@@ -1,0 +1,3 @@
+pub mod Mergers
+pub mod Halves
+pub mod Whole

@@ -1,0 +1,74 @@
+//! The bitonic network.
+
+ghost use Rattle.std.specs.Prelude.{◌≡◌, ℕ, ◌+◌, ◌^◌, ◌≤◌, ◌↔◌, map, IfOk, IsErrOf};
+ghost use Rattle.std.specs.List.{range_with_len};
+ghost use Rattle.cn_spec.specs.Networks as net;
+ghost use Rattle.cn_spec.specs.Networks.{IsRow};
+ghost use Rattle.cn_wiring.specs.Built.{IsBuilt, exit_flows};
+ghost use Rattle.cn_wiring.specs.Plan.{AllLoose};
+ghost use Rattle.cn_wiring.specs.Table.{IsFullFlow};
+ghost use Rattle.cn_wiring.specs.Widths.{IsWidth};
+ghost use Rattle.cn_bitonic.specs.Parts.{BuildsBitonic};
+ghost use Rattle.cn_bitonic.specs.Sizes.{balancers_of, depth_of};
+
+use crate::merging::merger;
+use cn_spec::laws;
+use cn_spec::limits::MOST_BALANCERS;
+use cn_wiring::{BuildFault, Counting, Draft, Kind, is_width};
+use std::alloc::{AllocError, Global};
+
+/// The bitonic counting network of this width: `width` entries and exits, depth `L * (L + 1) / 2`, where `L` is the
+/// logarithm of `width` to base 2, and half of `width` times the depth balancers (Aspnes, Herlihy, Shavit 1994,
+/// section 3).
+///
+/// Balancers are numbered in the order in which they are made: the network over the first half of the wires, that over the
+/// second half, and their merger. In a merger the first inner merger comes before the other, and then the last layer.
+///
+/// # Errors
+/// [`BuildFault::Width`] where [`is_width`] is false, and [`BuildFault::Memory`] where the network gets no memory.
+pub fn bitonic(alloc: Global, width: u32) -> Result<Counting, BuildFault>
+    ensures width { IsErrOf result BuildFault.Width ↔ (¬ IsWidth width) }
+    ensures accepted { IfOk result (λ _. IsWidth width) }
+    ensures built { IfOk result (λ network. (level : ℕ) → width ≡ 2 ^ level → IsBuilt network Kind.Bitonic width width (balancers_of level) (depth_of level)) }
+    ensures exits { IfOk result (λ network. (level : ℕ) → width ≡ 2 ^ level → (f : ℕ → ℕ) → IsFullFlow network.table f → exit_flows network.table f ≡ net.bitonic level (map f (range_with_len 0 width))) }
+{
+    if !is_width(width) {
+        return Err(BuildFault::Width);
+    }
+    let level = width.ilog2();
+    let depth = level * (level + 1) / 2;
+    let mut draft = Draft::new(alloc, width)?;
+    draft.reserve(width / 2 * depth)?;
+    let entries = wires_below(alloc, width)?;
+    let exits = network(alloc, &mut draft, &entries)?;
+    laws::bitonic_counts();
+    match draft.finish(&exits) {
+        Ok(wiring) => Ok(Counting::of(wiring, Kind::Bitonic, depth)),
+        Err((_draft, error)) => Err(error.into()),
+    }
+}
+
+/// The wires 0 to `count - 1`.
+fn wires_below(alloc: Global, count: u32) -> Result<Vec<u32>, AllocError>
+    ensures { IfOk result (λ wires. wires.items ≡ range_with_len 0 count) }
+{
+    (0..count).collect(alloc)
+}
+
+/// Adds the bitonic network over a list of wires to a draft, and gives its outputs. The list's length is a power of two.
+///
+/// # Errors
+/// `AllocError` where a list gets no memory. The draft may have some of the balancers.
+fn network(alloc: Global, draft: &mut Draft, wires: &[u32]) -> Result<Vec<u32>, AllocError>
+    requires row { (level : ℕ) × IsRow level wires.now × (draft.old.balancers + balancers_of level ≤ MOST_BALANCERS) }
+    requires loose { AllLoose draft.old wires.now }
+    ensures { IfOk result (λ y. (level : ℕ) → IsRow level wires.now → BuildsBitonic draft.old draft.new wires.now y.items level) }
+{
+    if wires.len() == 1 {
+        return wires.to_vec(alloc);
+    }
+    let (front, back) = wires.split_at(wires.len() / 2);
+    let x = network(alloc, draft, front)?;
+    let x2 = network(alloc, draft, back)?;
+    merger(alloc, draft, &x, &x2)
+}

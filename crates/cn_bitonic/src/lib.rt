@@ -1,0 +1,14 @@
+//! The bitonic counting network (Aspnes, Herlihy, Shavit 1994, section 3).
+//!
+//! [`merger`] adds a merger to a draft, over two lists of its wires; [`bitonic`] builds the whole network of a width.
+#![tactic(auto)]
+
+mod building;
+mod merging;
+
+pub use building::bitonic;
+pub use cn_wiring::BuildFault;
+pub use merging::merger;
+
+#[cfg(test)]
+mod tests;

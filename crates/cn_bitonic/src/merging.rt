@@ -1,0 +1,58 @@
+//! The merger.
+
+ghost use Rattle.std.specs.Prelude.{◌≡◌, ℕ, ◌+◌, ◌*◌, ◌^◌, ◌≤◌, ◌++◌, IfOk};
+ghost use Rattle.cn_spec.specs.Networks.{IsRow, evens, odds};
+ghost use Rattle.cn_wiring.specs.Plan.{AllLoose};
+ghost use Rattle.cn_bitonic.specs.Parts.{BuildsMerger};
+
+use cn_spec::limits::MOST_BALANCERS;
+use cn_wiring::Draft;
+use std::alloc::{AllocError, Global};
+
+/// The wires at even places, one for each pair.
+fn evens(alloc: Global, wires: &[u32]) -> Result<Vec<u32>, AllocError>
+    ensures { IfOk result (λ part. part.items ≡ evens wires.now) }
+{
+    (0..wires.len() / 2).map(|j| wires[2 * j]).collect(alloc)
+}
+
+/// The wires at odd places.
+fn odds(alloc: Global, wires: &[u32]) -> Result<Vec<u32>, AllocError>
+    ensures { IfOk result (λ part. part.items ≡ odds wires.now) }
+{
+    (0..wires.len() / 2)
+        .map(|j| wires[2 * j + 1])
+        .collect(alloc)
+}
+
+/// Adds the merger of two lists of wires to a draft, and gives its outputs: where the flows of both lists have the step
+/// property, so have the flows of the outputs (Aspnes, Herlihy, Shavit 1994, section 3).
+///
+/// The lists have one length, which is a power of two and may be 1, and their wires are loose and all different. A merger
+/// of two lists of length `k` has `log2 k + 1` layers of `k` balancers, and the draft has at most [`MOST_BALANCERS`]
+/// balancers afterwards.
+///
+/// # Errors
+/// `AllocError` where a list gets no memory. The draft may have some of the balancers then, and is only good to be
+/// dropped.
+pub fn merger(
+    alloc: Global,
+    draft: &mut Draft,
+    x: &[u32],
+    x2: &[u32],
+) -> Result<Vec<u32>, AllocError>
+    requires rows { (level : ℕ) × IsRow level x.now × IsRow level x2.now × (draft.old.balancers + (level + 1) * 2 ^ level ≤ MOST_BALANCERS) }
+    requires loose { AllLoose draft.old (x.now ++ x2.now) }
+    ensures { IfOk result (λ y. (level : ℕ) → IsRow level x.now → BuildsMerger draft.old draft.new x.now x2.now y.items level) }
+{
+    if x.len() == 1 {
+        return draft.join_all(x, x2);
+    }
+    let even = evens(alloc, x)?;
+    let odd2 = odds(alloc, x2)?;
+    let z = merger(alloc, draft, &even, &odd2)?;
+    let odd = odds(alloc, x)?;
+    let even2 = evens(alloc, x2)?;
+    let z2 = merger(alloc, draft, &odd, &even2)?;
+    draft.join_all(&z, &z2)
+}
