@@ -1,0 +1,3 @@
+pub mod BlockParts
+pub mod Series
+pub mod Whole

@@ -1,0 +1,54 @@
+-- Blocks in series, and the periodic network of them.
+use Rattle.std.proofs.Common.{◌≡◌, ℕ, zero, suc, ◌+◌, ◌*◌, ◌<◌, ◌≤◌, List, map, refl, ap, ◌∙◌, arith}
+use Rattle.std.proofs.Math.Nat.{mul-le-mul_right}
+use Rattle.cn_spec.specs.Networks.{IsRow, block, blocks, periodic}
+use Rattle.cn_spec.specs.declared.limits.TheConstants.{MOST_BALANCERS}
+use Rattle.cn_wiring.specs.Plan.{Plan, AllLoose, Builds, IsFlow}
+use Rattle.cn_wiring.proofs.Builds.{Builds-same, Builds-sized, Builds-then}
+use Rattle.cn_periodic.specs.Parts.{BuildsPeriodic}
+use Rattle.cn_periodic.specs.Sizes.{balancers_of, block_balancers, depth_of}
+use Rattle.cn_periodic.proofs.BlockParts.{Gives, HasRoom, length_outs}
+
+-- n blocks over a row of wires of a level, x, each over the outputs of the one before; the last gives y
+pub record Series (old new : Plan) (x y : List ℕ) (level n : ℕ) : Type 0 where
+  pub built : Builds old new x y (n * level) (n * block_balancers level)
+  pub row : IsRow level y
+  pub flow : (f : ℕ → ℕ) → IsFlow new f → map f y ≡ blocks n level (map f x)
+
+pub series_none : {d : Plan} {x : List ℕ} (y : List ℕ) (level : ℕ) → y ≡ x → IsRow level x → Series d d x y level 0
+unfolding blocks
+series_none {d} {x} y level e row = rw e (record { built = Builds-sized (0 * level) (0 * block_balancers level) (omega arith) (omega arith) (Builds-same d x); row = row; flow = λ f k. refl })
+
+-- the last of them
+blocks_last : (n level : ℕ) (x : List ℕ) → block level (blocks n level x) ≡ blocks (suc n) level x
+unfolding blocks
+blocks_last zero level x = refl
+blocks_last (suc n) level x = blocks_last n level (block level x)
+
+-- what one more block is asked
+pub next_asked : {d e : Plan} {x y : List ℕ} {level n : ℕ} → n < level → d.balancers + balancers_of level ≤ MOST_BALANCERS → AllLoose d x → Series d e x y level n
+    → HasRoom e y × AllLoose e y
+next_asked {d} {e} {x} {y} {level} {n} more room there s =
+    let made = s.built.balancers in
+    let all : balancers_of level ≡ level * block_balancers level = omega arith in
+    let most : suc n * block_balancers level ≤ level * block_balancers level = mul-le-mul_right (block_balancers level) (omega arith) in
+    let next : suc n * block_balancers level ≡ n * block_balancers level + block_balancers level = omega arith in
+    ((level, omega arith, s.row, omega arith), λ w. let t = there w in let j = s.built.loosed w in omega arith)
+
+pub series_more : {d e f : Plan} {x y : List ℕ} {level n : ℕ} (z : List ℕ) → Series d e x y level n → Gives e f y z → Series d f x z level (n + 1)
+series_more {d} {e} {f} {x} {y} {level} {n} z s gives =
+    let b = gives level s.row in
+    record {
+      built = Builds-sized ((n + 1) * level) ((n + 1) * block_balancers level) (omega arith) (omega arith) (Builds-then s.built b.built);
+      row = length_outs b;
+      flow = λ h k.
+          let last : suc n ≡ n + 1 = omega arith in
+          b.flow h k ∙ ap (block level) (s.flow h (b.built.flow h k)) ∙ blocks_last n level (map h x) ∙ ap (λ m. blocks m level (map h x)) last;
+    }
+
+-- as many blocks as the level
+pub series_all : {d e : Plan} {x y : List ℕ} {level n : ℕ} → n ≡ level → Series d e x y level n → BuildsPeriodic d e x y level
+unfolding periodic
+series_all {d} {e} {x} {y} {level} {n} same s =
+    let whole = rw same at s in
+    record { built = Builds-sized (depth_of level) (balancers_of level) (omega arith) (omega arith) whole.built; row = whole.row; flow = whole.flow }

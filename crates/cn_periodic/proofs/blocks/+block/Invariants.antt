@@ -1,0 +1,5 @@
+use Rattle.std.proofs.Common.{length}
+use Rattle.cn_periodic.proofs.blocks.+block.Given as goal
+
+abbrev pub decreases-block : goal.decreases-block
+decreases-block l = length l.wires.now

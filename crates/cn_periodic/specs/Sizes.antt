@@ -1,0 +1,14 @@
+-- How large a block and the periodic network over 2 ^ level wires are.
+use Rattle.std.specs.Prelude.{ℕ, ◌*◌, ◌/◌, ◌^◌}
+
+-- the balancers of a block, whose depth is the level: one for each two wires, level times
+abbrev pub block_balancers : ℕ → ℕ
+block_balancers level = 2 ^ level / 2 * level
+
+-- the depth of the periodic network: level blocks
+abbrev pub depth_of : ℕ → ℕ
+depth_of level = level * level
+
+-- its balancers: one for each two wires, depth times
+abbrev pub balancers_of : ℕ → ℕ
+balancers_of level = 2 ^ level / 2 * depth_of level
