@@ -1,0 +1,76 @@
+-- A tree from its root and the two trees on the root's outputs.
+use Rattle.std.proofs.Common.{◌≡◌, ℕ, zero, suc, ◌+◌, ◌-◌, ◌*◌, ◌^◌, ◌<◌, ◌≤◌, List, [], ◌∷◌, length, map, refl, sym, ap, ap₂, ◌∙◌, arith}
+use Rattle.std.proofs.Math.Nat.{pow-succ'}
+use Rattle.std.proofs.lemmas.Nat.{pow_pos}
+use Rattle.cn_spec.specs.Networks.{IsRow, interleave, tree}
+use Rattle.cn_spec.specs.Step.{half}
+use Rattle.cn_spec.specs.Sums.{times}
+use Rattle.cn_spec.specs.declared.limits.TheConstants.{MOST_BALANCERS}
+use Rattle.cn_spec.proofs.Interleave.{length_interleave}
+use Rattle.cn_spec.proofs.Sums.{times-append}
+use Rattle.cn_spec.proofs.Tree.{tree_turn}
+use Rattle.cn_wiring.specs.Plan.{Plan, AllLoose, Builds, IsFlow}
+use Rattle.cn_wiring.proofs.Builds.{Builds-beside, Builds-giving, Builds-loose, Builds-loose_with, Builds-sized, Builds-then}
+
+-- ---- interleaved rows
+
+times_interleave : (w : ℕ) (x y : List ℕ) → length x ≡ length y → times w (interleave x y) ≡ times w x + times w y
+unfolding times
+times_interleave w [] [] e = refl
+times_interleave w [] (b ∷ y) e = absurd (omega arith)
+times_interleave w (a ∷ x) [] e = absurd (omega arith)
+times_interleave w (a ∷ x) (b ∷ y) e = omega (arith, times_interleave w x y (omega arith))
+
+map_interleave : (f : ℕ → ℕ) (x y : List ℕ) → map f (interleave x y) ≡ interleave (map f x) (map f y)
+map_interleave f [] y = refl
+map_interleave f (a ∷ x) [] = refl
+map_interleave f (a ∷ x) (b ∷ y) = ap (λ row. f a ∷ f b ∷ row) (map_interleave f x y)
+
+-- ---- the number of balancers
+
+twice : (level : ℕ) → 0 < level → 2 ^ level ≡ 2 * 2 ^ (level - 1)
+twice zero h = absurd (omega arith)
+twice (suc n) h = let e : suc n - 1 ≡ n = omega arith in rw e (pow-succ' 2 n)
+
+pub room_for_root : (k level : ℕ) → 0 < level → k + (2 ^ level - 1) ≤ MOST_BALANCERS → k < MOST_BALANCERS
+room_for_root k level h room = omega (arith, twice level h, pow_pos (level - 1))
+
+-- ---- a tree of more than one wire: the root, the tree on its output 0, and the tree on its output 1
+
+module _ {d e : Plan} {wire first second level : ℕ} (more : 0 < level) (there : AllLoose d (wire ∷ [])) (root : Builds d e (wire ∷ []) (first ∷ second ∷ []) 1 1) where
+  outputs_loose : AllLoose e (first ∷ second ∷ [])
+  outputs_loose = Builds-loose_with [] there root
+
+  pub first_loose : AllLoose e (first ∷ [])
+  first_loose w = let h = outputs_loose w in omega (arith, times-append w (first ∷ []) (second ∷ []))
+
+  pub room_for_first : d.balancers + (2 ^ level - 1) ≤ MOST_BALANCERS → e.balancers + (2 ^ (level - 1) - 1) ≤ MOST_BALANCERS
+  room_for_first room = let h = root.balancers in omega (arith, twice level more, pow_pos (level - 1))
+
+  module _ {g : Plan} {even : List ℕ} (one : Builds e g (first ∷ []) even (level - 1) (2 ^ (level - 1) - 1)) where
+    pub second_loose : AllLoose g (second ∷ [])
+    second_loose = Builds-loose (second ∷ []) outputs_loose one
+
+    pub room_for_second : d.balancers + (2 ^ level - 1) ≤ MOST_BALANCERS → g.balancers + (2 ^ (level - 1) - 1) ≤ MOST_BALANCERS
+    room_for_second room = let h = root.balancers in let k = one.balancers in omega (arith, twice level more, pow_pos (level - 1))
+
+    module _ {h : Plan} {odd : List ℕ} (two : Builds g h (second ∷ []) odd (level - 1) (2 ^ (level - 1) - 1)) where
+      pub tree_built : length even ≡ length odd → Builds d h (wire ∷ []) (interleave even odd) level (2 ^ level - 1)
+      tree_built same =
+          Builds-sized level (2 ^ level - 1) (omega arith) (omega (arith, twice level more, pow_pos (level - 1)))
+          (Builds-giving (interleave even odd) (λ w. times_interleave w even odd same ∙ sym (times-append w even odd))
+          (Builds-then root (Builds-beside outputs_loose one two)))
+
+      pub tree_flow : (f : ℕ → ℕ) → IsFlow h f
+          → ((v : ℕ → ℕ) → IsFlow e v → (v first ≡ half (v wire) 0) × (v second ≡ half (v wire) 1))
+          → ((v : ℕ → ℕ) → IsFlow g v → map v even ≡ tree (level - 1) (v first))
+          → ((v : ℕ → ℕ) → IsFlow h v → map v odd ≡ tree (level - 1) (v second))
+          → map f (interleave even odd) ≡ tree level (f wire)
+      tree_flow f flow halves evens odds =
+          let split = halves f (one.flow f (two.flow f flow)) in
+          map_interleave f even odd
+          ∙ ap₂ interleave (evens f (two.flow f flow) ∙ ap (tree (level - 1)) split.0) (odds f flow ∙ ap (tree (level - 1)) split.1)
+          ∙ sym (tree_turn level (f wire) more)
+
+pub tree_row : (level : ℕ) (even odd : List ℕ) → 0 < level → IsRow (level - 1) even → IsRow (level - 1) odd → IsRow level (interleave even odd)
+tree_row level even odd more p q = omega (arith, length_interleave even odd (omega arith), twice level more)
