@@ -1,0 +1,142 @@
+-- A state that agrees with a history answers by it.
+use Rattle.std.proofs.Common.{◌≡◌, ℕ, ◌+◌, ◌<◌, cond, nat_eq, List, [], ◌∷◌, length, get_or, refl, ap, arith, Some, None, sym, length-append, inl, inr, subst, drop, drop-cons, add-one}
+use Rattle.std.specs.Prelude.{count_by}
+use Rattle.std.specs.Map.{values_of}
+use Rattle.std.proofs.lemmas.Bool.Decides.{nat_tests}
+use Rattle.std.proofs.lemmas.Map.{length-set_value}
+use Rattle.std.proofs.lemmas.List.Sums.{sum_by-cons}
+use Rattle.cn_spec.specs.declared.limits.TheConstants.{MOST_CLIENTS}
+use Rattle.cn_wiring.specs.declared.end.End.{End}
+use Rattle.cn_wiring.specs.declared.end.End.TheVariants.{Balancer, Exit}
+use Rattle.cn_wiring.specs.Table.{Table, end_of, is_end}
+use Rattle.cn_wiring.specs.Network.{Network}
+use Rattle.cn_core.specs.declared.position.Position.{Position}
+use Rattle.cn_core.specs.declared.position.Position.TheVariants.{On, Holds}
+use Rattle.cn_core.specs.declared.event.Event.{Event}
+use Rattle.cn_core.specs.declared.event.Event.TheVariants.{Enter, Step}
+use Rattle.cn_core.specs.declared.reply.EnterFault.TheVariants.{NoSuchEntry, AlreadyIn, EpochFull, Memory}
+use Rattle.cn_core.specs.declared.reply.StepFault.TheVariants.{Stranger, HasName}
+use Rattle.cn_core.specs.declared.reply.Reply.{Reply}
+use Rattle.cn_core.specs.declared.reply.Reply.TheVariants.{Entered, EnterRefused, Stepped, StepRefused}
+use Rattle.cn_core.specs.State.{State, IsState, position_in, with_position, position_past, past, after_enter, after_step, start, is_named, is_inside, inside_in}
+use Rattle.cn_core.specs.History.{position_after, leaves_of, inside_of, end_at, is_leave, IsHistory, Agrees, MayAnswerAll, grown}
+use Rattle.cn_core.specs.Calls.{EntersTo, StepsTo, TakesTo, IsLedgerEvent, AnswersByHistory, RunsByHistory, RunsTo}
+use Rattle.cn_core.proofs.Placed.{lookup-push, lookup-set, count-push, count-set}
+use Rattle.cn_core.proofs.StateLemmas.{one_more_at, stands-at, zero_at}
+
+pub Agrees-start : (network : Network) → Agrees (start network) []
+Agrees-start network = record { accepted = tt; positions = λ q. refl; entered = λ e. zero_at network.table.entries e; total = refl; left = refl; counts = none }
+  where
+    none : (end : End) → past (start network) end ≡ 0
+    none (Balancer b) = zero_at network.table.balancers b
+    none (Exit i) = zero_at network.table.width i
+
+pub Agrees-after_enter : (s : State) (h : List Event) (client entry : ℕ) → IsState s → entry < s.network.table.entries → position_in s.clients client ≡ None → length s.clients < MOST_CLIENTS
+    → Agrees s h → Agrees (after_enter s client entry) (Enter client entry ∷ h)
+Agrees-after_enter s h client entry is within absent room a = record {
+  accepted = (grind (arith, nat_tests, a.positions client, a.total), a.accepted);
+  positions = λ q. rw (lookup-push s.clients client (On entry) q absent, a.positions q) refl;
+  entered = λ e. rw (one_more_at s.entered entry e (omega (arith, is.entries)), a.entered e) refl;
+  total = omega (arith, a.total, length-append s.clients ((client, On entry) ∷ []));
+  left = omega (arith, a.left, count-push is_named s.clients client (On entry));
+  counts = a.counts;
+}
+
+-- one more past an end, and no other
+pub past-after_step : (s : State) (client wire : ℕ) (end other : End) → IsState s → wire < length s.network.table.ends → end_of s.network.table wire ≡ end
+    → past (after_step s client end) other ≡ past s other + cond (is_end other end) 1 0
+past-after_step s client wire (Balancer b) (Balancer a) is within ends =
+    let there : b < s.network.table.balancers = stands-at s.network is.network wire (Balancer b) within ends in
+    grind (arith, nat_tests, one_more_at s.passes b a, is.balancers)
+past-after_step s client wire (Balancer b) (Exit i) is within ends = omega arith
+past-after_step s client wire (Exit i) (Balancer b) is within ends = omega arith
+past-after_step s client wire (Exit i) (Exit j) is within ends =
+    let there : i < s.network.table.width = stands-at s.network is.network wire (Exit i) within ends in
+    grind (arith, nat_tests, one_more_at s.visits i j, is.exits)
+
+pub network-after_step : (s : State) (client : ℕ) (end : End) → (after_step s client end).network ≡ s.network
+network-after_step s client (Balancer b) = refl
+network-after_step s client (Exit i) = refl
+
+pub entered-after_step : (s : State) (client : ℕ) (end : End) → (after_step s client end).entered ≡ s.entered
+entered-after_step s client (Balancer b) = refl
+entered-after_step s client (Exit i) = refl
+
+pub clients-after_step : (s : State) (client : ℕ) (end : End) → (after_step s client end).clients ≡ with_position s.clients client (position_past s.network.table end (past s end))
+clients-after_step s client (Balancer b) = refl
+clients-after_step s client (Exit i) = refl
+
+-- a token that goes past an exit has a name, and past a balancer it has none
+named-past : (table : Table) (end : End) (n : ℕ) → is_named (position_past table end n) ≡ is_leave (Some end)
+named-past table (Balancer b) n = refl
+named-past table (Exit i) n = refl
+
+pub Agrees-after_step : (s : State) (h : List Event) (client wire : ℕ) (end : End) → IsState s → position_in s.clients client ≡ Some (On wire) → end_of s.network.table wire ≡ end
+    → Agrees s h → Agrees (after_step s client end) (Step client ∷ h)
+Agrees-after_step s h client wire end is on ends a = record {
+  accepted = subst (λ (n : Network). IsHistory n.table (Step client ∷ h)) (sym (network-after_step s client end)) (rw (← a.positions client, on) refl, a.accepted);
+  positions = λ q. rw (clients-after_step s client end, network-after_step s client end, lookup-set s.clients client (position_past s.network.table end (past s end)) (On wire) q on, a.positions q, here, a.counts end) refl;
+  entered = λ e. rw (entered-after_step s client end) (a.entered e);
+  total = rw (clients-after_step s client end, length-set_value (nat_eq client) s.clients (position_past s.network.table end (past s end))) a.total;
+  left = rw (clients-after_step s client end, network-after_step s client end, here)
+      (let more = count-set is_named s.clients client (position_past s.network.table end (past s end)) (On wire) on in
+      let same = ap {B = ℕ} (λ b. cond b 1 0) (named-past s.network.table end (past s end)) in
+      let kept : leaves_of (after_step s client end).network.table h ≡ leaves_of s.network.table h = ap (λ (n : Network). leaves_of n.table h) (network-after_step s client end) in
+      omega (arith, a.left));
+  counts = λ other. rw (network-after_step s client end, past-after_step s client wire end other is (is.on_wires client wire on) ends, a.counts other, here) refl;
+}
+  where
+    here : end_at s.network.table (position_after s.network.table h client) ≡ Some end
+    here = rw (← a.positions client, on) (ap Some ends)
+
+pub history-enter : (old : State) (client entry : ℕ) (reply : Reply) (new : State) → IsState old → EntersTo old client entry reply new
+    → AnswersByHistory old (Enter client entry) reply new
+history-enter old client entry Entered new is (within, absent, room, e) h a =
+    (inl (grind (arith, nat_tests, a.positions client, a.total)), rw e (Agrees-after_enter old h client entry is within absent room a))
+history-enter old client entry (EnterRefused NoSuchEntry) new is (beyond, e) h a = (inl (grind (arith, nat_tests)), rw e a)
+history-enter old client entry (EnterRefused AlreadyIn) new is (within, there, e) h a = (inl (grind (arith, nat_tests, a.positions client)), rw e a)
+history-enter old client entry (EnterRefused EpochFull) new is (within, absent, full, e) h a = (inl (grind (arith, nat_tests, a.positions client, a.total)), rw e a)
+history-enter old client entry (EnterRefused Memory) new is (within, absent, room, e) h a = (inr (grind (arith, nat_tests, a.positions client, a.total), refl), rw e a)
+history-enter old client entry (Stepped moved) new is none h a = absurd none
+history-enter old client entry (StepRefused fault) new is none h a = absurd none
+
+pub history-step : (old : State) (client : ℕ) (reply : Reply) (new : State) → IsState old → StepsTo old client reply new
+    → AnswersByHistory old (Step client) reply new
+history-step old client (Stepped moved) new is (wire, on, m, e) h a =
+    (inl (rw (← a.positions client, on, m, a.counts (end_of old.network.table wire)) refl), rw e (Agrees-after_step old h client wire (end_of old.network.table wire) is on refl a))
+history-step old client (StepRefused Stranger) new is (none, e) h a = (inl (rw (← a.positions client, none) refl), rw e a)
+history-step old client (StepRefused (HasName name)) new is (named, e) h a = (inl (rw (← a.positions client, named) refl), rw e a)
+history-step old client Entered new is none h a = absurd none
+history-step old client (EnterRefused fault) new is none h a = absurd none
+
+-- a run is an answer and the run of the rest
+pub runs-cons : (old mid new : State) (c : Event) (cs : List Event) (r : Reply) (rs : List Reply)
+    → AnswersByHistory old c r mid → mid.network ≡ old.network → RunsByHistory mid cs rs new → RunsByHistory old (c ∷ cs) (r ∷ rs) new
+runs-cons old mid new c cs r rs answered same runs h a =
+    let rest = runs (grown h c r) (answered h a).1 in
+    (((answered h a).0, subst (λ (n : Network). MayAnswerAll n.table (grown h c r) cs rs) same rest.0), rest.1)
+
+-- the same, from the i-th event on
+pub runs-at : (old mid new : State) (cs : List Event) (i : ℕ) (d : Event) (r : Reply) (rs : List Reply) → i < length cs
+    → AnswersByHistory old (get_or cs i d) r mid → mid.network ≡ old.network → RunsByHistory mid (drop (i + 1) cs) rs new → RunsByHistory old (drop i cs) (r ∷ rs) new
+runs-at old mid new cs i d r rs within answered same runs =
+    let shown : drop i cs ≡ get_or cs i d ∷ drop (i + 1) cs = rw (add-one, drop-cons cs i d) refl in
+    rw shown (runs-cons old mid new (get_or cs i d) (drop (i + 1) cs) r rs answered same runs)
+
+-- the same of the states that a run goes through
+pub runs_to-at : (old mid new : State) (cs : List Event) (i : ℕ) (d : Event) (r : Reply) (rs : List Reply) → i < length cs
+    → TakesTo old (get_or cs i d) r mid → IsLedgerEvent old (get_or cs i d) r mid → RunsTo mid (drop (i + 1) cs) rs new → RunsTo old (drop i cs) (r ∷ rs) new
+runs_to-at old mid new cs i d r rs within takes is runs =
+    let shown : drop i cs ≡ get_or cs i d ∷ drop (i + 1) cs = rw (add-one, drop-cons cs i d) refl in
+    rw shown (mid, takes, is, runs)
+
+-- each client is inside or has a name
+pub inside_or_named : (clients : List (ℕ × Position)) → count_by is_inside (values_of clients) + count_by is_named (values_of clients) ≡ length clients
+inside_or_named [] = refl
+inside_or_named ((c, On wire) ∷ rest) =
+    omega (arith, inside_or_named rest, sum_by-cons (λ (p : Position). cond (is_inside p) 1 0) (On wire) (values_of rest), sum_by-cons (λ (p : Position). cond (is_named p) 1 0) (On wire) (values_of rest))
+inside_or_named ((c, Holds name) ∷ rest) =
+    omega (arith, inside_or_named rest, sum_by-cons (λ (p : Position). cond (is_inside p) 1 0) (Holds name) (values_of rest), sum_by-cons (λ (p : Position). cond (is_named p) 1 0) (Holds name) (values_of rest))
+
+pub inside-by_history : (s : State) (h : List Event) → Agrees s h → inside_in s ≡ inside_of s.network.table h
+inside-by_history s h a = omega (arith, inside_or_named s.clients, a.total, a.left)

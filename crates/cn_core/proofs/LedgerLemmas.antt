@@ -1,0 +1,318 @@
+-- Each event of a core is an event of its ledger, and so its ledger is sound.
+use Rattle.std.proofs.Common.{◌≡◌, ℕ, ◌+◌, ◌%◌, ◌/◌, ◌<◌, Bool, true, false, cond, nat_eq, List, [], ◌∷◌, length, refl, ap, arith, Some, None, sym, ◌∙◌, slice_index, inl, inr, ◌&&◌, eqb, ap₂, add-zero, add_comm}
+use Rattle.std.specs.Prelude.{count_by, nat_lt, ◌==◌}
+use Rattle.std.specs.Map.{values_of}
+use Rattle.std.proofs.lemmas.Bool.{cases_eq, cases_lt, eq-eqb, ne_eqb, lt-ltb, le-ltb}
+use Rattle.std.proofs.lemmas.List.Sums.{sum_by-cons}
+use Rattle.cn_spec.specs.Step.{name_of}
+use Rattle.cn_spec.specs.Sums.{when, once_below}
+use Rattle.cn_spec.specs.declared.limits.TheConstants.{MOST_CLIENTS}
+use Rattle.cn_spec.proofs.Names.{exit_of-name_of}
+use Rattle.cn_wiring.specs.declared.end.End.{End}
+use Rattle.cn_wiring.specs.declared.end.End.TheVariants.{Balancer, Exit}
+use Rattle.cn_wiring.specs.Table.{end_of, is_end, Stands}
+use Rattle.cn_wiring.specs.Network.{Network, IsNetwork}
+use Rattle.cn_core.specs.declared.position.Position.{Position}
+use Rattle.cn_core.specs.declared.position.Position.TheVariants.{On}
+use Rattle.cn_core.specs.declared.event.Event.{Event}
+use Rattle.cn_core.specs.declared.event.Event.TheVariants.{Enter, Step}
+use Rattle.cn_core.specs.State.{State, IsState, position_in, with_position, position_past, past, after_enter, after_step, start}
+use Rattle.cn_core.specs.History.{position_after, steps_before, end_at, moved_past, Agrees}
+use Rattle.cn_core.specs.Passages.{passages_of, times_passed, with_passage}
+use Rattle.cn_core.specs.Ledger.{IsSound}
+use Rattle.cn_core.specs.Events.{Enters, Passes, Leaves, one_number}
+use Rattle.cn_core.specs.declared.reply.Moved.{Moved}
+use Rattle.cn_core.specs.declared.reply.Reply.TheVariants.{Stepped}
+use Rattle.cn_core.specs.Calls.{IsMoveOf, MovesLedger, StepsTo}
+use Rattle.cn_core.specs.StateLedger.{is_on, holds, held_in, given_in, ledger_of, IsCore}
+use Rattle.cn_core.proofs.Placed.{count-push, count-set, count_pair-push, count_pair-set}
+use Rattle.cn_core.proofs.StateLemmas.{one_more_at, stands-at, zero_at, IsState-start, IsState-after_enter, IsState-after_step}
+use Rattle.cn_core.proofs.HistoryLemmas.{past-after_step, Agrees-start, Agrees-after_enter, Agrees-after_step}
+use Rattle.cn_core.proofs.PassageLemmas.{sound_passages}
+use Rattle.cn_core.proofs.EmptyLedger.{sound-nothing}
+use Rattle.cn_core.proofs.EventLemmas.{eqb-sym, is_end-sym, sound-enters, sound-passes, sound-leaves}
+
+and-sym : (a b : Bool) → (a && b) ≡ (b && a)
+and-sym true true = refl
+and-sym true false = refl
+and-sym false true = refl
+and-sym false false = refl
+
+pub ledger-enters : (s : State) (h : List Event) (client entry : ℕ) → IsState s → entry < s.network.table.entries
+    → Enters s.network.table (ledger_of s h) (ledger_of (after_enter s client entry) (Enter client entry ∷ h)) client entry
+ledger-enters s h client entry is within = record {
+  inside = within;
+  entered = λ e. one_more_at s.entered entry e (omega (arith, is.entries)) ∙ ap (λ (b : Bool). slice_index s.entered e + cond b 1 0) (eqb-sym e entry);
+  count = λ end. refl;
+  on = λ wire. count-push (is_on wire) s.clients client (On entry);
+  standing = λ wire d. count_pair-push (is_on wire) d s.clients client (On entry) ∙ ap (λ (b : Bool). count_by (λ e. nat_eq d e.0 && is_on wire e.1) s.clients + cond b 1 0) (and-sym (nat_eq d client) (entry == wire) ∙ ap (λ (b : Bool). (entry == wire) && b) (eqb-sym d client));
+  given = given;
+  granted = λ d i v name. ap (λ (k : ℕ). when (nat_lt i s.network.table.width && (name_of s.network.table.width i v == name)) k)
+      (count_pair-push (holds name) d s.clients client (On entry) ∙ none (nat_eq d client) (count_by (λ e. nat_eq d e.0 && holds name e.1) s.clients));
+}
+  where
+    none : (b : Bool) (n : ℕ) → n + cond (b && false) 1 0 ≡ n
+    none true n = omega arith
+    none false n = omega arith
+
+    given : (end : End) (n : ℕ) → given_in (after_enter s client entry) (Enter client entry ∷ h) end n ≡ given_in s h end n
+    given (Balancer b) n = refl
+    given (Exit i) v = ap (λ (k : ℕ). when (nat_lt i s.network.table.width) k) (count-push (holds (name_of s.network.table.width i v)) s.clients client (On entry) ∙ none true _)
+
+-- what passages and leaves have in common
+count-after : (s : State) (client wire : ℕ) (end other : End) → IsState s → wire < length s.network.table.ends → end_of s.network.table wire ≡ end
+    → past (after_step s client end) other ≡ past s other + when (is_end end other) 1
+count-after s client wire end other is within ends =
+    past-after_step s client wire end other is within ends ∙ ap (λ (b : Bool). past s other + cond b 1 0) (is_end-sym other end)
+
+standing-after : (s : State) (client wire : ℕ) (to : Position) (u d : ℕ) → position_in s.clients client ≡ Some (On wire)
+    → count_by (λ e. nat_eq d e.0 && is_on u e.1) (with_position s.clients client to) + when ((wire == u) && (client == d)) 1
+    ≡ count_by (λ e. nat_eq d e.0 && is_on u e.1) s.clients + when (client == d) (when (is_on u to) 1)
+standing-after s client wire to u d on =
+    let flip : (nat_eq d client && (wire == u)) ≡ ((wire == u) && (client == d)) = and-sym (nat_eq d client) (wire == u) ∙ ap (λ (b : Bool). (wire == u) && b) (eqb-sym d client) in
+    let after : cond (nat_eq d client && is_on u to) 1 0 ≡ when (client == d) (when (is_on u to) 1) = both (nat_eq d client) (is_on u to) ∙ ap (λ (b : Bool). when b (when (is_on u to) 1)) (eqb-sym d client) in
+    omega (arith, count_pair-set (is_on u) d s.clients client to (On wire) on, ap {B = ℕ} (λ b. cond b 1 0) flip, after)
+  where
+    both : (a b : Bool) → cond (a && b) 1 0 ≡ when a (when b 1)
+    both true b = refl
+    both false b = refl
+
+-- where the passages of a history are, once a client steps off a wire with this end
+passages-after : (s : State) (h : List Event) (client wire : ℕ) (end : End) → position_in s.clients client ≡ Some (On wire) → end_of s.network.table wire ≡ end → Agrees s h
+    → passages_of s.network.table (Step client ∷ h) ≡ with_passage s.network.table h (Some end) (passages_of s.network.table h)
+passages-after s h client wire end on ends a =
+    let here : end_at s.network.table (position_after s.network.table h client) ≡ Some end = rw (← a.positions client, on) (ap Some ends) in
+    ap (λ e. with_passage s.network.table h e (passages_of s.network.table h)) here
+
+-- a change of position between two that hold no name, or hold another
+held-after : (s : State) (name client wire : ℕ) (to : Position) → position_in s.clients client ≡ Some (On wire)
+    → count_by (holds name) (values_of (with_position s.clients client to)) ≡ count_by (holds name) (values_of s.clients) + when (holds name to) 1
+held-after s name client wire to on = omega (arith, count-set (holds name) s.clients client to (On wire) on)
+
+held_pair-after : (s : State) (name client wire : ℕ) (to : Position) (d : ℕ) → position_in s.clients client ≡ Some (On wire)
+    → count_by (λ e. nat_eq d e.0 && holds name e.1) (with_position s.clients client to) ≡ count_by (λ e. nat_eq d e.0 && holds name e.1) s.clients + when (nat_eq d client && holds name to) 1
+held_pair-after s name client wire to d on = omega (arith, count_pair-set (holds name) d s.clients client to (On wire) on, none (nat_eq d client))
+  where
+    none : (b : Bool) → ◌≡◌ {A = ℕ} (cond (b && false) 1 0) 0
+    none true = refl
+    none false = refl
+
+and-false : (b : Bool) → (b && false) ≡ false
+and-false true = refl
+and-false false = refl
+
+pub ledger-passes : (s : State) (h : List Event) (client wire b : ℕ) → IsState s → position_in s.clients client ≡ Some (On wire) → end_of s.network.table wire ≡ Balancer b → Agrees s h
+    → Passes s.network.table (ledger_of s h) (ledger_of (after_step s client (Balancer b)) (Step client ∷ h)) client wire b
+ledger-passes s h client wire b is on ends a = record {
+  goes = record {
+    inside = is.on_wires client wire on;
+    ends = ends;
+    entered = λ e. refl;
+    count = λ other. count-after s client wire (Balancer b) other is (is.on_wires client wire on) ends;
+    on = λ u. count-set (is_on u) s.clients client to (On wire) on;
+    standing = λ u d. standing-after s client wire to u d on;
+    given = given;
+  };
+  granted = λ d i v name. ap (λ (k : ℕ). when (nat_lt i s.network.table.width && (name_of s.network.table.width i v == name)) k)
+      (held_pair-after s name client wire to d on ∙ ap (λ (q : Bool). count_by (λ e. nat_eq d e.0 && holds name e.1) s.clients + when q 1) (and-false (nat_eq d client)) ∙ add-zero (count_by (λ e. nat_eq d e.0 && holds name e.1) s.clients));
+}
+  where
+    to : Position
+    to = position_past s.network.table (Balancer b) (slice_index s.passes b)
+
+    given : (other : End) (n : ℕ) → given_in (after_step s client (Balancer b)) (Step client ∷ h) other n ≡ given_in s h other n + one_number (Balancer b) (slice_index s.passes b) other n
+    given (Balancer c) n =
+        let m : ℕ = steps_before s.network.table h (Balancer b) in
+        let same : slice_index s.passes b ≡ m = a.counts (Balancer b) in
+        ap (times_passed c n) (passages-after s h client wire (Balancer b) on ends a)
+        ∙ sum_by-cons (λ (p : ℕ × ℕ). cond ((c == p.0) && (n == p.1)) 1 0) (b, m) (passages_of s.network.table h)
+        ∙ add_comm (cond ((c == b) && (n == m)) 1 0) (times_passed c n (passages_of s.network.table h))
+        ∙ ap (λ (q : Bool). times_passed c n (passages_of s.network.table h) + cond ((c == b) && q) 1 0) (eqb-sym n m ∙ ap (λ (k : ℕ). k == n) (sym same))
+    given (Exit i) v =
+        ap (λ (k : ℕ). when (nat_lt i s.network.table.width) k) (held-after s (name_of s.network.table.width i v) client wire to on ∙ add-zero (count_by (holds (name_of s.network.table.width i v)) (values_of s.clients)))
+        ∙ sym (add-zero (held_in s i v))
+
+-- two names are the same exactly where exits and visits are
+names-same : (w i j x v : ℕ) → i < w → j < w → eqb (name_of w i x) (name_of w j v) ≡ (eqb j i && eqb x v)
+names-same w i j x v li lj =
+    elim (cases_eq (name_of w i x) (name_of w j v)) [
+      | inl e ↦
+          let p = exit_of-name_of w i x li in
+          let q = exit_of-name_of w j v lj in
+          let ij : j ≡ i = sym q.0 ∙ ap (λ n. n % w) (sym e) ∙ p.0 in
+          let xv : x ≡ v = sym p.1 ∙ ap (λ n. n / w) e ∙ q.1 in
+          eq-eqb (name_of w i x) (name_of w j v) e ∙ sym (ap₂ (λ a b. a && b) (eq-eqb j i ij) (eq-eqb x v xv))
+      | inr d ↦
+          ne_eqb (name_of w i x) (name_of w j v) d
+          ∙ sym (elim (cases_eq j i) [
+            | inl ij ↦ elim (cases_eq x v) [
+              | inl xv ↦ absurd (d (ap₂ (λ k n. name_of w k n) (sym ij) xv))
+              | inr n ↦ ap (λ b. eqb j i && b) (ne_eqb x v n) ∙ and-false (eqb j i)
+            ]
+            | inr n ↦ ap (λ b. b && eqb x v) (ne_eqb j i n)
+          ])
+    ]
+
+-- the name of a visit is given where the visit is
+given-leave : (w i j x v m n : ℕ) → i < w → n ≡ m + when (eqb (name_of w i x) (name_of w j v)) 1
+    → when (nat_lt j w) n ≡ when (nat_lt j w) m + when (eqb j i && eqb x v) 1
+given-leave w i j x v m n li more =
+    elim (cases_lt j w) [
+      | inl lj ↦ rw (lt-ltb j w lj) (more ∙ ap (λ (b : Bool). m + when b 1) (names-same w i j x v li lj))
+      | inr lj ↦ rw (le-ltb j w lj, ne_eqb j i (λ e. omega arith)) refl
+    ]
+
+-- a grant is made where its visit is given, under its name
+granted-leave : (w i j x v name c d m n : ℕ) → i < w → n ≡ m + when (eqb d c && eqb (name_of w i x) name) 1
+    → when (nat_lt j w && eqb (name_of w j v) name) n ≡ when (nat_lt j w && eqb (name_of w j v) name) m + when (eqb c d && (eqb i j && (eqb x v && eqb (name_of w i x) name))) 1
+granted-leave w i j x v name c d m n li more =
+    elim (cases_lt j w) [
+      | inl lj ↦ elim (cases_eq (name_of w j v) name) [
+        | inl e ↦
+            let same : eqb (name_of w i x) name ≡ (eqb j i && eqb x v) = ap (λ k. eqb (name_of w i x) k) (sym e) ∙ names-same w i j x v li lj in
+            rw (lt-ltb j w lj, eq-eqb (name_of w j v) name e) (more ∙ ap (λ (b : Bool). m + when b 1) (tidy (eqb d c) (eqb c d) (eqb j i) (eqb i j) (eqb x v) (eqb (name_of w i x) name) (eqb-sym d c) (eqb-sym j i) same))
+        | inr differ ↦
+            rw (lt-ltb j w lj, ne_eqb (name_of w j v) name differ) (sym (ap (λ (b : Bool). 0 + when b 1) (never (eqb c d) (elim (cases_eq i j) [
+              | inl ij ↦ elim (cases_eq x v) [
+                | inl xv ↦ ap (λ b. eqb i j && (eqb x v && b)) (ne_eqb (name_of w i x) name (λ e. differ (ap₂ (λ k n. name_of w k n) (sym ij) (sym xv) ∙ e))) ∙ ap (λ b. eqb i j && b) (and-false (eqb x v)) ∙ and-false (eqb i j)
+                | inr nxv ↦ ap (λ b. eqb i j && (b && eqb (name_of w i x) name)) (ne_eqb x v nxv) ∙ and-false (eqb i j)
+              ]
+              | inr nij ↦ ap (λ b. b && (eqb x v && eqb (name_of w i x) name)) (ne_eqb i j nij)
+            ]))))
+      ]
+      | inr lj ↦ rw (le-ltb j w lj, ne_eqb i j (λ e. omega arith)) (sym (ap (λ (b : Bool). 0 + when b 1) (and-false (eqb c d))))
+    ]
+  where
+    never : (a : Bool) {b : Bool} → b ≡ false → (a && b) ≡ false
+    never a {b} e = ap (λ q. a && q) e ∙ and-false a
+
+    tidy : (dc cd ji ij xv name : Bool) → dc ≡ cd → ji ≡ ij → name ≡ (ji && xv) → (dc && name) ≡ (cd && (ij && (xv && name)))
+    tidy dc cd ji ij xv name e f g = rw (g, e, f) (bools cd ij xv)
+      where
+        bools : (a b c : Bool) → (a && (b && c)) ≡ (a && (b && (c && (b && c))))
+        bools false b c = refl
+        bools true false c = refl
+        bools true true false = refl
+        bools true true true = refl
+
+pub ledger-leaves : (s : State) (h : List Event) (client wire i : ℕ) → IsState s → position_in s.clients client ≡ Some (On wire) → end_of s.network.table wire ≡ Exit i → Agrees s h
+    → Leaves s.network.table (ledger_of s h) (ledger_of (after_step s client (Exit i)) (Step client ∷ h)) client wire i
+ledger-leaves s h client wire i is on ends a = record {
+  goes = record {
+    inside = is.on_wires client wire on;
+    ends = ends;
+    entered = λ e. refl;
+    count = λ other. count-after s client wire (Exit i) other is (is.on_wires client wire on) ends;
+    on = λ u. count-set (is_on u) s.clients client to (On wire) on;
+    standing = λ u d. standing-after s client wire to u d on;
+    given = given;
+  };
+  granted = λ d j v name.
+      granted-leave s.network.table.width i j (slice_index s.visits i) v name client d
+      (count_by (λ e. nat_eq d e.0 && holds name e.1) s.clients) (count_by (λ e. nat_eq d e.0 && holds name e.1) (with_position s.clients client to))
+      below (held_pair-after s name client wire to d on);
+}
+  where
+    to : Position
+    to = position_past s.network.table (Exit i) (slice_index s.visits i)
+
+    below : i < s.network.table.width
+    below = stands-at s.network is.network wire (Exit i) (is.on_wires client wire on) ends
+
+    given : (other : End) (n : ℕ) → given_in (after_step s client (Exit i)) (Step client ∷ h) other n ≡ given_in s h other n + one_number (Exit i) (slice_index s.visits i) other n
+    given (Balancer b) n = ap (times_passed b n) (passages-after s h client wire (Exit i) on ends a) ∙ sym (add-zero (times_passed b n (passages_of s.network.table h)))
+    given (Exit j) v =
+        given-leave s.network.table.width i j (slice_index s.visits i) v
+        (count_by (holds (name_of s.network.table.width j v)) (values_of s.clients)) (count_by (holds (name_of s.network.table.width j v)) (values_of (with_position s.clients client to)))
+        below (held-after s (name_of s.network.table.width j v) client wire to on)
+
+-- ---- every state is a sound ledger
+
+-- a ledger whose numbers are those of another is as sound
+sound-like : (s : State) (h k : List Event) → Agrees s h → Agrees s k → IsSound s.network.table (ledger_of s h) → IsSound s.network.table (ledger_of s k)
+sound-like s h k a b sound = record {
+  balanced = sound.balanced;
+  clients = sound.clients;
+  numbered = numbered;
+  named = sound.named;
+  once = sound.once;
+  apart = sound.apart;
+  told = sound.told;
+}
+  where
+    numbered : (end : End) (n : ℕ) → Stands s.network.table end → given_in s k end n ≡ once_below (past s end) n
+    numbered (Balancer c) n there = sound_passages s.network.table k c n ∙ ap (λ m. once_below m n) (sym (b.counts (Balancer c)))
+    numbered (Exit i) n there = sound.numbered (Exit i) n there
+
+-- by every history that the state agrees with
+pub sound-by_history : (s : State) → IsCore s → (k : List Event) → Agrees s k → IsSound s.network.table (ledger_of s k)
+sound-by_history s is k b = let (h, a, sound) = is.reached in sound-like s h k a b sound
+
+pub IsCore-start : (network : Network) → IsNetwork network → IsCore (start network)
+IsCore-start network is = record {
+  state = IsState-start network is;
+  reached = (
+    [],
+    Agrees-start network,
+    sound-nothing network.table (ledger_of (start network) [])
+        (record { entered = zero_at network.table.entries; count = count; on = λ u. refl; standing = λ u c. refl; given = given; granted = λ c i v name. cond-zero (nat_lt i network.table.width && (name_of network.table.width i v == name)) }),
+  );
+}
+  where
+    cond-zero : (b : Bool) → when b 0 ≡ 0
+    cond-zero true = refl
+    cond-zero false = refl
+
+    count : (end : End) → past (start network) end ≡ 0
+    count (Balancer b) = zero_at network.table.balancers b
+    count (Exit i) = zero_at network.table.width i
+
+    given : (end : End) (n : ℕ) → given_in (start network) [] end n ≡ 0
+    given (Balancer b) n = refl
+    given (Exit i) n = cond-zero (nat_lt i network.table.width)
+
+pub IsCore-after_enter : (s : State) (client entry : ℕ) → IsCore s → entry < s.network.table.entries → position_in s.clients client ≡ None → length s.clients < MOST_CLIENTS
+    → IsCore (after_enter s client entry)
+IsCore-after_enter s client entry is within absent room =
+    let (h, a, sound) = is.reached in
+    record {
+      state = IsState-after_enter s client entry is.state within absent room;
+      reached = (
+        Enter client entry ∷ h,
+        Agrees-after_enter s h client entry is.state within absent room a,
+        sound-enters s.network.table (ledger_of s h) (ledger_of (after_enter s client entry) (Enter client entry ∷ h)) client entry (ledger-enters s h client entry is.state within) sound,
+      );
+    }
+
+pub IsCore-after_step : (s : State) (client wire : ℕ) (end : End) → IsCore s → position_in s.clients client ≡ Some (On wire) → end_of s.network.table wire ≡ end
+    → IsCore (after_step s client end)
+IsCore-after_step s client wire (Balancer b) is on ends =
+    let (h, a, sound) = is.reached in
+    record {
+      state = IsState-after_step s client wire (Balancer b) is.state on ends;
+      reached = (
+        Step client ∷ h,
+        Agrees-after_step s h client wire (Balancer b) is.state on ends a,
+        sound-passes s.network.table (ledger_of s h) (ledger_of (after_step s client (Balancer b)) (Step client ∷ h)) client wire b (ledger-passes s h client wire b is.state on ends a) sound,
+      );
+    }
+IsCore-after_step s client wire (Exit i) is on ends =
+    let (h, a, sound) = is.reached in
+    record {
+      state = IsState-after_step s client wire (Exit i) is.state on ends;
+      reached = (
+        Step client ∷ h,
+        Agrees-after_step s h client wire (Exit i) is.state on ends a,
+        sound-leaves s.network.table is.state.network.formed (ledger_of s h) (ledger_of (after_step s client (Exit i)) (Step client ∷ h)) client wire i (ledger-leaves s h client wire i is.state on ends a) sound,
+      );
+    }
+
+-- ---- each accepted call is one event on the ledger
+
+pub ledger-step : (old : State) (client : ℕ) (moved : Moved) (new : State) → IsState old → StepsTo old client (Stepped moved) new → MovesLedger old client moved new
+ledger-step old client moved new is (wire, on, m, e) h a = rw (m, e) (by (end_of old.network.table wire) refl)
+  where
+    by : (end : End) → end_of old.network.table wire ≡ end
+        → IsMoveOf old.network.table (ledger_of old h) (ledger_of (after_step old client end) (Step client ∷ h)) client (moved_past old.network.table end (past old end))
+    by (Balancer b) ends = (wire, ledger-passes old h client wire b is on ends a, refl, refl)
+    by (Exit i) ends = (wire, ledger-leaves old h client wire i is on ends a, refl, refl)

@@ -1,0 +1,12 @@
+pub mod Bound
+pub mod EventLemmas
+pub mod EmptyLedger
+pub mod Happening
+pub mod Placed
+pub mod Counted
+pub mod StateLemmas
+pub mod HistoryLemmas
+pub mod PassageLemmas
+pub mod LedgerLemmas
+pub mod TightLemmas
+pub mod Worked

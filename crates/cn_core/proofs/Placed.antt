@@ -1,0 +1,170 @@
+-- Lists of keys with values, as of clients with their positions: look-ups and counts where an entry is added, and where
+-- one key's value changes.
+use Rattle.std.proofs.Common.{◌≡◌, ◌≢◌, ℕ, zero, suc, ◌+◌, ◌<◌, ◌≤◌, ◌&&◌, Bool, true, false, cond, nat_eq, sym, List, [], ◌∷◌, ◌++◌, length, get_or, set, take, drop, refl, ap, arith, Some, None}
+use Rattle.std.specs.Prelude.{count_by}
+use Rattle.std.specs.Map.{lookup, set_value, values_of}
+use Rattle.std.proofs.lemmas.Bool.{eq-eqb, eqb-true}
+use Rattle.std.specs.List.{sum_by}
+use Rattle.std.proofs.lemmas.List.Sums.{sum_by-cons}
+use Rattle.std.proofs.lemmas.Map.Entries.{sum_by-set_value}
+use Rattle.std.proofs.lemmas.Bool.Decides.{nat_tests}
+
+-- a write at the first entry whose key passes
+pub set-at_front : {X : Type 0} (test : ℕ → Bool) (es : List (ℕ × X)) (i : ℕ) (w : X) (d : ℕ × X)
+    → i < length es → test (get_or es i d).0 ≡ true
+    → set es i ((get_or es i d).0, w) ≡ take i es ++ set_value test (drop i es) w
+set-at_front test [] i w d lt t = absurd (omega arith)
+set-at_front test (e ∷ es) zero w d lt t = rw t refl
+set-at_front test (e ∷ es) (suc i) w d lt t = ap (λ xs. e ∷ xs) (set-at_front test es i w d (omega arith) t)
+
+-- a look-up after a new key
+pub lookup-push : {X : Type 0} (es : List (ℕ × X)) (k : ℕ) (x : X) (q : ℕ)
+    → lookup (nat_eq k) es ≡ None → lookup (nat_eq q) (es ++ (k, x) ∷ []) ≡ cond (nat_eq q k) (Some x) (lookup (nat_eq q) es)
+lookup-push [] k x q absent = refl
+lookup-push (e ∷ es) k x q absent = grind (arith, nat_tests, lookup-push es k x q)
+
+-- a look-up after a change of one key's value
+pub lookup-set : {X : Type 0} (es : List (ℕ × X)) (k : ℕ) (x y : X) (q : ℕ)
+    → lookup (nat_eq k) es ≡ Some y → lookup (nat_eq q) (set_value (nat_eq k) es x) ≡ cond (nat_eq q k) (Some x) (lookup (nat_eq q) es)
+lookup-set [] k x y q here = cc
+lookup-set (e ∷ es) k x y q here = grind (arith, nat_tests, lookup-set es k x y q)
+
+-- how often a key is there after a new one
+pub times-push : {X : Type 0} (es : List (ℕ × X)) (k : ℕ) (x : X) (q : ℕ)
+    → count_by (λ e. nat_eq q e.0) (es ++ (k, x) ∷ []) ≡ count_by (λ e. nat_eq q e.0) es + cond (nat_eq q k) 1 0
+times-push [] k x q = grind arith
+times-push (e ∷ es) k x q = omega (arith, times-push es k x q, sum_by-cons (λ y. cond (nat_eq q y.0) 1 0) e (es ++ (k, x) ∷ []), sum_by-cons (λ y. cond (nat_eq q y.0) 1 0) e es)
+
+-- a key that is not found is not there
+pub times-absent : {X : Type 0} (es : List (ℕ × X)) (k : ℕ) → lookup (nat_eq k) es ≡ None → count_by (λ e. nat_eq k e.0) es ≡ 0
+times-absent [] k absent = refl
+times-absent (e ∷ es) k absent = grind (arith, nat_tests, times-absent es k, sum_by-cons (λ y. cond (nat_eq k y.0) 1 0) e es)
+
+-- a change of a key's value changes no keys
+pub times-set : {X : Type 0} (es : List (ℕ × X)) (k : ℕ) (x : X) (q : ℕ)
+    → count_by (λ e. nat_eq q e.0) (set_value (nat_eq k) es x) ≡ count_by (λ e. nat_eq q e.0) es
+times-set [] k x q = refl
+times-set (e ∷ es) k x q = by (nat_eq k e.0) (times-set es k x q)
+  where
+    by : (b : Bool) → count_by (λ e. nat_eq q e.0) (set_value (nat_eq k) es x) ≡ count_by (λ e. nat_eq q e.0) es
+        → count_by (λ e. nat_eq q e.0) (cond b ((e.0, x) ∷ es) (e ∷ set_value (nat_eq k) es x)) ≡ count_by (λ e. nat_eq q e.0) (e ∷ es)
+    by true rest = refl
+    by false rest = omega (arith, rest, sum_by-cons (λ y. cond (nat_eq q y.0) 1 0) e (set_value (nat_eq k) es x), sum_by-cons (λ y. cond (nat_eq q y.0) 1 0) e es)
+
+-- how many values pass after a new key
+pub count-push : {X : Type 0} (p : X → Bool) (es : List (ℕ × X)) (k : ℕ) (x : X)
+    → count_by p (values_of (es ++ (k, x) ∷ [])) ≡ count_by p (values_of es) + cond (p x) 1 0
+count-push p [] k x = grind arith
+count-push p (e ∷ es) k x = omega (arith, count-push p es k x, sum_by-cons (λ y. cond (p y) 1 0) e.1 (values_of (es ++ (k, x) ∷ [])), sum_by-cons (λ y. cond (p y) 1 0) e.1 (values_of es))
+
+-- how many values pass after a change of one key's value
+pub count-set : {X : Type 0} (p : X → Bool) (es : List (ℕ × X)) (k : ℕ) (x y : X)
+    → lookup (nat_eq k) es ≡ Some y
+    → count_by p (values_of (set_value (nat_eq k) es x)) + cond (p y) 1 0 ≡ count_by p (values_of es) + cond (p x) 1 0
+count-set p es k x y here = sum_by-set_value (λ z. cond (p z) 1 0) (nat_eq k) es y x here
+
+-- ---- counts of entries, by key and value
+
+-- a sum over the entries after a new one
+pub sum_by-push : {X : Type 0} (f : ℕ × X → ℕ) (es : List (ℕ × X)) (k : ℕ) (x : X) → sum_by f (es ++ (k, x) ∷ []) ≡ sum_by f es + f (k, x)
+sum_by-push f [] k x = grind arith
+sum_by-push f (e ∷ es) k x = omega (arith, sum_by-push f es k x, sum_by-cons f e (es ++ (k, x) ∷ []), sum_by-cons f e es)
+
+-- a sum over the entries after a change of one key's value
+pub sum_by-set : {X : Type 0} (f : ℕ × X → ℕ) (es : List (ℕ × X)) (k : ℕ) (x y : X)
+    → lookup (nat_eq k) es ≡ Some y → sum_by f (set_value (nat_eq k) es x) + f (k, y) ≡ sum_by f es + f (k, x)
+sum_by-set f [] k x y here = cc
+sum_by-set f ((j, z) ∷ es) k x y here = by (nat_eq k j) (eqb-true k j) here (λ h. sum_by-set f es k x y h)
+  where
+    by : (b : Bool) → (b ≡ true → k ≡ j) → cond b (Some z) (lookup (nat_eq k) es) ≡ Some y
+        → (lookup (nat_eq k) es ≡ Some y → sum_by f (set_value (nat_eq k) es x) + f (k, y) ≡ sum_by f es + f (k, x))
+        → sum_by f (cond b ((j, x) ∷ es) ((j, z) ∷ set_value (nat_eq k) es x)) + f (k, y) ≡ sum_by f ((j, z) ∷ es) + f (k, x)
+    by true e h rest =
+        let same : k ≡ j = e refl in
+        let value : z ≡ y = cc in
+        rw (same, sym value) (omega (arith, sum_by-cons f (j, x) es, sum_by-cons f (j, z) es))
+    by false e h rest = omega (arith, rest h, sum_by-cons f (j, z) (set_value (nat_eq k) es x), sum_by-cons f (j, z) es)
+
+-- how many entries have this key and a value that passes, after a new key
+pub count_pair-push : {X : Type 0} (p : X → Bool) (q : ℕ) (es : List (ℕ × X)) (k : ℕ) (x : X)
+    → count_by (λ e. nat_eq q e.0 && p e.1) (es ++ (k, x) ∷ []) ≡ count_by (λ e. nat_eq q e.0 && p e.1) es + cond (nat_eq q k && p x) 1 0
+count_pair-push p q es k x = sum_by-push (λ e. cond (nat_eq q e.0 && p e.1) 1 0) es k x
+
+-- the same after a change of one key's value
+pub count_pair-set : {X : Type 0} (p : X → Bool) (q : ℕ) (es : List (ℕ × X)) (k : ℕ) (x y : X)
+    → lookup (nat_eq k) es ≡ Some y
+    → count_by (λ e. nat_eq q e.0 && p e.1) (set_value (nat_eq k) es x) + cond (nat_eq q k && p y) 1 0
+    ≡ count_by (λ e. nat_eq q e.0 && p e.1) es + cond (nat_eq q k && p x) 1 0
+count_pair-set p q es k x y here = sum_by-set (λ e. cond (nat_eq q e.0 && p e.1) 1 0) es k x y here
+
+-- no more entries have a key and a value that passes than have such a value
+pub count_pair-le : {X : Type 0} (p : X → Bool) (q : ℕ) (es : List (ℕ × X)) → count_by (λ e. nat_eq q e.0 && p e.1) es ≤ count_by p (values_of es)
+count_pair-le p q [] = omega arith
+count_pair-le p q (e ∷ es) =
+    let first = less (nat_eq q e.0) (p e.1) in
+    omega (arith, count_pair-le p q es, sum_by-cons (λ y. cond (nat_eq q y.0 && p y.1) 1 0) e es, sum_by-cons (λ y. cond (p y) 1 0) e.1 (values_of es))
+  where
+    less : (a b : Bool) → cond (a && b) 1 0 ≤ cond b 1 0
+    less true b = omega arith
+    less false b = omega arith
+
+-- nor do the entries of two keys together
+pub count_pair-apart : {X : Type 0} (p : X → Bool) (q r : ℕ) (es : List (ℕ × X)) → q ≢ r
+    → count_by (λ e. nat_eq q e.0 && p e.1) es + count_by (λ e. nat_eq r e.0 && p e.1) es ≤ count_by p (values_of es)
+count_pair-apart p q r [] differ = omega arith
+count_pair-apart p q r (e ∷ es) differ =
+    let first = less e.0 (p e.1) in
+    omega (arith, count_pair-apart p q r es differ, sum_by-cons (λ y. cond (nat_eq q y.0 && p y.1) 1 0) e es, sum_by-cons (λ y. cond (nat_eq r y.0 && p y.1) 1 0) e es, sum_by-cons (λ y. cond (p y) 1 0) e.1 (values_of es))
+  where
+    less : (k : ℕ) (b : Bool) → cond (nat_eq q k && b) 1 0 + cond (nat_eq r k && b) 1 0 ≤ cond b 1 0
+    less k b = grind (arith, nat_tests)
+
+-- a value that passes has a key
+pub count_pair-some : {X : Type 0} (p : X → Bool) (es : List (ℕ × X)) → 1 ≤ count_by p (values_of es) → (q : ℕ) × (1 ≤ count_by (λ e. nat_eq q e.0 && p e.1) es)
+count_pair-some p [] some = absurd (omega arith)
+count_pair-some p ((k, x) ∷ es) some = by (p x) refl (λ h. count_pair-some p es h)
+  where
+    by : (b : Bool) → p x ≡ b → (1 ≤ count_by p (values_of es) → (q : ℕ) × (1 ≤ count_by (λ e. nat_eq q e.0 && p e.1) es)) → (q : ℕ) × (1 ≤ count_by (λ e. nat_eq q e.0 && p e.1) ((k, x) ∷ es))
+    by true is rest =
+        let one : ◌≡◌ {A = ℕ} (cond (nat_eq k k && p x) 1 0) 1 = rw (eq-eqb k k refl, is) refl in
+        (k, omega (arith, sum_by-cons (λ y. cond (nat_eq k y.0 && p y.1) 1 0) (k, x) es))
+    by false is rest =
+        let none : ◌≡◌ {A = ℕ} (cond (p x) 1 0) 0 = rw is refl in
+        let (q, h) = rest (omega (arith, some, sum_by-cons (λ y. cond (p y) 1 0) x (values_of es))) in
+        (q, omega (arith, sum_by-cons (λ y. cond (nat_eq q y.0 && p y.1) 1 0) (k, x) es))
+
+-- no more entries have a key and a value that passes than have the key
+pub count_pair-le_times : {X : Type 0} (p : X → Bool) (q : ℕ) (es : List (ℕ × X)) → count_by (λ e. nat_eq q e.0 && p e.1) es ≤ count_by (λ e. nat_eq q e.0) es
+count_pair-le_times p q [] = omega arith
+count_pair-le_times p q (e ∷ es) =
+    let first = less (nat_eq q e.0) (p e.1) in
+    omega (arith, count_pair-le_times p q es, sum_by-cons (λ y. cond (nat_eq q y.0 && p y.1) 1 0) e es, sum_by-cons (λ y. cond (nat_eq q y.0) 1 0) e es)
+  where
+    less : (a b : Bool) → cond (a && b) 1 0 ≤ cond a 1 0
+    less true true = omega arith
+    less true false = omega arith
+    less false b = omega arith
+
+-- a key that is not found has no entry that passes
+pub count_pair-absent : {X : Type 0} (p : X → Bool) (q : ℕ) (es : List (ℕ × X)) → lookup (nat_eq q) es ≡ None → count_by (λ e. nat_eq q e.0 && p e.1) es ≡ 0
+count_pair-absent p q es absent = omega (arith, times-absent es q absent, count_pair-le_times p q es)
+
+-- a key that is there once has an entry that passes exactly where its value does
+pub count_pair-found : {X : Type 0} (p : X → Bool) (q : ℕ) (es : List (ℕ × X)) (x : X)
+    → lookup (nat_eq q) es ≡ Some x → count_by (λ e. nat_eq q e.0) es ≤ 1 → count_by (λ e. nat_eq q e.0 && p e.1) es ≡ cond (p x) 1 0
+count_pair-found p q [] x found few = cc
+count_pair-found p q ((k, y) ∷ es) x found few = by (nat_eq q k) refl found (λ h few. count_pair-found p q es x h few)
+  where
+    by : (b : Bool) → nat_eq q k ≡ b → cond b (Some y) (lookup (nat_eq q) es) ≡ Some x
+        → (lookup (nat_eq q) es ≡ Some x → count_by (λ e. nat_eq q e.0) es ≤ 1 → count_by (λ e. nat_eq q e.0 && p e.1) es ≡ cond (p x) 1 0)
+        → count_by (λ e. nat_eq q e.0 && p e.1) ((k, y) ∷ es) ≡ cond (p x) 1 0
+    by true is h rest =
+        let value : y ≡ x = cc in
+        let one : ◌≡◌ {A = ℕ} (cond (nat_eq q k) 1 0) 1 = rw is refl in
+        let here : ◌≡◌ {A = ℕ} (cond (nat_eq q k && p y) 1 0) (cond (p x) 1 0) = rw (is, value) refl in
+        omega (arith, few, count_pair-le_times p q es, sum_by-cons (λ e. cond (nat_eq q e.0 && p e.1) 1 0) (k, y) es, sum_by-cons (λ e. cond (nat_eq q e.0) 1 0) (k, y) es)
+    by false is h rest =
+        let none : ◌≡◌ {A = ℕ} (cond (nat_eq q k) 1 0) 0 = rw is refl in
+        let no : ◌≡◌ {A = ℕ} (cond (nat_eq q k && p y) 1 0) 0 = rw is refl in
+        let few_left : count_by (λ e. nat_eq q e.0) es ≤ 1 = omega (arith, few, sum_by-cons (λ e. cond (nat_eq q e.0) 1 0) (k, y) es) in
+        omega (arith, rest h few_left, sum_by-cons (λ e. cond (nat_eq q e.0 && p e.1) 1 0) (k, y) es)

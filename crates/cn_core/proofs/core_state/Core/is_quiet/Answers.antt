@@ -1,0 +1,8 @@
+use Rattle.std.proofs.Common.{◌∙◌, sym}
+use Rattle.std.proofs.lemmas.Bool.{eqb-true}
+use Rattle.cn_core.proofs.TightLemmas.{tight-state}
+use Rattle.cn_core.proofs.core_state.Core.is_quiet.Goals as goal
+
+pub returns-clause-tight : goal.returns-clause-tight
+returns-clause-tight c = λ quiet.
+    rw (← c.self.view_is) (tight-state _ c.self.invariant (sym c.inside.ensures ∙ eqb-true c.inside.result 0 quiet))

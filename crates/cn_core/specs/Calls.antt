@@ -1,0 +1,106 @@
+-- What the calls of a core answer and leave.
+use Rattle.std.specs.Prelude.{◌≡◌, ℕ, ◌%◌, ◌<◌, ◌≤◌, List, [], ◌∷◌, None, Some, Result, Ok, Err, length, IsSome}
+use Rattle.cn_spec.specs.declared.limits.TheConstants.{MOST_CLIENTS}
+use Rattle.cn_spec.specs.Step.{name_of}
+use Rattle.cn_wiring.specs.declared.end.End.TheVariants.{Balancer, Exit}
+use Rattle.cn_wiring.specs.Table.{Table, end_of, output_wire}
+use Rattle.cn_core.specs.declared.position.Position.TheVariants.{On, Holds}
+use Rattle.cn_core.specs.declared.reply.Moved.{Moved}
+use Rattle.cn_core.specs.declared.reply.Moved.TheVariants.{On as Passed, Out}
+use Rattle.cn_core.specs.declared.reply.EnterFault.{EnterFault}
+use Rattle.cn_core.specs.declared.reply.EnterFault.TheVariants.{NoSuchEntry, AlreadyIn, EpochFull, Memory}
+use Rattle.cn_core.specs.declared.reply.StepFault.{StepFault}
+use Rattle.cn_core.specs.declared.reply.StepFault.TheVariants.{Stranger, HasName}
+use Rattle.cn_core.specs.declared.reply.Reply.{Reply}
+use Rattle.cn_core.specs.declared.reply.Reply.TheVariants.{Entered, EnterRefused, Stepped, StepRefused}
+use Rattle.cn_core.specs.declared.event.Event.{Event}
+use Rattle.cn_core.specs.declared.event.Event.TheVariants.{Enter, Step}
+use Rattle.cn_core.specs.Ledger.{Ledger}
+use Rattle.cn_core.specs.Events.{Enters, Passes, Leaves}
+use Rattle.cn_core.specs.StateLedger.{ledger_of}
+use Rattle.cn_core.specs.State.{State, position_in, past, after_enter, after_step}
+use Rattle.cn_core.specs.History.{Agrees, MayAnswer, MayAnswerAll, grown, grown_by, moved_past}
+
+-- the reply of an enter
+abbrev pub entered_reply : {U : Type 0} → Result U EnterFault → Reply
+entered_reply (Ok done) = Entered
+entered_reply (Err fault) = EnterRefused fault
+
+-- the reply of a step
+abbrev pub stepped_reply : Result Moved StepFault → Reply
+stepped_reply (Ok moved) = Stepped moved
+stepped_reply (Err fault) = StepRefused fault
+
+-- an enter with this reply takes the old state to the new one
+abbrev pub EntersTo : State → ℕ → ℕ → Reply → State → Type 0
+EntersTo old client entry Entered new =
+    (entry < old.network.table.entries) × (position_in old.clients client ≡ None) × (length old.clients < MOST_CLIENTS) × (new ≡ after_enter old client entry)
+EntersTo old client entry (EnterRefused NoSuchEntry) new = (old.network.table.entries ≤ entry) × (new ≡ old)
+EntersTo old client entry (EnterRefused AlreadyIn) new =
+    (entry < old.network.table.entries) × IsSome (position_in old.clients client) × (new ≡ old)
+EntersTo old client entry (EnterRefused EpochFull) new =
+    (entry < old.network.table.entries) × (position_in old.clients client ≡ None) × (MOST_CLIENTS ≤ length old.clients) × (new ≡ old)
+EntersTo old client entry (EnterRefused Memory) new =
+    (entry < old.network.table.entries) × (position_in old.clients client ≡ None) × (length old.clients < MOST_CLIENTS) × (new ≡ old)
+EntersTo old client entry (Stepped moved) new = ⊥
+EntersTo old client entry (StepRefused fault) new = ⊥
+
+-- a step with this reply takes the old state to the new one
+abbrev pub StepsTo : State → ℕ → Reply → State → Type 0
+StepsTo old client (Stepped moved) new =
+    (wire : ℕ) × (position_in old.clients client ≡ Some (On wire))
+    × (moved ≡ moved_past old.network.table (end_of old.network.table wire) (past old (end_of old.network.table wire)))
+    × (new ≡ after_step old client (end_of old.network.table wire))
+StepsTo old client (StepRefused Stranger) new = (position_in old.clients client ≡ None) × (new ≡ old)
+StepsTo old client (StepRefused (HasName name)) new = (position_in old.clients client ≡ Some (Holds name)) × (new ≡ old)
+StepsTo old client Entered new = ⊥
+StepsTo old client (EnterRefused fault) new = ⊥
+
+-- an event with this reply takes the old state to the new one
+abbrev pub TakesTo : State → Event → Reply → State → Type 0
+TakesTo old (Enter client entry) reply new = EntersTo old client entry reply new
+TakesTo old (Step client) reply new = StepsTo old client reply new
+
+-- by every history that the old state agrees with this is an answer to the event, and the new state agrees with the history after it
+abbrev pub AnswersByHistory : State → Event → Reply → State → Type 0
+AnswersByHistory old event reply new =
+    (history : List Event) → Agrees old history → MayAnswer old.network.table history event reply × Agrees new (grown history event reply)
+
+-- by every history that the old state agrees with these are answers to the events, and the new state agrees with the history after them
+abbrev pub RunsByHistory : State → List Event → List Reply → State → Type 0
+RunsByHistory old events replies new =
+    (history : List Event) → Agrees old history
+    → MayAnswerAll old.network.table history events replies × Agrees new (grown_by history events replies)
+
+-- a step that moved a client so is one event on the ledger: a passage, or a leave
+abbrev pub IsMoveOf : Table → Ledger → Ledger → ℕ → Moved → Type 0
+IsMoveOf table old new client (Passed balancer number wire) =
+    (from : ℕ) × Passes table old new client from balancer × (number ≡ old.count (Balancer balancer)) × (wire ≡ output_wire table balancer (number % 2))
+IsMoveOf table old new client (Out exit visit name) =
+    (from : ℕ) × Leaves table old new client from exit × (visit ≡ old.count (Exit exit)) × (name ≡ name_of table.width exit visit)
+
+-- an accepted enter is one event on the ledger
+abbrev pub EntersLedger : State → ℕ → ℕ → State → Type 0
+EntersLedger old client entry new =
+    (history : List Event) → Agrees old history
+    → Enters old.network.table (ledger_of old history) (ledger_of new (Enter client entry ∷ history)) client entry
+
+-- an accepted step is one event on the ledger
+abbrev pub MovesLedger : State → ℕ → Moved → State → Type 0
+MovesLedger old client moved new =
+    (history : List Event) → Agrees old history
+    → IsMoveOf old.network.table (ledger_of old history) (ledger_of new (Step client ∷ history)) client moved
+
+-- where the event is accepted, it is one event on the ledger
+abbrev pub IsLedgerEvent : State → Event → Reply → State → Type 0
+IsLedgerEvent old (Enter client entry) Entered new = EntersLedger old client entry new
+IsLedgerEvent old (Step client) (Stepped moved) new = MovesLedger old client moved new
+IsLedgerEvent old event reply new = Unit {0}
+
+-- events with these replies take the old state to the new one, one after another, each accepted one by one event on the ledger
+abbrev pub RunsTo : State → List Event → List Reply → State → Type 0
+RunsTo old [] [] new = new ≡ old
+RunsTo old (event ∷ events) (reply ∷ replies) new =
+    (mid : State) × TakesTo old event reply mid × IsLedgerEvent old event reply mid × RunsTo mid events replies new
+RunsTo old [] (reply ∷ replies) new = ⊥
+RunsTo old (event ∷ events) [] new = ⊥

@@ -1,0 +1,9 @@
+pub mod Ledger
+pub mod Events
+pub mod State
+pub mod History
+pub mod Passages
+pub mod StateLedger
+pub mod Tight
+pub mod Calls
+pub mod WorkedNetworks

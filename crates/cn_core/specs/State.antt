@@ -1,0 +1,129 @@
+-- What a core keeps, as contracts see it.
+use Rattle.std.specs.Prelude.{◌≡◌, ℕ, ◌+◌, ◌%◌, ◌<◌, ◌≤◌, Bool, true, false, nat_eq, nat_le, List, ◌∷◌, [], ◌++◌, Option, None, Some, slice_index, slice_set, length, count_by, replicate}
+use Rattle.std.specs.Map.{lookup, set_value, values_of}
+use Rattle.cn_spec.specs.Step.{name_of}
+use Rattle.cn_spec.specs.Sums.{sum_below}
+use Rattle.cn_spec.specs.declared.limits.TheConstants.{MOST_CLIENTS}
+use Rattle.cn_wiring.specs.declared.end.End.{End}
+use Rattle.cn_wiring.specs.declared.end.End.TheVariants.{Balancer, Exit}
+use Rattle.cn_wiring.specs.Table.{Table, output_wire}
+use Rattle.cn_wiring.specs.Network.{Network, IsNetwork}
+use Rattle.cn_core.specs.declared.position.Position.{Position}
+use Rattle.cn_core.specs.declared.position.Position.TheVariants.{On, Holds}
+
+-- a network with the counts of one epoch, and its clients in the order in which they entered
+pub record State : Type 0 where
+  pub network : Network
+  -- how many came in by each entry, passed each balancer, and left by each exit
+  pub entered : List ℕ
+  pub passes : List ℕ
+  pub visits : List ℕ
+  pub clients : List (ℕ × Position)
+
+-- the position of a client, if it is in the list
+abbrev pub position_in : List (ℕ × Position) → ℕ → Option Position
+position_in clients client = lookup (nat_eq client) clients
+
+-- the clients, one of them at another position
+abbrev pub with_position : List (ℕ × Position) → ℕ → Position → List (ℕ × Position)
+with_position clients client position = set_value (nat_eq client) clients position
+
+-- one more at a place of a list of counts
+abbrev pub one_more : List ℕ → ℕ → List ℕ
+one_more counts at = slice_set counts at (slice_index counts at + 1)
+
+-- where the n-th token, from 0, comes to that goes past an end
+abbrev pub position_past : Table → End → ℕ → Position
+position_past table (Balancer b) n = On (output_wire table b (n % 2))
+position_past table (Exit i) n = Holds (name_of table.width i n)
+
+-- how many tokens went past an end
+abbrev pub past : State → End → ℕ
+past s (Balancer b) = slice_index s.passes b
+past s (Exit i) = slice_index s.visits i
+
+-- the state after a client enters
+abbrev pub after_enter : State → ℕ → ℕ → State
+after_enter s client entry = record {
+  network = s.network;
+  entered = one_more s.entered entry;
+  passes = s.passes;
+  visits = s.visits;
+  clients = s.clients ++ (client, On entry) ∷ [];
+}
+
+-- the state after a client steps off a wire with this end
+abbrev pub after_step : State → ℕ → End → State
+after_step s client (Balancer b) = record {
+  network = s.network;
+  entered = s.entered;
+  passes = one_more s.passes b;
+  visits = s.visits;
+  clients = with_position s.clients client (position_past s.network.table (Balancer b) (slice_index s.passes b));
+}
+after_step s client (Exit i) = record {
+  network = s.network;
+  entered = s.entered;
+  passes = s.passes;
+  visits = one_more s.visits i;
+  clients = with_position s.clients client (position_past s.network.table (Exit i) (slice_index s.visits i));
+}
+
+-- a network that nobody has entered
+abbrev pub start : Network → State
+start network = record {
+  network = network;
+  entered = replicate network.table.entries 0;
+  passes = replicate network.table.balancers 0;
+  visits = replicate network.table.width 0;
+  clients = [];
+}
+
+-- does the token stand on an output of this balancer or of a later one, or is it out?
+abbrev pub is_past : Table → ℕ → Position → Bool
+is_past table b (On wire) = nat_le (output_wire table b 0) wire
+is_past table b (Holds name) = true
+
+-- does the client hold a name?
+abbrev pub is_named : Position → Bool
+is_named (On wire) = false
+is_named (Holds name) = true
+
+-- is the client inside?
+abbrev pub is_inside : Position → Bool
+is_inside (On wire) = true
+is_inside (Holds name) = false
+
+-- how many clients are inside
+abbrev pub inside_in : State → ℕ
+inside_in s = count_by is_inside (values_of s.clients)
+
+-- the name at a position, if there is one
+abbrev pub name_at : Option Position → Option ℕ
+name_at None = None
+name_at (Some (On wire)) = None
+name_at (Some (Holds name)) = Some name
+
+-- the name of a client, if it holds one
+abbrev pub name_in : State → ℕ → Option ℕ
+name_in s client = name_at (position_in s.clients client)
+
+-- how often a client is in the list
+abbrev pub times_in : ℕ → List (ℕ × Position) → ℕ
+times_in client clients = count_by (λ e. nat_eq client e.0) clients
+
+-- the counts and positions of a state fit its network and each other
+pub record IsState (s : State) : Type 0 where
+  pub network : IsNetwork s.network
+  pub entries : length s.entered ≡ s.network.table.entries
+  pub balancers : length s.passes ≡ s.network.table.balancers
+  pub exits : length s.visits ≡ s.network.table.width
+  pub few : length s.clients ≤ MOST_CLIENTS
+  -- each client is there once, and each came in by an entry
+  pub once : (client : ℕ) → times_in client s.clients ≤ 1
+  pub all : sum_below s.network.table.entries (λ entry. slice_index s.entered entry) ≡ length s.clients
+  pub on_wires : (client wire : ℕ) → position_in s.clients client ≡ Some (On wire) → wire < length s.network.table.ends
+  -- no count is more than the clients who can have made it
+  pub entered_few : (entry : ℕ) → slice_index s.entered entry ≤ length s.clients
+  pub passes_few : (b : ℕ) → slice_index s.passes b ≤ count_by (is_past s.network.table b) (values_of s.clients)
+  pub visits_few : (i : ℕ) → slice_index s.visits i ≤ count_by is_named (values_of s.clients)

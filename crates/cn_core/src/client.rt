@@ -1,0 +1,10 @@
+//! A client and where it comes in.
+
+/// A client that asks for a name, and the entry of the network by which it comes.
+#[derive(Clone, Copy, Debug, PartialEq, Eq)]
+pub struct Client {
+    /// The client's identity.
+    pub id: u64,
+    /// The number of its entry.
+    pub entry: u64,
+}

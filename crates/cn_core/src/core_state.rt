@@ -1,0 +1,270 @@
+//! The running network of one epoch, by one thread.
+
+ghost use Rattle.std.specs.Prelude.{◌≡◌, ℕ, ◌<◌, ◌≤◌, ◌↔◌, List, [], Some, length, slice_index, IfOk, OnOk, OnErr, IfSome, IsTrue};
+ghost use Rattle.cn_spec.specs.declared.limits.TheConstants.{MOST_CLIENTS};
+ghost use Rattle.cn_spec.specs.Step.{step as share};
+ghost use Rattle.cn_spec.specs.Sums.{Agree, sum_below};
+ghost use Rattle.cn_wiring.specs.Table.{IsFullFlow, sum_at};
+ghost use Rattle.cn_wiring.specs.declared.end.End.TheVariants.{Balancer};
+ghost use Rattle.cn_core.specs.State.{one_more};
+
+use crate::clients::Clients;
+use crate::event::Event;
+use crate::position::Position;
+use crate::reply::{EnterFault, Moved, Reply, StepFault};
+use cn_balancer::output_of;
+use cn_spec::limits::MOST_CLIENTS;
+use cn_wiring::{Counting, End};
+use std::alloc::{AllocError, Global};
+use std::hash::RandomState;
+use std::marker::Model;
+
+/// The running network of one epoch: its counts, and its clients with their positions. A token is its client; one event
+/// is one atomic step of the network.
+///
+/// Each look-up goes through the list of the epoch's clients.
+#[derive(Drop)]
+pub struct Core<'a> {
+    alloc: Global,
+    network: &'a Counting,
+    entered: Vec<u64>,
+    passes: Vec<u64>,
+    visits: Vec<u64>,
+    clients: Clients,
+}
+
+impl<'a> Model for Core<'a> {
+    ghost use Rattle.cn_core.specs.State.{State};
+    ghost use Rattle.cn_core.specs.StateLedger.{IsCore};
+
+    ghost Value = { State };
+
+    ghost view = { λ c. record { network = c.network.now; entered = c.entered.items; passes = c.passes.items; visits = c.visits.items; clients = c.clients } };
+
+    ghost invariant = { λ c. IsCore (record { network = c.network.now; entered = c.entered.items; passes = c.passes.items; visits = c.visits.items; clients = c.clients }) };
+}
+
+/// The count at a place.
+fn count_at(counts: &[u64], at: usize) -> u64
+    requires { at < length counts.now }
+    ensures { result ≡ slice_index counts.now at }
+{
+    counts[at]
+}
+
+/// Counts one more at a place, and answers the count before.
+fn count_one(counts: &mut Vec<u64>, at: usize) -> u64
+    requires in_range { at < length counts.old.items }
+    requires small { slice_index counts.old.items at ≤ MOST_CLIENTS }
+    ensures before { result ≡ slice_index counts.old.items at }
+    ensures after { counts.new.items ≡ one_more counts.old.items at }
+{
+    let before = counts[at];
+    counts[at] = before + 1;
+    before
+}
+
+impl<'a> Core<'a> {
+    ghost use Rattle.cn_core.specs.declared.event.Event.{Event};
+    ghost use Rattle.cn_core.specs.declared.event.Event.TheVariants.{Enter, Step};
+    ghost use Rattle.cn_core.specs.State.{start, name_in, inside_in, position_in};
+    ghost use Rattle.cn_core.specs.History.{Agrees, enters_of, inside_of};
+    ghost use Rattle.cn_core.specs.Ledger.{IsSound};
+    ghost use Rattle.cn_core.specs.StateLedger.{ledger_of};
+    ghost use Rattle.cn_core.specs.Tight.{IsBoundedState, IsTightState};
+    ghost use Rattle.cn_core.specs.Calls.{AnswersByHistory, EntersLedger, EntersTo, IsLedgerEvent, MovesLedger, RunsByHistory, RunsTo, StepsTo, TakesTo, entered_reply, stepped_reply};
+
+    /// A network that nobody has entered. The random state is for the table of names that a later form of the core
+    /// keeps; this one keeps a plain list.
+    ///
+    /// # Errors
+    /// `AllocError` where the counts get no memory.
+    pub fn new(
+        alloc: Global,
+        network: &'a Counting,
+        _state: RandomState,
+    ) -> Result<Self, AllocError>
+        ensures start { IfOk result (λ core. core ≡ start network.now) }
+        ensures history { IfOk result (λ core. Agrees core []) }
+    {
+        Ok(Core {
+            alloc,
+            network,
+            entered: vec![in alloc; 0; network.entries() as usize]?,
+            passes: vec![in alloc; 0; network.balancers() as usize]?,
+            visits: vec![in alloc; 0; network.width() as usize]?,
+            clients: Clients::new(alloc),
+        })
+    }
+
+    /// How many clients entered. In every state: some history leads to it, and by each that does its ledger is sound; no
+    /// exit has let out more than its share of these clients, and their names differ and are below their number.
+    pub fn entered(&self) -> u64
+        ensures value { result ≡ length self.now.clients }
+        ensures few { result ≤ MOST_CLIENTS }
+        ensures by_entry { sum_below self.now.network.table.entries (λ entry. slice_index self.now.entered entry) ≡ result }
+        ensures by_history { (history : List Event) → Agrees self.now history → result ≡ enters_of history }
+        ensures reached { (history : List Event) × Agrees self.now history }
+        ensures sound { (history : List Event) → Agrees self.now history → IsSound self.now.network.table (ledger_of self.now history) }
+        ensures bounded { IsBoundedState self.now }
+    {
+        self.clients.len() as u64
+    }
+
+    /// How many clients are inside: they entered and hold no name.
+    pub fn inside(&self) -> u64
+        ensures value { result ≡ inside_in self.now }
+        ensures by_history { (history : List Event) → Agrees self.now history → result ≡ inside_of self.now.network.table history }
+    {
+        self.clients.inside() as u64
+    }
+
+    /// Whether nobody is inside. Then each exit has let out its share of the clients that entered, and they hold the names
+    /// below their number, each once.
+    pub fn is_quiet(&self) -> bool
+        ensures value { IsTrue result ↔ (inside_in self.now ≡ 0) }
+        ensures tight { IsTrue result → IsTightState self.now }
+    {
+        self.clients.inside() == 0
+    }
+
+    /// How many tokens passed a balancer: at most what the full flow of the clients that entered brings there.
+    pub fn balancer_count(&self, balancer: u32) -> u64
+        requires { balancer < self.now.network.table.balancers }
+        ensures value { result ≡ slice_index self.now.passes balancer }
+        ensures few { result ≤ length self.now.clients }
+        ensures flow { (f : ℕ → ℕ) → IsFullFlow self.now.network.table f → Agree self.now.network.table.entries f (λ entry. slice_index self.now.entered entry) → result ≤ sum_at self.now.network.table (Balancer balancer) f }
+    {
+        count_at(&self.passes, balancer as usize)
+    }
+
+    /// How many tokens left by an exit: at most its share of the clients that entered.
+    pub fn exit_count(&self, exit: u32) -> u64
+        requires { exit < self.now.network.table.width }
+        ensures value { result ≡ slice_index self.now.visits exit }
+        ensures few { result ≤ share (length self.now.clients) self.now.network.table.width exit }
+    {
+        count_at(&self.visits, exit as usize)
+    }
+
+    /// The name of a client, if it holds one. It is below the number of clients that entered, and no other client holds it.
+    pub fn name(&self, client: u64) -> Option<u64>
+        ensures value { result ≡ name_in self.now client }
+        ensures below { IfSome result (λ name. name < length self.now.clients) }
+        ensures own { IfSome result (λ name. (other : ℕ) → name_in self.now other ≡ Some name → other ≡ client) }
+    {
+        match self.clients.position(client) {
+            Some(Position::Holds(name)) => Some(name),
+            _ => None,
+        }
+    }
+
+    /// A client comes in by an entry: its token stands last on the entry's wire. An accepted enter is one event on the
+    /// ledger; a refused one changes nothing.
+    ///
+    /// # Errors
+    /// The first that stands: `NoSuchEntry`, `AlreadyIn` (the client is inside, or holds a name), `EpochFull`, `Memory`.
+    pub fn enter(&mut self, client: u64, entry: u64) -> Result<(), EnterFault>
+        ensures event { EntersTo self.old client entry (entered_reply result) self.new }
+        ensures history { AnswersByHistory self.old (Enter client entry) (entered_reply result) self.new }
+        ensures ledger { OnOk result (EntersLedger self.old client entry self.new) }
+        ensures network { self.new.network ≡ self.old.network }
+    {
+        if entry >= u64::from(self.network.entries()) {
+            return Err(EnterFault::NoSuchEntry);
+        }
+        if self.clients.position(client).is_some() {
+            return Err(EnterFault::AlreadyIn);
+        }
+        if self.clients.len() as u64 >= MOST_CLIENTS {
+            return Err(EnterFault::EpochFull);
+        }
+        if self
+            .clients
+            .add(client, Position::On(entry as u32))
+            .is_err()
+        {
+            return Err(EnterFault::Memory);
+        }
+        count_one(&mut self.entered, entry as usize);
+        Ok(())
+    }
+
+    /// A client takes its next step: past the balancer at the end of its wire, or out by the exit there with a name. An
+    /// accepted step is one event on the ledger; a refused one changes nothing.
+    ///
+    /// # Errors
+    /// `Stranger` where the client did not enter, `HasName` with the name that it holds.
+    pub fn step(&mut self, client: u64) -> Result<Moved, StepFault>
+        ensures event { StepsTo self.old client (stepped_reply result) self.new }
+        ensures history { AnswersByHistory self.old (Step client) (stepped_reply result) self.new }
+        ensures ledger { IfOk result (λ moved. MovesLedger self.old client moved self.new) }
+        ensures network { self.new.network ≡ self.old.network }
+    {
+        let wire = match self.clients.position(client) {
+            None => return Err(StepFault::Stranger),
+            Some(Position::Holds(name)) => return Err(StepFault::HasName(name)),
+            Some(Position::On(wire)) => wire,
+        };
+        match self.network.end(wire) {
+            End::Balancer(balancer) => {
+                let number = count_one(&mut self.passes, balancer as usize);
+                let wire = self.network.entries() + 2 * balancer + output_of(number);
+                self.clients.set_position(client, Position::On(wire));
+                Ok(Moved::On {
+                    balancer,
+                    number,
+                    wire,
+                })
+            }
+            End::Exit(exit) => {
+                let visit = count_one(&mut self.visits, exit as usize);
+                let name = u64::from(exit) + u64::from(self.network.width()) * visit;
+                self.clients.set_position(client, Position::Holds(name));
+                Ok(Moved::Out { exit, visit, name })
+            }
+        }
+    }
+
+    /// The reply to one event.
+    fn answer(&mut self, event: Event) -> Reply
+        ensures event { TakesTo self.old event result self.new }
+        ensures history { AnswersByHistory self.old event result self.new }
+        ensures ledger { IsLedgerEvent self.old event result self.new }
+        ensures network { self.new.network ≡ self.old.network }
+    {
+        match event {
+            Event::Enter { client, entry } => match self.enter(client, entry) {
+                Ok(()) => Reply::Entered,
+                Err(fault) => Reply::EnterRefused(fault),
+            },
+            Event::Step { client } => match self.step(client) {
+                Ok(moved) => Reply::Stepped(moved),
+                Err(fault) => Reply::StepRefused(fault),
+            },
+        }
+    }
+
+    /// One event after another, as by [`Core::enter`] and [`Core::step`], and their replies. The room for the replies is
+    /// taken first.
+    ///
+    /// # Errors
+    /// `AllocError` where the replies get no room; then no event has been applied. An enter that meets want of memory is a
+    /// reply like the others.
+    pub fn run(&mut self, events: &[Event]) -> Result<Vec<Reply>, AllocError>
+        ensures events { IfOk result (λ replies. RunsTo self.old events.now replies.items self.new) }
+        ensures history { IfOk result (λ replies. RunsByHistory self.old events.now replies.items self.new) }
+        ensures network { self.new.network ≡ self.old.network }
+        ensures refused { OnErr result (self.new ≡ self.old) }
+    {
+        let mut replies = Vec::with_capacity(self.alloc, events.len())?;
+        for event in events {
+            let reply = self.answer(*event);
+            replies.push_reserved(reply);
+        }
+        Ok(replies)
+    }
+}
+
+#[cfg(test)]
+mod tests;

@@ -1,0 +1,53 @@
+//! What a core answers.
+
+/// Where a step led.
+#[derive(Clone, Copy, Debug, PartialEq, Eq)]
+pub enum Moved {
+    /// The token passed a balancer, as its passage `number`, and stands on `wire`.
+    On {
+        balancer: u32,
+        number: u64,
+        wire: u32,
+    },
+    /// The token left by an exit, as its visit `visit`, and the client holds `name`.
+    Out {
+        exit: u32,
+        visit: u64,
+        name: u64,
+    },
+}
+
+/// Why an enter is refused; the first cause that stands is told.
+#[derive(Clone, Copy, Debug, PartialEq, Eq)]
+pub enum EnterFault {
+    /// The network has no entry with this number.
+    NoSuchEntry,
+    /// The client is inside, or holds a name.
+    AlreadyIn,
+    /// The epoch has as many clients as it may have.
+    EpochFull,
+    /// A growth was refused.
+    Memory,
+}
+
+/// Why a step is refused.
+#[derive(Clone, Copy, Debug, PartialEq, Eq)]
+pub enum StepFault {
+    /// The client did not enter.
+    Stranger,
+    /// The client holds this name already.
+    HasName(u64),
+}
+
+/// The answer to an event.
+#[derive(Clone, Copy, Debug, PartialEq, Eq)]
+pub enum Reply {
+    /// The enter is accepted.
+    Entered,
+    /// The enter is refused.
+    EnterRefused(EnterFault),
+    /// The step is taken.
+    Stepped(Moved),
+    /// The step is refused.
+    StepRefused(StepFault),
+}
