@@ -1,0 +1,12 @@
+use Rattle.std.proofs.Common.{[]}
+use Rattle.std.specs.Prelude.{MatchResult}
+use Rattle.cn_report.specs.Records.{HasRead, records_of}
+use Rattle.cn_report.specs.Schedule.{IsSchedule, IsScheduleFault}
+use Rattle.cn_report.proofs.ScheduleRecords.{known_map}
+use Rattle.cn_report.proofs.schedule.read_schedule.Goals as goal
+
+pub returns : goal.returns
+returns g c =
+    known_map (g.R.Read.remaining c.args.reader) (λ text. HasRead g.R.Read.remaining c.open_rows-rows.result text [])
+    (λ text. MatchResult c.take_events.result (λ v. IsSchedule (records_of text) v.items) (IsScheduleFault (records_of text)))
+    c.open_rows-rows.ensures.opened c.take_events.ensures

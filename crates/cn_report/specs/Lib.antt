@@ -1,0 +1,7 @@
+pub mod Event
+pub mod Number
+pub mod Records
+pub mod ReplayText
+pub mod Schedule
+pub mod Text
+pub mod WiringText
