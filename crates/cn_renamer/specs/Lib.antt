@@ -1,0 +1,5 @@
+pub mod CommandLine
+pub mod Net
+pub mod Replay
+pub mod Show
+pub mod Words

@@ -1,0 +1,73 @@
+-- What a replay has written, by what it answers.
+use Rattle.std.specs.Prelude.{ℕ, ◌≡◌, ◌≢◌, ◌≤◌, List, [], Option, Result, Ok, Err, length, take}
+use Rattle.std.specs.Io.KnownBytes.{Appends}
+use Rattle.cn_wiring.specs.Table.{Table}
+use Rattle.cn_wiring.specs.Network.{Network}
+use Rattle.cn_core.specs.declared.event.Event.{Event}
+use Rattle.cn_core.specs.History.{answers_to, enters_of, grown_by, inside_of}
+use Rattle.cn_report.specs.Records.{records_of}
+use Rattle.cn_report.specs.ReplayText.{replay_text}
+use Rattle.cn_report.specs.Schedule.{IsSchedule, IsScheduleFault}
+use Rattle.cn_report.specs.declared.schedule_fault.ScheduleCause.{ScheduleCause}
+use Rattle.cn_report.specs.declared.schedule_fault.ScheduleCause.TheVariants as cause
+use Rattle.cn_report.specs.declared.schedule_fault.ScheduleFault.{ScheduleFault}
+use Rattle.cn_renamer.specs.Net.{Description, IsNetworkOf}
+use Rattle.cn_renamer.specs.declared.replaying.ReplayFault.{ReplayFault}
+use Rattle.cn_renamer.specs.declared.replaying.ReplayFault.TheVariants.{Schedule, Memory, Write}
+
+-- the events of a schedule that a network accepts which nobody has entered, the newest first
+abbrev pub history_of : Table → List Event → List Event
+history_of table events = grown_by [] events (answers_to table [] events)
+
+-- the text of the replay of a schedule: its events, and their answers by history
+abbrev pub replayed_text : Network → List Event → List ℕ
+replayed_text network events =
+    replay_text network events (answers_to network.table [] events) 0 (enters_of (history_of network.table events)) (inside_of network.table (history_of network.table events))
+
+-- the bytes that were read are a schedule, and this is the text of its replay on a network of this kind and width
+pub record IsReplayOf (net : Description) (bytes text : List ℕ) : Type 0 where
+  pub events : List Event
+  pub network : Network
+  pub schedule : IsSchedule (records_of bytes) events
+  pub built : IsNetworkOf net network
+  pub replayed : text ≡ replayed_text network events
+
+-- by its answer, a replay has written the whole text, its first bytes, or nothing: what the writer holds before and after
+abbrev pub HasReplayed : {U : Type 0} → Description → List ℕ → Option (List ℕ) → Option (List ℕ) → Result U ReplayFault → Type 0
+HasReplayed net bytes old new (Ok done) = (text : List ℕ) × IsReplayOf net bytes text × Appends old new text
+HasReplayed net bytes old new (Err (Schedule fault)) = IsScheduleFault (records_of bytes) fault × (new ≡ old)
+HasReplayed net bytes old new (Err Memory) = new ≡ old
+HasReplayed net bytes old new (Err (Write written)) =
+    (text : List ℕ) × IsReplayOf net bytes text × (written ≤ length text) × Appends old new (take written text)
+
+-- what a replay tells of a fault of the schedule: want of memory apart
+abbrev pub replay_fault_by : ScheduleFault → ScheduleCause → ReplayFault
+replay_fault_by fault cause.Memory = Memory
+replay_fault_by fault cause.Read = Schedule fault
+replay_fault_by fault cause.Header = Schedule fault
+replay_fault_by fault cause.FieldCount = Schedule fault
+replay_fault_by fault cause.Op = Schedule fault
+replay_fault_by fault cause.ClientNumber = Schedule fault
+replay_fault_by fault cause.WireNumber = Schedule fault
+replay_fault_by fault cause.ScheduleFull = Schedule fault
+
+abbrev pub replay_fault_of : ScheduleFault → ReplayFault
+replay_fault_of fault = replay_fault_by fault fault.cause
+
+-- a fault of the schedule is never want of memory
+abbrev pub IsMemoryApart : ReplayFault → Type 0
+IsMemoryApart (Schedule fault) = fault.cause ≢ cause.Memory
+IsMemoryApart Memory = Unit {0}
+IsMemoryApart (Write written) = Unit {0}
+
+-- nothing was written, unless a write failed
+abbrev pub IsUntouched : {W : Type 0} → W → W → ReplayFault → Type 0
+IsUntouched old new (Schedule fault) = new ≡ old
+IsUntouched old new Memory = new ≡ old
+IsUntouched old new (Write written) = Unit {0}
+
+-- the status that a fault ends the program with
+abbrev pub status_of_replay : ReplayFault → ℕ
+status_of_replay (Schedule fault) = 1
+status_of_replay Memory = 3
+status_of_replay (Write written) = 3

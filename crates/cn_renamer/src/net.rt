@@ -1,0 +1,78 @@
+//! A network that is built, known by its kind and width.
+
+ghost use Rattle.std.specs.Prelude.{◌≡◌, ◌↔◌, IfOk, IsErrOf};
+ghost use Rattle.cn_wiring.specs.Widths.{IsWidth};
+
+use cn_wiring::{Kind, is_width};
+use std::marker::Model;
+use thiserror::Error;
+
+/// A network that is built. To contracts it is its kind and width.
+#[derive(Clone, Copy, Debug, PartialEq, Eq)]
+pub struct Net {
+    kind: Kind,
+    width: u32,
+}
+
+impl Model for Net {
+    ghost use Rattle.cn_renamer.specs.Net.{Description};
+    ghost use Rattle.cn_wiring.specs.Widths.{IsWidth};
+
+    ghost Value = { Description };
+
+    ghost view = { λ net. record { kind = net.kind; width = net.width } };
+
+    ghost invariant = { λ net. IsWidth net.width };
+
+    ghost inverse = { λ net. record { kind = net.kind; width = net.width } };
+}
+
+/// Why there is no such network.
+#[derive(Clone, Copy, Debug, PartialEq, Eq, Error)]
+pub enum NetFault {
+    /// No network of this width is built.
+    #[error("renamer: no such network")]
+    Width,
+}
+
+impl NetFault {
+    /// The status with which the program ends: 2.
+    pub fn status(&self) -> u8
+        ensures { result ≡ 2 }
+    {
+        2
+    }
+}
+
+impl Net {
+    /// The network of this kind and width.
+    ///
+    /// # Errors
+    /// `NetFault::Width` where [`is_width`] is false.
+    pub fn new(kind: Kind, width: u32) -> Result<Net, NetFault>
+        ensures ok { IfOk result (λ net. (net.kind ≡ kind) × (net.width ≡ width)) }
+        ensures width { IsErrOf result NetFault.Width ↔ (¬ IsWidth width) }
+    {
+        if is_width(width) {
+            Ok(Net { kind, width })
+        } else {
+            Err(NetFault::Width)
+        }
+    }
+
+    /// The kind of the network.
+    pub fn kind(&self) -> Kind
+        ensures kind { result ≡ self.now.kind }
+        ensures built { IsWidth self.now.width }
+    {
+        self.kind
+    }
+
+    /// The width of the network: how many entries or exits it has, whichever is more.
+    pub fn width(&self) -> u32
+        ensures width { result ≡ self.now.width }
+        ensures built { IsWidth self.now.width }
+    {
+        self.width
+    }
+}

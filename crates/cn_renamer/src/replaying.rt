@@ -1,0 +1,158 @@
+//! A schedule, replayed.
+
+ghost use Rattle.std.specs.Prelude.{◌≡◌, ◌↔◌, IfErr, IfOk, IfSome, IsTrue};
+ghost use Rattle.std.specs.List.{All};
+ghost use Rattle.cn_report.specs.ReplayText.{IsTold};
+ghost use Rattle.cn_renamer.specs.Replay.{HasReplayed, IsMemoryApart, IsUntouched, replayed_text};
+
+use crate::building::build;
+use crate::net::Net;
+use cn_core::{Core, EnterFault, Event, Reply};
+use cn_report::{EmitFault, ScheduleCause, ScheduleFault, emit, read_schedule, render_replay};
+use cn_wiring::{BuildFault, Counting};
+use std::alloc::{AllocError, Global};
+use std::hash::RandomState;
+use std::io::{Read, Write};
+use thiserror::Error;
+
+/// Why a replay did not end well. Its text is the line that the program prints.
+#[derive(Clone, Copy, Debug, PartialEq, Eq, Error)]
+pub enum ReplayFault {
+    /// The input is no schedule: its first record with a cause, which is never want of memory.
+    #[error("renamer: record {}: {}", .0.at, .0.cause)]
+    Schedule(ScheduleFault),
+    /// A growth was refused.
+    #[error("renamer: memory")]
+    Memory,
+    /// A write failed, or the flush at the end, after this many bytes of the text.
+    #[error("renamer: write after {written} bytes")]
+    Write { written: u64 },
+}
+
+impl ReplayFault {
+    ghost use Rattle.cn_renamer.specs.Replay.{status_of_replay};
+
+    /// The status with which the program ends: 1 for a schedule that is refused, 3 for want of memory and for a write that
+    /// failed.
+    pub fn status(&self) -> u8
+        ensures { result ≡ status_of_replay self.now }
+    {
+        match self {
+            ReplayFault::Schedule(_) => 1,
+            ReplayFault::Memory | ReplayFault::Write { .. } => 3,
+        }
+    }
+}
+
+impl From<AllocError> for ReplayFault {
+    ghost use Rattle.std.specs.Prelude.{◌≡◌};
+    ghost use Rattle.cn_renamer.specs.declared.replaying.ReplayFault.TheVariants.{Memory};
+
+    ghost from_gives = { λ _ fault. fault ≡ Memory };
+
+    fn from(_error: AllocError) -> Self {
+        ReplayFault::Memory
+    }
+}
+
+/// A network that is built fails to be built for want of memory alone.
+impl From<BuildFault> for ReplayFault {
+    ghost use Rattle.std.specs.Prelude.{◌≡◌};
+    ghost use Rattle.cn_renamer.specs.declared.replaying.ReplayFault.TheVariants.{Memory};
+
+    ghost from_gives = { λ _ fault. fault ≡ Memory };
+
+    fn from(_fault: BuildFault) -> Self {
+        ReplayFault::Memory
+    }
+}
+
+impl From<ScheduleFault> for ReplayFault {
+    ghost use Rattle.cn_renamer.specs.Replay.{replay_fault_of};
+    ghost use Rattle.std.specs.Prelude.{◌≡◌};
+
+    ghost from_gives = { λ fault told. told ≡ replay_fault_of fault };
+
+    fn from(fault: ScheduleFault) -> Self {
+        match fault.cause {
+            ScheduleCause::Memory => ReplayFault::Memory,
+            _ => ReplayFault::Schedule(fault),
+        }
+    }
+}
+
+impl From<EmitFault> for ReplayFault {
+    ghost use Rattle.std.specs.Prelude.{◌≡◌};
+    ghost use Rattle.cn_renamer.specs.declared.replaying.ReplayFault.TheVariants.{Write};
+
+    ghost from_gives = { λ fault told. told ≡ Write fault.written };
+
+    fn from(fault: EmitFault) -> Self {
+        ReplayFault::Write {
+            written: fault.written,
+        }
+    }
+}
+
+/// Whether no reply is want of memory.
+fn are_told(replies: &[Reply]) -> bool
+    ensures { IsTrue result ↔ All IsTold replies.now }
+{
+    replies
+        .iter()
+        .all(|reply| *reply != Reply::EnterRefused(EnterFault::Memory))
+}
+
+/// The text of the replay of events on a network that nobody has entered.
+fn replayed(
+    alloc: Global,
+    network: &Counting,
+    events: &[Event],
+    state: RandomState,
+) -> Result<Vec<u8>, ReplayFault>
+    ensures text { IfOk result (λ text. text.items ≡ replayed_text network.now events.now) }
+    ensures memory { IfErr result (λ fault. fault ≡ ReplayFault.Memory) }
+{
+    let mut core = Core::new(alloc, network, state)?;
+    let replies = core.run(events)?;
+    if !are_told(&replies) {
+        return Err(ReplayFault::Memory);
+    }
+    let text = render_replay(
+        alloc,
+        network,
+        events,
+        &replies,
+        0,
+        core.entered(),
+        core.inside(),
+    )?;
+    Ok(text)
+}
+
+/// Reads a schedule, applies its events to a core of the network, and writes the text of the replay: the network, each
+/// event with its reply, and how many clients entered and are inside. A refused event is part of the text.
+///
+/// The random state is for the core. Nothing is written before every event has its reply.
+///
+/// # Errors
+/// `Schedule` with the first record that has a cause, and its first cause; `Memory` where any growth was refused; `Write`
+/// where a write failed or the flush at the end, with the number of bytes that were written: they are the first of the
+/// text. On any other fault nothing was written.
+pub fn replay<R: Read + Drop, W: Write>(
+    alloc: Global,
+    reader: R,
+    writer: &mut W,
+    net: &Net,
+    state: RandomState,
+) -> Result<(), ReplayFault>
+    ensures replayed { IfSome (R.remaining reader) (λ bytes. HasReplayed net.now bytes (W.contents writer.old) (W.contents writer.new) result) }
+    ensures untouched { IfErr result (IsUntouched writer.old writer.new) }
+    ensures memory { IfErr result IsMemoryApart }
+{
+    let events = read_schedule(alloc, reader)?;
+    let network = build(alloc, net)?;
+    let text = replayed(alloc, &network, &events, state)?;
+    emit(writer, &text)?;
+    Ok(())
+}
