@@ -1,0 +1,16 @@
+//! The worked rows of the service that cross its crates, as tests: they show texts to the byte, what no clause can name,
+//! and that memory that is there is used.
+#![tactic(auto)]
+
+#[cfg(test)]
+mod core_calls;
+#[cfg(test)]
+mod narrow;
+#[cfg(test)]
+mod replaying;
+#[cfg(test)]
+mod showing;
+#[cfg(test)]
+mod walking;
+#[cfg(test)]
+mod wiring_tables;
