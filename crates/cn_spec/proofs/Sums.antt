@@ -67,3 +67,8 @@ pub sum_below-zero : (n : ℕ) (f : ℕ → ℕ) → ((u : ℕ) → f u ≡ 0) �
 unfolding sum_below
 sum_below-zero zero f each = refl
 sum_below-zero (suc n) f each = omega (arith, sum_below-zero n f each, each n)
+
+pub sum_below-same : (n : ℕ) (f g : ℕ → ℕ) → ((u : ℕ) → u < n → f u ≡ g u) → sum_below n f ≡ sum_below n g
+unfolding sum_below
+sum_below-same zero f g h = refl
+sum_below-same (suc n) f g h = rw (sum_below-same n f g (λ u k. h u (omega arith)), h n (omega arith))

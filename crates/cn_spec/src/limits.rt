@@ -17,3 +17,6 @@ pub const MOST_ARRIVALS: u64 = 4_294_967_296;
 
 /// The most digits of a number field.
 pub const MOST_DIGITS: usize = 20;
+
+/// The most records of one yard, live and free.
+pub const MOST_TOKENS: u32 = 4_194_304;

@@ -1,6 +1,9 @@
 //! A yard: per wire a list of tokens from first to last, and a number of free records.
 #![tactic(auto)]
 
+mod standing;
 mod token;
+mod yard;
 
 pub use token::Token;
+pub use yard::Yard;

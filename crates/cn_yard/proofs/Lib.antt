@@ -1,0 +1,4 @@
+pub mod OnWires
+pub mod Standings
+pub mod Moved
+pub mod Kept

@@ -1,0 +1,14 @@
+use Rattle.std.proofs.Common.{◌≡◌, length, rules, vec_len}
+use Rattle.cn_yard.proofs.Kept.{placed, stands_at}
+use Rattle.cn_yard.proofs.yard.Yard.client_of.Goals as goal
+
+pub index-requires : goal.index-requires
+index-requires c =
+    let counted : vec_len c.self.inside.live ≡ length c.self.inside.live.items = search rules in
+    rw (c.place_of.ensures, c.deref.ensures.value, counted) (placed c.self.inside c.self.invariant c.args.token (rw (← c.self.view_is) at c.requires))
+
+pub returns : goal.returns
+returns c =
+    let there = placed c.self.inside c.self.invariant c.args.token (rw (← c.self.view_is) at c.requires) in
+    let s = c.index.result.now in
+    (s.wire, rw (← c.self.view_is) (stands_at c.self.inside c.self.invariant c.args.token s there (rw (c.place_of.ensures, c.deref.ensures.value) at c.index.ensures)))
