@@ -1,7 +1,6 @@
 -- The halves of a bitonic network, and the network of its halves.
 use Rattle.std.proofs.Common.{◌≡◌, ℕ, zero, suc, ◌+◌, ◌*◌, ◌/◌, ◌^◌, ◌<◌, ◌≤◌, List, ◌++◌, length, take, drop, refl, sym, ◌∙◌, subst, arith}
 use Rattle.std.proofs.lemmas.List.{drop-map, take-append-drop, take-map}
-use Rattle.std.proofs.lemmas.Nat.{pow_pos}
 use Rattle.std.proofs.Math.Nat.{pow-succ'}
 use Rattle.cn_spec.specs.Networks.{IsRow, bitonic}
 use Rattle.cn_spec.specs.declared.limits.TheConstants.{MOST_BALANCERS}
@@ -9,9 +8,10 @@ use Rattle.cn_spec.proofs.Rows.{back_row, front_row, half_row}
 use Rattle.cn_spec.proofs.Sums.{times-append}
 use Rattle.cn_wiring.specs.Plan.{Plan, AllLoose}
 use Rattle.cn_wiring.proofs.Builds.{Builds-beside, Builds-loose, Builds-same, Builds-sized, Builds-then}
+use Rattle.cn_wiring.proofs.Rows.{half_pow, same_level, shorter}
 use Rattle.cn_bitonic.specs.Parts.{BuildsBitonic, BuildsMerger}
 use Rattle.cn_bitonic.specs.Sizes.{balancers_of, depth_of}
-use Rattle.cn_bitonic.proofs.Mergers.{Gives, HasRoom, length_outs, same_level}
+use Rattle.cn_bitonic.proofs.MergerParts.{Gives, HasRoom, length_outs}
 
 -- a plan has room for the bitonic network over x
 abbrev pub HasPlace : Plan → List ℕ → Type 0
@@ -23,9 +23,6 @@ Counted old new x y = (level : ℕ) → IsRow level x → BuildsBitonic old new 
 
 depth_suc : (n : ℕ) → depth_of (suc n) ≡ depth_of n + (n + 1)
 depth_suc n = omega arith
-
-half_pow : (n : ℕ) → 2 ^ suc n / 2 ≡ 2 ^ n
-half_pow n = let e = pow-succ' 2 n in omega arith
 
 balancers_suc : (n : ℕ) → balancers_of (suc n) ≡ (balancers_of n + balancers_of n) + (n + 1) * 2 ^ n
 balancers_suc zero = refl
@@ -49,10 +46,6 @@ splittable d x many place there = go place.0 place.1 place.2
 
 front_loose : {d : Plan} {x : List ℕ} {n : ℕ} → Splittable d x n → AllLoose d (take (2 ^ n) x)
 front_loose {d} {x} {n} s w = let t = s.there w in omega (arith, times-append w (take (2 ^ n) x) (drop (2 ^ n) x))
-
--- each half is shorter
-shorter : (n : ℕ) (x part : List ℕ) → IsRow (suc n) x → IsRow n part → length part < length x
-shorter n x part row r = let l : length x ≡ 2 * 2 ^ n = row ∙ pow-succ' 2 n in omega (arith, pow_pos n, r)
 
 -- what the network over the first half is asked
 pub front_asked : (d : Plan) (x front : List ℕ) → front ≡ take (length x / 2) x

@@ -1,3 +1,3 @@
-pub mod Mergers
+pub mod MergerParts
 pub mod Halves
 pub mod Whole

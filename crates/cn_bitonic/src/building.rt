@@ -14,7 +14,7 @@ ghost use Rattle.cn_bitonic.specs.Sizes.{balancers_of, depth_of};
 use crate::merging::merger;
 use cn_spec::laws;
 use cn_spec::limits::MOST_BALANCERS;
-use cn_wiring::{BuildFault, Counting, Draft, Kind, is_width};
+use cn_wiring::{BuildFault, Counting, Draft, Kind, is_width, wires_below};
 use std::alloc::{AllocError, Global};
 
 /// The bitonic counting network of this width: `width` entries and exits, depth `L * (L + 1) / 2`, where `L` is the
@@ -46,13 +46,6 @@ pub fn bitonic(alloc: Global, width: u32) -> Result<Counting, BuildFault>
         Ok(wiring) => Ok(Counting::of(wiring, Kind::Bitonic, depth)),
         Err((_draft, error)) => Err(error.into()),
     }
-}
-
-/// The wires 0 to `count - 1`.
-fn wires_below(alloc: Global, count: u32) -> Result<Vec<u32>, AllocError>
-    ensures { IfOk result (λ wires. wires.items ≡ range_with_len 0 count) }
-{
-    (0..count).collect(alloc)
 }
 
 /// Adds the bitonic network over a list of wires to a draft, and gives its outputs. The list's length is a power of two.

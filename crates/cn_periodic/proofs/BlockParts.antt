@@ -2,7 +2,6 @@
 use Rattle.std.proofs.Common.{◌≡◌, ℕ, zero, suc, ◌+◌, ◌-◌, ◌*◌, ◌/◌, ◌^◌, ◌<◌, ◌≤◌, List, ◌++◌, length, map, sym, ap, ◌∙◌, subst, arith}
 use Rattle.std.specs.List.{range_with_len}
 use Rattle.std.proofs.lemmas.List.FromFn.{length-range_with_len}
-use Rattle.std.proofs.lemmas.Nat.{pow_pos}
 use Rattle.std.proofs.Math.Nat.{pow-suc, pow-succ'}
 use Rattle.cn_spec.specs.Networks.{IsRow, a_cochain, b_cochain, block, layer}
 use Rattle.cn_spec.specs.Sums.{times}
@@ -12,7 +11,7 @@ use Rattle.cn_spec.proofs.Flows.{map_a_cochain, map_b_cochain, times_cochains}
 use Rattle.cn_spec.proofs.Sums.{times-append}
 use Rattle.cn_wiring.specs.Plan.{Plan, AllLoose, Builds, IsFlow}
 use Rattle.cn_wiring.proofs.Builds.{Builds-beside, Builds-like, Builds-loose, Builds-sized, Builds-then}
-use Rattle.cn_wiring.proofs.Rows.{same_level}
+use Rattle.cn_wiring.proofs.Rows.{half_pow, same_level, shorter}
 use Rattle.cn_periodic.specs.Parts.{BuildsBlock}
 use Rattle.cn_periodic.specs.Sizes.{block_balancers}
 
@@ -25,9 +24,6 @@ abbrev pub Gives : Plan → Plan → List ℕ → List ℕ → Type 0
 Gives old new x y = (level : ℕ) → IsRow level x → BuildsBlock old new x y level
 
 -- ---- sizes
-
-pub half_pow : (n : ℕ) → 2 ^ suc n / 2 ≡ 2 ^ n
-half_pow n = let e = pow-succ' 2 n in omega arith
 
 block_size : (n : ℕ) → block_balancers (suc n) ≡ 2 ^ n * (n + 1)
 block_size n = rw (half_pow n) (omega arith)
@@ -60,22 +56,18 @@ splittable d x room there = go room.0 room.1 room.2 room.3
     go (suc n) some row r = (n, record { row = row; room = rw (block_size n) at r; there = λ w. let t = there w in let e = times_inner w n x row in omega arith })
 
 -- a row of more than two wires has level n + 2
-pub mergeable : (d : Plan) (x : List ℕ) → (length x ≡ 2 → ⊥) → HasRoom d x → AllLoose d x → (n : ℕ) × Splittable d x (suc n)
-mergeable d x many room there = let (m, s) = splittable d x room there in go m s
+splittable_many : (d : Plan) (x : List ℕ) → (length x ≡ 2 → ⊥) → HasRoom d x → AllLoose d x → (n : ℕ) × Splittable d x (suc n)
+splittable_many d x many room there = let (m, s) = splittable d x room there in go m s
   where
     go : (m : ℕ) → Splittable d x m → (n : ℕ) × Splittable d x (suc n)
     go zero s = absurd (many s.row)
     go (suc n) s = (n, s)
 
--- each inner list is shorter
-shorter : (n : ℕ) (x part : List ℕ) → IsRow (suc n) x → IsRow n part → length part < length x
-shorter n x part row r = let l : length x ≡ 2 * 2 ^ n = row ∙ pow-succ' 2 n in omega (arith, pow_pos n, r)
-
 -- what the first inner block is asked
 pub first_asked : (d : Plan) (x a : List ℕ) → a ≡ a_cochain x → (length x ≡ 2 → ⊥) → HasRoom d x → AllLoose d x
     → (length a < length x) × (HasRoom d a × AllLoose d a)
 first_asked d x a e many room there =
-    let (n, s) = mergeable d x many room there in
+    let (n, s) = splittable_many d x many room there in
     let row = a_row (suc n) x s.row in
     let r = s.room in
     let fits : d.balancers + block_balancers (suc n) ≤ MOST_BALANCERS = omega (arith, r, block_size n, block_more n) in
@@ -86,7 +78,7 @@ first_asked d x a e many room there =
 pub second_asked : (d e : Plan) (x a b z : List ℕ) → a ≡ a_cochain x → b ≡ b_cochain x → (length x ≡ 2 → ⊥) → HasRoom d x → AllLoose d x → Gives d e a z
     → (length b < length x) × (HasRoom e b × AllLoose e b)
 second_asked d e x a b z p q many room there first =
-    let (n, s) = mergeable d x many room there in
+    let (n, s) = splittable_many d x many room there in
     let row = b_row (suc n) x s.row in
     let first' : Gives d e (a_cochain x) z = rw p at first in
     let built = (first' (suc n) (a_row (suc n) x s.row)).built in
@@ -105,7 +97,7 @@ pub record Split (d e f : Plan) (x z z2 : List ℕ) (n : ℕ) : Type 0 where
 pub split : (d e f : Plan) (x a b z z2 : List ℕ) → a ≡ a_cochain x → b ≡ b_cochain x → (length x ≡ 2 → ⊥) → HasRoom d x → AllLoose d x → Gives d e a z → Gives e f b z2
     → (n : ℕ) × Split d e f x z z2 n
 split d e f x a b z z2 p q many room there first second =
-    let (n, s) = mergeable d x many room there in
+    let (n, s) = splittable_many d x many room there in
     let first' : Gives d e (a_cochain x) z = rw p at first in
     let second' : Gives e f (b_cochain x) z2 = rw q at second in
     (n, record { whole = s; first = first' (suc n) (a_row (suc n) x s.row); second = second' (suc n) (b_row (suc n) x s.row) })

@@ -14,7 +14,7 @@ ghost use Rattle.cn_periodic.specs.Sizes.{balancers_of, depth_of};
 use crate::blocks::block;
 use cn_spec::laws;
 use cn_spec::limits::MOST_BALANCERS;
-use cn_wiring::{BuildFault, Counting, Draft, Kind, is_width};
+use cn_wiring::{BuildFault, Counting, Draft, Kind, is_width, wires_below};
 use std::alloc::{AllocError, Global};
 
 /// The periodic counting network of this width: `width` entries and exits, depth `L * L`, where `L` is the logarithm of
@@ -45,13 +45,6 @@ pub fn periodic(alloc: Global, width: u32) -> Result<Counting, BuildFault>
         Ok(wiring) => Ok(Counting::of(wiring, Kind::Periodic, depth)),
         Err((_draft, error)) => Err(error.into()),
     }
-}
-
-/// The wires 0 to `count - 1`.
-fn wires_below(alloc: Global, count: u32) -> Result<Vec<u32>, AllocError>
-    ensures { IfOk result (λ wires. wires.items ≡ range_with_len 0 count) }
-{
-    (0..count).collect(alloc)
 }
 
 /// Adds the periodic network over a list of `2 ^ level` wires to a draft, and gives its outputs: `level` blocks, each over

@@ -1,11 +1,12 @@
 -- Rows of wires of a level, and the level of a width.
-use Rattle.std.proofs.Common.{◌≡◌, ℕ, ◌*◌, ◌^◌, ◌<◌, ◌≤◌, List, length, map, inl, inr, ap, ◌∙◌, arith, Result, Ok, Err}
+use Rattle.std.proofs.Common.{◌≡◌, ℕ, suc, ◌*◌, ◌/◌, ◌^◌, ◌<◌, ◌≤◌, List, length, map, inl, inr, ap, ◌∙◌, arith, Result, Ok, Err}
 use Rattle.std.specs.List.{range_with_len}
 use Rattle.std.specs.Result.{IfOk}
 use Rattle.std.proofs.lemmas.Bool.{cases_order}
 use Rattle.std.proofs.lemmas.List.{length-map}
 use Rattle.std.proofs.lemmas.List.FromFn.{length-range_with_len}
 use Rattle.std.proofs.lemmas.Nat.{pow_below, pow_pos}
+use Rattle.std.proofs.Math.Nat.{pow-succ'}
 use Rattle.std.proofs.Math.Pow.{pow_mono}
 use Rattle.cn_spec.specs.Networks.{IsRow}
 use Rattle.cn_spec.specs.Sums.{times}
@@ -13,6 +14,14 @@ use Rattle.cn_spec.specs.declared.limits.TheConstants.{MOST_ENDS}
 use Rattle.cn_wiring.specs.Plan.{Plan, Builds, loose}
 use Rattle.cn_wiring.specs.Widths.{IsWidth}
 use Rattle.cn_wiring.proofs.Finished.{level_is_log}
+
+-- half of a row is one of the level below
+pub half_pow : (n : ℕ) → 2 ^ suc n / 2 ≡ 2 ^ n
+half_pow n = let e = pow-succ' 2 n in omega arith
+
+-- and is shorter
+pub shorter : (n : ℕ) (x part : List ℕ) → IsRow (suc n) x → IsRow n part → length part < length x
+shorter n x part row r = let l : length x ≡ 2 * 2 ^ n = row ∙ pow-succ' 2 n in omega (arith, pow_pos n, r)
 
 -- a number has one logarithm
 pub same_level : (n m level : ℕ) → n ≡ 2 ^ m → n ≡ 2 ^ level → level ≡ m

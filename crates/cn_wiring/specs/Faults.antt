@@ -10,6 +10,7 @@ use Rattle.cn_wiring.specs.Table.{Table, LeadsOn, Stands, end_of, sum_at}
 abbrev pub IsFirst : ℕ → (ℕ → Type 0) → ℕ → Type 0
 IsFirst n P k = (k < n) × (¬ P k) × ((m : ℕ) → m < k → P m)
 
+-- from least to most, both included
 abbrev pub IsWithin : ℕ → ℕ → ℕ → Type 0
 IsWithin least most n = (least ≤ n) × (n ≤ most)
 

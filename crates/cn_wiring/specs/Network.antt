@@ -1,3 +1,4 @@
+-- Counting networks (Aspnes, Herlihy, Shavit, Counting Networks, JACM 1994, section 2).
 use Rattle.std.specs.Prelude.{ℕ, map}
 use Rattle.std.specs.List.{range_with_len}
 use Rattle.cn_spec.specs.Step.{IsStep}

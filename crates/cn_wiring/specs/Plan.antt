@@ -1,3 +1,4 @@
+-- Networks in the making.
 use Rattle.std.specs.Prelude.{◌≡◌, ℕ, ◌+◌, ◌*◌, ◌<◌, ◌≤◌, ◌==◌, ◌⊎◌, Bool, false, List, [], ◌∷◌, length, Option, Some, None, is_none, slice_index_or, slice_set, ◌++◌}
 use Rattle.cn_spec.specs.Step.{half}
 use Rattle.cn_spec.specs.Sums.{total_where, times, when}
@@ -13,6 +14,7 @@ pub record Plan : Type 0 where
 abbrev pub output : Plan → ℕ → ℕ → ℕ
 output d b p = d.entries + 2 * b + p
 
+-- does a wire with this end stand at balancer b?
 abbrev pub ends_at : ℕ → Option ℕ → Bool
 ends_at b (Some c) = c == b
 ends_at b None = false

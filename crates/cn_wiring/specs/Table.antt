@@ -1,3 +1,4 @@
+-- Tables of wire ends.
 use Rattle.std.specs.Prelude.{◌≡◌, ℕ, ◌+◌, ◌*◌, ◌<◌, ◌≤◌, ◌==◌, Bool, false, List, length, map, slice_index_or, Option, Some, None}
 use Rattle.cn_wiring.specs.declared.end.End.{End}
 use Rattle.cn_wiring.specs.declared.end.End.TheVariants.{Balancer, Exit}
@@ -43,6 +44,7 @@ abbrev pub LeadsOn : Table → ℕ → End → Type 0
 LeadsOn t u (Balancer b) = u < t.entries + 2 * b
 LeadsOn t u (Exit i) = Unit {0}
 
+-- a network of balancers: within the limits, each wire leads on, one or two wires end at each balancer, one at each exit
 pub record IsWellFormed (t : Table) : Type 0 where
   pub entries : (1 ≤ t.entries) × (t.entries ≤ MOST_ENDS)
   pub width : (1 ≤ t.width) × (t.width ≤ MOST_ENDS)
@@ -57,6 +59,7 @@ pub record IsWellFormed (t : Table) : Type 0 where
 abbrev pub IsFullFlow : Table → (ℕ → ℕ) → Type 0
 IsFullFlow t f = (b : ℕ) → b < t.balancers → (f (t.entries + 2 * b) ≡ half (sum_at t (Balancer b) f) 0) × (f (t.entries + 2 * b + 1) ≡ half (sum_at t (Balancer b) f) 1)
 
+-- the balancer of an end, or none of an exit
 abbrev pub balancer_of : End → Option ℕ
 balancer_of (Balancer b) = Some b
 balancer_of (Exit i) = None

@@ -11,6 +11,7 @@ mod end;
 mod fault;
 mod kind;
 pub mod laws;
+mod row;
 mod width;
 mod wiring;
 
@@ -20,6 +21,7 @@ pub use draft::Draft;
 pub use end::End;
 pub use fault::WiringFault;
 pub use kind::Kind;
+pub use row::wires_below;
 pub use width::is_width;
 pub use wiring::Wiring;
 

@@ -85,6 +85,15 @@ fn joined_wires_are_not_loose(rt: HostRuntime) -> Result<(), AllocError> {
 }
 
 #[test]
+fn three_wires(rt: HostRuntime) -> Result<(), AllocError> {
+    assert_eq!(rt;
+        wires_below(rt.alloc(), 3)?.as_slice(),
+        [0, 1, 2].as_slice()
+    );
+    Ok(())
+}
+
+#[test]
 fn six_widths(rt: HostRuntime) {
     for width in 0..300 {
         assert_eq!(rt; is_width(width), [2, 4, 8, 16, 32, 64].contains(&width));

@@ -11,7 +11,8 @@ use crate::fault::{WiringFault, check_ends};
 use std::alloc::Global;
 use std::marker::Model;
 
-/// A well-formed table of wire ends: a network of balancers, made by [`crate::Draft::finish`].
+/// A well-formed table of wire ends: a network of balancers, made by [`crate::Draft::finish`] or read from a table by
+/// [`Wiring::from_ends`].
 #[derive(Drop)]
 pub struct Wiring {
     entries: u32,

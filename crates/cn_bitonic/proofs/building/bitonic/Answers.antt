@@ -1,11 +1,12 @@
-use Rattle.std.proofs.Common.{◌≡◌, ◌∙◌, length, map, ap, sym, arith, rules}
+use Rattle.std.proofs.Common.{◌≡◌, ◌∙◌, length, map, ap, sym, rules, arith}
 use Rattle.std.specs.List.{range_with_len}
 use Rattle.cn_spec.specs.Networks as net
 use Rattle.cn_wiring.specs.declared.kind.Kind.TheVariants.{Bitonic}
 use Rattle.cn_wiring.specs.Widths.{IsWidth}
 use Rattle.cn_wiring.proofs.Finished.{finished_built, finished_counts, finished_deep, finished_row, finishes, level_is_log}
+use Rattle.cn_wiring.proofs.Rows.{entries_row, flows_row, outputs_count, outputs_each, width_level}
 use Rattle.cn_bitonic.proofs.Halves.{Counted}
-use Rattle.cn_bitonic.proofs.Whole.{entries_row, flows_row, outputs_count, outputs_each, place_for_all, room_for_all, width_level}
+use Rattle.cn_bitonic.proofs.Whole.{place_for_all, room_for_all}
 use Rattle.cn_bitonic.proofs.building.bitonic.Goals as goal
 
 pub reserve-requires : goal.reserve-requires
@@ -18,7 +19,9 @@ pub network-requires-clause-row : goal.network-requires-clause-row
 network-requires-clause-row c =
     let is : IsWidth c.args.width = search rules in
     let level = width_level c.args.width c.ilog2-level.result is c.ilog2-level.ensures.power_le c.ilog2-level.ensures.next_power_gt in
-    rw (c.deref.ensures.value, c.in_ok-entries.ensures, c.reserve.ensures) (place_for_all c.in_ok-draft.draft c.args.width c.ilog2-level.result level (ap (λ p. p.balancers) c.in_ok-draft.ensures.plan))
+    let row = entries_row c.args.width c.ilog2-level.result level in
+    let room = place_for_all c.in_ok-draft.draft c.args.width c.ilog2-level.result level (ap (λ p. p.balancers) c.in_ok-draft.ensures.plan) in
+    rw (c.deref.ensures.value, c.in_ok-entries.ensures, c.reserve.ensures) (c.ilog2-level.result, row, room)
 
 pub network-requires-clause-loose : goal.network-requires-clause-loose
 network-requires-clause-loose c =
@@ -29,14 +32,16 @@ finish-requires-clause-count c =
     let is : IsWidth c.args.width = search rules in
     let level = width_level c.args.width c.ilog2-level.result is c.ilog2-level.ensures.power_le c.ilog2-level.ensures.next_power_gt in
     let gives : Counted c.in_ok-draft.draft c.network.new.draft (range_with_len 0 c.args.width) c.in_ok-exits.exits.items = rw (c.deref.ensures.value, c.in_ok-entries.ensures, c.reserve.ensures) at c.in_ok-exits.ensures in
-    rw c.deref-2.ensures.value (outputs_count level.small (gives c.ilog2-level.result (entries_row c.args.width c.ilog2-level.result level)))
+    let made = gives c.ilog2-level.result (entries_row c.args.width c.ilog2-level.result level) in
+    rw c.deref-2.ensures.value (outputs_count c.ilog2-level.result c.in_ok-exits.exits.items level.small made.row)
 
 pub finish-requires-clause-each : goal.finish-requires-clause-each
 finish-requires-clause-each c =
     let is : IsWidth c.args.width = search rules in
     let level = width_level c.args.width c.ilog2-level.result is c.ilog2-level.ensures.power_le c.ilog2-level.ensures.next_power_gt in
     let gives : Counted c.in_ok-draft.draft c.network.new.draft (range_with_len 0 c.args.width) c.in_ok-exits.exits.items = rw (c.deref.ensures.value, c.in_ok-entries.ensures, c.reserve.ensures) at c.in_ok-exits.ensures in
-    rw c.deref-2.ensures.value (outputs_each (gives c.ilog2-level.result (entries_row c.args.width c.ilog2-level.result level)) c.in_ok-draft.ensures.loose)
+    let made = gives c.ilog2-level.result (entries_row c.args.width c.ilog2-level.result level) in
+    rw c.deref-2.ensures.value (outputs_each made.built c.in_ok-draft.ensures.loose)
 
 pub of-requires-clause-counts : goal.of-requires-clause-counts
 of-requires-clause-counts c =

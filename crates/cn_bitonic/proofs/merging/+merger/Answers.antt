@@ -1,5 +1,6 @@
 use Rattle.std.proofs.Common.{◌∙◌, arith}
-use Rattle.cn_bitonic.proofs.Mergers.{all_ok, first_asked, gives_all, gives_one, last_asked, merged, second_asked}
+use Rattle.cn_wiring.proofs.Rows.{all_ok}
+use Rattle.cn_bitonic.proofs.MergerParts.{first_asked, gives_all, gives_one, last_asked, merged, second_asked}
 use Rattle.cn_bitonic.proofs.merging.+merger.Goals as goal
 
 pub returns-then-x-eq1 : goal.returns-then-x-eq1

@@ -1,10 +1,7 @@
 -- The parts of a merger, and the merger of its parts.
-use Rattle.std.proofs.Common.{◌≡◌, ℕ, zero, suc, ◌+◌, ◌*◌, ◌^◌, ◌<◌, ◌≤◌, List, ◌++◌, length, map, inl, inr, refl, sym, ap, ◌∙◌, subst, arith, Result, Ok, Err}
+use Rattle.std.proofs.Common.{◌≡◌, ℕ, zero, suc, ◌+◌, ◌*◌, ◌^◌, ◌<◌, ◌≤◌, List, ◌++◌, length, map, refl, sym, ap, ◌∙◌, subst, arith}
 use Rattle.std.specs.List.{range_with_len}
-use Rattle.std.specs.Result.{IfOk}
 use Rattle.std.proofs.lemmas.List.FromFn.{length-range_with_len}
-use Rattle.std.proofs.lemmas.Bool.{cases_order}
-use Rattle.std.proofs.lemmas.Nat.{pow_below, pow_pos}
 use Rattle.std.proofs.Math.Nat.{pow-succ'}
 use Rattle.cn_spec.specs.Networks.{IsRow, evens, odds, layer, merge}
 use Rattle.cn_spec.specs.Sums.{times}
@@ -14,6 +11,7 @@ use Rattle.cn_spec.proofs.Rows.{evens_row, odds_row}
 use Rattle.cn_spec.proofs.Sums.{times-append}
 use Rattle.cn_wiring.specs.Plan.{Plan, AllLoose, Builds, IsFlow}
 use Rattle.cn_wiring.proofs.Builds.{Builds-beside, Builds-like, Builds-loose, Builds-sized, Builds-then}
+use Rattle.cn_wiring.proofs.Rows.{same_level, shorter}
 use Rattle.cn_bitonic.specs.Parts.{BuildsMerger}
 
 -- a plan has room for the merger of x and x2
@@ -24,19 +22,20 @@ HasRoom d x x2 = (level : ℕ) × IsRow level x × IsRow level x2 × (d.balancer
 abbrev pub Gives : Plan → Plan → List ℕ → List ℕ → List ℕ → Type 0
 Gives old new x x2 y = (level : ℕ) → IsRow level x → BuildsMerger old new x x2 y level
 
+-- ---- sizes
+
+-- two mergers and a layer
+merger_size : (n : ℕ) → (suc n + 1) * 2 ^ suc n ≡ ((n + 1) * 2 ^ n + (n + 1) * 2 ^ n) + 2 * 2 ^ n
+merger_size n = rw (pow-succ' 2 n) (omega arith)
+
+-- ---- the even and the odd wires
+
 -- two rows of level n + 1 that a plan can merge
 pub record Mergeable (d : Plan) (x x2 : List ℕ) (n : ℕ) : Type 0 where
   pub row : IsRow (suc n) x
   pub row2 : IsRow (suc n) x2
   pub room : d.balancers + 2 * ((n + 2) * 2 ^ n) ≤ MOST_BALANCERS
   pub there : AllLoose d (x ++ x2)
-
-pub mergeable : (d : Plan) (x x2 : List ℕ) → (length x ≡ 1 → ⊥) → HasRoom d x x2 → AllLoose d (x ++ x2) → (n : ℕ) × Mergeable d x x2 n
-mergeable d x x2 many room there = go room.0 room.1 room.2 room.3
-  where
-    go : (level : ℕ) → IsRow level x → IsRow level x2 → d.balancers + (level + 1) * 2 ^ level ≤ MOST_BALANCERS → (n : ℕ) × Mergeable d x x2 n
-    go zero row row2 r = absurd (many row)
-    go (suc n) row row2 r = (n, record { row = row; row2 = row2; room = let e = rw (pow-succ' 2 n) at r in omega (arith, e); there = there })
 
 -- what the two inner mergers take is what goes in
 times_inner : (w n : ℕ) (x x2 : List ℕ) → IsRow (suc n) x → IsRow (suc n) x2 → times w (x ++ x2) ≡ times w ((evens x ++ odds x2) ++ (odds x ++ evens x2))
@@ -53,9 +52,12 @@ times_inner w n x x2 row row2 =
       times_evens_odds w (2 ^ n) x2 pairs2,
     )
 
--- each inner list is shorter
-shorter : (n : ℕ) (x part : List ℕ) → IsRow (suc n) x → IsRow n part → length part < length x
-shorter n x part row r = let l : length x ≡ 2 * 2 ^ n = row ∙ pow-succ' 2 n in omega (arith, pow_pos n, r)
+pub mergeable : (d : Plan) (x x2 : List ℕ) → (length x ≡ 1 → ⊥) → HasRoom d x x2 → AllLoose d (x ++ x2) → (n : ℕ) × Mergeable d x x2 n
+mergeable d x x2 many room there = go room.0 room.1 room.2 room.3
+  where
+    go : (level : ℕ) → IsRow level x → IsRow level x2 → d.balancers + (level + 1) * 2 ^ level ≤ MOST_BALANCERS → (n : ℕ) × Mergeable d x x2 n
+    go zero row row2 r = absurd (many row)
+    go (suc n) row row2 r = (n, record { row = row; row2 = row2; room = let e = rw (pow-succ' 2 n) at r in omega (arith, e); there = there })
 
 inner_loose : {d : Plan} {x x2 : List ℕ} {n : ℕ} → Mergeable d x x2 n → AllLoose d ((evens x ++ odds x2) ++ (odds x ++ evens x2))
 inner_loose {d} {x} {x2} {n} m w = let t = m.there w in omega (arith, times_inner w n x x2 m.row m.row2)
@@ -86,7 +88,8 @@ second_asked d e x x2 even odd2 odd even2 z p q p2 q2 many room there first =
     let fits : e.balancers + (n + 1) * 2 ^ n ≤ MOST_BALANCERS = omega (arith, r, made) in
     rw (p2, q2) (shorter n x (odds x) m.row row, ((n, row, evens_row n x2 m.row2, fits), Builds-loose (odds x ++ evens x2) (inner_loose m) built))
 
--- the two inner mergers
+-- ---- the two inner mergers
+
 pub record Merged (d e f : Plan) (x x2 z z2 : List ℕ) (n : ℕ) : Type 0 where
   pub whole : Mergeable d x x2 n
   pub first : BuildsMerger d e (evens x) (odds x2) z n
@@ -115,9 +118,6 @@ last_asked {d} {e} {f} {x} {x2} {z} {z2} {n} m =
     let inner = Builds-beside (inner_loose m.whole) m.first.built m.second.built in
     (l ∙ sym (length_outs m.second), omega (arith, l, r, made, made2), λ w. let t = inner_loose m.whole w in let j = inner.loosed w in omega arith)
 
-merger_size : (n : ℕ) → (suc n + 1) * 2 ^ suc n ≡ ((n + 1) * 2 ^ n + (n + 1) * 2 ^ n) + 2 * 2 ^ n
-merger_size n = rw (pow-succ' 2 n) (omega arith)
-
 -- the last layer over the two inner mergers
 merges_all : {d e f g : Plan} {x x2 z z2 y : List ℕ} {n : ℕ} → Merged d e f x x2 z z2 n
     → y ≡ range_with_len (f.entries + 2 * f.balancers) (2 * length z)
@@ -141,14 +141,6 @@ merges_all {d} {e} {f} {g} {x} {x2} {z} {z2} {y} {n} m wires last flow =
           flow h k ∙ rw (m.first.flow h (m.second.built.flow h j), m.second.flow h j, map_evens h x, map_odds h x2, map_odds h x, map_evens h x2);
     }
 
--- a number has one logarithm
-pub same_level : (n m level : ℕ) → n ≡ 2 ^ m → n ≡ 2 ^ level → level ≡ m
-same_level n m level p q =
-    elim (cases_order level m) [
-      | inl e ↦ e
-      | inr o ↦ elim o [ inl l ↦ absurd (omega (arith, pow_below level m l)) | inr l ↦ absurd (omega (arith, pow_below m level l)) ]
-    ]
-
 pub gives_all : {d e f g : Plan} {x x2 z z2 : List ℕ} (n : ℕ) (y : List ℕ) → Merged d e f x x2 z z2 n
     → y ≡ range_with_len (f.entries + 2 * f.balancers) (2 * length z)
     → Builds f g (z ++ z2) y 1 (length z)
@@ -157,7 +149,8 @@ pub gives_all : {d e f g : Plan} {x x2 z z2 : List ℕ} (n : ℕ) (y : List ℕ)
 gives_all {d} {e} {f} {g} {x} {x2} {z} {z2} n y m wires last flow level row =
     subst (λ l. BuildsMerger d g x x2 y l) (sym (same_level (length x) (suc n) level m.whole.row row)) (merges_all m wires last flow)
 
--- one balancer
+-- ---- two wires
+
 pub gives_one : {d g : Plan} {x x2 : List ℕ} (y : List ℕ) → length x ≡ 1
     → y ≡ range_with_len (d.entries + 2 * d.balancers) (2 * length x)
     → Builds d g (x ++ x2) y 1 (length x)
@@ -170,8 +163,3 @@ gives_one {d} {g} {x} {x2} y one wires built flow zero row = record {
   flow = flow;
 }
 gives_one {d} {g} {x} {x2} y one wires built flow (suc n) row = absurd (let t = row ∙ pow-succ' 2 n in omega (arith, t))
-
--- what holds of a result by two and by three of its clauses
-pub all_ok : {T E : Type 0} (r : Result T E) (P Q R S : T → Type 0) → ((x : T) → P x → Q x → R x → S x) → IfOk r P → IfOk r Q → IfOk r R → IfOk r S
-all_ok (Ok x) P Q R S f p q s = f x p q s
-all_ok (Err e) P Q R S f p q s = tt
