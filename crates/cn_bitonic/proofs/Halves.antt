@@ -21,15 +21,20 @@ HasPlace d x = (level : ℕ) × IsRow level x × (d.balancers + balancers_of lev
 abbrev pub Counted : Plan → Plan → List ℕ → List ℕ → Type 0
 Counted old new x y = (level : ℕ) → IsRow level x → BuildsBitonic old new x y level
 
+-- ---- sizes
+
 depth_suc : (n : ℕ) → depth_of (suc n) ≡ depth_of n + (n + 1)
 depth_suc n = omega arith
 
+-- two networks and a merger
 balancers_suc : (n : ℕ) → balancers_of (suc n) ≡ (balancers_of n + balancers_of n) + (n + 1) * 2 ^ n
 balancers_suc zero = refl
 balancers_suc (suc n) = go (depth_of (suc n)) (depth_of (suc (suc n))) (depth_suc (suc n))
   where
     go : (d e : ℕ) → e ≡ d + (suc n + 1) → 2 ^ suc (suc n) / 2 * e ≡ (2 ^ suc n / 2 * d + 2 ^ suc n / 2 * d) + (suc n + 1) * 2 ^ suc n
     go d e h = rw (h, half_pow (suc n), half_pow n, pow-succ' 2 n) (omega arith)
+
+-- ---- the halves
 
 -- a row of level n + 1 over which a plan can build
 record Splittable (d : Plan) (x : List ℕ) (n : ℕ) : Type 0 where
@@ -72,7 +77,8 @@ back_asked d e x front back y p q many place there first =
     let fits : e.balancers + balancers_of n ≤ MOST_BALANCERS = omega (arith, r, made) in
     rw (q, half_row n x s.row) (shorter n x (drop (2 ^ n) x) s.row row, ((n, row, fits), Builds-loose (drop (2 ^ n) x) s.there built))
 
--- the networks over both halves
+-- ---- the networks over both halves
+
 pub record BothHalves (d e f : Plan) (x y y2 : List ℕ) (n : ℕ) : Type 0 where
   whole : Splittable d x n
   first : BuildsBitonic d e (take (2 ^ n) x) y n
@@ -113,7 +119,8 @@ pub counted_all : {d e f g : Plan} {x y y2 : List ℕ} (n : ℕ) (z : List ℕ) 
 counted_all {d} {e} {f} {g} {x} {y} {y2} n z b gives level row =
     subst (λ l. BuildsBitonic d g x z l) (sym (same_level (length x) (suc n) level b.whole.row row)) (counted_suc b (gives n b.first.row))
 
--- a wire alone
+-- ---- one wire
+
 pub counted_one : {d : Plan} {x : List ℕ} (y : List ℕ) → length x ≡ 1 → y ≡ x → Counted d d x y
 unfolding bitonic
 counted_one {d} {x} y one e zero row = rw e (record { built = Builds-same d x; row = row; flow = λ h k. refl })

@@ -2,7 +2,7 @@
 use Rattle.std.proofs.Common.{◌≡◌, ℕ, zero, suc, ◌+◌, ◌*◌, ◌^◌, ◌<◌, ◌≤◌, List, ◌++◌, length, map, refl, sym, ap, ◌∙◌, subst, arith}
 use Rattle.std.specs.List.{range_with_len}
 use Rattle.std.proofs.lemmas.List.FromFn.{length-range_with_len}
-use Rattle.std.proofs.Math.Nat.{pow-succ'}
+use Rattle.std.proofs.Math.Nat.{pow-suc, pow-succ'}
 use Rattle.cn_spec.specs.Networks.{IsRow, evens, odds, layer, merge}
 use Rattle.cn_spec.specs.Sums.{times}
 use Rattle.cn_spec.specs.declared.limits.TheConstants.{MOST_BALANCERS}
@@ -31,17 +31,17 @@ merger_size n = rw (pow-succ' 2 n) (omega arith)
 -- ---- the even and the odd wires
 
 -- two rows of level n + 1 that a plan can merge
-pub record Mergeable (d : Plan) (x x2 : List ℕ) (n : ℕ) : Type 0 where
-  pub row : IsRow (suc n) x
-  pub row2 : IsRow (suc n) x2
-  pub room : d.balancers + 2 * ((n + 2) * 2 ^ n) ≤ MOST_BALANCERS
-  pub there : AllLoose d (x ++ x2)
+record Mergeable (d : Plan) (x x2 : List ℕ) (n : ℕ) : Type 0 where
+  row : IsRow (suc n) x
+  row2 : IsRow (suc n) x2
+  room : d.balancers + 2 * ((n + 2) * 2 ^ n) ≤ MOST_BALANCERS
+  there : AllLoose d (x ++ x2)
 
 -- what the two inner mergers take is what goes in
 times_inner : (w n : ℕ) (x x2 : List ℕ) → IsRow (suc n) x → IsRow (suc n) x2 → times w (x ++ x2) ≡ times w ((evens x ++ odds x2) ++ (odds x ++ evens x2))
 times_inner w n x x2 row row2 =
-    let pairs : length x ≡ 2 ^ n * 2 = row ∙ omega (arith, pow-succ' 2 n) in
-    let pairs2 : length x2 ≡ 2 ^ n * 2 = row2 ∙ omega (arith, pow-succ' 2 n) in
+    let pairs : length x ≡ 2 ^ n * 2 = row ∙ pow-suc 2 n in
+    let pairs2 : length x2 ≡ 2 ^ n * 2 = row2 ∙ pow-suc 2 n in
     omega (
       arith,
       times-append w x x2,
@@ -52,7 +52,7 @@ times_inner w n x x2 row row2 =
       times_evens_odds w (2 ^ n) x2 pairs2,
     )
 
-pub mergeable : (d : Plan) (x x2 : List ℕ) → (length x ≡ 1 → ⊥) → HasRoom d x x2 → AllLoose d (x ++ x2) → (n : ℕ) × Mergeable d x x2 n
+mergeable : (d : Plan) (x x2 : List ℕ) → (length x ≡ 1 → ⊥) → HasRoom d x x2 → AllLoose d (x ++ x2) → (n : ℕ) × Mergeable d x x2 n
 mergeable d x x2 many room there = go room.0 room.1 room.2 room.3
   where
     go : (level : ℕ) → IsRow level x → IsRow level x2 → d.balancers + (level + 1) * 2 ^ level ≤ MOST_BALANCERS → (n : ℕ) × Mergeable d x x2 n
@@ -90,15 +90,15 @@ second_asked d e x x2 even odd2 odd even2 z p q p2 q2 many room there first =
 
 -- ---- the two inner mergers
 
-pub record Merged (d e f : Plan) (x x2 z z2 : List ℕ) (n : ℕ) : Type 0 where
-  pub whole : Mergeable d x x2 n
-  pub first : BuildsMerger d e (evens x) (odds x2) z n
-  pub second : BuildsMerger e f (odds x) (evens x2) z2 n
+pub record InnerMergers (d e f : Plan) (x x2 z z2 : List ℕ) (n : ℕ) : Type 0 where
+  whole : Mergeable d x x2 n
+  first : BuildsMerger d e (evens x) (odds x2) z n
+  second : BuildsMerger e f (odds x) (evens x2) z2 n
 
-pub merged : (d e f : Plan) (x x2 even odd2 odd even2 z z2 : List ℕ) → even ≡ evens x → odd2 ≡ odds x2 → odd ≡ odds x → even2 ≡ evens x2
+pub inner_mergers : (d e f : Plan) (x x2 even odd2 odd even2 z z2 : List ℕ) → even ≡ evens x → odd2 ≡ odds x2 → odd ≡ odds x → even2 ≡ evens x2
     → (length x ≡ 1 → ⊥) → HasRoom d x x2 → AllLoose d (x ++ x2) → Gives d e even odd2 z → Gives e f odd even2 z2
-    → (n : ℕ) × Merged d e f x x2 z z2 n
-merged d e f x x2 even odd2 odd even2 z z2 p q p2 q2 many room there first second =
+    → (n : ℕ) × InnerMergers d e f x x2 z z2 n
+inner_mergers d e f x x2 even odd2 odd even2 z z2 p q p2 q2 many room there first second =
     let (n, m) = mergeable d x x2 many room there in
     let first' : Gives d e (evens x) (odds x2) z = rw (p, q) at first in
     let second' : Gives e f (odds x) (evens x2) z2 = rw (p2, q2) at second in
@@ -108,7 +108,7 @@ pub length_outs : {old new : Plan} {x x2 y : List ℕ} {level : ℕ} → BuildsM
 length_outs m = ap length m.wires ∙ length-range_with_len _ _
 
 -- what the last layer is asked
-pub last_asked : {d e f : Plan} {x x2 z z2 : List ℕ} {n : ℕ} → Merged d e f x x2 z z2 n
+pub last_asked : {d e f : Plan} {x x2 z z2 : List ℕ} {n : ℕ} → InnerMergers d e f x x2 z z2 n
     → (length z ≡ length z2) × (f.balancers + length z ≤ MOST_BALANCERS) × AllLoose f (z ++ z2)
 last_asked {d} {e} {f} {x} {x2} {z} {z2} {n} m =
     let l = length_outs m.first in
@@ -119,7 +119,7 @@ last_asked {d} {e} {f} {x} {x2} {z} {z2} {n} m =
     (l ∙ sym (length_outs m.second), omega (arith, l, r, made, made2), λ w. let t = inner_loose m.whole w in let j = inner.loosed w in omega arith)
 
 -- the last layer over the two inner mergers
-merges_all : {d e f g : Plan} {x x2 z z2 y : List ℕ} {n : ℕ} → Merged d e f x x2 z z2 n
+merges_all : {d e f g : Plan} {x x2 z z2 y : List ℕ} {n : ℕ} → InnerMergers d e f x x2 z z2 n
     → y ≡ range_with_len (f.entries + 2 * f.balancers) (2 * length z)
     → Builds f g (z ++ z2) y 1 (length z)
     → ((h : ℕ → ℕ) → IsFlow g h → map h y ≡ layer (map h z) (map h z2))
@@ -141,7 +141,7 @@ merges_all {d} {e} {f} {g} {x} {x2} {z} {z2} {y} {n} m wires last flow =
           flow h k ∙ rw (m.first.flow h (m.second.built.flow h j), m.second.flow h j, map_evens h x, map_odds h x2, map_odds h x, map_evens h x2);
     }
 
-pub gives_all : {d e f g : Plan} {x x2 z z2 : List ℕ} (n : ℕ) (y : List ℕ) → Merged d e f x x2 z z2 n
+pub gives_all : {d e f g : Plan} {x x2 z z2 : List ℕ} (n : ℕ) (y : List ℕ) → InnerMergers d e f x x2 z z2 n
     → y ≡ range_with_len (f.entries + 2 * f.balancers) (2 * length z)
     → Builds f g (z ++ z2) y 1 (length z)
     → ((h : ℕ → ℕ) → IsFlow g h → map h y ≡ layer (map h z) (map h z2))
@@ -151,6 +151,7 @@ gives_all {d} {e} {f} {g} {x} {x2} {z} {z2} n y m wires last flow level row =
 
 -- ---- two wires
 
+-- their balancer
 pub gives_one : {d g : Plan} {x x2 : List ℕ} (y : List ℕ) → length x ≡ 1
     → y ≡ range_with_len (d.entries + 2 * d.balancers) (2 * length x)
     → Builds d g (x ++ x2) y 1 (length x)

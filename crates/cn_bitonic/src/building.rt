@@ -22,7 +22,8 @@ use std::alloc::{AllocError, Global};
 /// section 3).
 ///
 /// Balancers are numbered in the order in which they are made: the network over the first half of the wires, that over the
-/// second half, and their merger. In a merger the first inner merger comes before the other, and then the last layer.
+/// second half, and their merger. In a merger that of the even wires of the first list and the odd ones of the second
+/// comes first, then that of the other wires, and then the last layer.
 ///
 /// # Errors
 /// [`BuildFault::Width`] where [`is_width`] is false, and [`BuildFault::Memory`] where the network gets no memory.
@@ -48,7 +49,8 @@ pub fn bitonic(alloc: Global, width: u32) -> Result<Counting, BuildFault>
     }
 }
 
-/// Adds the bitonic network over a list of wires to a draft, and gives its outputs. The list's length is a power of two.
+/// Adds the bitonic network over a list of wires to a draft, and gives its outputs: the networks over both halves of the
+/// list, and their merger. The list's length is a power of two.
 ///
 /// # Errors
 /// `AllocError` where a list gets no memory. The draft may have some of the balancers.

@@ -9,28 +9,13 @@ use cn_spec::limits::MOST_BALANCERS;
 use cn_wiring::Draft;
 use std::alloc::{AllocError, Global};
 
-/// The wires at even places, one for each pair.
-fn evens(alloc: Global, wires: &[u32]) -> Result<Vec<u32>, AllocError>
-    ensures { IfOk result (λ part. part.items ≡ evens wires.now) }
-{
-    (0..wires.len() / 2).map(|j| wires[2 * j]).collect(alloc)
-}
-
-/// The wires at odd places.
-fn odds(alloc: Global, wires: &[u32]) -> Result<Vec<u32>, AllocError>
-    ensures { IfOk result (λ part. part.items ≡ odds wires.now) }
-{
-    (0..wires.len() / 2)
-        .map(|j| wires[2 * j + 1])
-        .collect(alloc)
-}
-
 /// Adds the merger of two lists of wires to a draft, and gives its outputs: where the flows of both lists have the step
 /// property, so have the flows of the outputs (Aspnes, Herlihy, Shavit 1994, section 3).
 ///
 /// The lists have one length, which is a power of two and may be 1, and their wires are loose and all different. A merger
 /// of two lists of length `k` has `log2 k + 1` layers of `k` balancers, and the draft has at most [`MOST_BALANCERS`]
-/// balancers afterwards.
+/// balancers afterwards. Balancers are numbered in the order in which they are made: the merger of the even wires of `x`
+/// and the odd ones of `x2`, that of the other wires, and the last layer.
 ///
 /// # Errors
 /// `AllocError` where a list gets no memory. The draft may have some of the balancers then, and is only good to be
@@ -55,4 +40,26 @@ pub fn merger(
     let even2 = evens(alloc, x2)?;
     let z2 = merger(alloc, draft, &odd, &even2)?;
     draft.join_all(&z, &z2)
+}
+
+/// The even subsequence: the wires at places 0, 2, 4 and so on, one for each pair.
+///
+/// # Errors
+/// `AllocError` where the list gets no memory.
+fn evens(alloc: Global, wires: &[u32]) -> Result<Vec<u32>, AllocError>
+    ensures { IfOk result (λ part. part.items ≡ evens wires.now) }
+{
+    (0..wires.len() / 2).map(|j| wires[2 * j]).collect(alloc)
+}
+
+/// The odd subsequence: the wires at places 1, 3, 5 and so on.
+///
+/// # Errors
+/// `AllocError` where the list gets no memory.
+fn odds(alloc: Global, wires: &[u32]) -> Result<Vec<u32>, AllocError>
+    ensures { IfOk result (λ part. part.items ≡ odds wires.now) }
+{
+    (0..wires.len() / 2)
+        .map(|j| wires[2 * j + 1])
+        .collect(alloc)
 }

@@ -39,10 +39,10 @@ block_less n = let e : suc (suc n) - 1 ≡ n + 1 = omega arith in rw (half_pow (
 -- ---- the cochains
 
 -- a row of level n + 1 over which a plan can build
-pub record Splittable (d : Plan) (x : List ℕ) (n : ℕ) : Type 0 where
-  pub row : IsRow (suc n) x
-  pub room : d.balancers + 2 ^ n * (n + 1) ≤ MOST_BALANCERS
-  pub there : AllLoose d (a_cochain x ++ b_cochain x)
+record Splittable (d : Plan) (x : List ℕ) (n : ℕ) : Type 0 where
+  row : IsRow (suc n) x
+  room : d.balancers + 2 ^ n * (n + 1) ≤ MOST_BALANCERS
+  there : AllLoose d (a_cochain x ++ b_cochain x)
 
 -- what the inner blocks take is what goes in
 times_inner : (w n : ℕ) (x : List ℕ) → IsRow (suc n) x → times w x ≡ times w (a_cochain x ++ b_cochain x)
@@ -89,14 +89,14 @@ second_asked d e x a b z p q many room there first =
 
 -- ---- the two inner blocks
 
-pub record Split (d e f : Plan) (x z z2 : List ℕ) (n : ℕ) : Type 0 where
-  pub whole : Splittable d x (suc n)
-  pub first : BuildsBlock d e (a_cochain x) z (suc n)
-  pub second : BuildsBlock e f (b_cochain x) z2 (suc n)
+pub record InnerBlocks (d e f : Plan) (x z z2 : List ℕ) (n : ℕ) : Type 0 where
+  whole : Splittable d x (suc n)
+  first : BuildsBlock d e (a_cochain x) z (suc n)
+  second : BuildsBlock e f (b_cochain x) z2 (suc n)
 
-pub split : (d e f : Plan) (x a b z z2 : List ℕ) → a ≡ a_cochain x → b ≡ b_cochain x → (length x ≡ 2 → ⊥) → HasRoom d x → AllLoose d x → Gives d e a z → Gives e f b z2
-    → (n : ℕ) × Split d e f x z z2 n
-split d e f x a b z z2 p q many room there first second =
+pub inner_blocks : (d e f : Plan) (x a b z z2 : List ℕ) → a ≡ a_cochain x → b ≡ b_cochain x → (length x ≡ 2 → ⊥) → HasRoom d x → AllLoose d x → Gives d e a z → Gives e f b z2
+    → (n : ℕ) × InnerBlocks d e f x z z2 n
+inner_blocks d e f x a b z z2 p q many room there first second =
     let (n, s) = splittable_many d x many room there in
     let first' : Gives d e (a_cochain x) z = rw p at first in
     let second' : Gives e f (b_cochain x) z2 = rw q at second in
@@ -106,7 +106,7 @@ pub length_outs : {old new : Plan} {x y : List ℕ} {level : ℕ} → BuildsBloc
 length_outs b = ap length b.wires ∙ length-range_with_len _ _
 
 -- what the last layer is asked
-pub last_asked : {d e f : Plan} {x z z2 : List ℕ} {n : ℕ} → Split d e f x z z2 n
+pub last_asked : {d e f : Plan} {x z z2 : List ℕ} {n : ℕ} → InnerBlocks d e f x z z2 n
     → (length z ≡ length z2) × (f.balancers + length z ≤ MOST_BALANCERS) × AllLoose f (z ++ z2)
 last_asked {d} {e} {f} {x} {z} {z2} {n} s =
     let l = length_outs s.first in
@@ -117,7 +117,7 @@ last_asked {d} {e} {f} {x} {z} {z2} {n} s =
     (l ∙ sym (length_outs s.second), omega (arith, l, r, made, made2, block_size n, block_more n), λ w. let t = s.whole.there w in let j = inner.loosed w in omega arith)
 
 -- the last layer over the two inner blocks
-blocks_all : {d e f g : Plan} {x z z2 y : List ℕ} {n : ℕ} → Split d e f x z z2 n
+blocks_all : {d e f g : Plan} {x z z2 y : List ℕ} {n : ℕ} → InnerBlocks d e f x z z2 n
     → y ≡ range_with_len (f.entries + 2 * f.balancers) (2 * length z)
     → Builds f g (z ++ z2) y 1 (length z)
     → ((h : ℕ → ℕ) → IsFlow g h → map h y ≡ layer (map h z) (map h z2))
@@ -139,7 +139,7 @@ blocks_all {d} {e} {f} {g} {x} {z} {z2} {y} {n} s wires last flow =
           flow h k ∙ rw (s.first.flow h (s.second.built.flow h j), s.second.flow h j, map_a_cochain h x, map_b_cochain h x);
     }
 
-pub gives_all : {d e f g : Plan} {x z z2 : List ℕ} (n : ℕ) (y : List ℕ) → Split d e f x z z2 n
+pub gives_all : {d e f g : Plan} {x z z2 : List ℕ} (n : ℕ) (y : List ℕ) → InnerBlocks d e f x z z2 n
     → y ≡ range_with_len (f.entries + 2 * f.balancers) (2 * length z)
     → Builds f g (z ++ z2) y 1 (length z)
     → ((h : ℕ → ℕ) → IsFlow g h → map h y ≡ layer (map h z) (map h z2))

@@ -10,24 +10,6 @@ use cn_spec::limits::MOST_BALANCERS;
 use cn_wiring::Draft;
 use std::alloc::{AllocError, Global};
 
-/// The A-cochain: the wires at places 0, 3, 4, 7 and so on, whose two low bits are equal.
-fn a_cochain(alloc: Global, wires: &[u32]) -> Result<Vec<u32>, AllocError>
-    ensures { IfOk result (λ part. part.items ≡ a_cochain wires.now) }
-{
-    (0..wires.len() / 2)
-        .map(|j| wires[2 * j + j % 2])
-        .collect(alloc)
-}
-
-/// The B-cochain: the wires at places 1, 2, 5, 6 and so on, whose two low bits differ.
-fn b_cochain(alloc: Global, wires: &[u32]) -> Result<Vec<u32>, AllocError>
-    ensures { IfOk result (λ part. part.items ≡ b_cochain wires.now) }
-{
-    (0..wires.len() / 2)
-        .map(|j| wires[2 * j + 1 - j % 2])
-        .collect(alloc)
-}
-
 /// Adds the block over a list of wires to a draft, and gives its outputs. Where chains of one level have the step property
 /// in the flows of the wires, those of the level below have it in the flows of the outputs (Aspnes, Herlihy, Shavit 1994,
 /// section 4).
@@ -53,4 +35,28 @@ pub fn block(alloc: Global, draft: &mut Draft, wires: &[u32]) -> Result<Vec<u32>
     let z = block(alloc, draft, &a)?;
     let z2 = block(alloc, draft, &b)?;
     draft.join_all(&z, &z2)
+}
+
+/// The A-cochain: the wires at places 0, 3, 4, 7 and so on, whose two low bits are equal.
+///
+/// # Errors
+/// `AllocError` where the list gets no memory.
+fn a_cochain(alloc: Global, wires: &[u32]) -> Result<Vec<u32>, AllocError>
+    ensures { IfOk result (λ part. part.items ≡ a_cochain wires.now) }
+{
+    (0..wires.len() / 2)
+        .map(|j| wires[2 * j + j % 2])
+        .collect(alloc)
+}
+
+/// The B-cochain: the wires at places 1, 2, 5, 6 and so on, whose two low bits differ.
+///
+/// # Errors
+/// `AllocError` where the list gets no memory.
+fn b_cochain(alloc: Global, wires: &[u32]) -> Result<Vec<u32>, AllocError>
+    ensures { IfOk result (λ part. part.items ≡ b_cochain wires.now) }
+{
+    (0..wires.len() / 2)
+        .map(|j| wires[2 * j + 1 - j % 2])
+        .collect(alloc)
 }

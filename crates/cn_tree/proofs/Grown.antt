@@ -1,12 +1,12 @@
 -- A tree from its root and the two trees on the root's outputs.
-use Rattle.std.proofs.Common.{◌≡◌, ℕ, zero, suc, ◌+◌, ◌-◌, ◌*◌, ◌^◌, ◌<◌, ◌≤◌, List, [], ◌∷◌, length, map, refl, sym, ap, ap₂, ◌∙◌, arith}
-use Rattle.std.proofs.Math.Nat.{pow-succ'}
+use Rattle.std.proofs.Common.{◌≡◌, ℕ, ◌+◌, ◌-◌, ◌^◌, ◌<◌, ◌≤◌, List, [], ◌∷◌, length, map, refl, sym, ap, ap₂, ◌∙◌, arith}
 use Rattle.std.proofs.lemmas.Nat.{pow_pos}
 use Rattle.cn_spec.specs.Networks.{IsRow, interleave, tree}
 use Rattle.cn_spec.specs.Step.{half}
 use Rattle.cn_spec.specs.Sums.{times}
 use Rattle.cn_spec.specs.declared.limits.TheConstants.{MOST_BALANCERS}
 use Rattle.cn_spec.proofs.Interleave.{length_interleave}
+use Rattle.cn_spec.proofs.Rows.{power_below}
 use Rattle.cn_spec.proofs.Sums.{times-append}
 use Rattle.cn_spec.proofs.Tree.{tree_turn}
 use Rattle.cn_wiring.specs.Plan.{Plan, AllLoose, Builds, IsFlow}
@@ -28,12 +28,8 @@ map_interleave f (a ∷ x) (b ∷ y) = ap (λ row. f a ∷ f b ∷ row) (map_int
 
 -- ---- the number of balancers
 
-twice : (level : ℕ) → 0 < level → 2 ^ level ≡ 2 * 2 ^ (level - 1)
-twice zero h = absurd (omega arith)
-twice (suc n) h = let e : suc n - 1 ≡ n = omega arith in rw e (pow-succ' 2 n)
-
 pub room_for_root : (k level : ℕ) → 0 < level → k + (2 ^ level - 1) ≤ MOST_BALANCERS → k < MOST_BALANCERS
-room_for_root k level h room = omega (arith, twice level h, pow_pos (level - 1))
+room_for_root k level h room = omega (arith, power_below level h, pow_pos (level - 1))
 
 -- ---- a tree of more than one wire: the root, the tree on its output 0, and the tree on its output 1
 
@@ -45,19 +41,19 @@ module _ {d e : Plan} {wire first second level : ℕ} (more : 0 < level) (there 
   first_loose w = let h = outputs_loose w in omega (arith, times-append w (first ∷ []) (second ∷ []))
 
   pub room_for_first : d.balancers + (2 ^ level - 1) ≤ MOST_BALANCERS → e.balancers + (2 ^ (level - 1) - 1) ≤ MOST_BALANCERS
-  room_for_first room = let h = root.balancers in omega (arith, twice level more, pow_pos (level - 1))
+  room_for_first room = let h = root.balancers in omega (arith, power_below level more, pow_pos (level - 1))
 
   module _ {g : Plan} {even : List ℕ} (one : Builds e g (first ∷ []) even (level - 1) (2 ^ (level - 1) - 1)) where
     pub second_loose : AllLoose g (second ∷ [])
     second_loose = Builds-loose (second ∷ []) outputs_loose one
 
     pub room_for_second : d.balancers + (2 ^ level - 1) ≤ MOST_BALANCERS → g.balancers + (2 ^ (level - 1) - 1) ≤ MOST_BALANCERS
-    room_for_second room = let h = root.balancers in let k = one.balancers in omega (arith, twice level more, pow_pos (level - 1))
+    room_for_second room = let h = root.balancers in let k = one.balancers in omega (arith, power_below level more, pow_pos (level - 1))
 
     module _ {h : Plan} {odd : List ℕ} (two : Builds g h (second ∷ []) odd (level - 1) (2 ^ (level - 1) - 1)) where
       pub tree_built : length even ≡ length odd → Builds d h (wire ∷ []) (interleave even odd) level (2 ^ level - 1)
       tree_built same =
-          Builds-sized level (2 ^ level - 1) (omega arith) (omega (arith, twice level more, pow_pos (level - 1)))
+          Builds-sized level (2 ^ level - 1) (omega arith) (omega (arith, power_below level more, pow_pos (level - 1)))
           (Builds-giving (interleave even odd) (λ w. times_interleave w even odd same ∙ sym (times-append w even odd))
           (Builds-then root (Builds-beside outputs_loose one two)))
 
@@ -73,4 +69,4 @@ module _ {d e : Plan} {wire first second level : ℕ} (more : 0 < level) (there 
           ∙ sym (tree_turn level (f wire) more)
 
 pub tree_row : (level : ℕ) (even odd : List ℕ) → 0 < level → IsRow (level - 1) even → IsRow (level - 1) odd → IsRow level (interleave even odd)
-tree_row level even odd more p q = omega (arith, length_interleave even odd (omega arith), twice level more)
+tree_row level even odd more p q = omega (arith, length_interleave even odd (omega arith), power_below level more)

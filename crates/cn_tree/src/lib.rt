@@ -1,85 +1,13 @@
-//! The counting tree.
+//! The counting tree (Shavit, Zemach 1996, section 2).
 //!
-//! A tree of balancers with one entry: output 0 of the root feeds the tree that gives the even exits, and output 1 the
-//! tree that gives the odd ones (Shavit, Zemach 1996, section 2).
+//! Output 0 of its root feeds the tree that gives the even exits, and output 1 the tree that gives the odd ones; [`tree`]
+//! builds the whole tree of a width.
 #![tactic(auto)]
 
-ghost use Rattle.std.specs.Prelude.{◌≡◌, ◌+◌, ◌-◌, ◌^◌, ◌≤◌, ◌↔◌, ℕ, [], ◌∷◌, map, length, IfOk, IsErrOf};
-ghost use Rattle.cn_spec.specs.Networks as net;
-ghost use Rattle.cn_wiring.specs.Built.{IsBuilt, exit_flows};
-ghost use Rattle.cn_wiring.specs.Plan.{AllLoose, Builds, IsFlow};
-ghost use Rattle.cn_wiring.specs.Table.{IsFullFlow};
-ghost use Rattle.cn_wiring.specs.Widths.{IsWidth};
+mod building;
 
-use cn_spec::laws;
-use cn_spec::limits::MOST_BALANCERS;
+pub use building::tree;
 pub use cn_wiring::BuildFault;
-use cn_wiring::{Counting, Draft, Kind, is_width};
-use std::alloc::{AllocError, Global};
-
-/// The counting tree of this width, a power of two from 2 to 64: one entry, `width` exits, `width - 1` balancers, and
-/// depth the logarithm of `width` to base 2 (Shavit, Zemach 1996, section 2).
-///
-/// The balancers are numbered in preorder: the root, then the tree on its output 0, then the tree on its output 1.
-///
-/// # Errors
-/// [`BuildFault::Width`] where [`is_width`] is false, and [`BuildFault::Memory`] where the network gets no memory.
-pub fn tree(alloc: Global, width: u32) -> Result<Counting, BuildFault>
-    ensures width { IsErrOf result BuildFault.Width ↔ (¬ IsWidth width) }
-    ensures accepted { IfOk result (λ _. IsWidth width) }
-    ensures built { IfOk result (λ network. (level : ℕ) → width ≡ 2 ^ level → IsBuilt network Kind.Tree 1 width (width - 1) level) }
-    ensures exits { IfOk result (λ network. (level : ℕ) → width ≡ 2 ^ level → (f : ℕ → ℕ) → IsFullFlow network.table f → exit_flows network.table f ≡ net.tree level (f 0)) }
-{
-    if !is_width(width) {
-        return Err(BuildFault::Width);
-    }
-    let level = width.ilog2();
-    let mut draft = Draft::new(alloc, 1)?;
-    let exits = grow(alloc, &mut draft, 0, level)?;
-    laws::tree_counts();
-    match draft.finish(&exits) {
-        Ok(wiring) => Ok(Counting::of(wiring, Kind::Tree, level)),
-        Err((_draft, error)) => Err(error.into()),
-    }
-}
-
-/// Grows a tree of `level` levels on a loose wire of the draft, and gives the wires of its `2 ^ level` exits, from exit
-/// 0 up. They are loose.
-///
-/// # Errors
-/// `AllocError` where the tree gets no memory. The draft may have some of the balancers.
-fn grow(alloc: Global, draft: &mut Draft, wire: u32, level: u32) -> Result<Vec<u32>, AllocError>
-    requires loose { AllLoose draft.old (wire ∷ []) }
-    requires room { draft.old.balancers + (2 ^ level - 1) ≤ MOST_BALANCERS }
-    ensures built { IfOk result (λ exits. Builds draft.old draft.new (wire ∷ []) exits.items level (2 ^ level - 1)) }
-    ensures row { IfOk result (λ exits. net.IsRow level exits.items) }
-    ensures flow { IfOk result (λ exits. (f : ℕ → ℕ) → IsFlow draft.new f → map f exits.items ≡ net.tree level (f wire)) }
-{
-    if level == 0 {
-        return Ok(vec![in alloc; wire]?);
-    }
-    let (first, second) = draft.fork(wire)?;
-    let even = grow(alloc, draft, first, level - 1)?;
-    let odd = grow(alloc, draft, second, level - 1)?;
-    interleave(alloc, &even, &odd)
-}
-
-/// The row whose even members are `even` and whose odd members are `odd`.
-///
-/// # Errors
-/// `AllocError` where the row gets no memory.
-#[tactic(auto, using(cn_spec::proofs::Interleave::interleave_more, cn_spec::proofs::Interleave::interleave_all))]
-fn interleave(alloc: Global, even: &[u32], odd: &[u32]) -> Result<Vec<u32>, AllocError>
-    requires { length even.now ≡ length odd.now }
-    ensures { IfOk result (λ row. row.items ≡ net.interleave even.now odd.now) }
-{
-    let mut row = Vec::with_capacity(alloc, 2 * even.len())?;
-    for (a, b) in even.iter().zip(odd) {
-        row.push(*a)?;
-        row.push(*b)?;
-    }
-    Ok(row)
-}
 
 #[cfg(test)]
 mod tests;

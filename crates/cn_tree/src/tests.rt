@@ -1,5 +1,7 @@
 use super::*;
 use cn_wiring::End::{self, Balancer, Exit};
+use cn_wiring::{Counting, Kind};
+use std::alloc::{AllocError, Global};
 
 /// Where each wire ends, from wire 0 up.
 fn ends_of(alloc: Global, network: &Counting) -> Result<Vec<End>, AllocError> {

@@ -1,6 +1,6 @@
 use Rattle.std.proofs.Common.{◌∙◌, arith}
 use Rattle.cn_wiring.proofs.Rows.{all_ok}
-use Rattle.cn_periodic.proofs.BlockParts.{first_asked, gives_all, gives_one, last_asked, second_asked, split, two_asked}
+use Rattle.cn_periodic.proofs.BlockParts.{first_asked, gives_all, gives_one, inner_blocks, last_asked, second_asked, two_asked}
 use Rattle.cn_periodic.proofs.blocks.+block.Goals as goal
 
 pub join_all-requires-clause-same : goal.join_all-requires-clause-same
@@ -30,22 +30,22 @@ block-requires-2 t c =
 
 pub join_all-requires-2-clause-same : goal.join_all-requires-2-clause-same
 join_all-requires-2-clause-same t c =
-    let (n, inner) = split c.args.draft.now c.block.new.draft c.block-2.new.draft c.args.wires.now c.deref-2.result.now c.deref-3.result.now c.in_ok-z.z.items c.in_ok-z2.z2.items (c.deref-2.ensures.value ∙ c.in_ok-a.ensures) (c.deref-3.ensures.value ∙ c.in_ok-b.ensures) c.if-wires-eq2.false c.requires.row c.requires.loose c.in_ok-z.ensures c.in_ok-z2.ensures in
+    let (n, inner) = inner_blocks c.args.draft.now c.block.new.draft c.block-2.new.draft c.args.wires.now c.deref-2.result.now c.deref-3.result.now c.in_ok-z.z.items c.in_ok-z2.z2.items (c.deref-2.ensures.value ∙ c.in_ok-a.ensures) (c.deref-3.ensures.value ∙ c.in_ok-b.ensures) c.if-wires-eq2.false c.requires.row c.requires.loose c.in_ok-z.ensures c.in_ok-z2.ensures in
     rw (c.deref-4.ensures.value, c.deref-5.ensures.value) (last_asked inner).0
 
 pub join_all-requires-2-clause-room : goal.join_all-requires-2-clause-room
 join_all-requires-2-clause-room t c =
-    let (n, inner) = split c.args.draft.now c.block.new.draft c.block-2.new.draft c.args.wires.now c.deref-2.result.now c.deref-3.result.now c.in_ok-z.z.items c.in_ok-z2.z2.items (c.deref-2.ensures.value ∙ c.in_ok-a.ensures) (c.deref-3.ensures.value ∙ c.in_ok-b.ensures) c.if-wires-eq2.false c.requires.row c.requires.loose c.in_ok-z.ensures c.in_ok-z2.ensures in
+    let (n, inner) = inner_blocks c.args.draft.now c.block.new.draft c.block-2.new.draft c.args.wires.now c.deref-2.result.now c.deref-3.result.now c.in_ok-z.z.items c.in_ok-z2.z2.items (c.deref-2.ensures.value ∙ c.in_ok-a.ensures) (c.deref-3.ensures.value ∙ c.in_ok-b.ensures) c.if-wires-eq2.false c.requires.row c.requires.loose c.in_ok-z.ensures c.in_ok-z2.ensures in
     rw c.deref-4.ensures.value (last_asked inner).1
 
 pub join_all-requires-2-clause-loose : goal.join_all-requires-2-clause-loose
 join_all-requires-2-clause-loose t c =
-    let (n, inner) = split c.args.draft.now c.block.new.draft c.block-2.new.draft c.args.wires.now c.deref-2.result.now c.deref-3.result.now c.in_ok-z.z.items c.in_ok-z2.z2.items (c.deref-2.ensures.value ∙ c.in_ok-a.ensures) (c.deref-3.ensures.value ∙ c.in_ok-b.ensures) c.if-wires-eq2.false c.requires.row c.requires.loose c.in_ok-z.ensures c.in_ok-z2.ensures in
+    let (n, inner) = inner_blocks c.args.draft.now c.block.new.draft c.block-2.new.draft c.args.wires.now c.deref-2.result.now c.deref-3.result.now c.in_ok-z.z.items c.in_ok-z2.z2.items (c.deref-2.ensures.value ∙ c.in_ok-a.ensures) (c.deref-3.ensures.value ∙ c.in_ok-b.ensures) c.if-wires-eq2.false c.requires.row c.requires.loose c.in_ok-z.ensures c.in_ok-z2.ensures in
     rw (c.deref-4.ensures.value, c.deref-5.ensures.value) (last_asked inner).2
 
 pub returns : goal.returns
 returns t c =
-    let (n, inner) = split c.args.draft.now c.block.new.draft c.block-2.new.draft c.args.wires.now c.deref-2.result.now c.deref-3.result.now c.in_ok-z.z.items c.in_ok-z2.z2.items (c.deref-2.ensures.value ∙ c.in_ok-a.ensures) (c.deref-3.ensures.value ∙ c.in_ok-b.ensures) c.if-wires-eq2.false c.requires.row c.requires.loose c.in_ok-z.ensures c.in_ok-z2.ensures in
+    let (n, inner) = inner_blocks c.args.draft.now c.block.new.draft c.block-2.new.draft c.args.wires.now c.deref-2.result.now c.deref-3.result.now c.in_ok-z.z.items c.in_ok-z2.z2.items (c.deref-2.ensures.value ∙ c.in_ok-a.ensures) (c.deref-3.ensures.value ∙ c.in_ok-b.ensures) c.if-wires-eq2.false c.requires.row c.requires.loose c.in_ok-z.ensures c.in_ok-z2.ensures in
     all_ok c.join_all-2.result _ _ _ _ (λ y wires built flow. gives_all n y.items inner wires built flow)
     (rw c.deref-4.ensures.value at c.join_all-2.ensures.wires)
     (rw (c.deref-4.ensures.value, c.deref-5.ensures.value) at c.join_all-2.ensures.built)

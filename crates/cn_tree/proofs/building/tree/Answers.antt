@@ -2,7 +2,7 @@ use Rattle.std.proofs.Common.{◌≡◌, ◌^◌, ◌∙◌, ap}
 use Rattle.cn_spec.specs.Networks as net
 use Rattle.cn_wiring.specs.declared.kind.Kind.TheVariants.{Tree}
 use Rattle.cn_wiring.proofs.Finished.{finished_built, finished_counts, finished_deep, finished_row, finishes, level_is_log}
-use Rattle.cn_tree.proofs.tree.Goals as goal
+use Rattle.cn_tree.proofs.building.tree.Goals as goal
 
 pub of-requires-clause-counts : goal.of-requires-clause-counts
 of-requires-clause-counts c =

@@ -2,7 +2,7 @@ use Rattle.std.proofs.Common.{◌≡◌, ◌<◌, ◌∙◌, length, sym, arith}
 use Rattle.std.proofs.lemmas.Result.{IfOk-weaker}
 use Rattle.cn_spec.proofs.Tree.{tree_zero}
 use Rattle.cn_tree.proofs.Grown.{first_loose, room_for_first, room_for_root, room_for_second, second_loose, tree_built, tree_flow, tree_row}
-use Rattle.cn_tree.proofs.+grow.Goals as goal
+use Rattle.cn_tree.proofs.building.+grow.Goals as goal
 
 pub returns-then-level-eq0-clause-flow : goal.returns-then-level-eq0-clause-flow
 returns-then-level-eq0-clause-flow t c f flow = rw (c.in_ok-vec.ensures.items, c.if-level-eq0.true) (sym (tree_zero (f c.args.wire)))
@@ -14,14 +14,14 @@ pub grow-requires : goal.grow-requires
 grow-requires t c =
     let more : 0 < c.args.level = omega arith in
     let root = c.in_ok-first.ensures.built in
-    (omega (arith, c.decreases), (first_loose more c.requires.loose root, room_for_first more c.requires.loose root c.requires.room))
+    (omega (arith, c.decreases), (room_for_first more c.requires.loose root c.requires.room, first_loose more c.requires.loose root))
 
 pub grow-requires-2 : goal.grow-requires-2
 grow-requires-2 t c =
     let more : 0 < c.args.level = omega arith in
     let root = c.in_ok-first.ensures.built in
     let one = c.in_ok-even.ensures.built in
-    (omega (arith, c.decreases), (second_loose more c.requires.loose root one, room_for_second more c.requires.loose root one c.requires.room))
+    (omega (arith, c.decreases), (room_for_second more c.requires.loose root one c.requires.room, second_loose more c.requires.loose root one))
 
 pub returns-clause-built : goal.returns-clause-built
 returns-clause-built t c =
