@@ -125,3 +125,15 @@ fn merger_of_two_wires(rt: HostRuntime) -> Result<(), AllocError> {
     }
     Ok(())
 }
+
+/// The merger over all eight entries gives the newest eight wires.
+#[test]
+fn merger_of_eight_wires(rt: HostRuntime) -> Result<(), AllocError> {
+    let mut draft = Draft::new(rt.alloc(), 8)?;
+    let outputs = merger(rt.alloc(), &mut draft, &[0, 1, 2, 3], &[4, 5, 6, 7])?;
+    assert_eq!(rt;
+        outputs.as_slice(),
+        [24, 25, 26, 27, 28, 29, 30, 31].as_slice()
+    );
+    Ok(())
+}

@@ -26,7 +26,7 @@ map_interleave f [] y = refl
 map_interleave f (a ∷ x) [] = refl
 map_interleave f (a ∷ x) (b ∷ y) = ap (λ row. f a ∷ f b ∷ row) (map_interleave f x y)
 
--- ---- the number of balancers
+-- ---- sizes
 
 pub room_for_root : (k level : ℕ) → 0 < level → k + (2 ^ level - 1) ≤ MOST_BALANCERS → k < MOST_BALANCERS
 room_for_root k level h room = omega (arith, power_below level h, pow_pos (level - 1))

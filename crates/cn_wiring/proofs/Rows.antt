@@ -15,11 +15,11 @@ use Rattle.cn_wiring.specs.Plan.{Plan, Builds, loose}
 use Rattle.cn_wiring.specs.Widths.{IsWidth}
 use Rattle.cn_wiring.proofs.Finished.{level_is_log}
 
--- half of a row is one of the level below
+-- half of the wires of a level
 pub half_pow : (n : ℕ) → 2 ^ suc n / 2 ≡ 2 ^ n
 half_pow n = let e = pow-succ' 2 n in omega arith
 
--- and is shorter
+-- a row of the level below is shorter
 pub shorter : (n : ℕ) (x part : List ℕ) → IsRow (suc n) x → IsRow n part → length part < length x
 shorter n x part row r = let l : length x ≡ 2 * 2 ^ n = row ∙ pow-succ' 2 n in omega (arith, pow_pos n, r)
 
