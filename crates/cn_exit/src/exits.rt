@@ -28,13 +28,13 @@ pub struct Leave {
 
 impl Model for Exits {
     ghost use Rattle.std.specs.Prelude.{List, ℕ};
-    ghost use Rattle.cn_exit.specs.Counts.{IsCounts};
+    ghost use Rattle.cn_exit.specs.InsideExits.{IsExitCounts};
 
     ghost Value = { List ℕ };
 
     ghost view = { λ exits. exits.counts.items };
 
-    ghost invariant = { λ exits. IsCounts exits.counts.items };
+    ghost invariant = { λ exits. IsExitCounts exits.counts.items };
 }
 
 impl Exits {
@@ -52,7 +52,7 @@ impl Exits {
         })
     }
 
-    /// A token leaves by `exit`, which is below the number of exits ([`Exits::width`]), and takes its name. Fewer than
+    /// A token leaves by `exit`, which is below [`Exits::width`], and gets its name ([`name_of`]). Fewer than
     /// [`MOST_ARRIVALS`] tokens have left there before ([`Exits::count`]). It takes no memory.
     ///
     /// Aspnes, Herlihy, Shavit 1994, section 2.
@@ -72,7 +72,7 @@ impl Exits {
         }
     }
 
-    /// How many tokens have left by `exit`, which is below the number of exits ([`Exits::width`]).
+    /// How many tokens have left by `exit`, which is below [`Exits::width`].
     pub fn count(&self, exit: u32) -> u64
         requires { exit < length self.now }
         ensures value { result ≡ slice_index self.now exit }
@@ -81,7 +81,7 @@ impl Exits {
         self.counts[exit as usize]
     }
 
-    /// How many exits there are.
+    /// How many exits there are, from 1 to [`MOST_ENDS`].
     pub fn width(&self) -> u32
         ensures value { result ≡ length self.now }
         ensures some { 1 ≤ result }

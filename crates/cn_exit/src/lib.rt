@@ -1,5 +1,5 @@
-//! The exits of a counting network: how often each was left by, the names that they give out, and the shares of all
-//! clients that they are due.
+//! The exits of a counting network: how many tokens left by each, the names that they give out, and their shares of all
+//! clients.
 #![tactic(auto)]
 
 mod exits;

@@ -1,4 +1,4 @@
-//! The shares of all clients that exits are due.
+//! The shares of the exits, and the step property.
 
 ghost use Rattle.std.specs.Prelude.{◌≡◌, ℕ, ◌<◌, ◌≤◌, ◌↔◌, IsTrue, length, slice_index};
 ghost use Rattle.cn_spec.specs.Step.{IsStep, step};
@@ -27,8 +27,8 @@ fn never_rises(counts: &[u64]) -> bool
     counts.is_sorted_by(|earlier, later| later <= earlier)
 }
 
-/// Whether the counts have the step property: each is at least any later one, and at most one more. With no counts or
-/// one they have it. It goes through the counts once, and they may be any numbers.
+/// Whether the counts, from exit 0 up, have the step property: each is at least any later one, and at most one more. No
+/// counts have it, and so has one alone. It looks at each count a fixed number of times, whatever the counts are.
 ///
 /// Aspnes, Herlihy, Shavit 1994, section 2.
 pub fn is_step(counts: &[u64]) -> bool
