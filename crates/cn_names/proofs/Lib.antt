@@ -1,0 +1,4 @@
+pub mod Entries
+pub mod Once
+pub mod Rising
+pub mod Walking

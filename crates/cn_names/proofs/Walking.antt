@@ -1,0 +1,47 @@
+-- Who is walking, and what the others hold.
+use Rattle.std.proofs.Common.{◌≡◌, ℕ, suc, Bool, true, false, cond, nat_eq, List, [], ◌∷◌, length, Option, None, Some, refl, ap, subst, inl, inr}
+use Rattle.std.proofs.lemmas.Bool.{cases_eq, eq-eqb, ne_eqb}
+use Rattle.std.proofs.lemmas.Map.Keys.{IsDistinct-head, IsDistinct-tail}
+use Rattle.std.specs.List.{IsDistinct, AllByRecursion, list_any}
+use Rattle.std.specs.Map.{keys_of, values_of}
+use Rattle.cn_names.specs.declared.standing.Standing.{Standing}
+use Rattle.cn_names.specs.declared.standing.Standing.TheVariants.{Walking, Holds}
+use Rattle.cn_names.specs.Names.{IsWalking, is_walking, standing_in}
+use Rattle.cn_names.specs.Grants.{grants_in}
+
+-- a client from which each client of the list differs has no standing there
+stranger : (client : ℕ) (names : List (ℕ × Standing)) → AllByRecursion (λ other. nat_eq client other ≡ false) (keys_of names) → standing_in names client ≡ None
+stranger client [] differ = refl
+stranger client (e ∷ names) differ = rw differ.0 (stranger client names differ.1)
+
+-- a client's standing stays where another client, which differs from all, comes before it
+behind : (other client : ℕ) (s : Standing) (names : List (ℕ × Standing)) (token : ℕ) → AllByRecursion (λ later. nat_eq client later ≡ false) (keys_of names) → standing_in names other ≡ Some (Walking token) → standing_in ((client, s) ∷ names) other ≡ Some (Walking token)
+behind other client s names token differ found =
+    elim (cases_eq other client) [
+      | inl same ↦ let none = stranger client names differ in let here : standing_in names client ≡ Some (Walking token) = subst (λ c. standing_in names c ≡ Some (Walking token)) same found in absurd (cc)
+      | inr apart ↦ rw (ne_eqb other client apart) found
+    ]
+
+pub walking_from_any : (names : List (ℕ × Standing)) → IsDistinct nat_eq (keys_of names) → list_any is_walking (values_of names) ≡ true → (client : ℕ) × IsWalking names client
+walking_from_any [] distinct any = absurd (cc)
+walking_from_any ((client, Walking token) ∷ names) distinct any = (client, (token, rw (eq-eqb client client refl) refl))
+walking_from_any ((client, Holds name) ∷ names) distinct any =
+    let later = walking_from_any names (IsDistinct-tail nat_eq client (keys_of names) distinct) any in
+    (later.0, (later.1.0, behind later.0 client (Holds name) names later.1.0 (IsDistinct-head nat_eq client (keys_of names) distinct) later.1.1))
+
+-- a standing that walks is not that of a client that holds a name
+past_a_name : (here : Bool) (name token : ℕ) (rest : Option Standing) → cond here (Some (Holds name)) rest ≡ Some (Walking token) → rest ≡ Some (Walking token)
+past_a_name true name token rest found = cc
+past_a_name false name token rest found = found
+
+pub any_from_walking : (names : List (ℕ × Standing)) (client token : ℕ) → standing_in names client ≡ Some (Walking token) → list_any is_walking (values_of names) ≡ true
+any_from_walking [] client token found = cc
+any_from_walking ((first, Walking other) ∷ names) client token found = refl
+any_from_walking ((first, Holds name) ∷ names) client token found =
+    any_from_walking names client token (past_a_name (nat_eq client first) name token (standing_in names client) found)
+
+-- where nobody walks, each client holds a name
+pub length-grants_in : (names : List (ℕ × Standing)) → list_any is_walking (values_of names) ≡ false → length (grants_in names) ≡ length names
+length-grants_in [] none = refl
+length-grants_in ((client, Walking token) ∷ names) none = cc
+length-grants_in ((client, Holds name) ∷ names) none = ap suc (length-grants_in names none)
