@@ -4,6 +4,7 @@ pub mod EmptyLedger
 pub mod Happening
 pub mod Placed
 pub mod Counted
+pub mod Clientele
 pub mod StateLemmas
 pub mod HistoryLemmas
 pub mod PassageLemmas

@@ -7,3 +7,5 @@ pub mod StateLedger
 pub mod Tight
 pub mod Calls
 pub mod WorkedNetworks
+pub mod InsideClients
+pub mod InsideCore

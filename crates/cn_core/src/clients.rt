@@ -1,90 +1,142 @@
-//! The clients of an epoch and where they are.
+//! The clients of an epoch, where they are, and the names that they hold.
 
-ghost use Rattle.std.specs.Prelude.{◌≡◌, ℕ, ◌++◌, ◌∷◌, [], length, OnOk, OnErr, count_by};
+ghost use Rattle.std.specs.Prelude.{◌≡◌, ℕ, ◌<◌, ◌++◌, ◌∷◌, [], None, Some, length, IfOk, IfSome, OnOk, OnErr, count_by, option_map};
 ghost use Rattle.std.specs.Map.{values_of};
+ghost use Rattle.cn_spec.specs.declared.limits.TheConstants.{MOST_CLIENTS};
+ghost use Rattle.cn_yard.specs.Lists.{empty};
+ghost use Rattle.cn_names.specs.Names.{standing_in};
+ghost use Rattle.cn_names.specs.Grants.{ListsByName};
 ghost use Rattle.cn_core.specs.State.{is_inside, position_in, with_position};
+ghost use Rattle.cn_core.specs.InsideClients.{IsFound, position_found, positions};
 
-use crate::position::Position;
+use cn_names::{Names, Standing};
+use cn_yard::{Token, Yard};
 use std::alloc::{AllocError, Global};
+use std::hash::RandomState;
 use std::marker::Model;
 
-/// The clients of an epoch with their positions, in the order in which they entered. A look-up goes through the list.
+/// Where a client is.
+#[derive(Clone, Copy, Debug)]
+pub(crate) enum Found {
+    /// Its token stands on a wire.
+    Walking { token: Token, wire: u32 },
+    /// It holds this name.
+    Named(u64),
+}
+
+/// The clients of an epoch: their tokens stand in a yard, and a table tells each client's token or name.
 #[derive(Drop)]
 pub(crate) struct Clients {
-    list: Vec<(u64, Position)>,
+    yard: Yard,
+    names: Names,
 }
 
 impl Model for Clients {
-    ghost use Rattle.std.specs.Prelude.{List, ℕ};
-    ghost use Rattle.cn_core.specs.declared.position.Position.{Position};
+    ghost use Rattle.cn_core.specs.InsideClients.{Clients, IsPlaced};
 
-    ghost Value = { List (ℕ × Position) };
+    ghost Value = { Clients };
 
-    ghost view = { λ c. c.list.items };
-}
+    ghost view = { λ c. record { yard = c.yard; names = c.names } };
 
-/// Writes the position of a client that is in the list.
-fn write_position(list: &mut [(u64, Position)], client: u64, position: Position)
-    ensures { list.new ≡ with_position list.old client position }
-{
-    for entry in list.iter_mut() {
-        if entry.0 == client {
-            entry.1 = position;
-            return;
-        }
-    }
+    ghost invariant = { λ c. IsPlaced (record { yard = c.yard; names = c.names }) };
 }
 
 impl Clients {
-    pub(crate) fn new(alloc: Global) -> Self
-        ensures { result ≡ [] }
+    ghost use Rattle.cn_names.specs.declared.standing.Standing.TheVariants.{Walking};
+    ghost use Rattle.cn_core.specs.declared.position.Position.TheVariants.{On, Holds};
+
+    /// Nobody, over this many wires.
+    pub(crate) fn new(alloc: Global, wires: u32, state: RandomState) -> Result<Self, AllocError>
+        ensures { IfOk result (λ clients. clients ≡ record { yard = empty wires; names = [] }) }
     {
-        Clients {
-            list: Vec::new(alloc),
-        }
+        Ok(Clients {
+            yard: Yard::new(alloc, wires)?,
+            names: Names::new(alloc, state),
+        })
     }
 
+    /// How many have entered.
     pub(crate) fn len(&self) -> usize
-        ensures { result ≡ length self.now }
+        ensures { result ≡ length (positions self.now) }
     {
-        self.list.len()
+        self.names.len()
     }
 
     /// How many are inside.
-    pub(crate) fn inside(&self) -> usize
-        ensures { result ≡ count_by is_inside (values_of self.now) }
+    pub(crate) fn inside(&self) -> u32
+        ensures { result ≡ count_by is_inside (values_of (positions self.now)) }
     {
-        self.list
-            .iter()
-            .filter(|entry| matches!(entry.1, Position::On(_)))
-            .count()
+        self.yard.len()
     }
 
-    /// Where a client is, if it is in the list.
-    pub(crate) fn position(&self, client: u64) -> Option<Position>
-        ensures { result ≡ position_in self.now client }
+    /// Where a client is, if it has entered.
+    pub(crate) fn find(&self, client: u64) -> Option<Found>
+        ensures position { option_map position_found result ≡ position_in (positions self.now) client }
+        ensures token { IfSome result (IsFound self.now client) }
     {
-        for (id, position) in &self.list {
-            if *id == client {
-                return Some(*position);
-            }
+        match self.names.standing(client)? {
+            Standing::Walking(token) => Some(Found::Walking {
+                token,
+                wire: self.yard.wire_of(token),
+            }),
+            Standing::Holds(name) => Some(Found::Named(name)),
         }
-        None
     }
 
-    /// Adds a client at the end.
-    pub(crate) fn add(&mut self, client: u64, position: Position) -> Result<(), AllocError>
-        ensures ok { OnOk result (self.new ≡ self.old ++ (client, position) ∷ []) }
-        ensures err { OnErr result (self.new ≡ self.old) }
+    /// A client that has not entered comes in on a wire, where its token stands last.
+    pub(crate) fn add(&mut self, client: u64, wire: u32) -> Result<(), AllocError>
+        requires new { position_in (positions self.old) client ≡ None }
+        requires wire { wire < length self.old.yard.lists }
+        requires few { length (positions self.old) < MOST_CLIENTS }
+        ensures ok { OnOk result (positions self.new ≡ positions self.old ++ (client, On wire) ∷ []) }
+        ensures err { OnErr result (positions self.new ≡ positions self.old) }
+        ensures wires { length self.new.yard.lists ≡ length self.old.yard.lists }
     {
-        self.list.push((client, position))?;
+        let token = self.yard.admit(client, wire)?;
+        if self.names.admit(client, token).is_err() {
+            self.yard.release(token);
+            return Err(AllocError);
+        }
         Ok(())
     }
 
-    /// Moves a client that is in the list to another position.
-    pub(crate) fn set_position(&mut self, client: u64, position: Position)
-        ensures { self.new ≡ with_position self.old client position }
+    /// A client's token goes to another wire, where it stands last.
+    pub(crate) fn walk(&mut self, token: Token, wire: u32)
+        requires walking { (client : ℕ) × (standing_in self.old.names client ≡ Some (Walking token)) }
+        requires wire { wire < length self.old.yard.lists }
+        ensures walked { (client : ℕ) → standing_in self.old.names client ≡ Some (Walking token) → positions self.new ≡ with_position (positions self.old) client (On wire) }
+        ensures wires { length self.new.yard.lists ≡ length self.old.yard.lists }
     {
-        write_position(&mut self.list, client, position);
+        self.yard.move_to(token, wire);
+    }
+
+    /// A client leaves with a name, and its token is gone.
+    pub(crate) fn settle(&mut self, client: u64, token: Token, name: u64)
+        requires walking { standing_in self.old.names client ≡ Some (Walking token) }
+        ensures settled { positions self.new ≡ with_position (positions self.old) client (Holds name) }
+        ensures wires { length self.new.yard.lists ≡ length self.old.yard.lists }
+    {
+        self.yard.release(token);
+        self.names.settle(client, name);
+    }
+
+    /// The clients by rising name. Nobody is inside.
+    pub(crate) fn by_name(&self) -> Result<Vec<u64>, AllocError>
+        requires { count_by is_inside (values_of (positions self.now)) ≡ 0 }
+        ensures { IfOk result (λ clients. ListsByName self.now.names clients.items) }
+    {
+        match self.names.by_name() {
+            Ok(clients) => Ok(clients),
+            Err(_memory) => Err(AllocError),
+        }
+    }
+
+    /// Forgets all clients. Nobody is inside.
+    pub(crate) fn clear(&mut self)
+        requires { count_by is_inside (values_of (positions self.old)) ≡ 0 }
+        ensures nobody { positions self.new ≡ [] }
+        ensures wires { length self.new.yard.lists ≡ length self.old.yard.lists }
+    {
+        self.names.clear();
     }
 }

@@ -8,40 +8,40 @@ ghost use Rattle.cn_wiring.specs.Table.{IsFullFlow, sum_at};
 ghost use Rattle.cn_wiring.specs.declared.end.End.TheVariants.{Balancer};
 ghost use Rattle.cn_core.specs.State.{one_more};
 
-use crate::clients::Clients;
+use crate::clients::{Clients, Found};
 use crate::event::Event;
-use crate::position::Position;
 use crate::reply::{EnterFault, Moved, Reply, StepFault};
 use cn_balancer::output_of;
+use cn_exit::{Exits, Leave};
 use cn_spec::limits::MOST_CLIENTS;
 use cn_wiring::{Counting, End};
 use std::alloc::{AllocError, Global};
 use std::hash::RandomState;
 use std::marker::Model;
 
-/// The running network of one epoch: its counts, and its clients with their positions. A token is its client; one event
-/// is one atomic step of the network.
+/// The running network of one epoch: its counts, and its clients with their positions. One event is one atomic step of the
+/// network.
 ///
-/// Each look-up goes through the list of the epoch's clients.
+/// An enter and a step make at most two hash look-ups each, and take time in proportion to the tokens inside.
 #[derive(Drop)]
 pub struct Core<'a> {
     alloc: Global,
     network: &'a Counting,
     entered: Vec<u64>,
     passes: Vec<u64>,
-    visits: Vec<u64>,
+    exits: Exits,
     clients: Clients,
 }
 
 impl<'a> Model for Core<'a> {
     ghost use Rattle.cn_core.specs.State.{State};
-    ghost use Rattle.cn_core.specs.StateLedger.{IsCore};
+    ghost use Rattle.cn_core.specs.InsideCore.{IsInside, state_of};
 
     ghost Value = { State };
 
-    ghost view = { λ c. record { network = c.network.now; entered = c.entered.items; passes = c.passes.items; visits = c.visits.items; clients = c.clients } };
+    ghost view = { state_of };
 
-    ghost invariant = { λ c. IsCore (record { network = c.network.now; entered = c.entered.items; passes = c.passes.items; visits = c.visits.items; clients = c.clients }) };
+    ghost invariant = { IsInside };
 }
 
 /// The count at a place.
@@ -74,16 +74,11 @@ impl<'a> Core<'a> {
     ghost use Rattle.cn_core.specs.Tight.{IsBoundedState, IsTightState};
     ghost use Rattle.cn_core.specs.Calls.{AnswersByHistory, EntersLedger, EntersTo, IsLedgerEvent, MovesLedger, RunsByHistory, RunsTo, StepsTo, TakesTo, entered_reply, stepped_reply};
 
-    /// A network that nobody has entered. The random state is for the table of names that a later form of the core
-    /// keeps; this one keeps a plain list.
+    /// A network that nobody has entered. The table of its clients hashes by `state`.
     ///
     /// # Errors
-    /// `AllocError` where the counts get no memory.
-    pub fn new(
-        alloc: Global,
-        network: &'a Counting,
-        _state: RandomState,
-    ) -> Result<Self, AllocError>
+    /// `AllocError` where the counts or the wires get no memory.
+    pub fn new(alloc: Global, network: &'a Counting, state: RandomState) -> Result<Self, AllocError>
         ensures start { IfOk result (λ core. core ≡ start network.now) }
         ensures history { IfOk result (λ core. Agrees core []) }
     {
@@ -92,8 +87,8 @@ impl<'a> Core<'a> {
             network,
             entered: vec![in alloc; 0; network.entries() as usize]?,
             passes: vec![in alloc; 0; network.balancers() as usize]?,
-            visits: vec![in alloc; 0; network.width() as usize]?,
-            clients: Clients::new(alloc),
+            exits: Exits::new(alloc, network.width())?,
+            clients: Clients::new(alloc, network.entries() + 2 * network.balancers(), state)?,
         })
     }
 
@@ -116,7 +111,7 @@ impl<'a> Core<'a> {
         ensures value { result ≡ inside_in self.now }
         ensures by_history { (history : List Event) → Agrees self.now history → result ≡ inside_of self.now.network.table history }
     {
-        self.clients.inside() as u64
+        u64::from(self.clients.inside())
     }
 
     /// Whether nobody is inside. Then each exit has let out its share of the clients that entered, and they hold the names
@@ -144,7 +139,7 @@ impl<'a> Core<'a> {
         ensures value { result ≡ slice_index self.now.visits exit }
         ensures few { result ≤ share (length self.now.clients) self.now.network.table.width exit }
     {
-        count_at(&self.visits, exit as usize)
+        self.exits.count(exit)
     }
 
     /// The name of a client, if it holds one. It is below the number of clients that entered, and no other client holds it.
@@ -153,9 +148,9 @@ impl<'a> Core<'a> {
         ensures below { IfSome result (λ name. name < length self.now.clients) }
         ensures own { IfSome result (λ name. (other : ℕ) → name_in self.now other ≡ Some name → other ≡ client) }
     {
-        match self.clients.position(client) {
-            Some(Position::Holds(name)) => Some(name),
-            _ => None,
+        match self.clients.find(client)? {
+            Found::Named(name) => Some(name),
+            Found::Walking { .. } => None,
         }
     }
 
@@ -173,17 +168,13 @@ impl<'a> Core<'a> {
         if entry >= u64::from(self.network.entries()) {
             return Err(EnterFault::NoSuchEntry);
         }
-        if self.clients.position(client).is_some() {
+        if self.clients.find(client).is_some() {
             return Err(EnterFault::AlreadyIn);
         }
         if self.clients.len() as u64 >= MOST_CLIENTS {
             return Err(EnterFault::EpochFull);
         }
-        if self
-            .clients
-            .add(client, Position::On(entry as u32))
-            .is_err()
-        {
+        if self.clients.add(client, entry as u32).is_err() {
             return Err(EnterFault::Memory);
         }
         count_one(&mut self.entered, entry as usize);
@@ -201,16 +192,18 @@ impl<'a> Core<'a> {
         ensures ledger { IfOk result (λ moved. MovesLedger self.old client moved self.new) }
         ensures network { self.new.network ≡ self.old.network }
     {
-        let wire = match self.clients.position(client) {
-            None => return Err(StepFault::Stranger),
-            Some(Position::Holds(name)) => return Err(StepFault::HasName(name)),
-            Some(Position::On(wire)) => wire,
+        let Some(found) = self.clients.find(client) else {
+            return Err(StepFault::Stranger);
+        };
+        let (token, wire) = match found {
+            Found::Named(name) => return Err(StepFault::HasName(name)),
+            Found::Walking { token, wire } => (token, wire),
         };
         match self.network.end(wire) {
             End::Balancer(balancer) => {
                 let number = count_one(&mut self.passes, balancer as usize);
                 let wire = self.network.entries() + 2 * balancer + output_of(number);
-                self.clients.set_position(client, Position::On(wire));
+                self.clients.walk(token, wire);
                 Ok(Moved::On {
                     balancer,
                     number,
@@ -218,9 +211,8 @@ impl<'a> Core<'a> {
                 })
             }
             End::Exit(exit) => {
-                let visit = count_one(&mut self.visits, exit as usize);
-                let name = u64::from(exit) + u64::from(self.network.width()) * visit;
-                self.clients.set_position(client, Position::Holds(name));
+                let Leave { visit, name } = self.exits.take(exit);
+                self.clients.settle(client, token, name);
                 Ok(Moved::Out { exit, visit, name })
             }
         }

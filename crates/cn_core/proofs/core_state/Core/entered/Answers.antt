@@ -3,7 +3,7 @@ use Rattle.cn_core.proofs.TightLemmas.{bounded-state}
 use Rattle.cn_core.proofs.core_state.Core.entered.Goals as goal
 
 pub returns-clause-sound : goal.returns-clause-sound
-returns-clause-sound c = rw (← c.self.view_is) (sound-by_history _ c.self.invariant)
+returns-clause-sound c = rw (← c.self.view_is) (sound-by_history _ c.self.invariant.core)
 
 pub returns-clause-bounded : goal.returns-clause-bounded
-returns-clause-bounded c = rw (← c.self.view_is) (bounded-state _ c.self.invariant)
+returns-clause-bounded c = rw (← c.self.view_is) (bounded-state _ c.self.invariant.core)

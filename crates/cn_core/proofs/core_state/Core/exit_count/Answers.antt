@@ -4,6 +4,6 @@ use Rattle.cn_core.proofs.core_state.Core.exit_count.Goals as goal
 
 pub returns-clause-few : goal.returns-clause-few
 returns-clause-few c =
-    let value : c.count_at.result ≡ slice_index c.args.self.now.visits c.args.exit = search rules in
-    let b = rw c.self.view_is at (bounded-state _ c.self.invariant) in
+    let value : c.count.result ≡ slice_index c.args.self.now.visits c.args.exit = search rules in
+    let b = rw c.self.view_is at (bounded-state _ c.self.invariant.core) in
     rw value (b.counts c.args.exit c.requires)

@@ -5,5 +5,5 @@ use Rattle.cn_core.proofs.core_state.Core.inside.Goals as goal
 
 pub returns-clause-by_history : goal.returns-clause-by_history
 returns-clause-by_history c =
-    let value : c.inside.result ≡ inside_in c.args.self.now = search rules in
+    let value : c.from.result ≡ inside_in c.args.self.now = search rules in
     λ history agrees. value ∙ inside-by_history c.args.self.now history agrees

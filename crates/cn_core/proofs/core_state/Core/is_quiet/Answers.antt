@@ -5,4 +5,4 @@ use Rattle.cn_core.proofs.core_state.Core.is_quiet.Goals as goal
 
 pub returns-clause-tight : goal.returns-clause-tight
 returns-clause-tight c = λ quiet.
-    rw (← c.self.view_is) (tight-state _ c.self.invariant (sym c.inside.ensures ∙ eqb-true c.inside.result 0 quiet))
+    rw (← c.self.view_is) (tight-state _ c.self.invariant.core (sym c.inside.ensures ∙ eqb-true c.inside.result 0 quiet))
