@@ -154,6 +154,19 @@ impl<'a> Core<'a> {
         }
     }
 
+    /// All as in a new core: nobody has entered, no balancer was passed and no exit taken. Nobody is inside. It takes no
+    /// memory.
+    pub fn clear(&mut self)
+        requires { inside_in self.old ≡ 0 }
+        ensures start { self.new ≡ start self.old.network }
+        ensures history { Agrees self.new [] }
+    {
+        self.entered.fill(0);
+        self.passes.fill(0);
+        self.exits.clear();
+        self.clients.clear();
+    }
+
     /// A client comes in by an entry: its token stands last on the entry's wire. An accepted enter is one event on the
     /// ledger; a refused one changes nothing.
     ///

@@ -222,3 +222,19 @@ fn one_client_is_still_inside(rt: HostRuntime) -> Result<(), Fail> {
     assert_eq!(rt; told, ((2, 1, false), Some((2, 1, 0)), (None, Some(0))));
     Ok(())
 }
+
+#[test]
+fn a_cleared_core_answers_anew(rt: HostRuntime) -> Result<(), Fail> {
+    let network = two_wide(rt.alloc())?;
+    let mut core = Core::new(rt.alloc(), &network, RandomState::new(&rt)?)?;
+    core.run(&TWO_CLIENTS)?;
+    assert!(rt; core.is_quiet());
+    core.clear();
+    assert_eq!(rt;
+        told_by(&core),
+        ((0, 0, true), Some((0, 0, 0)), (None, None))
+    );
+    let replies = core.run(&TWO_CLIENTS)?;
+    assert_eq!(rt; replies.as_slice(), TWO_CLIENTS_REPLIES.as_slice());
+    Ok(())
+}
