@@ -18,7 +18,7 @@ use Rattle.cn_core.proofs.Placed.{count-push, count-set, times-absent, times-pus
 use Rattle.cn_core.specs.InsideClients.{IsPlaced, StandsFor, position_by}
 
 -- the table's entries with their positions in the yard
-abbrev placed : Yard → List (ℕ × Standing) → List (ℕ × Position)
+abbrev pub placed : Yard → List (ℕ × Standing) → List (ℕ × Position)
 placed y names = map (λ e. (e.0, position_by y e.1)) names
 
 pub position-found : (y : Yard) (names : List (ℕ × Standing)) (client : ℕ) → position_in (placed y names) client ≡ option_map (position_by y) (standing_in names client)

@@ -10,4 +10,5 @@ pub mod HistoryLemmas
 pub mod PassageLemmas
 pub mod LedgerLemmas
 pub mod TightLemmas
+pub mod Holders
 pub mod Worked

@@ -37,3 +37,10 @@ pub record IsBoundedState (s : State) : Type 0 where
   -- each name is below the number of clients, and no two clients have one name
   pub below : (client name : ℕ) → name_in s client ≡ Some name → name < length s.clients
   pub distinct : (client other name : ℕ) → name_in s client ≡ Some name → name_in s other ≡ Some name → client ≡ other
+
+-- the clients of a state by rising name
+pub record ListsHolders (s : State) (holders : List ℕ) : Type 0 where
+  -- there are as many places as clients
+  pub all : length holders ≡ length s.clients
+  -- at each place stands the client that holds the place's number
+  pub by_name : (name : ℕ) → name < length s.clients → name_in s (slice_index holders name) ≡ Some name

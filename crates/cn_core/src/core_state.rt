@@ -71,7 +71,7 @@ impl<'a> Core<'a> {
     ghost use Rattle.cn_core.specs.History.{Agrees, enters_of, inside_of};
     ghost use Rattle.cn_core.specs.Ledger.{IsSound};
     ghost use Rattle.cn_core.specs.StateLedger.{ledger_of};
-    ghost use Rattle.cn_core.specs.Tight.{IsBoundedState, IsTightState};
+    ghost use Rattle.cn_core.specs.Tight.{IsBoundedState, IsTightState, ListsHolders};
     ghost use Rattle.cn_core.specs.Calls.{AnswersByHistory, EntersLedger, EntersTo, IsLedgerEvent, MovesLedger, RunsByHistory, RunsTo, StepsTo, TakesTo, entered_reply, stepped_reply};
 
     /// A network that nobody has entered. The table of its clients hashes by `state`.
@@ -152,6 +152,17 @@ impl<'a> Core<'a> {
             Found::Named(name) => Some(name),
             Found::Walking { .. } => None,
         }
+    }
+
+    /// The clients that entered, by rising name: `holders[n]` is the client with name n. Nobody is inside.
+    ///
+    /// # Errors
+    /// `AllocError` where the list gets no memory.
+    pub fn holders(&self) -> Result<Vec<u64>, AllocError>
+        requires { inside_in self.now ≡ 0 }
+        ensures { IfOk result (λ holders. ListsHolders self.now holders.items) }
+    {
+        self.clients.by_name()
     }
 
     /// All as in a new core: nobody has entered, no balancer was passed and no exit taken. Nobody is inside. It takes no

@@ -96,6 +96,8 @@ fn tree_overtaking_by_single_calls(rt: HostRuntime) -> Result<(), Fail> {
     for (client, name) in [(10, Some(2)), (20, Some(1)), (30, Some(0)), (40, None)] {
         assert_eq!(rt; core.name(client), name, "client {client}");
     }
+    let holders = core.holders()?;
+    assert_eq!(rt; holders.as_slice(), [30, 20, 10].as_slice());
     Ok(())
 }
 

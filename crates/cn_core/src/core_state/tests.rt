@@ -238,3 +238,14 @@ fn a_cleared_core_answers_anew(rt: HostRuntime) -> Result<(), Fail> {
     assert_eq!(rt; replies.as_slice(), TWO_CLIENTS_REPLIES.as_slice());
     Ok(())
 }
+
+#[test]
+fn the_holders_of_two_clients(rt: HostRuntime) -> Result<(), Fail> {
+    let network = two_wide(rt.alloc())?;
+    let mut core = Core::new(rt.alloc(), &network, RandomState::new(&rt)?)?;
+    core.run(&TWO_CLIENTS)?;
+    assert!(rt; core.is_quiet());
+    let holders = core.holders()?;
+    assert_eq!(rt; holders.as_slice(), [9, 7].as_slice());
+    Ok(())
+}

@@ -1,0 +1,149 @@
+-- The clients of a quiet state, listed by the names that they hold.
+use Rattle.std.proofs.Common.{◌≡◌, ℕ, zero, suc, ◌+◌, ◌-◌, ◌<◌, ◌≤◌, Bool, true, false, cond, nat_eq, List, [], ◌∷◌, length, get_or, map, refl, sym, ap, ap₂, subst, ◌∙◌, arith, zero-add, Some, inl, inr}
+use Rattle.std.specs.Prelude.{AllPairs, Contains}
+use Rattle.std.specs.List.{range_with_len, sum_by}
+use Rattle.std.specs.List.Sorted.{IsPermutation}
+use Rattle.std.proofs.lemmas.Bool.{eq-eqb}
+use Rattle.std.proofs.lemmas.List.{get_or-map, length-map}
+use Rattle.std.proofs.lemmas.List.Elements.{Contains-get_or}
+use Rattle.std.proofs.lemmas.List.FromFn.{get_or-range_with_len, length-range_with_len}
+use Rattle.std.proofs.lemmas.List.Sorted.{Contains-permutation, IsPermutation-map, IsPermutation-sym, IsPermutation-trans, length_permutation, sum_by-IsPermutation}
+use Rattle.std.proofs.lemmas.List.Sums.{sum_by-cons}
+use Rattle.cn_yard.specs.Lists.{Yard}
+use Rattle.cn_names.specs.declared.standing.Standing.{Standing}
+use Rattle.cn_names.specs.declared.standing.Standing.TheVariants.{Walking, Holds as Named}
+use Rattle.cn_names.specs.Grants.{IsRising, ListsByName, grants_in as named_in}
+use Rattle.cn_core.specs.declared.position.Position.{Position}
+use Rattle.cn_core.specs.declared.position.Position.TheVariants.{Holds}
+use Rattle.cn_core.specs.InsideClients.{Clients, position_by, positions}
+use Rattle.cn_core.specs.State.{State, inside_in, name_at, position_in, times_in}
+use Rattle.cn_core.specs.StateLedger.{IsCore}
+use Rattle.cn_core.specs.Tight.{ListsHolders, grants_in}
+use Rattle.cn_core.proofs.Clientele.{placed}
+use Rattle.cn_core.proofs.TightLemmas.{tight-state}
+
+-- ---- a rising order of consecutive numbers
+
+sum-none : (f : ℕ → ℕ) (xs : List ℕ) → ((i : ℕ) → i < length xs → f (get_or xs i 0) ≡ 0) → sum_by f xs ≡ 0
+sum-none f [] each = refl
+sum-none f (x ∷ xs) each = omega (arith, sum_by-cons f x xs, each 0 (omega arith), sum-none f xs (λ i within. each (suc i) (omega arith)))
+
+same-by : (a b : ℕ) → (a < b → ⊥) → (b < a → ⊥) → a ≡ b
+same-by a b less greater = grind (arith, less, greater)
+
+-- a rising list with the sums of the numbers from a on is those numbers
+rising-is : (a : ℕ) (xs : List ℕ) → ((f : ℕ → ℕ) → sum_by f xs ≡ sum_by f (range_with_len a (length xs))) → AllPairs (λ x y. x ≤ y) xs → xs ≡ range_with_len a (length xs)
+rising-is a [] same rising = refl
+rising-is a (x ∷ xs) same rising =
+    let head : x ≡ a = same-by x a below above in
+    let rest = rising-is (a + 1) xs (λ f.
+    let first : f x ≡ f a = ap f head in
+    omega (arith, same f, sum_by-cons f x xs, sum_by-cons f a (range_with_len (a + 1) (length xs)))) (λ i j d before within. rising (suc i) (suc j) d (omega arith) (omega arith)) in
+    ap₂ (λ y ys. y ∷ ys) head rest
+  where
+    least : (i : ℕ) → i < length (x ∷ xs) → x ≤ get_or (x ∷ xs) i 0
+    least zero within = omega arith
+    least (suc i) within = rising 0 (suc i) 0 (omega arith) within
+
+    above : a < x → ⊥
+    above more =
+        let f = λ (y : ℕ). a + 1 - y in
+        omega (arith, same f, sum-none f (x ∷ xs) (λ i within. omega (arith, least i within)), sum_by-cons f a (range_with_len (a + 1) (length xs)))
+
+    below : x < a → ⊥
+    below less =
+        let f = λ (y : ℕ). a - y in
+        omega (arith, same f, sum-none f (range_with_len a (suc (length xs))) (λ i within. omega (arith, get_or-range_with_len a (suc (length xs)) i 0 (omega (arith, length-range_with_len a (suc (length xs)))))), sum_by-cons f x xs)
+
+-- an order of the numbers below k that rises is 0, 1, 2 and so on
+pub rising-each_below : (k : ℕ) (xs : List ℕ) → IsPermutation (range_with_len 0 k) xs → AllPairs (λ x y. x ≤ y) xs → xs ≡ range_with_len 0 k
+rising-each_below k xs order rising =
+    let len : length xs ≡ k = length_permutation (range_with_len 0 k) xs order ∙ length-range_with_len 0 k in
+    rising-is 0 xs (λ f. rw len (sum_by-IsPermutation f (range_with_len 0 k) xs order)) rising ∙ ap (range_with_len 0) len
+
+-- ---- the names that the table's clients hold
+
+-- the table's grants have the names of the state's
+names-of : (y : Yard) (names : List (ℕ × Standing)) → map (λ grant. grant.1) (grants_in (placed y names)) ≡ map (λ grant. grant.0) (named_in names)
+names-of y [] = refl
+names-of y ((client, Walking token) ∷ names) = names-of y names
+names-of y ((client, Named name) ∷ names) = ap (λ ns. name ∷ ns) (names-of y names)
+
+-- whoever is found is in the list
+found-times : (client : ℕ) (clients : List (ℕ × Position)) (p : Position) → position_in clients client ≡ Some p → 1 ≤ times_in client clients
+found-times client [] p found = cc
+found-times client (e ∷ clients) p found = by (nat_eq client e.0) refl found (found-times client clients p)
+  where
+    by : (b : Bool) → nat_eq client e.0 ≡ b → cond b (Some e.1) (position_in clients client) ≡ Some p → (position_in clients client ≡ Some p → 1 ≤ times_in client clients) → 1 ≤ times_in client (e ∷ clients)
+    by true here found rest =
+        let one : ◌≡◌ {A = ℕ} (cond (nat_eq client e.0) 1 0) 1 = rw here refl in
+        omega (arith, sum_by-cons (λ (x : ℕ × Position). cond (nat_eq client x.0) 1 0) e clients)
+    by false here found rest = omega (arith, rest found, sum_by-cons (λ (x : ℕ × Position). cond (nat_eq client x.0) 1 0) e clients)
+
+-- a client that is in the list once is found behind another
+found-later : (client : ℕ) (e : ℕ × Position) (clients : List (ℕ × Position)) (p : Position) → times_in client (e ∷ clients) ≤ 1 → (times_in client clients ≤ 1 → position_in clients client ≡ Some p) → position_in (e ∷ clients) client ≡ Some p
+found-later client e clients p once later = by (nat_eq client e.0) refl
+  where
+    sum : times_in client (e ∷ clients) ≡ cond (nat_eq client e.0) 1 0 + times_in client clients
+    sum = sum_by-cons (λ (x : ℕ × Position). cond (nat_eq client x.0) 1 0) e clients
+
+    by : (b : Bool) → nat_eq client e.0 ≡ b → cond b (Some e.1) (position_in clients client) ≡ Some p
+    by true here =
+        let one : ◌≡◌ {A = ℕ} (cond (nat_eq client e.0) 1 0) 1 = rw here refl in
+        absurd (omega (arith, sum, found-times client clients p (later (omega (arith, sum)))))
+    by false here = later (omega (arith, sum))
+
+-- a grant of the table is the position of its client
+holder-found : (y : Yard) (names : List (ℕ × Standing)) (name client : ℕ) → times_in client (placed y names) ≤ 1 → Contains (named_in names) (name, client) → position_in (placed y names) client ≡ Some (Holds name)
+holder-found y [] name client once (k, within, is) = absurd (omega arith)
+holder-found y ((c, Walking token) ∷ names) name client once has =
+    found-later client (c, position_by y (Walking token)) (placed y names) (Holds name) once (λ once. holder-found y names name client once has)
+holder-found y ((c, Named n) ∷ names) name client once (zero, within, is) =
+    let its : c ≡ client = ap (λ (g : ℕ × ℕ). g.1) is in
+    let name_is : n ≡ name = ap (λ (g : ℕ × ℕ). g.0) is in
+    rw (its, name_is, eq-eqb client client refl) refl
+holder-found y ((c, Named n) ∷ names) name client once (suc k, within, is) =
+    found-later client (c, Holds n) (placed y names) (Holds name) once (λ once. holder-found y names name client once (k, omega arith, is))
+
+-- the names of grants that rise
+names-rise : (grants : List (ℕ × ℕ)) → IsRising grants → AllPairs (λ x y. x ≤ y) (map (λ grant. grant.0) grants)
+names-rise grants rising i j d before within =
+    let f = λ (grant : ℕ × ℕ). grant.0 in
+    let there : j < length grants = omega (arith, length-map grants f) in
+    let at = get_or-map f grants i (0, 0) d (omega arith) in
+    let to = get_or-map f grants j (0, 0) d there in
+    let order : (get_or grants i (0, 0)).0 ≤ (get_or grants j (0, 0)).0 = elim (rising i j (0, 0) before there) [ inl less ↦ omega arith | inr (same, clients) ↦ omega arith ] in
+    omega arith
+
+pub holders-listed : (s : State) (c : Clients) (holders : List ℕ) → s.clients ≡ positions c → IsCore s → inside_in s ≡ 0 → ListsByName c.names holders → ListsHolders s holders
+holders-listed s c holders clients is none l = record { all = all; by_name = by_name }
+  where
+    k : ℕ
+    k = length s.clients
+
+    f : ℕ × ℕ → ℕ
+    f = λ (grant : ℕ × ℕ). grant.0
+
+    order : IsPermutation (range_with_len 0 k) (map f l.grants)
+    order =
+        let names : map (λ grant. grant.1) (grants_in s.clients) ≡ map f (named_in c.names) = ap (λ cs. map (λ grant. grant.1) (grants_in cs)) clients ∙ names-of c.yard c.names in
+        IsPermutation-trans _ _ _ (rw names at (tight-state s is none).tight.names) (IsPermutation-map f (named_in c.names) l.grants l.all)
+
+    names-are : map f l.grants ≡ range_with_len 0 k
+    names-are = rising-each_below k (map f l.grants) order (names-rise l.grants l.rising)
+
+    len : length l.grants ≡ k
+    len = sym (length-map l.grants f) ∙ ap length names-are ∙ length-range_with_len 0 k
+
+    all : length holders ≡ k
+    all = ap length l.listed ∙ length-map l.grants (λ grant. grant.1) ∙ len
+
+    by_name : (name : ℕ) → name < k → name_at (position_in s.clients (get_or holders name 0)) ≡ Some name
+    by_name name below =
+        let there : name < length l.grants = omega (arith, len) in
+        let grant = get_or l.grants name (0, 0) in
+        let its : grant.0 ≡ name = sym (get_or-map f l.grants name (0, 0) 0 there) ∙ ap (λ ns. get_or ns name 0) names-are ∙ get_or-range_with_len 0 k name 0 below ∙ zero-add name in
+        let who : get_or holders name 0 ≡ grant.1 = ap (λ hs. get_or hs name 0) l.listed ∙ get_or-map (λ (g : ℕ × ℕ). g.1) l.grants name (0, 0) 0 there in
+        let has = Contains-permutation l.grants (named_in c.names) grant (IsPermutation-sym (named_in c.names) l.grants l.all) (Contains-get_or l.grants name (0, 0) there) in
+        let found = holder-found c.yard c.names grant.0 grant.1 (subst (λ cs. times_in grant.1 cs ≤ 1) clients (is.state.once grant.1)) has in
+        rw (who, clients, found, its) refl
