@@ -1,0 +1,112 @@
+-- The answers of epochs by their turns and history.
+use Rattle.std.proofs.Common.{◌≡◌, ℕ, ◌+◌, ◌<◌, ◌≤◌, List, ◌∷◌, length, get_or, drop, refl, sym, ap, ◌∙◌, arith, Option, Some, None, slice_index, Result, Ok, Err}
+use Rattle.std.proofs.lemmas.List.{drop_more}
+use Rattle.cn_wiring.specs.declared.end.End.TheVariants.{Exit}
+use Rattle.cn_core.specs.declared.event.Event.{Event}
+use Rattle.cn_core.specs.declared.event.Event.TheVariants.{Enter as EnterEvent, Step as StepEvent}
+use Rattle.cn_core.specs.declared.position.Position.{Position}
+use Rattle.cn_core.specs.declared.position.Position.TheVariants.{On, Holds}
+use Rattle.cn_core.specs.declared.reply.Reply.{Reply}
+use Rattle.std.specs.Prelude.{IfOk}
+use Rattle.cn_core.specs.declared.reply.Moved.{Moved}
+use Rattle.cn_core.specs.declared.reply.StepFault.{StepFault}
+use Rattle.cn_core.specs.Calls.{AnswersByHistory, IsLedgerEvent, MovesLedger, stepped_reply}
+use Rattle.cn_core.specs.State.{State, inside_in, name_at, position_in, start}
+use Rattle.cn_core.specs.Tight.{IsTightState, ListsHolders}
+use Rattle.cn_core.proofs.HistoryLemmas.{Agrees-start, inside-by_history}
+use Rattle.cn_epoch.specs.declared.answer.Answer.{Answer}
+use Rattle.cn_epoch.specs.declared.answer.Answer.TheVariants.{Replied, Turned, TurnRefused}
+use Rattle.cn_epoch.specs.declared.answer.TurnFault.TheVariants.{NotQuiet, Memory}
+use Rattle.cn_epoch.specs.declared.command.Command.{Command}
+use Rattle.cn_epoch.specs.declared.command.Command.TheVariants.{Enter, Step, Turn}
+use Rattle.cn_epoch.specs.declared.record.EpochRecord.{EpochRecord}
+use Rattle.cn_epoch.specs.Calls.{AnswersAfter, GoTo, GoesTo, RunAfter}
+use Rattle.cn_epoch.specs.Turns.{AgreesAfter, Epochs, IsRecordOf, IsTightRecord}
+
+-- ---- an event of the epoch that stands open
+
+pub enters-after : (old new : Epochs) (client entry : ℕ) (reply : Reply) → AnswersByHistory old.core (EnterEvent client entry) reply new.core → new.number ≡ old.number
+    → AnswersAfter old (Enter client entry) (Replied reply) new
+enters-after old new client entry reply answers same turns history agrees =
+    let (may, after) = answers history agrees.core in
+    (may, record { number = same ∙ agrees.number; core = after })
+
+pub steps-after : (old new : Epochs) (client : ℕ) (reply : Reply) → AnswersByHistory old.core (StepEvent client) reply new.core → new.number ≡ old.number
+    → AnswersAfter old (Step client) (Replied reply) new
+steps-after old new client reply answers same turns history agrees =
+    let (may, after) = answers history agrees.core in
+    (may, record { number = same ∙ agrees.number; core = after })
+
+-- ---- a turn
+
+named : (p : Option Position) (name : ℕ) → name_at p ≡ Some name → p ≡ Some (Holds name)
+named None name e = absurd (cc)
+named (Some (On wire)) name e = absurd (cc)
+named (Some (Holds other)) name e = ap (λ n. Some (Holds n)) (let same : other ≡ name = cc in same)
+
+-- what a turn that is done writes down of a state
+pub record Told (old : Epochs) (r : EpochRecord) : Type 0 where
+  pub number : r.number ≡ old.number
+  pub clients : r.clients ≡ length old.core.clients
+  pub exits : length r.counts.items ≡ old.core.network.table.width
+  pub counts : (i : ℕ) → i < old.core.network.table.width → slice_index r.counts.items i ≡ slice_index old.core.visits i
+  pub holders : ListsHolders old.core r.holders.items
+
+pub told-tight : (old : Epochs) (r : EpochRecord) → Told old r → IsTightState old.core → IsTightRecord old.core.network.table.width r
+told-tight old r told tight = record {
+  exits = told.exits;
+  counts = λ i within. told.counts i within ∙ tight.counts i within ∙ rw told.clients refl;
+  names = told.holders.all ∙ sym told.clients;
+  distinct = λ m n before within same.
+      let many = told.clients in
+      let one = told.holders.by_name m (omega arith) in
+      let other = told.holders.by_name n (omega arith) in
+      let both : ◌≡◌ {A = Option ℕ} (Some m) (Some n) = sym one ∙ rw same other in
+      let equal : m ≡ n = cc in
+      omega arith;
+}
+
+pub told-record : (old : Epochs) (r : EpochRecord) → Told old r → (turns : ℕ) (history : List Event) → AgreesAfter old turns history → IsRecordOf old.core.network.table turns history r
+told-record old r told turns history agrees = record {
+  number = told.number ∙ agrees.number;
+  clients = told.clients ∙ agrees.core.total;
+  exits = told.exits;
+  counts = λ i within. told.counts i within ∙ agrees.core.counts (Exit i);
+  names = told.holders.all ∙ agrees.core.total;
+  holders = λ name below.
+      let total = agrees.core.total in
+      let holder = slice_index r.holders.items name in
+      sym (agrees.core.positions holder) ∙ named (position_in old.core.clients holder) name (told.holders.by_name name (omega arith));
+}
+
+pub turned-after : (old new : Epochs) (r : EpochRecord) → Told old r → inside_in old.core ≡ 0 → new ≡ record { number = old.number + 1; core = start old.core.network }
+    → AnswersAfter old Turn (Turned r) new
+turned-after old new r told quiet is turns history agrees = (
+  (sym (inside-by_history old.core history agrees.core) ∙ quiet, told-record old r told turns history agrees),
+  rw is (record { number = ap (λ (n : ℕ). n + 1) agrees.number; core = Agrees-start old.core.network }),
+)
+
+pub not_quiet-after : (old : Epochs) (s : ℕ) → 1 ≤ s → s ≡ inside_in old.core → AnswersAfter old Turn (TurnRefused (NotQuiet s)) old
+not_quiet-after old s some is turns history agrees = ((some, is ∙ inside-by_history old.core history agrees.core), agrees)
+
+pub memory-after : (old : Epochs) → inside_in old.core ≡ 0 → AnswersAfter old Turn (TurnRefused Memory) old
+memory-after old quiet turns history agrees = (sym (inside-by_history old.core history agrees.core) ∙ quiet, agrees)
+
+-- ---- commands one after another
+
+pub run-at : (old mid new : Epochs) (cs : List Command) (i : ℕ) (d : Command) (a : Answer) (rest : List Answer) → i < length cs
+    → AnswersAfter old (get_or cs i d) a mid → mid.core.network ≡ old.core.network → RunAfter mid (drop (i + 1) cs) rest new → RunAfter old (drop i cs) (a ∷ rest) new
+run-at old mid new cs i d a rest within answered same runs =
+    rw (drop_more cs i d within) (λ turns history agrees.
+    let (may, after) = answered turns history agrees in
+    let (others, last) = runs _ _ after in
+    ((may, rw same at others), last))
+
+pub go_to-at : (old mid new : Epochs) (cs : List Command) (i : ℕ) (d : Command) (a : Answer) (rest : List Answer) → i < length cs
+    → GoesTo old (get_or cs i d) a mid → GoTo mid (drop (i + 1) cs) rest new → GoTo old (drop i cs) (a ∷ rest) new
+go_to-at old mid new cs i d a rest within goes runs = rw (drop_more cs i d within) (mid, goes, runs)
+
+-- an accepted step is one event on the ledger
+pub moved-event : (old new : State) (client : ℕ) (r : Result Moved StepFault) → IfOk r (λ moved. MovesLedger old client moved new) → IsLedgerEvent old (StepEvent client) (stepped_reply r) new
+moved-event old new client (Ok moved) h = h
+moved-event old new client (Err fault) h = tt

@@ -1,0 +1,43 @@
+use Rattle.std.proofs.Common.{rules, arith, ◌≡◌, ◌++◌, ◌∷◌, [], drop, append-nil, append_assoc, refl}
+use Rattle.std.proofs.lemmas.Grind.{common_steps}
+use Rattle.cn_epoch.specs.declared.command.Command.TheVariants.{Enter}
+use Rattle.cn_epoch.proofs.Answering.{go_to-at, run-at}
+use Rattle.cn_epoch.proofs.epochs.Epochs.run.Goals as goal
+
+pub loop-command-init : goal.loop-command-init
+loop-command-init c = record {
+  so_far = search rules;
+  room = search rules;
+  network = refl;
+  number = omega arith;
+  events = λ rest new runs. rw c.in_ok-answers.ensures.items runs;
+  rest = λ rest new runs. rw c.in_ok-answers.ensures.items runs;
+}
+
+pub loop-command-preserved : goal.loop-command-preserved
+loop-command-preserved c = record {
+  so_far = search rules;
+  room = search rules;
+  network = search rules;
+  number = let before = c.loop-command.invariant.number in let more = c.answer-answer.ensures.number in omega arith;
+  events = λ rest new runs.
+      let joined : c.push_reserved.new.self.items ++ rest ≡ c.loop-command.answers.items ++ (c.answer-answer.result ∷ rest) = rw (c.push_reserved.ensures.items, append_assoc) refl in
+      rw joined (c.loop-command.invariant.events (c.answer-answer.result ∷ rest) new
+      (go_to-at c.loop-command.self c.answer-answer.new.self new c.args.commands.now c.loop-command.command-index (Enter 0 0) c.answer-answer.result rest c.loop-command-test.true c.answer-answer.ensures.event runs));
+  rest = λ rest new runs.
+      let joined : c.push_reserved.new.self.items ++ rest ≡ c.loop-command.answers.items ++ (c.answer-answer.result ∷ rest) = rw (c.push_reserved.ensures.items, append_assoc) refl in
+      rw joined (c.loop-command.invariant.rest (c.answer-answer.result ∷ rest) new
+      (run-at c.loop-command.self c.answer-answer.new.self new c.args.commands.now c.loop-command.command-index (Enter 0 0) c.answer-answer.result rest c.loop-command-test.true c.answer-answer.ensures.history c.answer-answer.ensures.network runs));
+}
+
+pub returns-clause-events : goal.returns-clause-events
+returns-clause-events c =
+    let done : drop c.loop-command.command-index c.args.commands.now ≡ [] = grind (arith, common_steps) in
+    let whole = c.loop-command.invariant.events [] c.loop-command.self (rw done refl) in
+    rw append-nil at whole
+
+pub returns-clause-history : goal.returns-clause-history
+returns-clause-history c =
+    let done : drop c.loop-command.command-index c.args.commands.now ≡ [] = grind (arith, common_steps) in
+    let whole = c.loop-command.invariant.rest [] c.loop-command.self (rw done (λ turns history agrees. (tt, agrees))) in
+    rw append-nil at whole

@@ -1,0 +1,12 @@
+//! One-shot renaming in epochs, one command at a time.
+#![tactic(auto)]
+
+mod answer;
+mod command;
+mod epochs;
+mod record;
+
+pub use answer::{Answer, TurnFault};
+pub use command::Command;
+pub use epochs::Epochs;
+pub use record::EpochRecord;
