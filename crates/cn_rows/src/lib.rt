@@ -5,6 +5,8 @@
 #[cfg(test)]
 mod core_calls;
 #[cfg(test)]
+mod epoch_calls;
+#[cfg(test)]
 mod narrow;
 #[cfg(test)]
 mod replaying;
