@@ -9,16 +9,16 @@ use Rattle.std.proofs.Math.ListN.{get_or-append}
 use Rattle.std.proofs.Math.Seq.{get_or-append_seam}
 use borrow.Author.Count.{below_more}
 use Rattle.csv.specs.declared.reader.Reader.{Reader}
-use Rattle.cn_core.specs.declared.event.Event.{Event}
+use Rattle.cn_epoch.specs.declared.command.Command.{Command}
 use Rattle.cn_report.specs.declared.schedule_fault.ScheduleCause.{ScheduleCause}
 use Rattle.cn_report.specs.declared.schedule_fault.ScheduleCause.TheVariants.{Header, Read, Memory}
 use Rattle.cn_report.specs.Records.{HasRead, Record, records_of}
-use Rattle.cn_report.specs.Event.{event_in}
-use Rattle.cn_report.specs.Schedule.{IsCleanBefore, IsSchedule, IsScheduleFault, cause_at, event_cause, header_cause}
+use Rattle.cn_report.specs.Command.{command_in}
+use Rattle.cn_report.specs.Schedule.{IsCleanBefore, IsSchedule, IsScheduleFault, cause_at, command_cause, header_cause}
 use Rattle.cn_report.proofs.RecordLists.{read_first}
 
--- the cause of a record after the header is that of its event
-cause_later : (rows : List Record) (n : ℕ) → 0 < n → n < length rows → cause_at rows n ≡ event_cause n (event_in (get_or rows n []))
+-- the cause of a record after the header is that of its command
+cause_later : (rows : List Record) (n : ℕ) → 0 < n → n < length rows → cause_at rows n ≡ command_cause n (command_in (get_or rows n []))
 unfolding cause_at
 cause_later rows n later h =
     let nonzero : (n == 0) ≡ false = ne_eqb n 0 (λ e. omega (arith, e)) in
@@ -31,15 +31,15 @@ cause_same [] more n h = absurd (omega arith)
 cause_same (r ∷ rows) more zero h = refl
 cause_same (r ∷ rows) more (suc n) h =
     let far : suc n < length ((r ∷ rows) ++ more) = omega (arith, length-append (r ∷ rows) more) in
-    cause_later ((r ∷ rows) ++ more) (suc n) (omega arith) far ∙ ap (λ (x : Record). event_cause (suc n) (event_in x)) (get_or-append (r ∷ rows) more [] (suc n) h)
+    cause_later ((r ∷ rows) ++ more) (suc n) (omega arith) far ∙ ap (λ (x : Record). command_cause (suc n) (command_in x)) (get_or-append (r ∷ rows) more [] (suc n) h)
     ∙ sym (cause_later (r ∷ rows) (suc n) (omega arith) h)
 
--- a record after the header has the cause of its event
-cause_new : (rows : List Record) (fields : Record) → 0 < length rows → cause_at (rows ++ fields ∷ []) (length rows) ≡ event_cause (length rows) (event_in fields)
+-- a record after the header has the cause of its command
+cause_new : (rows : List Record) (fields : Record) → 0 < length rows → cause_at (rows ++ fields ∷ []) (length rows) ≡ command_cause (length rows) (command_in fields)
 cause_new rows fields some =
     let within : length rows < length (rows ++ fields ∷ []) = omega (arith, length-append rows (fields ∷ [])) in
     cause_later (rows ++ fields ∷ []) (length rows) some within
-    ∙ ap (λ (x : Record). event_cause (length rows) (event_in x)) (get_or-append_seam rows fields [] [])
+    ∙ ap (λ (x : Record). command_cause (length rows) (command_in x)) (get_or-append_seam rows fields [] [])
 
 -- what is no record has no cause, where there is a header
 cause_past : (rows : List Record) (n : ℕ) → 0 < length rows → length rows ≤ n → cause_at rows n ≡ None
@@ -48,11 +48,11 @@ cause_past rows n some h =
     let nonzero : (n == 0) ≡ false = ne_eqb n 0 (λ e. omega (arith, e)) in
     rw (nonzero, le-ltb n (length rows) h) refl
 
--- the records so far: a header, and a record for each event
-pub record AreTaken (rows : List Record) (events : List Event) : Type 0 where
+-- the records so far: a header, and a record for each command
+pub record AreTaken (rows : List Record) (commands : List Command) : Type 0 where
   pub some : 0 < length rows
   pub clean : IsCleanBefore rows (length rows)
-  pub spells : map event_in (drop 1 rows) ≡ map Ok events
+  pub spells : map command_in (drop 1 rows) ≡ map Ok commands
 
 only_header : (fields : Record) (at : ℕ) → header_cause fields ≡ None → at < 1 → cause_at (fields ∷ []) at ≡ None
 unfolding cause_at
@@ -75,27 +75,27 @@ pub nothing : (rows : List Record) → rows ≡ [] → IsScheduleFault rows (rec
 unfolding cause_at
 nothing rows e = rw e (record { within = omega arith; clean = λ at h. absurd (omega arith); told = inl refl })
 
-pub taken_more : (rows : List Record) (events : List Event) (fields : Record) (event : Event) → AreTaken rows events
-    → event_cause (length rows) (event_in fields) ≡ None → event_in fields ≡ Ok event → AreTaken (rows ++ fields ∷ []) (events ++ event ∷ [])
-taken_more [] events fields event t e is = absurd (omega (arith, t.some))
-taken_more (r ∷ rows) events fields event t e is = record {
+pub taken_more : (rows : List Record) (commands : List Command) (fields : Record) (command : Command) → AreTaken rows commands
+    → command_cause (length rows) (command_in fields) ≡ None → command_in fields ≡ Ok command → AreTaken (rows ++ fields ∷ []) (commands ++ command ∷ [])
+taken_more [] commands fields command t e is = absurd (omega (arith, t.some))
+taken_more (r ∷ rows) commands fields command t e is = record {
   some = omega arith;
   clean = λ at h. below_more (λ (n : ℕ). cause_at ((r ∷ rows) ++ fields ∷ []) n ≡ None) (length (r ∷ rows))
       (λ n k. cause_same (r ∷ rows) (fields ∷ []) n k ∙ t.clean n k) (cause_new (r ∷ rows) fields t.some ∙ e) at (omega (arith, h, length-append (r ∷ rows) (fields ∷ [])));
-  spells = map-append event_in rows (fields ∷ []) ∙ (λ i. t.spells i ++ is i ∷ []) ∙ sym (map-append Ok events (event ∷ []));
+  spells = map-append command_in rows (fields ∷ []) ∙ (λ i. t.spells i ++ is i ∷ []) ∙ sym (map-append Ok commands (command ∷ []));
 }
 
-pub taken_all : (all rows : List Record) (events : List Event) → AreTaken rows events → all ≡ rows → IsSchedule all events
-taken_all all rows events t e = rw e (record { clean = λ at. each at (leb_tells (suc at) (length rows)); spells = t.spells })
+pub taken_all : (all rows : List Record) (commands : List Command) → AreTaken rows commands → all ≡ rows → IsSchedule all commands
+taken_all all rows commands t e = rw e (record { clean = λ at. each at (leb_tells (suc at) (length rows)); spells = t.spells })
   where
     each : (at : ℕ) → ((leb (suc at) (length rows) ≡ true) × (suc at ≤ length rows)) ⊎ ((leb (suc at) (length rows) ≡ false) × (length rows < suc at)) → cause_at rows at ≡ None
     each at (inl w) = t.clean at (omega (arith, w.1))
     each at (inr w) = cause_past rows at t.some (omega (arith, w.1))
 
-pub taken_fault : {R : Type 0} (rem : R → Option (List ℕ)) (reader : Reader R) (text : List ℕ) (rows : List Record) (events : List Event) (fields : Record) (cause : ScheduleCause)
-    → AreTaken rows events → HasRead rem reader text (rows ++ fields ∷ []) → event_cause (length rows) (event_in fields) ≡ Some cause
+pub taken_fault : {R : Type 0} (rem : R → Option (List ℕ)) (reader : Reader R) (text : List ℕ) (rows : List Record) (commands : List Command) (fields : Record) (cause : ScheduleCause)
+    → AreTaken rows commands → HasRead rem reader text (rows ++ fields ∷ []) → command_cause (length rows) (command_in fields) ≡ Some cause
     → IsScheduleFault (records_of text) (record { at = length rows; cause = cause })
-taken_fault rem reader text rows events fields cause t read e =
+taken_fault rem reader text rows commands fields cause t read e =
     let (more, is) = read_first rem reader text (rows ++ fields ∷ []) read in
     let size = length-append rows (fields ∷ []) in
     rw is (record {
@@ -104,10 +104,10 @@ taken_fault rem reader text rows events fields cause t read e =
       told = inl (cause_same (rows ++ fields ∷ []) more (length rows) (omega (arith, size)) ∙ cause_new rows fields t.some ∙ e);
     })
 
-pub taken_stop : {R : Type 0} (rem : R → Option (List ℕ)) (reader : Reader R) (text : List ℕ) (rows : List Record) (events : List Event) (cause : ScheduleCause)
-    → AreTaken rows events → HasRead rem reader text rows → (cause ≡ Read) ⊎ (cause ≡ Memory)
+pub taken_stop : {R : Type 0} (rem : R → Option (List ℕ)) (reader : Reader R) (text : List ℕ) (rows : List Record) (commands : List Command) (cause : ScheduleCause)
+    → AreTaken rows commands → HasRead rem reader text rows → (cause ≡ Read) ⊎ (cause ≡ Memory)
     → IsScheduleFault (records_of text) (record { at = length rows; cause = cause })
-taken_stop rem reader text rows events cause t read e =
+taken_stop rem reader text rows commands cause t read e =
     let (more, is) = read_first rem reader text rows read in
     rw is (record { within = omega (arith, length-append rows more); clean = λ n h. cause_same rows more n h ∙ t.clean n h; told = inr e })
 
@@ -117,6 +117,6 @@ known_map None P Q h f = tt
 known_map (Some text) P Q h f = f text h
 
 -- the same, by the number of the record
-pub taken_next : (rows : List Record) (events : List Event) (fields : Record) (event : Event) (at : ℕ) → length rows ≡ at → AreTaken rows events
-    → event_cause at (event_in fields) ≡ None → event_in fields ≡ Ok event → AreTaken (rows ++ fields ∷ []) (events ++ event ∷ [])
-taken_next rows events fields event at size t e is = taken_more rows events fields event t (rw size e) is
+pub taken_next : (rows : List Record) (commands : List Command) (fields : Record) (command : Command) (at : ℕ) → length rows ≡ at → AreTaken rows commands
+    → command_cause at (command_in fields) ≡ None → command_in fields ≡ Ok command → AreTaken (rows ++ fields ∷ []) (commands ++ command ∷ [])
+taken_next rows commands fields command at size t e is = taken_more rows commands fields command t (rw size e) is

@@ -1,4 +1,4 @@
-pub mod Event
+pub mod Command
 pub mod Number
 pub mod Records
 pub mod ReplayText

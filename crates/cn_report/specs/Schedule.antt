@@ -2,9 +2,9 @@
 use Rattle.std.specs.Prelude.{ℕ, ◌≡◌, ◌<◌, ◌≤◌, ◌⊎◌, ◌==◌, ◌∷◌, [], Bool, List, drop, length, map, slice_index_or, nat_lt, Option, Some, None, Result, Ok, Err, codes, if◌then◌else◌}
 use Rattle.std.specs.Cmp.Lexicographic.{pointwise}
 use Rattle.std.specs.Str.{bytes_eq}
-use Rattle.cn_core.specs.declared.event.Event.{Event}
+use Rattle.cn_epoch.specs.declared.command.Command.{Command}
 use Rattle.cn_spec.specs.declared.limits.TheConstants.{MOST_RECORDS}
-use Rattle.cn_report.specs.Event.{event_in}
+use Rattle.cn_report.specs.Command.{command_in}
 use Rattle.cn_report.specs.Records.{Record}
 use Rattle.cn_report.specs.declared.rows.RowFault.{RowFault}
 use Rattle.cn_report.specs.declared.rows.RowFault.TheVariants as row
@@ -37,25 +37,25 @@ abbrev pub header_cause : Record → Option ScheduleCause
 header_cause fields = if is_schedule_header fields then None else Some Header
 
 -- the cause of a later record, by its number and by what it spells
-abbrev pub event_cause : ℕ → Result Event ScheduleCause → Option ScheduleCause
-event_cause at (Err cause) = Some cause
-event_cause at (Ok event) = if nat_lt MOST_RECORDS at then Some ScheduleFull else None
+abbrev pub command_cause : ℕ → Result Command ScheduleCause → Option ScheduleCause
+command_cause at (Err cause) = Some cause
+command_cause at (Ok command) = if nat_lt MOST_RECORDS at then Some ScheduleFull else None
 
 -- the first cause of the record with this number, if it has one; a missing record 0 is no header
 unfoldable pub cause_at : List Record → ℕ → Option ScheduleCause
 cause_at rows at =
     if at == 0 then header_cause (slice_index_or rows 0 [])
-    else if nat_lt at (length rows) then event_cause at (event_in (slice_index_or rows at []))
+    else if nat_lt at (length rows) then command_cause at (command_in (slice_index_or rows at []))
     else None
 
 -- no record before this one has a cause
 abbrev pub IsCleanBefore : List Record → ℕ → Type 0
 IsCleanBefore rows end = (at : ℕ) → at < end → cause_at rows at ≡ None
 
--- the records are a schedule of these events: none has a cause, and those after the header spell the events
-pub record IsSchedule (rows : List Record) (events : List Event) : Type 0 where
+-- the records are a schedule of these commands: none has a cause, and those after the header spell the commands
+pub record IsSchedule (rows : List Record) (commands : List Command) : Type 0 where
   pub clean : (at : ℕ) → cause_at rows at ≡ None
-  pub spells : map event_in (drop 1 rows) ≡ map Ok events
+  pub spells : map command_in (drop 1 rows) ≡ map Ok commands
 
 -- the fault tells the first record with a cause, and its first cause; a failed read, or want of memory, is told at the
 -- record that was being read

@@ -1,8 +1,8 @@
 //! What the service reads and writes: schedules, replay texts, and the loop that writes a text.
 #![tactic(auto)]
 
+mod command;
 mod emitting;
-mod event;
 mod heading;
 mod number;
 mod replay_text;

@@ -1,16 +1,16 @@
-//! Schedules: a header, and an event a record.
+//! Schedules: a header, and a command a record.
 
 ghost use Rattle.std.specs.Prelude.{◌≡◌, ◌≤◌, ◌⊎◌, ◌∷◌, ◌++◌, [], ℕ, List, IfErr, IfOk, IfSome, OnOk, MatchOption, MatchResult, None, Ok, Some, ok_or};
 ghost use Rattle.csv.specs.Records.{fields_of};
 ghost use Rattle.cn_spec.specs.declared.limits.TheConstants.{MOST_RECORDS};
-ghost use Rattle.cn_report.specs.Event.{event_in};
+ghost use Rattle.cn_report.specs.Command.{command_in};
 ghost use Rattle.cn_report.specs.Records.{HasRead, IsPlain, Record, records_of};
-ghost use Rattle.cn_report.specs.Schedule.{IsSchedule, IsScheduleFault, event_cause, header_cause, is_schedule_header};
+ghost use Rattle.cn_report.specs.Schedule.{IsSchedule, IsScheduleFault, command_cause, header_cause, is_schedule_header};
 
-use crate::event::event_of;
+use crate::command::command_of;
 use crate::rows::{field, next_row, open_rows};
 use crate::schedule_fault::{ScheduleCause, ScheduleFault};
-use cn_core::Event;
+use cn_epoch::Command;
 use cn_spec::limits::MOST_RECORDS;
 use csv::{ByteRecord, Reader};
 use std::alloc::Global;
@@ -41,55 +41,55 @@ fn take_header<R: Read>(rows: &mut Reader<R>, row: &mut ByteRecord) -> Result<()
     }
 }
 
-// Takes the event of record `at`, if there is one.
-fn take_event<R: Read>(
+// Takes the command of record `at`, if there is one.
+fn take_command<R: Read>(
     rows: &mut Reader<R>,
     row: &mut ByteRecord,
     at: u64,
-) -> Result<Option<Event>, ScheduleCause>
+) -> Result<Option<Command>, ScheduleCause>
     requires { IsPlain rows.old }
     ensures plain { OnOk result (IsPlain rows.new) }
     ensures found { IfOk result (λ found. (text : List ℕ) (before : List Record) → HasRead R.remaining rows.old text before
-        → MatchOption found (records_of text ≡ before) (λ event. (fields : Record) × HasRead R.remaining rows.new text (before ++ fields ∷ [])
-        × (event_cause at (event_in fields) ≡ None) × (event_in fields ≡ Ok event))) }
+        → MatchOption found (records_of text ≡ before) (λ command. (fields : Record) × HasRead R.remaining rows.new text (before ++ fields ∷ [])
+        × (command_cause at (command_in fields) ≡ None) × (command_in fields ≡ Ok command))) }
     ensures refused { IfErr result (λ cause. (text : List ℕ) (before : List Record) → HasRead R.remaining rows.old text before
-        → ((fields : Record) × HasRead R.remaining rows.new text (before ++ fields ∷ []) × (event_cause at (event_in fields) ≡ Some cause))
+        → ((fields : Record) × HasRead R.remaining rows.new text (before ++ fields ∷ []) × (command_cause at (command_in fields) ≡ Some cause))
         ⊎ (cause ≡ ScheduleCause.Read) ⊎ (cause ≡ ScheduleCause.Memory)) }
     ensures few { IfOk result (λ found. IfSome found (λ _. at ≤ MOST_RECORDS)) }
 {
     if !next_row(rows, row)? {
         return Ok(None);
     }
-    let event = event_of(row)?;
+    let command = command_of(row)?;
     if at > MOST_RECORDS {
         return Err(ScheduleCause::ScheduleFull);
     }
-    Ok(Some(event))
+    Ok(Some(command))
 }
 
-// Takes the header and the events.
-fn take_events<R: Read>(
+// Takes the header and the commands.
+fn take_commands<R: Read>(
     alloc: Global,
     rows: &mut Reader<R>,
     row: &mut ByteRecord,
-) -> Result<Vec<Event>, ScheduleFault>
+) -> Result<Vec<Command>, ScheduleFault>
     requires { IsPlain rows.old }
     ensures { (text : List ℕ) → HasRead R.remaining rows.old text []
-        → MatchResult result (λ events. IsSchedule (records_of text) events.items) (IsScheduleFault (records_of text)) }
+        → MatchResult result (λ commands. IsSchedule (records_of text) commands.items) (IsScheduleFault (records_of text)) }
 {
-    let mut events = Vec::new(alloc);
+    let mut commands = Vec::new(alloc);
     if let Err(cause) = take_header(rows, row) {
         return Err(ScheduleFault { at: 0, cause });
     }
     for at in 1..MOST_RECORDS + 2 {
-        let taken = match take_event(rows, row, at) {
+        let taken = match take_command(rows, row, at) {
             Ok(taken) => taken,
             Err(cause) => return Err(ScheduleFault { at, cause }),
         };
-        let Some(event) = taken else {
-            return Ok(events);
+        let Some(command) = taken else {
+            return Ok(commands);
         };
-        if events.push(event).is_err() {
+        if commands.push(command).is_err() {
             let cause = ScheduleCause::Memory;
             return Err(ScheduleFault { at, cause });
         }
@@ -98,20 +98,23 @@ fn take_events<R: Read>(
     unreachable!()
 }
 
-/// The events of a schedule: a header `op,client,wire`, and then a record `enter,CLIENT,ENTRY` or `step,CLIENT,` for each
-/// event, as `csv` reads them.
+/// The commands of a schedule: a header `op,client,wire`, and then a record `enter,CLIENT,ENTRY`, `step,CLIENT,` or `turn,,`
+/// for each command, as `csv` reads them.
 ///
 /// # Errors
 ///
 /// The first record that has a cause, with its first cause. A failed read and want of memory are told at the record that
 /// was being read.
-pub fn read_schedule<R: Read + Drop>(alloc: Global, reader: R) -> Result<Vec<Event>, ScheduleFault>
+pub fn read_schedule<R: Read + Drop>(
+    alloc: Global,
+    reader: R,
+) -> Result<Vec<Command>, ScheduleFault>
     ensures { IfSome (R.remaining reader) (λ text.
-        MatchResult result (λ events. IsSchedule (records_of text) events.items) (IsScheduleFault (records_of text))) }
+        MatchResult result (λ commands. IsSchedule (records_of text) commands.items) (IsScheduleFault (records_of text))) }
 {
     let mut rows = open_rows(alloc, reader);
     let mut row = ByteRecord::new(alloc);
-    take_events(alloc, &mut rows, &mut row)
+    take_commands(alloc, &mut rows, &mut row)
 }
 
 #[cfg(test)]

@@ -1,6 +1,6 @@
 use super::*;
 use crate::{ScheduleCause, ScheduleFault};
-use cn_core::Event;
+use cn_epoch::Command;
 use std::alloc::Global;
 use std::io;
 use std::test::Fail;
@@ -8,19 +8,19 @@ use std::test::Fail;
 const TWO_CLIENTS: &[u8] =
     b"op,client,wire\nenter,7,0\nenter,9,1\nstep,9,\nstep,7,\nstep,9,\nstep,7,\n";
 
-const TWO_CLIENTS_EVENTS: [Event; 6] = [
-    Event::Enter {
+const TWO_CLIENTS_COMMANDS: [Command; 6] = [
+    Command::Enter {
         client: 7,
         entry: 0,
     },
-    Event::Enter {
+    Command::Enter {
         client: 9,
         entry: 1,
     },
-    Event::Step { client: 9 },
-    Event::Step { client: 7 },
-    Event::Step { client: 9 },
-    Event::Step { client: 7 },
+    Command::Step { client: 9 },
+    Command::Step { client: 7 },
+    Command::Step { client: 9 },
+    Command::Step { client: 7 },
 ];
 
 // The header and one record.
@@ -34,25 +34,42 @@ fn with_header(alloc: Global, record: &[u8]) -> Result<Vec<u8>, Fail> {
 
 #[test]
 fn two_clients(rt: HostRuntime) -> Result<(), Fail> {
-    let events = read_schedule(rt.alloc(), TWO_CLIENTS)?;
-    assert_eq!(rt; events.as_slice(), TWO_CLIENTS_EVENTS.as_slice());
+    let commands = read_schedule(rt.alloc(), TWO_CLIENTS)?;
+    assert_eq!(rt; commands.as_slice(), TWO_CLIENTS_COMMANDS.as_slice());
     Ok(())
 }
 
 #[test]
-fn only_a_header_is_a_schedule_of_no_events(rt: HostRuntime) -> Result<(), Fail> {
-    let events = read_schedule(rt.alloc(), b"op,client,wire\n".as_slice())?;
-    assert_eq!(rt; events.len(), 0);
+fn only_a_header_is_a_schedule_of_no_commands(rt: HostRuntime) -> Result<(), Fail> {
+    let commands = read_schedule(rt.alloc(), b"op,client,wire\n".as_slice())?;
+    assert_eq!(rt; commands.len(), 0);
+    Ok(())
+}
+
+#[test]
+fn turns(rt: HostRuntime) -> Result<(), Fail> {
+    let text = b"op,client,wire\nenter,7,0\nturn,,\nstep,7,\n\"turn\",\"\",\n";
+    let wanted = [
+        Command::Enter {
+            client: 7,
+            entry: 0,
+        },
+        Command::Turn,
+        Command::Step { client: 7 },
+        Command::Turn,
+    ];
+    let commands = read_schedule(rt.alloc(), text.as_slice())?;
+    assert_eq!(rt; commands.as_slice(), wanted.as_slice());
     Ok(())
 }
 
 #[test]
 fn records_are_those_of_csv(rt: HostRuntime) -> Result<(), Fail> {
-    let enter = Event::Enter {
+    let enter = Command::Enter {
         client: 7,
         entry: 1,
     };
-    let step = Event::Step { client: 7 };
+    let step = Command::Step { client: 7 };
     let texts: [&[u8]; 8] = [
         b"op,client,wire\nenter,7,1\nstep,7,\n",
         b"op,client,wire\r\nenter,7,1\r\nstep,7,\r\n",
@@ -64,8 +81,8 @@ fn records_are_those_of_csv(rt: HostRuntime) -> Result<(), Fail> {
         b"op,client,wire\nenter,\"00\"7,01\nstep,\"7\",\"",
     ];
     for (place, text) in texts.iter().enumerate() {
-        let events = read_schedule(rt.alloc(), *text)?;
-        assert_eq!(rt; events.as_slice(), [enter, step].as_slice(), "at {place}");
+        let commands = read_schedule(rt.alloc(), *text)?;
+        assert_eq!(rt; commands.as_slice(), [enter, step].as_slice(), "at {place}");
     }
     Ok(())
 }
@@ -96,10 +113,9 @@ fn a_first_record_that_is_no_header_is_refused(rt: HostRuntime) {
 
 #[test]
 fn schedule_refusals(rt: HostRuntime) -> Result<(), Fail> {
-    let records: [(&[u8], ScheduleCause); 19] = [
+    let records: [(&[u8], ScheduleCause); 22] = [
         (b"leave,7,0", ScheduleCause::Op),
-        (b"turn,7,", ScheduleCause::Op),
-        (b"turn,,", ScheduleCause::Op),
+        (b"Turn,,", ScheduleCause::Op),
         (b"Enter,7,0", ScheduleCause::Op),
         (b"enter ,7,0", ScheduleCause::Op),
         (b"en\xffter,7,0", ScheduleCause::Op),
@@ -109,12 +125,16 @@ fn schedule_refusals(rt: HostRuntime) -> Result<(), Fail> {
         (b"enter,7\xff,0", ScheduleCause::ClientNumber),
         (b"enter,7\"7\",0", ScheduleCause::ClientNumber),
         (b"step,,0", ScheduleCause::ClientNumber),
+        (b"turn,7,", ScheduleCause::ClientNumber),
+        (b"turn,7,3", ScheduleCause::ClientNumber),
         (b"enter,7,", ScheduleCause::WireNumber),
         (b"step,7,0", ScheduleCause::WireNumber),
         (b"step,7,\"0\nstep,7,", ScheduleCause::WireNumber),
+        (b"turn,,3", ScheduleCause::WireNumber),
         (b"enter,7", ScheduleCause::FieldCount),
         (b"leave,7", ScheduleCause::FieldCount),
         (b"turn", ScheduleCause::FieldCount),
+        (b"turn,", ScheduleCause::FieldCount),
         (b"step,7,,", ScheduleCause::FieldCount),
     ];
     for (record, cause) in records {
@@ -150,9 +170,9 @@ fn a_number_field_has_at_most_20_digits_and_64_bits(rt: HostRuntime) -> Result<(
             at: 1,
             cause: ScheduleCause::ClientNumber,
         });
-        let events = read_schedule(alloc, text.as_slice());
-        let client = events.map(|events| match events.first() {
-            Some(Event::Step { client }) => *client,
+        let commands = read_schedule(alloc, text.as_slice());
+        let client = commands.map(|commands| match commands.first() {
+            Some(Command::Step { client }) => *client,
             _ => 1,
         });
         assert_eq!(rt; client, wanted);

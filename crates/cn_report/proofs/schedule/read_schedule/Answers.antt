@@ -8,5 +8,5 @@ use Rattle.cn_report.proofs.schedule.read_schedule.Goals as goal
 pub returns : goal.returns
 returns g c =
     known_map (g.R.Read.remaining c.args.reader) (λ text. HasRead g.R.Read.remaining c.open_rows-rows.result text [])
-    (λ text. MatchResult c.take_events.result (λ v. IsSchedule (records_of text) v.items) (IsScheduleFault (records_of text)))
-    c.open_rows-rows.ensures.opened c.take_events.ensures
+    (λ text. MatchResult c.take_commands.result (λ v. IsSchedule (records_of text) v.items) (IsScheduleFault (records_of text)))
+    c.open_rows-rows.ensures.opened c.take_commands.ensures

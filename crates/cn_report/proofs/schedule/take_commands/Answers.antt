@@ -4,37 +4,37 @@ use Rattle.std.specs.Result.{is_ok}
 use Rattle.cn_report.specs.Records.{records_of}
 use Rattle.cn_report.specs.declared.schedule_fault.ScheduleCause.TheVariants.{Memory}
 use Rattle.cn_report.proofs.ScheduleRecords.{taken_all, taken_fault, taken_header, taken_next, taken_stop}
-use Rattle.cn_report.proofs.schedule.take_events.Goals as goal
+use Rattle.cn_report.proofs.schedule.take_commands.Goals as goal
 
 pub loop-at-init : goal.loop-at-init
 loop-at-init g c = record {
-  counted = omega (arith, c.new-events.ensures.len);
-  few = omega (arith, c.new-events.ensures.len);
+  counted = omega (arith, c.new-commands.ensures.len);
+  few = omega (arith, c.new-commands.ensures.len);
   plain = c.in_default.ensures.plain;
   taken = λ text read.
       let (fields, now, e) = c.in_default.ensures.ok text read in
-      (fields ∷ [], now, refl, rw c.new-events.ensures.items (taken_header fields e));
+      (fields ∷ [], now, refl, rw c.new-commands.ensures.items (taken_header fields e));
 }
 
-pub returns-in-Err-take_event : goal.returns-in-Err-take_event
-returns-in-Err-take_event g c = λ text read.
+pub returns-in-Err-take_command : goal.returns-in-Err-take_command
+returns-in-Err-take_command g c = λ text read.
     let (before, now, size, t) = c.loop-at.invariant.taken text read in
-    elim (c.in-Err-take_event.ensures.refused text before now) [
+    elim (c.in-Err-take_command.ensures.refused text before now) [
       | inl w ↦
           let (fields, next, e) = w in
-          rw (← size) (taken_fault g.R.Read.remaining c.take_event.new.rows text before c.loop-at.events.items fields c.in-Err-take_event.cause t next (rw (← size) at e))
-      | inr w ↦ rw (← size) (taken_stop g.R.Read.remaining c.loop-at.rows text before c.loop-at.events.items c.in-Err-take_event.cause t now w)
+          rw (← size) (taken_fault g.R.Read.remaining c.take_command.new.rows text before c.loop-at.commands.items fields c.in-Err-take_command.cause t next (rw (← size) at e))
+      | inr w ↦ rw (← size) (taken_stop g.R.Read.remaining c.loop-at.rows text before c.loop-at.commands.items c.in-Err-take_command.cause t now w)
     ]
 
 pub returns-in_default-taken : goal.returns-in_default-taken
 returns-in_default-taken g c = λ text read.
     let (before, now, size, t) = c.loop-at.invariant.taken text read in
-    taken_all (records_of text) before c.loop-at.events.items t (rw c.in_default-taken.is at (c.in-Ok.ensures.found text before now))
+    taken_all (records_of text) before c.loop-at.commands.items t (rw c.in_default-taken.is at (c.in-Ok.ensures.found text before now))
 
 pub returns-then-is_err : goal.returns-then-is_err
 returns-then-is_err g c = λ text read.
     let (before, now, size, t) = c.loop-at.invariant.taken text read in
-    rw (← size) (taken_stop g.R.Read.remaining c.loop-at.rows text before c.loop-at.events.items Memory t now (inr refl))
+    rw (← size) (taken_stop g.R.Read.remaining c.loop-at.rows text before c.loop-at.commands.items Memory t now (inr refl))
 
 pub loop-at-preserved : goal.loop-at-preserved
 loop-at-preserved g c =
@@ -52,6 +52,6 @@ loop-at-preserved g c =
             before ++ fields ∷ [],
             next,
             omega (arith, size, length-append before (fields ∷ [])),
-            rw items (taken_next before c.loop-at.events.items fields c.in-Some.event c.loop-at.at size t none is),
+            rw items (taken_next before c.loop-at.commands.items fields c.in-Some.command c.loop-at.at size t none is),
           );
     }
