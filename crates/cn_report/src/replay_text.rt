@@ -1,11 +1,12 @@
 //! The text of a replay.
 
-ghost use Rattle.std.specs.Prelude.{◌≡◌, ◌++◌, OnOk, IfOk, string_bytes};
+ghost use Rattle.std.specs.Prelude.{◌≡◌, ◌++◌, OnOk, IfOk, length, string_bytes};
 ghost use Rattle.std.specs.List.{All};
-ghost use Rattle.cn_report.specs.ReplayText.{AreReplies, Fits, IsTold, end_line, moved_line, replay_text, reply_line, reply_lines};
+ghost use Rattle.cn_report.specs.ReplayText.{AreAnswers, Fits, IsEnterReply, IsStepReply, IsTold, IsWhole, answer_line, answer_lines, end_line, enter_line, exit_line, exit_lines, moved_line, name_line, name_lines, not_quiet_line, record_lines, replay_text, step_line, turn_line};
 
 use crate::heading::put_heading;
-use cn_core::{EnterFault, Event, Moved, Reply, StepFault};
+use cn_core::{EnterFault, Moved, Reply, StepFault};
+use cn_epoch::{Answer, Command, EpochRecord, TurnFault};
 use cn_wiring::Counting;
 use std::alloc::{AllocError, Global};
 
@@ -28,15 +29,15 @@ fn put_moved(text: &mut String, client: u64, moved: Moved) -> Result<(), AllocEr
     }
 }
 
-#[tactic(auto, unfolding(crate::specs::ReplayText::reply_line))]
+#[tactic(auto, unfolding(crate::specs::ReplayText::enter_line))]
 fn put_enter_fault(
     text: &mut String,
     client: u64,
     entry: u64,
     fault: EnterFault,
 ) -> Result<(), AllocError>
-    requires { IsTold (Reply.EnterRefused fault) }
-    ensures { OnOk result (string_bytes text.new ≡ string_bytes text.old ++ reply_line (Event.Enter client entry) (Reply.EnterRefused fault)) }
+    requires { IsTold (Answer.Replied (Reply.EnterRefused fault)) }
+    ensures { OnOk result (string_bytes text.new ≡ string_bytes text.old ++ enter_line client entry (Reply.EnterRefused fault)) }
 {
     match fault {
         EnterFault::NoSuchEntry => writeln!(text, "refused enter {client} NoSuchEntry"),
@@ -46,37 +47,131 @@ fn put_enter_fault(
     }
 }
 
-#[tactic(auto, unfolding(crate::specs::ReplayText::reply_line))]
-fn put_reply(text: &mut String, event: Event, reply: Reply) -> Result<(), AllocError>
-    requires fits { Fits event reply }
-    requires told { IsTold reply }
-    ensures { OnOk result (string_bytes text.new ≡ string_bytes text.old ++ reply_line event reply) }
+#[tactic(auto, unfolding(crate::specs::ReplayText::enter_line))]
+fn put_enter(text: &mut String, client: u64, entry: u64, reply: Reply) -> Result<(), AllocError>
+    requires fits { IsEnterReply reply }
+    requires told { IsTold (Answer.Replied reply) }
+    ensures { OnOk result (string_bytes text.new ≡ string_bytes text.old ++ enter_line client entry reply) }
 {
-    match (event, reply) {
-        (Event::Enter { client, entry }, Reply::Entered) => {
-            writeln!(text, "enter {client} wire {entry}")
-        }
-        (Event::Enter { client, entry }, Reply::EnterRefused(fault)) => {
-            put_enter_fault(text, client, entry, fault)
-        }
-        (Event::Step { client }, Reply::Stepped(moved)) => put_moved(text, client, moved),
-        (Event::Step { client }, Reply::StepRefused(StepFault::Stranger)) => {
+    match reply {
+        Reply::Entered => writeln!(text, "enter {client} wire {entry}"),
+        Reply::EnterRefused(fault) => put_enter_fault(text, client, entry, fault),
+        _ => unreachable!(),
+    }
+}
+
+#[tactic(auto, unfolding(crate::specs::ReplayText::step_line))]
+fn put_step(text: &mut String, client: u64, reply: Reply) -> Result<(), AllocError>
+    requires { IsStepReply reply }
+    ensures { OnOk result (string_bytes text.new ≡ string_bytes text.old ++ step_line client reply) }
+{
+    match reply {
+        Reply::Stepped(moved) => put_moved(text, client, moved),
+        Reply::StepRefused(StepFault::Stranger) => {
             writeln!(text, "refused step {client} Stranger")
         }
-        (Event::Step { client }, Reply::StepRefused(StepFault::HasName(name))) => {
+        Reply::StepRefused(StepFault::HasName(name)) => {
             writeln!(text, "refused step {client} HasName {name}")
         }
         _ => unreachable!(),
     }
 }
 
-fn put_replies(text: &mut String, events: &[Event], replies: &[Reply]) -> Result<(), AllocError>
-    requires fit { AreReplies events.now replies.now }
-    requires told { All IsTold replies.now }
-    ensures { OnOk result (string_bytes text.new ≡ string_bytes text.old ++ reply_lines events.now replies.now) }
+#[tactic(auto, unfolding(crate::specs::ReplayText::turn_line))]
+fn put_turn(text: &mut String, number: u64, clients: u64) -> Result<(), AllocError>
+    ensures { OnOk result (string_bytes text.new ≡ string_bytes text.old ++ turn_line number clients) }
 {
-    for (position, reply) in replies.iter().enumerate() {
-        put_reply(text, events[position], *reply)?;
+    writeln!(text, "turn epoch {number} clients {clients}")
+}
+
+#[tactic(auto, unfolding(crate::specs::ReplayText::exit_line))]
+fn put_count(text: &mut String, exit: u32, count: u64) -> Result<(), AllocError>
+    ensures { OnOk result (string_bytes text.new ≡ string_bytes text.old ++ exit_line exit count) }
+{
+    writeln!(text, "exit {exit} count {count}")
+}
+
+fn put_counts(text: &mut String, width: u32, counts: &[u64]) -> Result<(), AllocError>
+    requires { length counts.now ≡ width }
+    ensures { OnOk result (string_bytes text.new ≡ string_bytes text.old ++ exit_lines width counts.now) }
+{
+    for exit in 0..width {
+        put_count(text, exit, counts[exit as usize])?;
+    }
+    Ok(())
+}
+
+#[tactic(auto, unfolding(crate::specs::ReplayText::name_line))]
+fn put_holder(text: &mut String, name: u64, client: u64) -> Result<(), AllocError>
+    ensures { OnOk result (string_bytes text.new ≡ string_bytes text.old ++ name_line name client) }
+{
+    writeln!(text, "name {name} client {client}")
+}
+
+fn put_holders(text: &mut String, clients: u64, holders: &[u64]) -> Result<(), AllocError>
+    requires { length holders.now ≡ clients }
+    ensures { OnOk result (string_bytes text.new ≡ string_bytes text.old ++ name_lines clients holders.now) }
+{
+    for name in 0..clients {
+        put_holder(text, name, holders[name as usize])?;
+    }
+    Ok(())
+}
+
+fn put_record(text: &mut String, width: u32, epoch: &EpochRecord) -> Result<(), AllocError>
+    requires { IsWhole width (Answer.Turned epoch.now) }
+    ensures { OnOk result (string_bytes text.new ≡ string_bytes text.old ++ record_lines width epoch.now) }
+{
+    put_turn(text, epoch.number, epoch.clients)?;
+    put_counts(text, width, &epoch.counts)?;
+    put_holders(text, epoch.clients, &epoch.holders)
+}
+
+#[tactic(auto, unfolding(crate::specs::ReplayText::not_quiet_line))]
+fn put_not_quiet(text: &mut String, inside: u64) -> Result<(), AllocError>
+    ensures { OnOk result (string_bytes text.new ≡ string_bytes text.old ++ not_quiet_line inside) }
+{
+    writeln!(text, "refused turn NotQuiet {inside}")
+}
+
+#[tactic(auto, unfolding(crate::specs::ReplayText::answer_line))]
+fn put_answer(
+    text: &mut String,
+    width: u32,
+    command: Command,
+    answer: &Answer,
+) -> Result<(), AllocError>
+    requires fits { Fits command answer.now }
+    requires told { IsTold answer.now }
+    requires whole { IsWhole width answer.now }
+    ensures { OnOk result (string_bytes text.new ≡ string_bytes text.old ++ answer_line width command answer.now) }
+{
+    match (command, answer) {
+        (Command::Enter { client, entry }, Answer::Replied(reply)) => {
+            put_enter(text, client, entry, *reply)
+        }
+        (Command::Step { client }, Answer::Replied(reply)) => put_step(text, client, *reply),
+        (Command::Turn, Answer::Turned(epoch)) => put_record(text, width, epoch),
+        (Command::Turn, Answer::TurnRefused(TurnFault::NotQuiet(inside))) => {
+            put_not_quiet(text, *inside)
+        }
+        _ => unreachable!(),
+    }
+}
+
+fn put_answers(
+    text: &mut String,
+    width: u32,
+    commands: &[Command],
+    answers: &[Answer],
+) -> Result<(), AllocError>
+    requires fit { AreAnswers commands.now answers.now }
+    requires told { All IsTold answers.now }
+    requires whole { All (IsWhole width) answers.now }
+    ensures { OnOk result (string_bytes text.new ≡ string_bytes text.old ++ answer_lines width commands.now answers.now) }
+{
+    for (position, answer) in answers.iter().enumerate() {
+        put_answer(text, width, commands[position], answer)?;
     }
     Ok(())
 }
@@ -88,25 +183,27 @@ fn put_end(text: &mut String, number: u64, entered: u64, inside: u64) -> Result<
     writeln!(text, "end epoch {number} entered {entered} inside {inside}")
 }
 
-/// The text of a replay on a network: its heading, a line for each event and its reply, and an end line.
+/// The text of a replay on a network: its heading, the lines of each command and its answer, and an end line. A turn that
+/// is done has the record of its epoch: a line for each exit and its count, and one for each name and its holder.
 ///
 /// The end line tells how many epochs ended, and how many clients of the open one entered and are inside.
 pub fn render_replay(
     alloc: Global,
     network: &Counting,
-    events: &[Event],
-    replies: &[Reply],
+    commands: &[Command],
+    answers: &[Answer],
     number: u64,
     entered: u64,
     inside: u64,
 ) -> Result<Vec<u8>, AllocError>
-    requires fit { AreReplies events.now replies.now }
-    requires told { All IsTold replies.now }
-    ensures { IfOk result (λ text. text.items ≡ replay_text network.now events.now replies.now number entered inside) }
+    requires fit { AreAnswers commands.now answers.now }
+    requires told { All IsTold answers.now }
+    requires whole { All (IsWhole network.now.table.width) answers.now }
+    ensures { IfOk result (λ text. text.items ≡ replay_text network.now commands.now answers.now number entered inside) }
 {
     let mut text = String::new(alloc);
     put_heading(&mut text, network)?;
-    put_replies(&mut text, events, replies)?;
+    put_answers(&mut text, network.width(), commands, answers)?;
     put_end(&mut text, number, entered, inside)?;
     Ok(text.into_bytes())
 }
