@@ -12,9 +12,9 @@ use Rattle.cn_wiring.specs.declared.end.End.TheVariants.{Balancer, Exit}
 use Rattle.cn_spec.specs.Sums.{when, sum_below, Agree, once_below}
 use Rattle.cn_wiring.specs.Table.{Table, is_end, sum_at, Stands, IsWellFormed, IsFullFlow}
 use Rattle.cn_wiring.specs.Network.{Counts}
-use Rattle.cn_spec.proofs.Sums.{total_where-agree, total_where-mono, total_where-zero}
+use Rattle.cn_spec.proofs.Sums.{sum_below-same, total_where-agree, total_where-mono, total_where-zero}
 use Rattle.cn_wiring.proofs.Flow.{older, full_flow-unique, full_flow-exists}
-use Rattle.cn_wiring.proofs.Conserve.{half-mono, full_flow-sum, sum_below-same}
+use Rattle.cn_wiring.proofs.Conserve.{half-mono, full_flow-sum}
 use Rattle.cn_core.specs.Ledger.{Ledger, put, IsSound, all_entered, IsQuiet, IsBounded, IsTight, times_given}
 
 pub put-entry : (t : Table) (l : Ledger) (u : ℕ) → u < t.entries → put t l u ≡ l.entered u

@@ -7,9 +7,9 @@ use Rattle.cn_wiring.specs.declared.end.End.{End}
 use Rattle.cn_wiring.specs.declared.end.End.TheVariants.{Balancer, Exit}
 use Rattle.cn_spec.specs.Sums.{sum_below, when, total_where, once_below}
 use Rattle.cn_wiring.specs.Table.{Table, IsWellFormed, Stands, is_end, sum_at, end_of, output_wire}
-use Rattle.cn_spec.proofs.Sums.{total_where-zero, total_where-agree}
+use Rattle.cn_spec.proofs.Sums.{sum_below-same, total_where-agree, total_where-zero}
 use Rattle.cn_wiring.proofs.Flow.{older}
-use Rattle.cn_wiring.proofs.Conserve.{sum_below-same, sum_below-pick}
+use Rattle.cn_wiring.proofs.Conserve.{sum_below-pick}
 use Rattle.cn_core.specs.Ledger.{Ledger, IsSound, AddsUpTo, put}
 use Rattle.cn_core.specs.Events.{Enters, Goes, Passes, Leaves, one_at}
 

@@ -98,6 +98,7 @@ impl<'a> Core<'a> {
         ensures value { result ≡ length self.now.clients }
         ensures few { result ≤ MOST_CLIENTS }
         ensures by_entry { sum_below self.now.network.table.entries (λ entry. slice_index self.now.entered entry) ≡ result }
+        ensures at_most { (entry : ℕ) → slice_index self.now.entered entry ≤ result }
         ensures by_history { (history : List Event) → Agrees self.now history → result ≡ enters_of history }
         ensures reached { (history : List Event) × Agrees self.now history }
         ensures sound { (history : List Event) → Agrees self.now history → IsSound self.now.network.table (ledger_of self.now history) }

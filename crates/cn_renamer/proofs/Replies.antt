@@ -1,67 +1,86 @@
--- The replies of a run that are told are the answers by history.
-use Rattle.std.proofs.Common.{◌≡◌, ◌≢◌, ℕ, zero, suc, ◌<◌, Bool, true, false, List, [], ◌∷◌, length, get_or, refl, ap, ap₂, sym, ◌∙◌, subst, subst₂, arith, Option, Some, None, inl, inr, nat_le}
-use Rattle.std.specs.Prelude.{is_some, if◌then◌else◌}
-use Rattle.std.specs.List.{All, AllZip}
+-- The answers of a run fit their commands, and their records are whole.
+use Rattle.std.proofs.Common.{ℕ, zero, suc, List, [], ◌∷◌, sym, ◌∙◌, subst, arith, Option, Some, None, inl, inr, nat_le}
+use Rattle.std.specs.Prelude.{Bool, true, false, is_some, if◌then◌else◌}
+use Rattle.std.specs.List.{All}
 use Rattle.cn_spec.specs.declared.limits.TheConstants.{MOST_CLIENTS}
 use Rattle.cn_wiring.specs.Table.{Table}
 use Rattle.cn_core.specs.declared.position.Position.{Position}
 use Rattle.cn_core.specs.declared.position.Position.TheVariants.{On, Holds}
 use Rattle.cn_core.specs.declared.event.Event.{Event}
-use Rattle.cn_core.specs.declared.event.Event.TheVariants.{Enter, Step}
-use Rattle.cn_core.specs.declared.reply.EnterFault.TheVariants.{NoSuchEntry, AlreadyIn, EpochFull, Memory}
+use Rattle.cn_core.specs.declared.event.Event.TheVariants.{Enter as EnterEvent, Step as StepEvent}
+use Rattle.cn_core.specs.declared.reply.EnterFault.TheVariants.{NoSuchEntry, AlreadyIn, EpochFull}
 use Rattle.cn_core.specs.declared.reply.Reply.{Reply}
 use Rattle.cn_core.specs.declared.reply.Reply.TheVariants.{Entered, EnterRefused}
-use Rattle.cn_wiring.specs.Network.{Network}
-use Rattle.cn_core.specs.History.{position_after, enters_of, inside_of, grown_by, step_answer, enter_answer, answer_to, answers_to, grown, MayAnswer, MayAnswerAll}
-use Rattle.cn_report.specs.ReplayText.{AreReplies, Fits, IsTold, replay_text}
-use Rattle.cn_renamer.specs.Replay.{replayed_text}
+use Rattle.cn_core.specs.History.{MayAnswer, answer_to, enters_of, position_after, step_answer}
+use Rattle.cn_epoch.specs.declared.answer.Answer.{Answer}
+use Rattle.cn_epoch.specs.declared.answer.Answer.TheVariants.{Replied, Turned, TurnRefused}
+use Rattle.cn_epoch.specs.declared.command.Command.{Command}
+use Rattle.cn_epoch.specs.declared.command.Command.TheVariants.{Enter, Step, Turn}
+use Rattle.cn_epoch.specs.Turns.{MayAnswerEach, MayAnswerTo, history_after, turns_after}
+use Rattle.cn_report.specs.ReplayText.{AreAnswers, Fits, IsEnterReply, IsStepReply, IsWhole}
 
--- an answer by history fits its event
-fits-answer : (table : Table) (h : List Event) (event : Event) → Fits event (answer_to table h event)
-fits-answer table h (Enter client entry) = by (nat_le table.entries entry) (is_some (position_after table h client)) (nat_le MOST_CLIENTS (enters_of h))
+-- ---- a reply by history fits its event
+
+enter-replied : (table : Table) (h : List Event) (client entry : ℕ) → IsEnterReply (answer_to table h (EnterEvent client entry))
+enter-replied table h client entry = by (nat_le table.entries entry) (is_some (position_after table h client)) (nat_le MOST_CLIENTS (enters_of h))
   where
     by : (beyond there full : Bool)
-        → Fits (Enter client entry) (if beyond then EnterRefused NoSuchEntry else if there then EnterRefused AlreadyIn else if full then EnterRefused EpochFull else Entered)
+        → IsEnterReply (if beyond then EnterRefused NoSuchEntry else if there then EnterRefused AlreadyIn else if full then EnterRefused EpochFull else Entered)
     by true there full = tt
     by false true full = tt
     by false false true = tt
     by false false false = tt
-fits-answer table h (Step client) = by (position_after table h client)
+
+step-replied : (table : Table) (h : List Event) (client : ℕ) → IsStepReply (answer_to table h (StepEvent client))
+step-replied table h client = by (position_after table h client)
   where
-    by : (position : Option Position) → Fits (Step client) (step_answer table h position)
+    by : (position : Option Position) → IsStepReply (step_answer table h position)
     by None = tt
     by (Some (On wire)) = tt
     by (Some (Holds name)) = tt
 
-fits-may : (table : Table) (h : List Event) (event : Event) (reply : Reply) → MayAnswer table h event reply → Fits event reply
-fits-may table h event reply (inl e) = subst (Fits event) (sym e) (fits-answer table h event)
-fits-may table h (Enter client entry) reply (inr (entered, e)) = subst (Fits (Enter client entry)) (sym e) tt
-fits-may table h (Step client) reply (inr (entered, e)) = absurd (subst (Fits (Step client)) entered (fits-answer table h (Step client)))
+enter-may : (table : Table) (h : List Event) (client entry : ℕ) (reply : Reply) → MayAnswer table h (EnterEvent client entry) reply → IsEnterReply reply
+enter-may table h client entry reply (inl e) = subst IsEnterReply (sym e) (enter-replied table h client entry)
+enter-may table h client entry reply (inr (entered, e)) = subst IsEnterReply (sym e) tt
 
-pub fits_all : (table : Table) (h : List Event) (events : List Event) (replies : List Reply) → MayAnswerAll table h events replies → AreReplies events replies
-fits_all table h [] [] may = tt
-fits_all table h [] (r ∷ rs) may = may
-fits_all table h (c ∷ cs) [] may = may
-fits_all table h (c ∷ cs) (r ∷ rs) may = (fits-may table h c r may.0, fits_all table (grown h c r) cs rs may.1)
+step-may : (table : Table) (h : List Event) (client : ℕ) (reply : Reply) → MayAnswer table h (StepEvent client) reply → IsStepReply reply
+step-may table h client reply (inl e) = subst IsStepReply (sym e) (step-replied table h client)
+step-may table h client reply (inr (entered, e)) = absurd (subst IsStepReply entered (step-replied table h client))
 
--- an answer that is told is the one by history
-told-may : (table : Table) (h : List Event) (event : Event) (reply : Reply) → MayAnswer table h event reply → IsTold reply → reply ≡ answer_to table h event
-told-may table h event reply (inl e) told = e
-told-may table h event reply (inr (entered, e)) told = absurd (told e)
+-- ---- an answer fits its command, and its record is whole
 
-pub told_all : (table : Table) (h : List Event) (events : List Event) (replies : List Reply) → MayAnswerAll table h events replies → All IsTold replies → replies ≡ answers_to table h events
-told_all table h [] [] may told = refl
-told_all table h [] (r ∷ rs) may told = absurd may
-told_all table h (c ∷ cs) [] may told = absurd may
-told_all table h (c ∷ cs) (r ∷ rs) may told =
-    let first : r ≡ answer_to table h c = told-may table h c r may.0 (told 0 r (omega arith)) in
-    let rest : rs ≡ answers_to table (grown h c r) cs = told_all table (grown h c r) cs rs may.1 (λ k d l. told (suc k) d (omega arith)) in
-    ap₂ (λ a as_. a ∷ as_) first (rest ∙ ap (λ a. answers_to table (grown h c a) cs) first)
+fits-may : (table : Table) (turns : ℕ) (h : List Event) (command : Command) (answer : Answer) → MayAnswerTo table turns h command answer → Fits command answer
+fits-may table turns h (Enter client entry) (Replied reply) may = enter-may table h client entry reply may
+fits-may table turns h (Enter client entry) (Turned r) may = may
+fits-may table turns h (Enter client entry) (TurnRefused fault) may = may
+fits-may table turns h (Step client) (Replied reply) may = step-may table h client reply may
+fits-may table turns h (Step client) (Turned r) may = may
+fits-may table turns h (Step client) (TurnRefused fault) may = may
+fits-may table turns h Turn (Replied reply) may = may
+fits-may table turns h Turn (Turned r) may = tt
+fits-may table turns h Turn (TurnRefused fault) may = tt
 
--- the text of these replies is that of the answers by history
-pub replayed_by_history : (network : Network) (events : List Event) (replies : List Reply) (entered inside : ℕ)
-    → replies ≡ answers_to network.table [] events
-    → entered ≡ enters_of (grown_by [] events replies)
-    → inside ≡ inside_of network.table (grown_by [] events replies)
-    → replay_text network events replies 0 entered inside ≡ replayed_text network events
-replayed_by_history network events replies entered inside r e i = rw (e, i, r) refl
+whole-may : (table : Table) (turns : ℕ) (h : List Event) (command : Command) (answer : Answer) → MayAnswerTo table turns h command answer → IsWhole table.width answer
+whole-may table turns h command (Replied reply) may = tt
+whole-may table turns h command (TurnRefused fault) may = tt
+whole-may table turns h (Enter client entry) (Turned r) may = absurd may
+whole-may table turns h (Step client) (Turned r) may = absurd may
+whole-may table turns h Turn (Turned r) (quiet, told) = (told.exits, told.names ∙ sym told.clients)
+
+-- ---- so do all
+
+pub fits_all : (table : Table) (turns : ℕ) (h : List Event) (commands : List Command) (answers : List Answer) → MayAnswerEach table turns h commands answers → AreAnswers commands answers
+fits_all table turns h [] [] may = tt
+fits_all table turns h [] (a ∷ rest) may = may
+fits_all table turns h (c ∷ cs) [] may = may
+fits_all table turns h (c ∷ cs) (a ∷ rest) may = (fits-may table turns h c a may.0, fits_all table (turns_after turns a) (history_after h c a) cs rest may.1)
+
+pub whole_all : (table : Table) (turns : ℕ) (h : List Event) (commands : List Command) (answers : List Answer) → MayAnswerEach table turns h commands answers → All (IsWhole table.width) answers
+whole_all table turns h [] [] may = λ k d l. absurd (omega arith)
+whole_all table turns h [] (a ∷ rest) may = absurd may
+whole_all table turns h (c ∷ cs) [] may = absurd may
+whole_all table turns h (c ∷ cs) (a ∷ rest) may = by (whole-may table turns h c a may.0) (whole_all table (turns_after turns a) (history_after h c a) cs rest may.1)
+  where
+    by : IsWhole table.width a → All (IsWhole table.width) rest → All (IsWhole table.width) (a ∷ rest)
+    by here later zero d l = here
+    by here later (suc k) d l = later k d (omega arith)

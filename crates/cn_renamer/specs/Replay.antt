@@ -1,12 +1,13 @@
 -- What a replay has written, by what it answers.
-use Rattle.std.specs.Prelude.{ℕ, ◌≡◌, ◌≢◌, ◌≤◌, List, [], Option, Result, Ok, Err, length, take}
+use Rattle.std.specs.Prelude.{ℕ, ◌≡◌, ◌≢◌, ◌≤◌, All, List, [], Option, Result, Ok, Err, length, take}
 use Rattle.std.specs.Io.KnownBytes.{Appends}
-use Rattle.cn_wiring.specs.Table.{Table}
 use Rattle.cn_wiring.specs.Network.{Network}
-use Rattle.cn_core.specs.declared.event.Event.{Event}
-use Rattle.cn_core.specs.History.{answers_to, enters_of, grown_by, inside_of}
+use Rattle.cn_core.specs.History.{enters_of, inside_of}
+use Rattle.cn_epoch.specs.declared.answer.Answer.{Answer}
+use Rattle.cn_epoch.specs.declared.command.Command.{Command}
+use Rattle.cn_epoch.specs.Turns.{MayAnswerEach, history_by, turns_by}
 use Rattle.cn_report.specs.Records.{records_of}
-use Rattle.cn_report.specs.ReplayText.{replay_text}
+use Rattle.cn_report.specs.ReplayText.{IsTold, replay_text}
 use Rattle.cn_report.specs.Schedule.{IsSchedule, IsScheduleFault}
 use Rattle.cn_report.specs.declared.schedule_fault.ScheduleCause.{ScheduleCause}
 use Rattle.cn_report.specs.declared.schedule_fault.ScheduleCause.TheVariants as cause
@@ -15,22 +16,22 @@ use Rattle.cn_renamer.specs.Net.{Description, IsNetworkOf}
 use Rattle.cn_renamer.specs.declared.replaying.ReplayFault.{ReplayFault}
 use Rattle.cn_renamer.specs.declared.replaying.ReplayFault.TheVariants.{Schedule, Memory, Write}
 
--- the events of a schedule that a network accepts which nobody has entered, the newest first
-abbrev pub history_of : Table → List Event → List Event
-history_of table events = grown_by [] events (answers_to table [] events)
-
--- the text of the replay of a schedule: its events, and their answers by history
-abbrev pub replayed_text : Network → List Event → List ℕ
-replayed_text network events =
-    replay_text network events (answers_to network.table [] events) 0 (enters_of (history_of network.table events)) (inside_of network.table (history_of network.table events))
+-- this text is that of a replay of the commands on epochs that nobody has entered: their answers by history, none of them
+-- want of memory
+pub record IsReplayText (network : Network) (commands : List Command) (text : List ℕ) : Type 0 where
+  pub answers : List Answer
+  pub by_history : MayAnswerEach network.table 0 [] commands answers
+  pub told : All IsTold answers
+  -- the end line tells the epochs that ended, and the enters of the open one and who is inside
+  pub replayed : text ≡ replay_text network commands answers (turns_by 0 answers) (enters_of (history_by [] commands answers)) (inside_of network.table (history_by [] commands answers))
 
 -- the bytes that were read are a schedule, and this is the text of its replay on a network of this kind and width
 pub record IsReplayOf (net : Description) (bytes text : List ℕ) : Type 0 where
-  pub events : List Event
+  pub commands : List Command
   pub network : Network
-  pub schedule : IsSchedule (records_of bytes) events
+  pub schedule : IsSchedule (records_of bytes) commands
   pub built : IsNetworkOf net network
-  pub replayed : text ≡ replayed_text network events
+  pub replayed : IsReplayText network commands text
 
 -- by its answer, a replay has written the whole text, its first bytes, or nothing: what the writer holds before and after
 abbrev pub HasReplayed : {U : Type 0} → Description → List ℕ → Option (List ℕ) → Option (List ℕ) → Result U ReplayFault → Type 0

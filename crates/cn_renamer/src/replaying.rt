@@ -3,11 +3,12 @@
 ghost use Rattle.std.specs.Prelude.{◌≡◌, ◌↔◌, IfErr, IfOk, IfSome, IsTrue};
 ghost use Rattle.std.specs.List.{All};
 ghost use Rattle.cn_report.specs.ReplayText.{IsTold};
-ghost use Rattle.cn_renamer.specs.Replay.{HasReplayed, IsMemoryApart, IsUntouched, replayed_text};
+ghost use Rattle.cn_renamer.specs.Replay.{HasReplayed, IsMemoryApart, IsReplayText, IsUntouched};
 
 use crate::building::build;
 use crate::net::Net;
-use cn_core::{Core, EnterFault, Event, Reply};
+use cn_core::{EnterFault, Reply};
+use cn_epoch::{Answer, Command, Epochs, TurnFault};
 use cn_report::{EmitFault, ScheduleCause, ScheduleFault, emit, read_schedule, render_replay};
 use cn_wiring::{BuildFault, Counting};
 use std::alloc::{AllocError, Global};
@@ -94,46 +95,56 @@ impl From<EmitFault> for ReplayFault {
     }
 }
 
-/// Whether no reply is want of memory.
-fn are_told(replies: &[Reply]) -> bool
-    ensures { IsTrue result ↔ All IsTold replies.now }
+/// Whether an answer is anything but want of memory.
+fn is_told(answer: &Answer) -> bool
+    ensures { IsTrue result ↔ IsTold answer.now }
 {
-    replies
-        .iter()
-        .all(|reply| *reply != Reply::EnterRefused(EnterFault::Memory))
+    !matches!(
+        answer,
+        Answer::Replied(Reply::EnterRefused(EnterFault::Memory))
+            | Answer::TurnRefused(TurnFault::Memory)
+    )
 }
 
-/// The text of the replay of events on a network that nobody has entered.
+/// Whether no answer is want of memory.
+fn are_told(answers: &[Answer]) -> bool
+    ensures { IsTrue result ↔ All IsTold answers.now }
+{
+    answers.iter().all(is_told)
+}
+
+/// The text of the replay of commands on a network that nobody has entered.
 fn replayed(
     alloc: Global,
     network: &Counting,
-    events: &[Event],
+    commands: &[Command],
     state: RandomState,
 ) -> Result<Vec<u8>, ReplayFault>
-    ensures text { IfOk result (λ text. text.items ≡ replayed_text network.now events.now) }
+    ensures text { IfOk result (λ text. IsReplayText network.now commands.now text.items) }
     ensures memory { IfErr result (λ fault. fault ≡ ReplayFault.Memory) }
 {
-    let mut core = Core::new(alloc, network, state)?;
-    let replies = core.run(events)?;
-    if !are_told(&replies) {
+    let mut epochs = Epochs::new(alloc, network, state)?;
+    let answers = epochs.run(commands)?;
+    if !are_told(&answers) {
         return Err(ReplayFault::Memory);
     }
     let text = render_replay(
         alloc,
         network,
-        events,
-        &replies,
-        0,
-        core.entered(),
-        core.inside(),
+        commands,
+        &answers,
+        epochs.number(),
+        epochs.entered(),
+        epochs.inside(),
     )?;
     Ok(text)
 }
 
-/// Reads a schedule, applies its events to a core of the network, and writes the text of the replay: the network, each
-/// event with its reply, and how many clients entered and are inside. A refused event is part of the text.
+/// Reads a schedule, applies its commands to epochs of the network, and writes the text of the replay: the network, each
+/// command with its answer, how many epochs ended, and how many clients of the open one entered and are inside. A refused
+/// command is part of the text.
 ///
-/// The random state is for the core. Nothing is written before every event has its reply.
+/// The random state is for the table of clients. Nothing is written before every command has its answer.
 ///
 /// # Errors
 /// `Schedule` with the first record that has a cause, and its first cause; `Memory` where any growth was refused; `Write`
@@ -150,9 +161,9 @@ pub fn replay<R: Read + Drop, W: Write>(
     ensures untouched { IfErr result (IsUntouched writer.old writer.new) }
     ensures memory { IfErr result IsMemoryApart }
 {
-    let events = read_schedule(alloc, reader)?;
+    let commands = read_schedule(alloc, reader)?;
     let network = build(alloc, net)?;
-    let text = replayed(alloc, &network, &events, state)?;
+    let text = replayed(alloc, &network, &commands, state)?;
     emit(writer, &text)?;
     Ok(())
 }

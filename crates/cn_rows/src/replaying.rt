@@ -20,6 +20,18 @@ const REFUSALS: &[u8] =
 const REFUSALS_REPLAYED: &[u8] =
     b"network bitonic width 2 balancers 1 depth 1\nrefused step 5 Stranger\nenter 7 wire 0\nrefused enter 7 AlreadyIn\nrefused enter 7 NoSuchEntry\npass 7 balancer 0 number 0 wire 2\nleave 7 exit 0 visit 0 name 0\nrefused step 7 HasName 0\nrefused enter 7 AlreadyIn\nend epoch 0 entered 1 inside 0\n";
 
+const TURN_REFUSED_THEN_DONE: &[u8] =
+    b"op,client,wire\nenter,7,0\nturn,,\nstep,7,\nstep,7,\nturn,,\n";
+
+const TURN_REFUSED_THEN_DONE_REPLAYED: &[u8] =
+    b"network bitonic width 2 balancers 1 depth 1\nenter 7 wire 0\nrefused turn NotQuiet 1\npass 7 balancer 0 number 0 wire 2\nleave 7 exit 0 visit 0 name 0\nturn epoch 0 clients 1\nexit 0 count 1\nexit 1 count 0\nname 0 client 7\nend epoch 1 entered 0 inside 0\n";
+
+const EVERY_REFUSAL: &[u8] =
+    b"op,client,wire\nstep,5,\nenter,7,0\nenter,7,1\nenter,7,2\nstep,7,\nstep,7,\nstep,7,\nenter,7,0\nturn,,\nenter,7,0\n";
+
+const EVERY_REFUSAL_REPLAYED: &[u8] =
+    b"network bitonic width 2 balancers 1 depth 1\nrefused step 5 Stranger\nenter 7 wire 0\nrefused enter 7 AlreadyIn\nrefused enter 7 NoSuchEntry\npass 7 balancer 0 number 0 wire 2\nleave 7 exit 0 visit 0 name 0\nrefused step 7 HasName 0\nrefused enter 7 AlreadyIn\nturn epoch 0 clients 1\nexit 0 count 1\nexit 1 count 0\nname 0 client 7\nenter 7 wire 0\nend epoch 1 entered 1 inside 1\n";
+
 /// A reader that gives `left` and then fails.
 #[derive(Drop)]
 struct Broken<'a> {
@@ -80,6 +92,29 @@ fn refusals_without_turn(rt: HostRuntime) -> Result<(), Fail> {
 }
 
 #[test]
+fn turn_refused_then_done(rt: HostRuntime) -> Result<(), Fail> {
+    let text = replayed(&rt, Kind::Bitonic, 2, TURN_REFUSED_THEN_DONE)?;
+    assert_eq!(rt; text.as_slice(), TURN_REFUSED_THEN_DONE_REPLAYED);
+    Ok(())
+}
+
+#[test]
+fn every_refusal(rt: HostRuntime) -> Result<(), Fail> {
+    let text = replayed(&rt, Kind::Bitonic, 2, EVERY_REFUSAL)?;
+    assert_eq!(rt; text.as_slice(), EVERY_REFUSAL_REPLAYED);
+    Ok(())
+}
+
+#[test]
+fn a_turn_of_nobody(rt: HostRuntime) -> Result<(), Fail> {
+    let text = replayed(&rt, Kind::Tree, 2, b"op,client,wire\nturn,,\n".as_slice())?;
+    let wanted =
+        b"network tree width 2 balancers 1 depth 1\nturn epoch 0 clients 0\nexit 0 count 0\nexit 1 count 0\nend epoch 1 entered 0 inside 0\n".as_slice();
+    assert_eq!(rt; text.as_slice(), wanted);
+    Ok(())
+}
+
+#[test]
 fn bitonic_four_replay(rt: HostRuntime) -> Result<(), Fail> {
     let text = replayed(&rt, Kind::Bitonic, 4, BITONIC_FOUR)?;
     assert_eq!(rt; text.as_slice(), BITONIC_FOUR_REPLAYED);
@@ -101,7 +136,7 @@ fn tree_overtaking(rt: HostRuntime) -> Result<(), Fail> {
 }
 
 #[test]
-fn a_schedule_of_no_events(rt: HostRuntime) -> Result<(), Fail> {
+fn a_schedule_of_no_commands(rt: HostRuntime) -> Result<(), Fail> {
     let text = replayed(&rt, Kind::Bitonic, 64, b"op,client,wire\n".as_slice())?;
     let wanted =
         b"network bitonic width 64 balancers 672 depth 21\nend epoch 0 entered 0 inside 0\n".as_slice();
@@ -121,10 +156,17 @@ fn refusal(rt: &HostRuntime, input: impl io::Read + Drop) -> Result<(ReplayFault
 
 #[test]
 fn schedule_refusals(rt: HostRuntime) -> Result<(), Fail> {
-    let inputs: [(&[u8], &str); 8] = [
+    let inputs: [(&[u8], &str); 9] = [
         (b"", "renamer: record 0: Header"),
         (b"op,client,wire\nleave,7,0\n", "renamer: record 1: Op"),
-        (b"op,client,wire\nturn,,\n", "renamer: record 1: Op"),
+        (
+            b"op,client,wire\nturn,7,\n",
+            "renamer: record 1: ClientNumber",
+        ),
+        (
+            b"op,client,wire\nturn,,3\n",
+            "renamer: record 1: WireNumber",
+        ),
         (
             b"op,client,wire\nenter,,0\n",
             "renamer: record 1: ClientNumber",

@@ -5,6 +5,7 @@ use Rattle.cn_wiring.specs.declared.end.End.{End}
 use Rattle.cn_wiring.specs.declared.end.End.TheVariants.{Balancer, Exit}
 use Rattle.cn_spec.specs.Step.{half}
 use Rattle.cn_spec.specs.Sums.{when, total_where, sum_below}
+use Rattle.cn_spec.proofs.Sums.{sum_below-same}
 use Rattle.cn_wiring.specs.Table.{Table, is_end, sum_at, Stands, IsWellFormed, IsFullFlow}
 
 pub half-sum : (n : ℕ) → half n 0 + half n 1 ≡ n
@@ -12,11 +13,6 @@ half-sum n = omega arith
 
 pub half-mono : (m n p : ℕ) → m ≤ n → half m p ≤ half n p
 half-mono m n p h = omega arith
-
-pub sum_below-same : (n : ℕ) (f g : ℕ → ℕ) → ((u : ℕ) → u < n → f u ≡ g u) → sum_below n f ≡ sum_below n g
-unfolding sum_below
-sum_below-same zero f g h = refl
-sum_below-same (suc n) f g h = rw (sum_below-same n f g (λ u k. h u (omega arith)), h n (omega arith))
 
 pub sum_below-zero : (n : ℕ) → sum_below n (λ _. 0) ≡ 0
 unfolding sum_below

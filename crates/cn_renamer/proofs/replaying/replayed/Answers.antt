@@ -1,30 +1,41 @@
-use Rattle.std.proofs.Common.{◌≡◌, ℕ, List, [], rules, ◌∙◌, ap, sym, subst}
+use Rattle.std.proofs.Common.{◌≡◌, List, [], rules, ◌∙◌, ap}
 use Rattle.std.specs.List.{All}
 use Rattle.cn_wiring.specs.Network.{Network}
 use Rattle.cn_core.specs.declared.event.Event.{Event}
-use Rattle.cn_core.specs.History.{answers_to, grown_by, inside_of}
-use Rattle.cn_report.specs.ReplayText.{IsTold, replay_text}
-use Rattle.cn_renamer.proofs.Replies.{fits_all, told_all, replayed_by_history}
+use Rattle.cn_core.specs.History.{enters_of, inside_of}
+use Rattle.cn_epoch.specs.Turns.{history_by, turns_by}
+use Rattle.cn_report.specs.ReplayText.{IsTold, IsWhole}
+use Rattle.cn_renamer.proofs.Replies.{fits_all, whole_all}
 use Rattle.cn_renamer.proofs.replaying.replayed.Goals as goal
 
 pub render_replay-requires-clause-fit : goal.render_replay-requires-clause-fit
 render_replay-requires-clause-fit c =
-    let may = (c.in_ok-replies.ensures.history [] c.in_ok-core.ensures.history).0 in
-    rw c.deref-2.ensures.value (fits_all c.in_ok-core.core.network.table [] c.args.events.now c.in_ok-replies.replies.items may)
+    let may = (c.in_ok-answers.ensures.history 0 [] c.in_ok-epochs.ensures.history).0 in
+    rw c.deref-2.ensures.value (fits_all c.in_ok-epochs.epochs.core.network.table 0 [] c.args.commands.now c.in_ok-answers.answers.items may)
+
+pub render_replay-requires-clause-whole : goal.render_replay-requires-clause-whole
+render_replay-requires-clause-whole c =
+    let may = (c.in_ok-answers.ensures.history 0 [] c.in_ok-epochs.ensures.history).0 in
+    let network : c.in_ok-epochs.epochs.core.network ≡ c.args.network.now = ap (λ e. e.core.network) c.in_ok-epochs.ensures.start in
+    let whole : All (IsWhole c.args.network.now.table.width) c.in_ok-answers.answers.items =
+    rw network at (whole_all c.in_ok-epochs.epochs.core.network.table 0 [] c.args.commands.now c.in_ok-answers.answers.items may) in
+    rw c.deref-2.ensures.value whole
 
 pub returns-clause-text : goal.returns-clause-text
 returns-clause-text c =
-    let (may, agrees) = c.in_ok-replies.ensures.history [] c.in_ok-core.ensures.history in
-    let network : c.in_ok-core.core.network ≡ c.args.network.now = ap (λ s. s.network) c.in_ok-core.ensures.start in
-    let same : c.run.new.self.network ≡ c.args.network.now = c.in_ok-replies.ensures.network ∙ network in
-    let told : All IsTold c.in_ok-replies.replies.items = search rules in
-    let history : List Event = grown_by [] c.args.events.now c.in_ok-replies.replies.items in
-    let replies : c.in_ok-replies.replies.items ≡ answers_to c.args.network.now.table [] c.args.events.now =
-    told_all c.in_ok-core.core.network.table [] c.args.events.now c.in_ok-replies.replies.items may told
-    ∙ ap (λ (n : Network). answers_to n.table [] c.args.events.now) network in
+    let (may, agrees) = c.in_ok-answers.ensures.history 0 [] c.in_ok-epochs.ensures.history in
+    let answers = c.in_ok-answers.answers.items in
+    let network : c.in_ok-epochs.epochs.core.network ≡ c.args.network.now = ap (λ e. e.core.network) c.in_ok-epochs.ensures.start in
+    let same : c.run.new.self.core.network ≡ c.args.network.now = c.in_ok-answers.ensures.network ∙ network in
+    let history : List Event = history_by [] c.args.commands.now answers in
+    let number : c.number.result ≡ turns_by 0 answers = c.number.ensures.by_turns (turns_by 0 answers) history agrees in
+    let entered : c.entered.result ≡ enters_of history = c.entered.ensures.by_history (turns_by 0 answers) history agrees in
     let inside : c.inside.result ≡ inside_of c.args.network.now.table history =
-    c.inside.ensures.by_history history agrees ∙ ap (λ (n : Network). inside_of n.table history) same in
-    let text : c.in_ok-text.text.items ≡ replay_text c.args.network.now c.args.events.now c.in_ok-replies.replies.items 0 c.entered.result c.inside.result =
-    rw c.deref-2.ensures.value at c.in_ok-text.ensures in
-    text
-    ∙ replayed_by_history c.args.network.now c.args.events.now c.in_ok-replies.replies.items c.entered.result c.inside.result replies (c.entered.ensures.by_history history agrees) inside
+    c.inside.ensures.by_history (turns_by 0 answers) history agrees ∙ ap (λ (n : Network). inside_of n.table history) same in
+    let told : All IsTold answers = search rules in
+    record {
+      answers = answers;
+      by_history = rw network at may;
+      told = told;
+      replayed = rw (c.deref-2.ensures.value, number, entered, inside) at c.in_ok-text.ensures;
+    }
