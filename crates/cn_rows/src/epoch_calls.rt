@@ -90,6 +90,28 @@ fn turn_refused_then_done_by_run(rt: HostRuntime) -> Result<(), Fail> {
 }
 
 #[test]
+fn every_refusal_by_single_calls(rt: HostRuntime) -> Result<(), Fail> {
+    let alloc = rt.alloc();
+    let network = bitonic(alloc, 2)?;
+    let mut epochs = Epochs::new(alloc, &network, RandomState::new(&rt)?)?;
+    assert_eq!(rt; epochs.step(5), Err(StepFault::Stranger));
+    epochs.enter(7, 0)?;
+    assert_eq!(rt; epochs.enter(7, 1), Err(EnterFault::AlreadyIn));
+    assert_eq!(rt; epochs.enter(7, 2), Err(EnterFault::NoSuchEntry));
+    assert_eq!(rt; epochs.step(7)?, PASSED);
+    assert_eq!(rt; epochs.step(7)?, LEFT);
+    assert_eq!(rt; epochs.step(7), Err(StepFault::HasName(0)));
+    assert_eq!(rt; epochs.enter(7, 0), Err(EnterFault::AlreadyIn));
+    assert_eq!(rt; epochs.turn(), Ok(alone(alloc)?));
+    epochs.enter(7, 0)?;
+    assert_eq!(rt;
+        (epochs.number(), epochs.entered(), epochs.inside()),
+        (1, 1, 1)
+    );
+    Ok(())
+}
+
+#[test]
 fn every_refusal_by_run(rt: HostRuntime) -> Result<(), Fail> {
     let alloc = rt.alloc();
     let network = bitonic(alloc, 2)?;
