@@ -1,7 +1,8 @@
 -- What a yard's lists keep, when a token comes, moves or goes.
-use Rattle.std.proofs.Common.{◌≡◌, ℕ, zero, suc, ◌+◌, ◌-◌, ◌<◌, ◌≤◌, Bool, true, false, cond, nat_eq, eqb, ltb, List, [], ◌∷◌, ◌++◌, length, get_or, drop, refl, sym, ap, ◌∙◌, arith, vec_capacity, Option, Some, subst}
+use Rattle.std.proofs.Common.{◌≡◌, ℕ, zero, suc, ◌+◌, ◌-◌, ◌<◌, ◌≤◌, inl, inr, Bool, true, false, cond, nat_eq, eqb, ltb, List, [], ◌∷◌, ◌++◌, length, get_or, drop, refl, sym, ap, ◌∙◌, arith, vec_capacity, Option, Some, subst}
 use Rattle.std.specs.Prelude.{All, IsSome, IsTrue, ◌↔◌, remove, count_by}
 use Rattle.std.specs.List.{range_with_len}
+use Rattle.std.proofs.lemmas.Bool.{cases_lt}
 use Rattle.std.proofs.lemmas.Bool.Decides.{nat_tests}
 use Rattle.std.proofs.lemmas.List.FromFn.{length-range_with_len}
 use Rattle.std.proofs.lemmas.List.{length-append}
@@ -15,7 +16,7 @@ use Rattle.cn_yard.specs.declared.yard.Yard.TheInside.{Inside}
 use Rattle.cn_yard.specs.Lists.{Admits, Moves, Releases, after, first_of, on, standing}
 use Rattle.cn_yard.specs.InsideYard.{IsYard, on_wire, place, yard_of}
 use Rattle.cn_yard.proofs.Moved.{All-push, All-remove, admits, length-push, length-remove, moves, releases, times-push, times-remove}
-use Rattle.cn_yard.proofs.OnWires.{on_wire-after, times_of, token-at}
+use Rattle.cn_yard.proofs.OnWires.{on_wire-after, place-out, times_of, token-at}
 use Rattle.cn_yard.proofs.Standings.{on-seen, place-standing, seen, standing-in}
 
 once-most : (m n : ℕ) → once_below m n ≤ 1
@@ -33,7 +34,21 @@ once y is token = let n = is.numbers token in omega (arith, n, once-most (length
 pub placed : (y : Inside) → IsYard y → (token : ℕ) → IsSome (standing (yard_of y) token) → place token y.live.items < length y.live.items
 placed y is token stands = place-standing y.wires y.live.items (length y.free.items) token stands
 
--- and stands where its place says
+-- its number is below that of all records
+pub number-below : (y : Inside) → IsYard y → (token : ℕ) → IsSome (standing (yard_of y) token) → token < length y.live.items + length y.free.items
+number-below y is token stands =
+    let all = length y.live.items + length y.free.items in
+    elim (cases_lt token all) [
+      | inl l ↦ l
+      | inr l ↦ absurd (
+          let none : once_below all token ≡ 0 = grind (arith, nat_tests) in
+          let here = is.numbers token in
+          let out = place-out token y.live.items (omega arith) in
+          let there = placed y is token stands in
+          omega arith)
+    ]
+
+-- and it stands where its place says
 pub stands_at : (y : Inside) → IsYard y → (token : ℕ) (s : Standing) → place token y.live.items < length y.live.items → s ≡ get_or y.live.items (place token y.live.items) s
     → standing (yard_of y) token ≡ Some (s.wire, s.client)
 stands_at y is token s there at =

@@ -12,9 +12,9 @@ use std::marker::Model;
 
 /// Per wire a list of tokens from first to last, each with its client, and a number of free records.
 ///
-/// This yard keeps one list of its tokens in the order in which they came to their wires, so each call but
-/// [`Yard::new`], [`Yard::len`], [`Yard::spare`], [`Yard::wires`] and [`Yard::reserve`] takes time in proportion to the
-/// tokens that stand in it.
+/// Only [`Yard::new`], [`Yard::reserve`] and [`Yard::admit`] take memory. This yard keeps one list of its tokens in the
+/// order in which they came to their wires, so a move, a release, and a look at a wire or at a token take time in
+/// proportion to [`Yard::len`].
 #[derive(Drop)]
 pub struct Yard {
     wires: u32,
@@ -34,12 +34,13 @@ impl Model for Yard {
 }
 
 impl Yard {
-    /// A yard of this many wires, with nobody on them and no record.
+    /// A yard of `wires` wires, numbered from 0, with nobody on them and no record.
     ///
     /// # Errors
     /// `AllocError` where the wires get no memory.
     pub fn new(alloc: Global, wires: u32) -> Result<Self, AllocError>
-        ensures { IfOk result (λ yard. yard ≡ empty wires) }
+        ensures yard { IfOk result (λ yard. yard ≡ empty wires) }
+        ensures nobody { IfOk result (λ yard. tokens_in yard ≡ 0) }
     {
         Ok(Yard {
             wires,
@@ -48,15 +49,18 @@ impl Yard {
         })
     }
 
-    /// Makes free records until there are at least `records`; [`Yard::len`] and they are at most [`MOST_TOKENS`].
+    /// Makes free records until there are at least `records`. [`Yard::len`] and `records` together are at most
+    /// [`MOST_TOKENS`].
     ///
     /// # Errors
-    /// `AllocError` where they get no memory. Then nothing has changed.
+    /// `AllocError` where there are fewer and the others get no memory. Then nothing has changed.
     pub fn reserve(&mut self, records: u32) -> Result<(), AllocError>
         requires { tokens_in self.old + records ≤ MOST_TOKENS }
         ensures lists { self.new.lists ≡ self.old.lists }
+        ensures tokens { tokens_in self.new ≡ tokens_in self.old }
         ensures ok { OnOk result (self.new.spare ≡ max records self.old.spare) }
         ensures err { OnErr result (self.new ≡ self.old) }
+        ensures enough { records ≤ self.old.spare → IsOk result }
     {
         let spare = self.free.len() as u32;
         if records <= spare {
@@ -69,8 +73,8 @@ impl Yard {
         Ok(())
     }
 
-    /// A token for a client, last on a wire. It takes a free record where there is one, and then no memory. Fewer than
-    /// [`MOST_TOKENS`] tokens stand in the yard before.
+    /// A token for a client, last on `wire`, which is below [`Yard::wires`]. It takes a free record where there is one,
+    /// and then no memory. [`Yard::len`] is below [`MOST_TOKENS`] before.
     ///
     /// # Errors
     /// `AllocError` where there is no free record and a new one gets no memory. Then nothing has changed.
@@ -98,8 +102,8 @@ impl Yard {
         Ok(token)
     }
 
-    /// Takes a token that stands in the yard out of its place and puts it last on a wire, which may be the one on which
-    /// it stands.
+    /// Takes a token that stands in the yard ([`Yard::is_live`]) out of its place and puts it last on `wire`, which is
+    /// below [`Yard::wires`] and may be the one on which it stands.
     pub fn move_to(&mut self, token: Token, wire: u32)
         requires live { IsSome (standing self.old token) }
         requires wire { wire < length self.old.lists }
@@ -110,7 +114,8 @@ impl Yard {
         self.live.push_reserved(Standing { wire, ..moved });
     }
 
-    /// Takes a token that stands in the yard off its wire, and gives its client. Its record is free afterwards.
+    /// Takes a token that stands in the yard ([`Yard::is_live`]) off its wire, and gives its client. Its record is free
+    /// afterwards.
     pub fn release(&mut self, token: Token) -> u64
         requires { IsSome (standing self.old token) }
         ensures client { (wire : ℕ) × (standing self.old token ≡ Some (wire, result)) }
@@ -122,7 +127,7 @@ impl Yard {
         released.client
     }
 
-    /// The first token on a wire.
+    /// The first token on `wire`, which is below [`Yard::wires`], if one stands there.
     pub fn first(&self, wire: u32) -> Option<Token>
         requires { wire < length self.now.lists }
         ensures { result ≡ first_of (on self.now wire) }
@@ -130,7 +135,7 @@ impl Yard {
         first_on(&self.live, wire)
     }
 
-    /// The token after this one, which stands in the yard, on its wire.
+    /// The token after `token`, which stands in the yard, on its wire, if it is not the last there.
     pub fn next(&self, token: Token) -> Option<Token>
         requires { IsSome (standing self.now token) }
         ensures { (wire client : ℕ) → standing self.now token ≡ Some (wire, client) → result ≡ after token (on self.now wire) }
@@ -141,7 +146,7 @@ impl Yard {
         first_on(later, wire)
     }
 
-    /// The least wire on which a token stands.
+    /// The least wire on which a token stands, if one does.
     pub fn lowest(&self) -> Option<u32>
         ensures some { IfSome result (λ wire. IsLowest self.now wire) }
         ensures none { result ≡ None → (wire : ℕ) → on self.now wire ≡ [] }
@@ -149,7 +154,7 @@ impl Yard {
         least_wire(&self.live)
     }
 
-    /// How many tokens stand on a wire.
+    /// How many tokens stand on `wire`, which is below [`Yard::wires`].
     pub fn count(&self, wire: u32) -> u32
         requires { wire < length self.now.lists }
         ensures { result ≡ length (on self.now wire) }
@@ -157,11 +162,13 @@ impl Yard {
         count_on(&self.live, wire) as u32
     }
 
-    /// How many tokens stand in the yard. None stands there twice.
+    /// How many tokens stand in the yard. None stands there twice, and each is the number of a record: the records, live
+    /// and free, are numbered from 0 and at most [`MOST_TOKENS`].
     pub fn len(&self) -> u32
         ensures value { result ≡ tokens_in self.now }
         ensures few { tokens_in self.now + self.now.spare ≤ MOST_TOKENS }
         ensures once { (token : ℕ) → times_in self.now token ≤ 1 }
+        ensures numbers { (token : ℕ) → IsSome (standing self.now token) → token < tokens_in self.now + self.now.spare }
     {
         self.live.len() as u32
     }

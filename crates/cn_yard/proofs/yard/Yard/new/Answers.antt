@@ -1,7 +1,8 @@
-use Rattle.std.proofs.Common.{◌≡◌, length, refl, ap, arith}
+use Rattle.std.proofs.Common.{◌≡◌, [], length, refl, ap, arith}
 use Rattle.std.proofs.lemmas.Bool.Decides.{nat_tests}
 use Rattle.cn_spec.specs.Sums.{once_below}
 use Rattle.cn_spec.proofs.Sums.{times-nil}
+use Rattle.cn_yard.proofs.Moved.{tokens-seen}
 use Rattle.cn_yard.proofs.Standings.{empty-seen}
 use Rattle.cn_yard.proofs.yard.Yard.new.Goals as goal
 
@@ -14,5 +15,8 @@ invariant_of-result c = record {
   room_free = let l = ap length c.new.ensures.items in let f = ap length c.new-2.ensures.items in omega arith;
 }
 
-pub returns : goal.returns
-returns c = rw (c.new.ensures.items, c.new-2.ensures.items) (empty-seen c.args.wires)
+pub returns-clause-yard : goal.returns-clause-yard
+returns-clause-yard c = rw (c.new.ensures.items, c.new-2.ensures.items) (empty-seen c.args.wires)
+
+pub returns-clause-nobody : goal.returns-clause-nobody
+returns-clause-nobody c = rw c.new.ensures.items (tokens-seen c.args.wires [] 0 (λ k d h. absurd (omega arith)))
