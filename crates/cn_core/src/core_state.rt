@@ -155,7 +155,8 @@ impl<'a> Core<'a> {
         }
     }
 
-    /// The clients that entered, by rising name: `holders[n]` is the client with name n. Nobody is inside.
+    /// Where nobody is inside ([`Core::is_quiet`]), the clients that entered, by rising name: `holders[n]` is the client with
+    /// name n.
     ///
     /// # Errors
     /// `AllocError` where the list gets no memory.
@@ -166,7 +167,7 @@ impl<'a> Core<'a> {
         self.clients.by_name()
     }
 
-    /// All as in a new core: nobody has entered, no balancer was passed and no exit taken. Nobody is inside. It takes no
+    /// Where nobody is inside ([`Core::is_quiet`]), forgets all clients and counts: the core is as a new one. It takes no
     /// memory.
     pub fn clear(&mut self)
         requires { inside_in self.old ≡ 0 }
