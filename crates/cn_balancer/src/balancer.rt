@@ -1,6 +1,6 @@
 //! One balancer.
 
-ghost use Rattle.std.specs.Prelude.{◌≡◌, ◌≢◌, ◌==◌, ℕ, ◌+◌, ◌%◌, ◌<◌, ◌≤◌, ◌↔◌, IsTrue, [], ◌∷◌, slice_index, slice_set};
+ghost use Rattle.std.specs.Prelude.{◌≡◌, ◌==◌, ℕ, ◌+◌, ◌%◌, ◌<◌, ◌≤◌, ◌↔◌, IsTrue, [], ◌∷◌, slice_index, slice_set};
 ghost use Rattle.cn_spec.specs.Step.{half};
 ghost use Rattle.cn_spec.specs.Sums.{when};
 ghost use Rattle.cn_balancer.specs.Traffic.{all_arrivals};

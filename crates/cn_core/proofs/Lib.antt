@@ -3,7 +3,6 @@ pub mod EventLemmas
 pub mod EmptyLedger
 pub mod Happening
 pub mod Placed
-pub mod Counted
 pub mod Clientele
 pub mod StateLemmas
 pub mod HistoryLemmas
@@ -11,4 +10,5 @@ pub mod PassageLemmas
 pub mod LedgerLemmas
 pub mod TightLemmas
 pub mod Holders
+pub mod OneHolder
 pub mod Worked

@@ -1,21 +1,13 @@
 -- Lists of keys with values, as of clients with their positions: look-ups and counts where an entry is added, and where
 -- one key's value changes.
-use Rattle.std.proofs.Common.{◌≡◌, ◌≢◌, ℕ, zero, suc, ◌+◌, ◌<◌, ◌≤◌, ◌&&◌, Bool, true, false, cond, nat_eq, sym, List, [], ◌∷◌, ◌++◌, length, get_or, set, take, drop, refl, ap, arith, Some, None}
+use Rattle.std.proofs.Common.{◌≡◌, ◌≢◌, ℕ, ◌+◌, ◌≤◌, ◌&&◌, Bool, true, false, cond, nat_eq, sym, List, [], ◌∷◌, ◌++◌, refl, arith, Some, None}
 use Rattle.std.specs.Prelude.{count_by}
 use Rattle.std.specs.Map.{lookup, set_value, values_of}
-use Rattle.std.proofs.lemmas.Bool.{eq-eqb, eqb-true}
+use Rattle.std.proofs.lemmas.Bool.{eqb-true}
 use Rattle.std.specs.List.{sum_by}
 use Rattle.std.proofs.lemmas.List.Sums.{sum_by-cons}
 use Rattle.std.proofs.lemmas.Map.Entries.{sum_by-set_value}
 use Rattle.std.proofs.lemmas.Bool.Decides.{nat_tests}
-
--- a write at the first entry whose key passes
-pub set-at_front : {X : Type 0} (test : ℕ → Bool) (es : List (ℕ × X)) (i : ℕ) (w : X) (d : ℕ × X)
-    → i < length es → test (get_or es i d).0 ≡ true
-    → set es i ((get_or es i d).0, w) ≡ take i es ++ set_value test (drop i es) w
-set-at_front test [] i w d lt t = absurd (omega arith)
-set-at_front test (e ∷ es) zero w d lt t = rw t refl
-set-at_front test (e ∷ es) (suc i) w d lt t = ap (λ xs. e ∷ xs) (set-at_front test es i w d (omega arith) t)
 
 -- a look-up after a new key
 pub lookup-push : {X : Type 0} (es : List (ℕ × X)) (k : ℕ) (x : X) (q : ℕ)
@@ -119,20 +111,6 @@ count_pair-apart p q r (e ∷ es) differ =
     less : (k : ℕ) (b : Bool) → cond (nat_eq q k && b) 1 0 + cond (nat_eq r k && b) 1 0 ≤ cond b 1 0
     less k b = grind (arith, nat_tests)
 
--- a value that passes has a key
-pub count_pair-some : {X : Type 0} (p : X → Bool) (es : List (ℕ × X)) → 1 ≤ count_by p (values_of es) → (q : ℕ) × (1 ≤ count_by (λ e. nat_eq q e.0 && p e.1) es)
-count_pair-some p [] some = absurd (omega arith)
-count_pair-some p ((k, x) ∷ es) some = by (p x) refl (λ h. count_pair-some p es h)
-  where
-    by : (b : Bool) → p x ≡ b → (1 ≤ count_by p (values_of es) → (q : ℕ) × (1 ≤ count_by (λ e. nat_eq q e.0 && p e.1) es)) → (q : ℕ) × (1 ≤ count_by (λ e. nat_eq q e.0 && p e.1) ((k, x) ∷ es))
-    by true is rest =
-        let one : ◌≡◌ {A = ℕ} (cond (nat_eq k k && p x) 1 0) 1 = rw (eq-eqb k k refl, is) refl in
-        (k, omega (arith, sum_by-cons (λ y. cond (nat_eq k y.0 && p y.1) 1 0) (k, x) es))
-    by false is rest =
-        let none : ◌≡◌ {A = ℕ} (cond (p x) 1 0) 0 = rw is refl in
-        let (q, h) = rest (omega (arith, some, sum_by-cons (λ y. cond (p y) 1 0) x (values_of es))) in
-        (q, omega (arith, sum_by-cons (λ y. cond (nat_eq q y.0 && p y.1) 1 0) (k, x) es))
-
 -- no more entries have a key and a value that passes than have the key
 pub count_pair-le_times : {X : Type 0} (p : X → Bool) (q : ℕ) (es : List (ℕ × X)) → count_by (λ e. nat_eq q e.0 && p e.1) es ≤ count_by (λ e. nat_eq q e.0) es
 count_pair-le_times p q [] = omega arith
@@ -144,10 +122,6 @@ count_pair-le_times p q (e ∷ es) =
     less true true = omega arith
     less true false = omega arith
     less false b = omega arith
-
--- a key that is not found has no entry that passes
-pub count_pair-absent : {X : Type 0} (p : X → Bool) (q : ℕ) (es : List (ℕ × X)) → lookup (nat_eq q) es ≡ None → count_by (λ e. nat_eq q e.0 && p e.1) es ≡ 0
-count_pair-absent p q es absent = omega (arith, times-absent es q absent, count_pair-le_times p q es)
 
 -- a key that is there once has an entry that passes exactly where its value does
 pub count_pair-found : {X : Type 0} (p : X → Bool) (q : ℕ) (es : List (ℕ × X)) (x : X)

@@ -22,7 +22,7 @@ use std::marker::Model;
 /// The running network of one epoch: its counts, and its clients with their positions. One event is one atomic step of the
 /// network.
 ///
-/// An enter and a step make at most two hash look-ups each, and take time in proportion to the tokens inside.
+/// An enter and a step make at most two hash look-ups each, and a step takes time in proportion to the tokens inside.
 #[derive(Drop)]
 pub struct Core<'a> {
     alloc: Global,
@@ -67,7 +67,7 @@ fn count_one(counts: &mut Vec<u64>, at: usize) -> u64
 impl<'a> Core<'a> {
     ghost use Rattle.cn_core.specs.declared.event.Event.{Event};
     ghost use Rattle.cn_core.specs.declared.event.Event.TheVariants.{Enter, Step};
-    ghost use Rattle.cn_core.specs.State.{start, name_in, inside_in, position_in};
+    ghost use Rattle.cn_core.specs.State.{start, name_in, inside_in};
     ghost use Rattle.cn_core.specs.History.{Agrees, enters_of, inside_of};
     ghost use Rattle.cn_core.specs.Ledger.{IsSound};
     ghost use Rattle.cn_core.specs.StateLedger.{ledger_of};
@@ -124,7 +124,8 @@ impl<'a> Core<'a> {
         self.clients.inside() == 0
     }
 
-    /// How many tokens passed a balancer: at most what the full flow of the clients that entered brings there.
+    /// How many tokens passed a balancer below [`Counting::balancers`]: at most what the full flow of the clients that
+    /// entered brings there.
     pub fn balancer_count(&self, balancer: u32) -> u64
         requires { balancer < self.now.network.table.balancers }
         ensures value { result ≡ slice_index self.now.passes balancer }
@@ -134,11 +135,12 @@ impl<'a> Core<'a> {
         count_at(&self.passes, balancer as usize)
     }
 
-    /// How many tokens left by an exit: at most its share of the clients that entered.
+    /// How many tokens left by an exit below [`Counting::width`]: at most its share of the clients that entered.
     pub fn exit_count(&self, exit: u32) -> u64
         requires { exit < self.now.network.table.width }
         ensures value { result ≡ slice_index self.now.visits exit }
         ensures few { result ≤ share (length self.now.clients) self.now.network.table.width exit }
+        ensures at_most { result ≤ length self.now.clients }
     {
         self.exits.count(exit)
     }

@@ -1,12 +1,14 @@
-//! The laws of ledgers. Each function does nothing: its contract is the law, and a caller opens it by a call.
+//! The laws of ledgers and of histories. Each function does nothing: its contract is the law, and a caller opens it by a call.
 
-ghost use Rattle.std.specs.Prelude.{◌≡◌, ℕ, ◌<◌, ◌≤◌, length, ◌∷◌, []};
+ghost use Rattle.std.specs.Prelude.{◌≡◌, ℕ, ◌<◌, ◌≤◌, length, List, ◌∷◌, [], Some};
 ghost use Rattle.cn_wiring.specs.Network.{Network, IsNetwork};
 ghost use Rattle.cn_wiring.specs.Table.{Table, end_of};
 ghost use Rattle.cn_wiring.specs.declared.end.End.TheVariants.{Balancer, Exit};
 ghost use Rattle.cn_core.specs.Events.{Enters, Passes, Leaves, one_at};
 ghost use Rattle.cn_core.specs.Ledger.{Ledger, IsSound, IsQuiet, IsBounded, IsTight, all_entered, empty};
-ghost use Rattle.cn_core.specs.History.{IsHistory, answers_to, enters_of, inside_of};
+ghost use Rattle.cn_core.specs.History.{IsHistory, answers_to, enters_of, inside_of, position_after};
+ghost use Rattle.cn_core.specs.declared.event.Event.{Event};
+ghost use Rattle.cn_core.specs.declared.position.Position.TheVariants.{Holds};
 ghost use Rattle.cn_core.specs.WorkedNetworks.{tree_of_four, two_wide};
 ghost use Rattle.cn_core.specs.declared.event.Event.TheVariants.{Enter, Step};
 ghost use Rattle.cn_core.specs.declared.reply.EnterFault.TheVariants.{AlreadyIn, NoSuchEntry};
@@ -59,6 +61,11 @@ pub fn events_can_happen()
 /// Where nobody has come, the ledger is sound.
 pub fn empty_ledgers_are_sound()
     ensures { (table : Table) → IsSound table empty }
+{}
+
+/// After any history two clients that hold one name are one client.
+pub fn a_name_has_one_holder()
+    ensures { (network : Network) (history : List Event) (c d name : ℕ) → IsNetwork network → position_after network.table history c ≡ Some (Holds name) → position_after network.table history d ≡ Some (Holds name) → c ≡ d }
 {}
 
 /// Worked ledgers of a network with two entries, one balancer and two exits: client 7 comes in before client 9, which

@@ -1,41 +1,26 @@
 -- The answers of epochs by their turns and history.
-use Rattle.std.proofs.Common.{◌≡◌, ℕ, ◌+◌, ◌<◌, ◌≤◌, List, ◌∷◌, length, get_or, drop, refl, sym, ap, ◌∙◌, arith, Option, Some, None, slice_index, Result, Ok, Err}
+use Rattle.std.proofs.Common.{◌≡◌, ℕ, ◌+◌, ◌<◌, List, ◌∷◌, length, get_or, drop, refl, sym, ap, ◌∙◌, arith, Option, Some, None, slice_index, Result, Ok, Err}
 use Rattle.std.proofs.lemmas.List.{drop_more}
 use Rattle.cn_wiring.specs.declared.end.End.TheVariants.{Exit}
 use Rattle.cn_core.specs.declared.event.Event.{Event}
-use Rattle.cn_core.specs.declared.event.Event.TheVariants.{Enter as EnterEvent, Step as StepEvent}
+use Rattle.cn_core.specs.declared.event.Event.TheVariants.{Step as StepEvent}
 use Rattle.cn_core.specs.declared.position.Position.{Position}
 use Rattle.cn_core.specs.declared.position.Position.TheVariants.{On, Holds}
-use Rattle.cn_core.specs.declared.reply.Reply.{Reply}
 use Rattle.std.specs.Prelude.{IfOk}
 use Rattle.cn_core.specs.declared.reply.Moved.{Moved}
 use Rattle.cn_core.specs.declared.reply.StepFault.{StepFault}
-use Rattle.cn_core.specs.Calls.{AnswersByHistory, IsLedgerEvent, MovesLedger, stepped_reply}
+use Rattle.cn_core.specs.Calls.{IsLedgerEvent, MovesLedger, stepped_reply}
 use Rattle.cn_core.specs.State.{State, inside_in, name_at, position_in, start}
 use Rattle.cn_core.specs.Tight.{IsTightState, ListsHolders}
 use Rattle.cn_core.proofs.HistoryLemmas.{Agrees-start, inside-by_history}
 use Rattle.cn_epoch.specs.declared.answer.Answer.{Answer}
-use Rattle.cn_epoch.specs.declared.answer.Answer.TheVariants.{Replied, Turned, TurnRefused}
-use Rattle.cn_epoch.specs.declared.answer.TurnFault.TheVariants.{NotQuiet, Memory}
+use Rattle.cn_epoch.specs.declared.answer.Answer.TheVariants.{Turned, TurnRefused}
+use Rattle.cn_epoch.specs.declared.answer.TurnFault.TheVariants.{Memory}
 use Rattle.cn_epoch.specs.declared.command.Command.{Command}
-use Rattle.cn_epoch.specs.declared.command.Command.TheVariants.{Enter, Step, Turn}
+use Rattle.cn_epoch.specs.declared.command.Command.TheVariants.{Turn}
 use Rattle.cn_epoch.specs.declared.record.EpochRecord.{EpochRecord}
 use Rattle.cn_epoch.specs.Calls.{AnswersAfter, GoTo, GoesTo, RunAfter}
 use Rattle.cn_epoch.specs.Turns.{AgreesAfter, Epochs, IsRecordOf, IsTightRecord}
-
--- ---- an event of the epoch that stands open
-
-pub enters-after : (old new : Epochs) (client entry : ℕ) (reply : Reply) → AnswersByHistory old.core (EnterEvent client entry) reply new.core → new.number ≡ old.number
-    → AnswersAfter old (Enter client entry) (Replied reply) new
-enters-after old new client entry reply answers same turns history agrees =
-    let (may, after) = answers history agrees.core in
-    (may, record { number = same ∙ agrees.number; core = after })
-
-pub steps-after : (old new : Epochs) (client : ℕ) (reply : Reply) → AnswersByHistory old.core (StepEvent client) reply new.core → new.number ≡ old.number
-    → AnswersAfter old (Step client) (Replied reply) new
-steps-after old new client reply answers same turns history agrees =
-    let (may, after) = answers history agrees.core in
-    (may, record { number = same ∙ agrees.number; core = after })
 
 -- ---- a turn
 
@@ -85,9 +70,6 @@ turned-after old new r told quiet is turns history agrees = (
   (sym (inside-by_history old.core history agrees.core) ∙ quiet, told-record old r told turns history agrees),
   rw is (record { number = ap (λ (n : ℕ). n + 1) agrees.number; core = Agrees-start old.core.network }),
 )
-
-pub not_quiet-after : (old : Epochs) (s : ℕ) → 1 ≤ s → s ≡ inside_in old.core → AnswersAfter old Turn (TurnRefused (NotQuiet s)) old
-not_quiet-after old s some is turns history agrees = ((some, is ∙ inside-by_history old.core history agrees.core), agrees)
 
 pub memory-after : (old : Epochs) → inside_in old.core ≡ 0 → AnswersAfter old Turn (TurnRefused Memory) old
 memory-after old quiet turns history agrees = (sym (inside-by_history old.core history agrees.core) ∙ quiet, agrees)

@@ -6,6 +6,8 @@ use Rattle.cn_wiring.specs.declared.end.End.TheVariants.{Exit}
 use Rattle.cn_core.specs.declared.event.Event.{Event}
 use Rattle.cn_core.specs.declared.event.Event.TheVariants.{Enter as EnterEvent, Step as StepEvent}
 use Rattle.cn_core.specs.declared.position.Position.TheVariants.{Holds}
+use Rattle.cn_core.specs.declared.reply.EnterFault.TheVariants.{Memory as EnterMemory}
+use Rattle.cn_core.specs.declared.reply.Reply.TheVariants.{EnterRefused}
 use Rattle.cn_core.specs.History.{Agrees, MayAnswer, enters_of, grown, inside_of, position_after, steps_before}
 use Rattle.cn_core.specs.State.{State}
 use Rattle.cn_epoch.specs.declared.answer.Answer.{Answer}
@@ -41,6 +43,26 @@ pub record IsTightRecord (width : ℕ) (r : EpochRecord) : Type 0 where
   pub counts : (i : ℕ) → i < width → slice_index r.counts.items i ≡ step r.clients width i
   pub names : length r.holders.items ≡ r.clients
   pub distinct : (m n : ℕ) → m < n → n < r.clients → slice_index r.holders.items m ≢ slice_index r.holders.items n
+
+-- two records tell the same
+pub record IsSameRecord (r s : EpochRecord) : Type 0 where
+  pub number : r.number ≡ s.number
+  pub clients : r.clients ≡ s.clients
+  pub counts : r.counts.items ≡ s.counts.items
+  pub holders : r.holders.items ≡ s.holders.items
+
+-- two answers tell the same
+abbrev pub IsSameAnswer : Answer → Answer → Type 0
+IsSameAnswer (Replied reply) (Replied other) = reply ≡ other
+IsSameAnswer (Turned r) (Turned s) = IsSameRecord r s
+IsSameAnswer (TurnRefused fault) (TurnRefused other) = fault ≡ other
+IsSameAnswer answer other = ⊥
+
+-- an answer that is not want of memory
+abbrev pub HadMemory : Answer → Type 0
+HadMemory (Replied reply) = reply ≢ EnterRefused EnterMemory
+HadMemory (Turned r) = Unit {0}
+HadMemory (TurnRefused fault) = fault ≢ Memory
 
 -- the answers that a turn may have: its record where nobody is inside, or want of memory in place of that; otherwise how
 -- many are inside

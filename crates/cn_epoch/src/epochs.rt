@@ -4,7 +4,10 @@ ghost use Rattle.std.specs.Prelude.{◌≡◌, ℕ, ◌+◌, ◌<◌, ◌≤◌,
 ghost use Rattle.cn_spec.specs.declared.limits.TheConstants.{MOST_CLIENTS};
 ghost use Rattle.cn_core.specs.Calls.{entered_reply, stepped_reply};
 ghost use Rattle.cn_core.specs.History.{enters_of, inside_of};
+ghost use Rattle.cn_core.specs.Ledger.{IsSound};
 ghost use Rattle.cn_core.specs.State.{inside_in, start};
+ghost use Rattle.cn_core.specs.StateLedger.{ledger_of};
+ghost use Rattle.cn_core.specs.Tight.{IsBoundedState};
 ghost use Rattle.cn_epoch.specs.Calls.{AnswersAfter, GoTo, GoesTo, RepliesTo, RunAfter, TurnsTo, turned_answer};
 ghost use Rattle.cn_epoch.specs.Turns.{AgreesAfter};
 
@@ -85,6 +88,9 @@ impl<'a> Epochs<'a> {
         ensures value { result ≡ length self.now.core.clients }
         ensures few { result ≤ MOST_CLIENTS }
         ensures by_history { (turns : ℕ) (history : List Event) → AgreesAfter self.now turns history → result ≡ enters_of history }
+        ensures reached { (history : List Event) × AgreesAfter self.now self.now.number history }
+        ensures sound { (turns : ℕ) (history : List Event) → AgreesAfter self.now turns history → IsSound self.now.core.network.table (ledger_of self.now.core history) }
+        ensures bounded { IsBoundedState self.now.core }
     {
         self.core.entered()
     }

@@ -4,6 +4,7 @@
 mod answer;
 mod command;
 mod epochs;
+pub mod laws;
 mod record;
 
 pub use answer::{Answer, TurnFault};

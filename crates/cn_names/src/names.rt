@@ -85,7 +85,7 @@ impl Names {
     /// A client comes in with its token.
     ///
     /// # Errors
-    /// `Held` where the client has a standing, `Memory` where the map could not grow.
+    /// `Held` where the client has a standing, `Memory` where the map could not grow. Then nothing has changed.
     pub fn admit(&mut self, client: u64, token: Token) -> Result<(), NamesFault>
         ensures ok { OnOk result (self.new ≡ self.old ++ (client, Standing.Walking token) ∷ []) }
         ensures held { (result ≡ Err NamesFault.Held) ↔ IsSome (standing_in self.old client) }

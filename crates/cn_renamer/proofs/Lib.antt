@@ -1,3 +1,4 @@
 pub mod PlainCommands
 pub mod Readings
 pub mod Replies
+pub mod OneText

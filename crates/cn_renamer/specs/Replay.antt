@@ -5,9 +5,9 @@ use Rattle.cn_wiring.specs.Network.{Network}
 use Rattle.cn_core.specs.History.{enters_of, inside_of}
 use Rattle.cn_epoch.specs.declared.answer.Answer.{Answer}
 use Rattle.cn_epoch.specs.declared.command.Command.{Command}
-use Rattle.cn_epoch.specs.Turns.{MayAnswerEach, history_by, turns_by}
+use Rattle.cn_epoch.specs.Turns.{HadMemory, MayAnswerEach, history_by, turns_by}
 use Rattle.cn_report.specs.Records.{records_of}
-use Rattle.cn_report.specs.ReplayText.{IsTold, replay_text}
+use Rattle.cn_report.specs.ReplayText.{replay_text}
 use Rattle.cn_report.specs.Schedule.{IsSchedule, IsScheduleFault}
 use Rattle.cn_report.specs.declared.schedule_fault.ScheduleCause.{ScheduleCause}
 use Rattle.cn_report.specs.declared.schedule_fault.ScheduleCause.TheVariants as cause
@@ -21,7 +21,7 @@ use Rattle.cn_renamer.specs.declared.replaying.ReplayFault.TheVariants.{Schedule
 pub record IsReplayText (network : Network) (commands : List Command) (text : List ℕ) : Type 0 where
   pub answers : List Answer
   pub by_history : MayAnswerEach network.table 0 [] commands answers
-  pub told : All IsTold answers
+  pub memory : All HadMemory answers
   -- the end line tells the epochs that ended, and the enters of the open one and who is inside
   pub replayed : text ≡ replay_text network commands answers (turns_by 0 answers) (enters_of (history_by [] commands answers)) (inside_of network.table (history_by [] commands answers))
 

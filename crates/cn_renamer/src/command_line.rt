@@ -46,7 +46,7 @@ fn replay_command<'a>(alloc: Global) -> Result<Command<'a>, AllocError>
     ensures { IfOk result (λ command. app_of command ≡ replay_words) }
 {
     Command::new(alloc, "replay")
-        .about("Reads a schedule of enters and steps, and prints what each is answered")
+        .about("Reads a schedule of enters, steps and turns, and prints what each is answered")
         .arg(network_option(alloc))?
         .arg(width_option(alloc))
 }

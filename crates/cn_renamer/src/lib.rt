@@ -3,6 +3,7 @@
 
 mod building;
 mod command_line;
+pub mod laws;
 mod net;
 mod replaying;
 mod runtime;

@@ -2,7 +2,7 @@
 
 ghost use Rattle.std.specs.Prelude.{◌≡◌, ◌↔◌, IfErr, IfOk, IfSome, IsTrue};
 ghost use Rattle.std.specs.List.{All};
-ghost use Rattle.cn_report.specs.ReplayText.{IsTold};
+ghost use Rattle.cn_epoch.specs.Turns.{HadMemory};
 ghost use Rattle.cn_renamer.specs.Replay.{HasReplayed, IsMemoryApart, IsReplayText, IsUntouched};
 
 use crate::building::build;
@@ -96,8 +96,8 @@ impl From<EmitFault> for ReplayFault {
 }
 
 /// Whether an answer is anything but want of memory.
-fn is_told(answer: &Answer) -> bool
-    ensures { IsTrue result ↔ IsTold answer.now }
+fn had_memory(answer: &Answer) -> bool
+    ensures { IsTrue result ↔ HadMemory answer.now }
 {
     !matches!(
         answer,
@@ -107,10 +107,10 @@ fn is_told(answer: &Answer) -> bool
 }
 
 /// Whether no answer is want of memory.
-fn are_told(answers: &[Answer]) -> bool
-    ensures { IsTrue result ↔ All IsTold answers.now }
+fn all_had_memory(answers: &[Answer]) -> bool
+    ensures { IsTrue result ↔ All HadMemory answers.now }
 {
-    answers.iter().all(is_told)
+    answers.iter().all(had_memory)
 }
 
 /// The text of the replay of commands on a network that nobody has entered.
@@ -125,7 +125,7 @@ fn replayed(
 {
     let mut epochs = Epochs::new(alloc, network, state)?;
     let answers = epochs.run(commands)?;
-    if !are_told(&answers) {
+    if !all_had_memory(&answers) {
         return Err(ReplayFault::Memory);
     }
     let text = render_replay(

@@ -1,6 +1,6 @@
 //! Schedules: a header, and a command a record.
 
-ghost use Rattle.std.specs.Prelude.{◌≡◌, ◌≤◌, ◌⊎◌, ◌∷◌, ◌++◌, [], ℕ, List, IfErr, IfOk, IfSome, OnOk, MatchOption, MatchResult, None, Ok, Some, ok_or};
+ghost use Rattle.std.specs.Prelude.{◌≡◌, ◌≤◌, ◌⊎◌, ◌∷◌, ◌++◌, [], ℕ, List, IfErr, IfOk, IfSome, OnOk, MatchOption, MatchResult, None, Ok, Some};
 ghost use Rattle.csv.specs.Records.{fields_of};
 ghost use Rattle.cn_spec.specs.declared.limits.TheConstants.{MOST_RECORDS};
 ghost use Rattle.cn_report.specs.Command.{command_in};
@@ -25,7 +25,7 @@ fn is_header(row: &ByteRecord) -> bool
         && field(row, 2) == b"wire".as_slice()
 }
 
-// Takes the header.
+/// Takes the header.
 fn take_header<R: Read>(rows: &mut Reader<R>, row: &mut ByteRecord) -> Result<(), ScheduleCause>
     requires { IsPlain rows.old }
     ensures plain { OnOk result (IsPlain rows.new) }
@@ -41,7 +41,7 @@ fn take_header<R: Read>(rows: &mut Reader<R>, row: &mut ByteRecord) -> Result<()
     }
 }
 
-// Takes the command of record `at`, if there is one.
+/// Takes the command of record `at`, if there is one.
 fn take_command<R: Read>(
     rows: &mut Reader<R>,
     row: &mut ByteRecord,
@@ -67,7 +67,7 @@ fn take_command<R: Read>(
     Ok(Some(command))
 }
 
-// Takes the header and the commands.
+/// Takes the header and the commands.
 fn take_commands<R: Read>(
     alloc: Global,
     rows: &mut Reader<R>,

@@ -1,7 +1,8 @@
-//! The core by its single calls, on built networks.
+//! The core by its single calls and by runs of events, on the counting tree of width 4; and a core that is full.
 
-use cn_core::{Core, Event, Moved, Reply};
+use cn_core::{Core, EnterFault, Event, Moved, Reply};
 use cn_tree::tree;
+use std::alloc::{AllocError, Global};
 use std::hash::RandomState;
 use std::test::Fail;
 
@@ -81,43 +82,114 @@ const OVERTAKING: [(u64, Moved); 9] = [
     ),
 ];
 
+/// What a core replied, and how it stands after it.
+#[derive(Debug, Drop, PartialEq, Eq)]
+struct Outcome {
+    replies: Vec<Reply>,
+    entered: u64,
+    inside: u64,
+    /// The names of the clients 10, 20, 30 and 40.
+    names: [Option<u64>; 4],
+    holders: Vec<u64>,
+}
+
+/// How a core stands that nobody is inside, after these replies.
+fn outcome_of(core: &Core<'_>, replies: Vec<Reply>) -> Result<Outcome, Fail> {
+    if !core.is_quiet() {
+        return Err(Fail::from("somebody is inside"));
+    }
+    Ok(Outcome {
+        replies,
+        entered: core.entered(),
+        inside: core.inside(),
+        names: [core.name(10), core.name(20), core.name(30), core.name(40)],
+        holders: core.holders()?,
+    })
+}
+
+/// The clients enter one after another, and walk.
+fn events(alloc: Global) -> Result<Vec<Event>, AllocError> {
+    let mut events = Vec::new(alloc);
+    for client in [10, 20, 30] {
+        events.push(Event::Enter { client, entry: 0 })?;
+    }
+    for (client, _) in OVERTAKING {
+        events.push(Event::Step { client })?;
+    }
+    Ok(events)
+}
+
+fn tree_overtaking(alloc: Global) -> Result<Outcome, AllocError> {
+    let mut replies = Vec::new(alloc);
+    for _ in 0..3 {
+        replies.push(Reply::Entered)?;
+    }
+    for (_, moved) in OVERTAKING {
+        replies.push(Reply::Stepped(moved))?;
+    }
+    Ok(Outcome {
+        replies,
+        entered: 3,
+        inside: 0,
+        names: [Some(2), Some(1), Some(0), None],
+        holders: vec![in alloc; 30, 20, 10]?,
+    })
+}
+
+/// The reply to one event, by its call.
+fn replied_by_its_call(core: &mut Core<'_>, event: Event) -> Reply {
+    match event {
+        Event::Enter { client, entry } => match core.enter(client, entry) {
+            Ok(()) => Reply::Entered,
+            Err(fault) => Reply::EnterRefused(fault),
+        },
+        Event::Step { client } => match core.step(client) {
+            Ok(moved) => Reply::Stepped(moved),
+            Err(fault) => Reply::StepRefused(fault),
+        },
+    }
+}
+
+fn outcome_by_single_calls(rt: &HostRuntime, events: &[Event]) -> Result<Outcome, Fail> {
+    let network = tree(rt.alloc(), 4)?;
+    let mut core = Core::new(rt.alloc(), &network, RandomState::new(rt)?)?;
+    let mut replies = Vec::new(rt.alloc());
+    for event in events {
+        replies.push(replied_by_its_call(&mut core, *event))?;
+    }
+    outcome_of(&core, replies)
+}
+
+fn outcome_by_run(rt: &HostRuntime, events: &[Event]) -> Result<Outcome, Fail> {
+    let network = tree(rt.alloc(), 4)?;
+    let mut core = Core::new(rt.alloc(), &network, RandomState::new(rt)?)?;
+    let replies = core.run(events)?;
+    outcome_of(&core, replies)
+}
+
 #[test]
 fn tree_overtaking_by_single_calls(rt: HostRuntime) -> Result<(), Fail> {
-    let network = tree(rt.alloc(), 4)?;
-    let mut core = Core::new(rt.alloc(), &network, RandomState::new(&rt)?)?;
-    for client in [10, 20, 30] {
-        core.enter(client, 0)?;
-    }
-    for (client, moved) in OVERTAKING {
-        assert_eq!(rt; core.step(client)?, moved);
-    }
-    assert!(rt; core.is_quiet());
-    assert_eq!(rt; (core.entered(), core.inside()), (3, 0));
-    for (client, name) in [(10, Some(2)), (20, Some(1)), (30, Some(0)), (40, None)] {
-        assert_eq!(rt; core.name(client), name, "client {client}");
-    }
-    let holders = core.holders()?;
-    assert_eq!(rt; holders.as_slice(), [30, 20, 10].as_slice());
+    let outcome = outcome_by_single_calls(&rt, &events(rt.alloc())?)?;
+    assert_eq!(rt; outcome, tree_overtaking(rt.alloc())?);
     Ok(())
 }
 
 #[test]
 fn tree_overtaking_by_run(rt: HostRuntime) -> Result<(), Fail> {
-    let alloc = rt.alloc();
-    let network = tree(alloc, 4)?;
-    let mut core = Core::new(alloc, &network, RandomState::new(&rt)?)?;
-    let mut events = Vec::new(alloc);
-    let mut wanted = Vec::new(alloc);
-    for client in [10, 20, 30] {
-        events.push(Event::Enter { client, entry: 0 })?;
-        wanted.push(Reply::Entered)?;
+    let outcome = outcome_by_run(&rt, &events(rt.alloc())?)?;
+    assert_eq!(rt; outcome, tree_overtaking(rt.alloc())?);
+    Ok(())
+}
+
+#[test]
+fn core_at_its_limit(rt: HostRuntime) -> Result<(), Fail> {
+    let network = tree(rt.alloc(), 64)?;
+    let mut core = Core::new(rt.alloc(), &network, RandomState::new(&rt)?)?;
+    for client in 0..65_536 {
+        core.enter(client, 0)?;
     }
-    for (client, moved) in OVERTAKING {
-        events.push(Event::Step { client })?;
-        wanted.push(Reply::Stepped(moved))?;
-    }
-    let replies = core.run(&events)?;
-    assert_eq!(rt; replies.as_slice(), wanted.as_slice());
-    assert!(rt; core.is_quiet());
+    assert_eq!(rt; core.enter(65_536, 0), Err(EnterFault::EpochFull));
+    assert_eq!(rt; core.enter(65_536, 1), Err(EnterFault::NoSuchEntry));
+    assert_eq!(rt; core.enter(0, 0), Err(EnterFault::AlreadyIn));
     Ok(())
 }

@@ -1,30 +1,96 @@
-//! Epochs by their single calls and by runs of commands, on built networks; and a core that is full.
+//! Epochs by their single calls and by runs of commands, on the bitonic network of width 2.
 
 use cn_bitonic::bitonic;
-use cn_core::{Core, EnterFault, Moved, Reply, StepFault};
+use cn_core::{EnterFault, Moved, Reply, StepFault};
 use cn_epoch::{Answer, Command, EpochRecord, Epochs, TurnFault};
-use cn_spec::limits::MOST_CLIENTS;
-use cn_tree::tree;
-use std::alloc::Global;
+use std::alloc::{AllocError, Global};
 use std::hash::RandomState;
 use std::test::Fail;
 
-/// Client 7 passes the balancer of the bitonic network of width 2.
-const PASSED: Moved = Moved::On {
-    balancer: 0,
-    number: 0,
-    wire: 2,
-};
+/// What epochs answered, and how they stand after it.
+#[derive(Debug, Drop, PartialEq, Eq)]
+struct Outcome {
+    answers: Vec<Answer>,
+    number: u64,
+    entered: u64,
+    inside: u64,
+}
+
+/// The answer to one command, by its call. The rows have few turns.
+fn answered_by_its_call(epochs: &mut Epochs<'_>, command: Command) -> Result<Answer, &'static str> {
+    Ok(match command {
+        Command::Enter { client, entry } => match epochs.enter(client, entry) {
+            Ok(()) => Answer::Replied(Reply::Entered),
+            Err(fault) => Answer::Replied(Reply::EnterRefused(fault)),
+        },
+        Command::Step { client } => match epochs.step(client) {
+            Ok(moved) => Answer::Replied(Reply::Stepped(moved)),
+            Err(fault) => Answer::Replied(Reply::StepRefused(fault)),
+        },
+        Command::Turn if epochs.number() > 9 => return Err("too many turns"),
+        Command::Turn => match epochs.turn() {
+            Ok(ended) => Answer::Turned(ended),
+            Err(fault) => Answer::TurnRefused(fault),
+        },
+    })
+}
+
+/// What the commands are answered by a call for each.
+fn outcome_by_single_calls(rt: &HostRuntime, commands: &[Command]) -> Result<Outcome, Fail> {
+    let network = bitonic(rt.alloc(), 2)?;
+    let mut epochs = Epochs::new(rt.alloc(), &network, RandomState::new(rt)?)?;
+    let mut answers = Vec::new(rt.alloc());
+    for command in commands {
+        answers.push(answered_by_its_call(&mut epochs, *command)?)?;
+    }
+    Ok(Outcome {
+        answers,
+        number: epochs.number(),
+        entered: epochs.entered(),
+        inside: epochs.inside(),
+    })
+}
+
+/// What the commands are answered by one run.
+fn outcome_by_run(rt: &HostRuntime, commands: &[Command]) -> Result<Outcome, Fail> {
+    let network = bitonic(rt.alloc(), 2)?;
+    let mut epochs = Epochs::new(rt.alloc(), &network, RandomState::new(rt)?)?;
+    Ok(Outcome {
+        answers: epochs.run(commands)?,
+        number: epochs.number(),
+        entered: epochs.entered(),
+        inside: epochs.inside(),
+    })
+}
+
+fn enter(client: u64, entry: u64) -> Command {
+    Command::Enter { client, entry }
+}
+
+fn step(client: u64) -> Command {
+    Command::Step { client }
+}
+
+/// Client 7 passes the balancer.
+fn passed() -> Reply {
+    Reply::Stepped(Moved::On {
+        balancer: 0,
+        number: 0,
+        wire: 2,
+    })
+}
 
 /// Client 7 leaves with name 0.
-const LEFT: Moved = Moved::Out {
-    exit: 0,
-    visit: 0,
-    name: 0,
-};
+fn left() -> Reply {
+    Reply::Stepped(Moved::Out {
+        exit: 0,
+        visit: 0,
+        name: 0,
+    })
+}
 
 /// The record of an epoch in which client 7 was alone.
-fn alone(alloc: Global) -> Result<EpochRecord, Fail> {
+fn alone(alloc: Global) -> Result<EpochRecord, AllocError> {
     Ok(EpochRecord {
         number: 0,
         clients: 1,
@@ -33,92 +99,43 @@ fn alone(alloc: Global) -> Result<EpochRecord, Fail> {
     })
 }
 
+/// A turn while client 7 is inside, and one when it has left.
+fn turns() -> [Command; 5] {
+    [enter(7, 0), Command::Turn, step(7), step(7), Command::Turn]
+}
+
+fn turn_refused_then_done(alloc: Global) -> Result<Outcome, AllocError> {
+    let mut answers = Vec::new(alloc);
+    answers.push(Answer::Replied(Reply::Entered))?;
+    answers.push(Answer::TurnRefused(TurnFault::NotQuiet(1)))?;
+    answers.push(Answer::Replied(passed()))?;
+    answers.push(Answer::Replied(left()))?;
+    answers.push(Answer::Turned(alone(alloc)?))?;
+    Ok(Outcome {
+        answers,
+        number: 1,
+        entered: 0,
+        inside: 0,
+    })
+}
+
 #[test]
 fn turn_refused_then_done_by_single_calls(rt: HostRuntime) -> Result<(), Fail> {
-    let alloc = rt.alloc();
-    let network = bitonic(alloc, 2)?;
-    let mut epochs = Epochs::new(alloc, &network, RandomState::new(&rt)?)?;
-    epochs.enter(7, 0)?;
-    assert_eq!(rt; epochs.turn(), Err(TurnFault::NotQuiet(1)));
-    assert_eq!(rt; epochs.step(7)?, PASSED);
-    assert_eq!(rt; epochs.step(7)?, LEFT);
-    assert_eq!(rt;
-        (epochs.number(), epochs.entered(), epochs.inside()),
-        (0, 1, 0)
-    );
-    assert_eq!(rt; epochs.turn(), Ok(alone(alloc)?));
-    assert_eq!(rt;
-        (epochs.number(), epochs.entered(), epochs.inside()),
-        (1, 0, 0)
-    );
-    assert_eq!(rt; epochs.step(7), Err(StepFault::Stranger));
-    epochs.enter(7, 1)?;
-    assert_eq!(rt;
-        (epochs.number(), epochs.entered(), epochs.inside()),
-        (1, 1, 1)
-    );
+    let outcome = outcome_by_single_calls(&rt, &turns())?;
+    assert_eq!(rt; outcome, turn_refused_then_done(rt.alloc())?);
     Ok(())
 }
 
 #[test]
 fn turn_refused_then_done_by_run(rt: HostRuntime) -> Result<(), Fail> {
-    let alloc = rt.alloc();
-    let network = bitonic(alloc, 2)?;
-    let mut epochs = Epochs::new(alloc, &network, RandomState::new(&rt)?)?;
-    let answers = epochs.run(&[
-        Command::Enter {
-            client: 7,
-            entry: 0,
-        },
-        Command::Turn,
-        Command::Step { client: 7 },
-        Command::Step { client: 7 },
-        Command::Turn,
-    ])?;
-    let mut wanted = Vec::new(alloc);
-    wanted.push(Answer::Replied(Reply::Entered))?;
-    wanted.push(Answer::TurnRefused(TurnFault::NotQuiet(1)))?;
-    wanted.push(Answer::Replied(Reply::Stepped(PASSED)))?;
-    wanted.push(Answer::Replied(Reply::Stepped(LEFT)))?;
-    wanted.push(Answer::Turned(alone(alloc)?))?;
-    assert_eq!(rt; answers.as_slice(), wanted.as_slice());
-    assert_eq!(rt;
-        (epochs.number(), epochs.entered(), epochs.inside()),
-        (1, 0, 0)
-    );
+    let outcome = outcome_by_run(&rt, &turns())?;
+    assert_eq!(rt; outcome, turn_refused_then_done(rt.alloc())?);
     Ok(())
 }
 
-#[test]
-fn every_refusal_by_single_calls(rt: HostRuntime) -> Result<(), Fail> {
-    let alloc = rt.alloc();
-    let network = bitonic(alloc, 2)?;
-    let mut epochs = Epochs::new(alloc, &network, RandomState::new(&rt)?)?;
-    assert_eq!(rt; epochs.step(5), Err(StepFault::Stranger));
-    epochs.enter(7, 0)?;
-    assert_eq!(rt; epochs.enter(7, 1), Err(EnterFault::AlreadyIn));
-    assert_eq!(rt; epochs.enter(7, 2), Err(EnterFault::NoSuchEntry));
-    assert_eq!(rt; epochs.step(7)?, PASSED);
-    assert_eq!(rt; epochs.step(7)?, LEFT);
-    assert_eq!(rt; epochs.step(7), Err(StepFault::HasName(0)));
-    assert_eq!(rt; epochs.enter(7, 0), Err(EnterFault::AlreadyIn));
-    assert_eq!(rt; epochs.turn(), Ok(alone(alloc)?));
-    epochs.enter(7, 0)?;
-    assert_eq!(rt;
-        (epochs.number(), epochs.entered(), epochs.inside()),
-        (1, 1, 1)
-    );
-    Ok(())
-}
-
-#[test]
-fn every_refusal_by_run(rt: HostRuntime) -> Result<(), Fail> {
-    let alloc = rt.alloc();
-    let network = bitonic(alloc, 2)?;
-    let mut epochs = Epochs::new(alloc, &network, RandomState::new(&rt)?)?;
-    let enter = |client, entry| Command::Enter { client, entry };
-    let step = |client| Command::Step { client };
-    let answers = epochs.run(&[
+/// Each command that a core of two entries refuses, a turn, and the client again.
+fn refusals() -> [Command; 10] {
+    [
         step(5),
         enter(7, 0),
         enter(7, 1),
@@ -129,39 +146,43 @@ fn every_refusal_by_run(rt: HostRuntime) -> Result<(), Fail> {
         enter(7, 0),
         Command::Turn,
         enter(7, 0),
-    ])?;
-    let mut wanted = Vec::new(alloc);
+    ]
+}
+
+fn every_refusal(alloc: Global) -> Result<Outcome, AllocError> {
+    let mut answers = Vec::new(alloc);
     for reply in [
         Reply::StepRefused(StepFault::Stranger),
         Reply::Entered,
         Reply::EnterRefused(EnterFault::AlreadyIn),
         Reply::EnterRefused(EnterFault::NoSuchEntry),
-        Reply::Stepped(PASSED),
-        Reply::Stepped(LEFT),
+        passed(),
+        left(),
         Reply::StepRefused(StepFault::HasName(0)),
         Reply::EnterRefused(EnterFault::AlreadyIn),
     ] {
-        wanted.push(Answer::Replied(reply))?;
+        answers.push(Answer::Replied(reply))?;
     }
-    wanted.push(Answer::Turned(alone(alloc)?))?;
-    wanted.push(Answer::Replied(Reply::Entered))?;
-    assert_eq!(rt; answers.as_slice(), wanted.as_slice());
-    assert_eq!(rt;
-        (epochs.number(), epochs.entered(), epochs.inside()),
-        (1, 1, 1)
-    );
+    answers.push(Answer::Turned(alone(alloc)?))?;
+    answers.push(Answer::Replied(Reply::Entered))?;
+    Ok(Outcome {
+        answers,
+        number: 1,
+        entered: 1,
+        inside: 1,
+    })
+}
+
+#[test]
+fn every_refusal_by_single_calls(rt: HostRuntime) -> Result<(), Fail> {
+    let outcome = outcome_by_single_calls(&rt, &refusals())?;
+    assert_eq!(rt; outcome, every_refusal(rt.alloc())?);
     Ok(())
 }
 
 #[test]
-fn core_at_its_limit(rt: HostRuntime) -> Result<(), Fail> {
-    let network = tree(rt.alloc(), 64)?;
-    let mut core = Core::new(rt.alloc(), &network, RandomState::new(&rt)?)?;
-    for client in 0..MOST_CLIENTS {
-        core.enter(client, 0)?;
-    }
-    assert_eq!(rt; core.enter(MOST_CLIENTS, 0), Err(EnterFault::EpochFull));
-    assert_eq!(rt; core.enter(MOST_CLIENTS, 1), Err(EnterFault::NoSuchEntry));
-    assert_eq!(rt; core.enter(0, 0), Err(EnterFault::AlreadyIn));
+fn every_refusal_by_run(rt: HostRuntime) -> Result<(), Fail> {
+    let outcome = outcome_by_run(&rt, &refusals())?;
+    assert_eq!(rt; outcome, every_refusal(rt.alloc())?);
     Ok(())
 }

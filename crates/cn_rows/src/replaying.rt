@@ -154,41 +154,43 @@ fn refusal(rt: &HostRuntime, input: impl io::Read + Drop) -> Result<(ReplayFault
     Ok((fault, written.len()))
 }
 
+/// Schedules that are refused, each with its fault line.
+const REFUSED: [(&[u8], &str); 9] = [
+    (b"", "renamer: record 0: Header"),
+    (b"op,client,wire\nleave,7,0\n", "renamer: record 1: Op"),
+    (
+        b"op,client,wire\nturn,7,\n",
+        "renamer: record 1: ClientNumber",
+    ),
+    (
+        b"op,client,wire\nturn,,3\n",
+        "renamer: record 1: WireNumber",
+    ),
+    (
+        b"op,client,wire\nenter,,0\n",
+        "renamer: record 1: ClientNumber",
+    ),
+    (
+        b"op,client,wire\nenter,7,\n",
+        "renamer: record 1: WireNumber",
+    ),
+    (
+        b"op,client,wire\nstep,7,0\n",
+        "renamer: record 1: WireNumber",
+    ),
+    (
+        b"op,client,wire\nenter,7\n",
+        "renamer: record 1: FieldCount",
+    ),
+    (
+        b"op,client,wire\nenter,7,0\nstep,7,\nstep,+7,\n",
+        "renamer: record 3: ClientNumber",
+    ),
+];
+
 #[test]
 fn schedule_refusals(rt: HostRuntime) -> Result<(), Fail> {
-    let inputs: [(&[u8], &str); 9] = [
-        (b"", "renamer: record 0: Header"),
-        (b"op,client,wire\nleave,7,0\n", "renamer: record 1: Op"),
-        (
-            b"op,client,wire\nturn,7,\n",
-            "renamer: record 1: ClientNumber",
-        ),
-        (
-            b"op,client,wire\nturn,,3\n",
-            "renamer: record 1: WireNumber",
-        ),
-        (
-            b"op,client,wire\nenter,,0\n",
-            "renamer: record 1: ClientNumber",
-        ),
-        (
-            b"op,client,wire\nenter,7,\n",
-            "renamer: record 1: WireNumber",
-        ),
-        (
-            b"op,client,wire\nstep,7,0\n",
-            "renamer: record 1: WireNumber",
-        ),
-        (
-            b"op,client,wire\nenter,7\n",
-            "renamer: record 1: FieldCount",
-        ),
-        (
-            b"op,client,wire\nenter,7,0\nstep,7,\nstep,+7,\n",
-            "renamer: record 3: ClientNumber",
-        ),
-    ];
-    for (input, line) in inputs {
+    for (input, line) in REFUSED {
         let (fault, written) = refusal(&rt, input)?;
         assert_eq!(rt; fault.to_string(rt.alloc())?.as_str(), line);
         assert_eq!(rt; fault.status(), 1, "{line}");

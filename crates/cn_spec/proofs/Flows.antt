@@ -1,12 +1,10 @@
 -- A flow gives each wire a number. The flows of a part of a list of wires are the part of the flows, and no wire is lost.
-use Rattle.std.proofs.Common.{◌≡◌, ℕ, zero, suc, ◌+◌, ◌*◌, ◌/◌, ◌<◌, true, false, List, [], ◌∷◌, length, map, get_or, drop, refl, sym, ap, ◌∙◌, arith}
+use Rattle.std.proofs.Common.{◌≡◌, ℕ, zero, suc, ◌+◌, ◌*◌, ◌/◌, ◌<◌, true, false, List, [], ◌∷◌, length, map, get_or, refl, sym, ap, ◌∙◌, arith}
 use Rattle.std.proofs.lemmas.List.{length-map, get_or-map}
 use Rattle.std.proofs.lemmas.List.FromFn.{fill_by_all, get_or-map-range_with_len, length-map-range_with_len}
-use Rattle.cn_spec.specs.Step.{half}
 use Rattle.cn_spec.specs.Sums.{times}
-use Rattle.cn_spec.specs.Networks.{entries_at, evens, odds, interleave, layer, a_cochain, b_cochain}
+use Rattle.cn_spec.specs.Networks.{entries_at, evens, odds, interleave, a_cochain, b_cochain}
 use Rattle.cn_spec.proofs.Pairs.{firsts, seconds, evens_firsts, odds_seconds}
-use Rattle.cn_spec.proofs.Layers.{layer_more}
 use Rattle.cn_spec.proofs.Cochains.{in_turn, a_in_turn, b_in_turn}
 
 -- ---- flows
@@ -37,12 +35,6 @@ pub map_interleave : (f : ℕ → ℕ) (x y : List ℕ) → map f (interleave x 
 map_interleave f [] y = refl
 map_interleave f (a ∷ x) [] = refl
 map_interleave f (a ∷ x) (b ∷ y) = ap (λ r. f a ∷ f b ∷ r) (map_interleave f x y)
-
--- the next balancer of a layer over two lists of wires
-pub layer_map_more : (f : ℕ → ℕ) (i : ℕ) (x y : List ℕ) → i < length x → i < length y →
-    layer (drop i (map f x)) (drop i (map f y)) ≡ half (f (get_or x i 0) + f (get_or y i 0)) 0 ∷ half (f (get_or x i 0) + f (get_or y i 0)) 1 ∷ layer (drop (i + 1) (map f x)) (drop (i + 1) (map f y))
-layer_map_more f i x y h k =
-    rw (← get_or-map f x i 0 0 h, ← get_or-map f y i 0 0 k) (layer_more i (map f x) (map f y) (omega (arith, length-map x f)) (omega (arith, length-map y f)))
 
 -- ---- how often a wire stands in the parts
 

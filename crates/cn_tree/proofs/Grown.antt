@@ -5,6 +5,7 @@ use Rattle.cn_spec.specs.Networks.{IsRow, interleave, tree}
 use Rattle.cn_spec.specs.Step.{half}
 use Rattle.cn_spec.specs.Sums.{times}
 use Rattle.cn_spec.specs.declared.limits.TheConstants.{MOST_BALANCERS}
+use Rattle.cn_spec.proofs.Flows.{map_interleave}
 use Rattle.cn_spec.proofs.Interleave.{length_interleave}
 use Rattle.cn_spec.proofs.Rows.{power_below}
 use Rattle.cn_spec.proofs.Sums.{times-append}
@@ -20,11 +21,6 @@ times_interleave w [] [] e = refl
 times_interleave w [] (b ∷ y) e = absurd (omega arith)
 times_interleave w (a ∷ x) [] e = absurd (omega arith)
 times_interleave w (a ∷ x) (b ∷ y) e = omega (arith, times_interleave w x y (omega arith))
-
-map_interleave : (f : ℕ → ℕ) (x y : List ℕ) → map f (interleave x y) ≡ interleave (map f x) (map f y)
-map_interleave f [] y = refl
-map_interleave f (a ∷ x) [] = refl
-map_interleave f (a ∷ x) (b ∷ y) = ap (λ row. f a ∷ f b ∷ row) (map_interleave f x y)
 
 -- ---- sizes
 

@@ -1,8 +1,8 @@
 -- Parts of a network beside each other and one after the other.
-use Rattle.std.proofs.Common.{◌≡◌, ◌≢◌, ℕ, ◌+◌, inl, inr, List, [], ◌∷◌, ◌++◌, refl, sym, ◌∙◌, arith}
-use Rattle.std.proofs.lemmas.Bool.{cases_eq, cases_lt, eq-eqb, ne_eqb}
+use Rattle.std.proofs.Common.{◌≡◌, ℕ, ◌+◌, inl, inr, List, [], ◌++◌, refl, ◌∙◌, arith}
+use Rattle.std.proofs.lemmas.Bool.{cases_lt}
 use Rattle.cn_spec.specs.Sums.{times}
-use Rattle.cn_wiring.specs.Plan.{Plan, AllLoose, Builds, loose}
+use Rattle.cn_wiring.specs.Plan.{Plan, AllLoose, Builds}
 use Rattle.cn_spec.proofs.Sums.{times-append}
 use Rattle.cn_wiring.proofs.Join.{below_from_loose}
 
@@ -94,23 +94,3 @@ Builds-loose {a} {b} {xs} {ys} us there p w =
 pub Builds-loose_with : {a b : Plan} {xs ys : List ℕ} {d m : ℕ} (us : List ℕ) → AllLoose a (xs ++ us) → Builds a b xs ys d m → AllLoose b (ys ++ us)
 Builds-loose_with {a} {b} {xs} {ys} us there p w =
     let t = there w in let j = p.loosed w in omega (arith, times-append w xs us, times-append w ys us)
-
--- two different loose wires, and one
-pub AllLoose-two : (d : Plan) (u v : ℕ) → loose d u ≡ 1 → loose d v ≡ 1 → u ≢ v → AllLoose d (u ∷ v ∷ [])
-unfolding times
-AllLoose-two d u v p q n w =
-    elim (cases_eq u w) [
-      | inl e ↦ rw (← e, eq-eqb u u refl, ne_eqb v u (λ s. n (sym s)), p) (omega arith)
-      | inr m ↦ rw (ne_eqb u w m) (elim (cases_eq v w) [
-        | inl e ↦ rw (← e, eq-eqb v v refl, q) (omega arith)
-        | inr o ↦ rw (ne_eqb v w o) (omega arith)
-      ])
-    ]
-
-pub AllLoose-one : (d : Plan) (u : ℕ) → loose d u ≡ 1 → AllLoose d (u ∷ [])
-unfolding times
-AllLoose-one d u p w =
-    elim (cases_eq u w) [
-      | inl e ↦ rw (← e, eq-eqb u u refl, p) (omega arith)
-      | inr m ↦ rw (ne_eqb u w m) (omega arith)
-    ]

@@ -1,8 +1,8 @@
 //! What can be wrong with a table of wire ends.
 
-ghost use Rattle.std.specs.Prelude.{◌≡◌, ℕ, ◌+◌, ◌*◌, ◌<◌, ◌≤◌, ◌↔◌, ◌^◌, IfErr, IfOk, IsTrue, MatchOption, length, slice_index, vec_len};
+ghost use Rattle.std.specs.Prelude.{◌≡◌, ℕ, ◌+◌, ◌*◌, ◌<◌, ◌↔◌, ◌^◌, IfErr, IfOk, IsTrue, MatchOption, length, slice_index, vec_len};
 ghost use Rattle.cn_spec.specs.Sums.{total_where};
-ghost use Rattle.cn_wiring.specs.Faults.{EndsLeadOn, EndsStand, IsFault, IsFirst, IsWithin, LeadsOnAt, SizesFit, StandsAt};
+ghost use Rattle.cn_wiring.specs.Faults.{EndsStand, IsFault, IsFirst, IsWithin, LeadsOnAt, SizesFit, StandsAt};
 ghost use Rattle.cn_wiring.specs.Table.{IsWellFormed, Table, is_end};
 ghost use Rattle.cn_wiring.specs.declared.end.End.TheVariants.{Balancer, Exit};
 

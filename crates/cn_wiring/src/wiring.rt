@@ -1,7 +1,7 @@
 //! The table of wire ends of a network.
 
-ghost use Rattle.std.specs.Prelude.{◌≡◌, ℕ, ◌+◌, ◌*◌, ◌<◌, slice_get, Some, Err, IfErr, IfOk, length};
-ghost use Rattle.cn_wiring.specs.declared.end.End.TheVariants.{Balancer, Exit};
+ghost use Rattle.std.specs.Prelude.{◌≡◌, ℕ, ◌+◌, ◌*◌, ◌<◌, slice_get, Some, Err, IfErr, IfOk};
+ghost use Rattle.cn_wiring.specs.declared.end.End.TheVariants.{Exit};
 ghost use Rattle.cn_spec.specs.Sums.{Agree, sum_below};
 ghost use Rattle.cn_wiring.specs.Faults.{IsFault};
 ghost use Rattle.cn_wiring.specs.Table.{IsFullFlow, IsWellFormed, Stands, Table, end_of, sum_at};

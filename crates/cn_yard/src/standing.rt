@@ -1,6 +1,6 @@
 //! The tokens that stand in a yard, in the order in which they came to their wires.
 
-ghost use Rattle.std.specs.Prelude.{◌≡◌, ℕ, ◌+◌, ◌-◌, ◌<◌, ◌≤◌, ◌++◌, ◌==◌, nat_eq, length, position, count_by, vec_capacity, vec_len, Any, All, MatchOption};
+ghost use Rattle.std.specs.Prelude.{◌≡◌, ◌+◌, ◌-◌, ◌<◌, ◌≤◌, ◌++◌, ◌==◌, nat_eq, length, position, count_by, vec_capacity, vec_len, Any, All, MatchOption};
 ghost use Rattle.std.specs.List.{range_with_len};
 ghost use Rattle.cn_yard.specs.Lists.{first_of};
 ghost use Rattle.cn_yard.specs.InsideYard.{on_wire, place};

@@ -1,6 +1,6 @@
 //! The yard.
 
-ghost use Rattle.std.specs.Prelude.{◌≡◌, ◌≢◌, ℕ, ◌+◌, ◌-◌, ◌<◌, ◌≤◌, ◌↔◌, max, None, Some, length, IfOk, OnOk, OnErr, IsOk, IfSome, IsSome, IsTrue, []};
+ghost use Rattle.std.specs.Prelude.{◌≡◌, ℕ, ◌+◌, ◌<◌, ◌≤◌, ◌↔◌, max, None, Some, length, IfOk, OnOk, OnErr, IsOk, IfSome, IsSome, IsTrue, []};
 ghost use Rattle.cn_spec.specs.declared.limits.TheConstants.{MOST_TOKENS};
 ghost use Rattle.cn_yard.specs.Lists.{Admits, IsLowest, Moves, Releases, after, empty, first_of, on, standing, times_in, tokens_in};
 
@@ -13,8 +13,8 @@ use std::marker::Model;
 /// Per wire a list of tokens from first to last, each with its client, and a number of free records.
 ///
 /// Only [`Yard::new`], [`Yard::reserve`] and [`Yard::admit`] take memory. This yard keeps one list of its tokens in the
-/// order in which they came to their wires, so a move, a release, and a look at a wire or at a token take time in
-/// proportion to [`Yard::len`].
+/// order in which they came to their wires, so a move, a release, a look at a wire or at a token and the search for the
+/// lowest wire take time in proportion to [`Yard::len`].
 #[derive(Drop)]
 pub struct Yard {
     wires: u32,

@@ -1,4 +1,4 @@
-ghost use Rattle.std.specs.Prelude.{◌≡◌, IfOk};
+ghost use Rattle.std.specs.Prelude.{IfOk};
 ghost use Rattle.cn_wiring.specs.Network.{Counts};
 ghost use Rattle.cn_wiring.specs.Table.{HasDepth};
 

@@ -3,8 +3,8 @@ use Rattle.std.specs.List.{All}
 use Rattle.cn_wiring.specs.Network.{Network}
 use Rattle.cn_core.specs.declared.event.Event.{Event}
 use Rattle.cn_core.specs.History.{enters_of, inside_of}
-use Rattle.cn_epoch.specs.Turns.{history_by, turns_by}
-use Rattle.cn_report.specs.ReplayText.{IsTold, IsWhole}
+use Rattle.cn_epoch.specs.Turns.{HadMemory, history_by, turns_by}
+use Rattle.cn_report.specs.ReplayText.{IsWhole}
 use Rattle.cn_renamer.proofs.Replies.{fits_all, whole_all}
 use Rattle.cn_renamer.proofs.replaying.replayed.Goals as goal
 
@@ -32,10 +32,10 @@ returns-clause-text c =
     let entered : c.entered.result ≡ enters_of history = c.entered.ensures.by_history (turns_by 0 answers) history agrees in
     let inside : c.inside.result ≡ inside_of c.args.network.now.table history =
     c.inside.ensures.by_history (turns_by 0 answers) history agrees ∙ ap (λ (n : Network). inside_of n.table history) same in
-    let told : All IsTold answers = search rules in
+    let memory : All HadMemory answers = search rules in
     record {
       answers = answers;
       by_history = rw network at may;
-      told = told;
+      memory = memory;
       replayed = rw (c.deref-2.ensures.value, number, entered, inside) at c.in_ok-text.ensures;
     }

@@ -1,0 +1,89 @@
+-- No two clients hold one name: by any history, whether its events were accepted or not.
+use Rattle.std.proofs.Common.{◌≡◌, ℕ, ◌%◌, ◌/◌, ◌<◌, inl, inr, List, [], ◌∷◌, length, refl, ap, arith, sym, ◌∙◌, Option, Some, None}
+use Rattle.std.specs.Option.{option_map}
+use Rattle.std.proofs.lemmas.Bool.{cases_eq, cases_lt, eq-eqb, ne_eqb}
+use Rattle.std.proofs.lemmas.List.{get_or_past}
+use Rattle.cn_spec.specs.Step.{name_of}
+use Rattle.cn_spec.proofs.Names.{exit_of-name_of}
+use Rattle.cn_wiring.specs.declared.end.End.{End}
+use Rattle.cn_wiring.specs.declared.end.End.TheVariants.{Balancer, Exit}
+use Rattle.cn_wiring.specs.Network.{Network, IsNetwork}
+use Rattle.cn_wiring.specs.Table.{end_of}
+use Rattle.cn_core.specs.declared.event.Event.{Event}
+use Rattle.cn_core.specs.declared.event.Event.TheVariants.{Enter, Step}
+use Rattle.cn_core.specs.declared.position.Position.{Position}
+use Rattle.cn_core.specs.declared.position.Position.TheVariants.{On, Holds}
+use Rattle.cn_core.specs.History.{end_at, position_after, steps_before}
+use Rattle.cn_core.specs.State.{position_past}
+use Rattle.cn_core.proofs.StateLemmas.{stands-at}
+
+module _ (network : Network) (is : IsNetwork network) where
+  exit-below : (wire i : ℕ) → end_of network.table wire ≡ Exit i → i < network.table.width
+  exit-below wire i e = elim (cases_lt wire (length network.table.ends)) [
+    | inl within ↦ stands-at network is wire (Exit i) within e
+    | inr beyond ↦ absurd (let none = get_or_past network.table.ends wire (Balancer 0) (omega arith) in cc)
+  ]
+
+  -- a step that leads to a name leads past an exit, whose next visit it is
+  record Left (h : List Event) (p : Option Position) (name : ℕ) : Type 0 where
+    exit : ℕ
+    below : exit < network.table.width
+    from : end_at network.table p ≡ Some (Exit exit)
+    named : name ≡ name_of network.table.width exit (steps_before network.table h (Exit exit))
+
+  left : (h : List Event) (p : Option Position) (name : ℕ)
+      → option_map (λ end. position_past network.table end (steps_before network.table h end)) (end_at network.table p) ≡ Some (Holds name) → Left h p name
+  left h None name e = absurd (cc)
+  left h (Some (Holds other)) name e = absurd (cc)
+  left h (Some (On wire)) name e = by (end_of network.table wire) refl e
+    where
+      by : (end : End) → end_of network.table wire ≡ end → Some (position_past network.table end (steps_before network.table h end)) ≡ Some (Holds name) → Left h (Some (On wire)) name
+      by (Balancer b) ends past = absurd (cc)
+      by (Exit i) ends past = record { exit = i; below = exit-below wire i ends; from = ap Some ends; named = cc }
+
+  -- what a step does to the positions: it changes its client's alone
+  mine : (h : List Event) (b name : ℕ) → position_after network.table (Step b ∷ h) b ≡ Some (Holds name) → Left h (position_after network.table h b) name
+  mine h b name e = left h (position_after network.table h b) name (rw (eq-eqb b b refl) at e)
+
+  -- the visit of a name was made before
+  given : (h : List Event) (c name : ℕ) → position_after network.table h c ≡ Some (Holds name) → name / network.table.width < steps_before network.table h (Exit (name % network.table.width))
+  given [] c name e = absurd (cc)
+  given (Enter b entry ∷ h) c name e = elim (cases_eq c b) [
+    | inl same ↦ absurd (let z = eq-eqb c b same in cc)
+    | inr other ↦ given h c name (rw (ne_eqb c b other) at e)
+  ]
+  given (Step b ∷ h) c name e = elim (cases_eq c b) [
+    | inl same ↦
+        let l = mine h b name (rw same at e) in
+        let (exit, visit) = exit_of-name_of network.table.width l.exit (steps_before network.table h (Exit l.exit)) l.below in
+        grind (arith, l.from, l.named)
+    | inr other ↦ let before = given h c name (rw (ne_eqb c b other) at e) in omega arith
+  ]
+
+  -- who leaves now has a name that nobody holds
+  fresh : (h : List Event) (b c name : ℕ) → Left h (position_after network.table h b) name → position_after network.table h c ≡ Some (Holds name) → ⊥
+  fresh h b c name l held =
+      let (exit, visit) = exit_of-name_of network.table.width l.exit (steps_before network.table h (Exit l.exit)) l.below in
+      let before = given h c name held in
+      let now : name / network.table.width ≡ steps_before network.table h (Exit (name % network.table.width)) = rw (l.named, exit, visit) refl in
+      omega arith
+
+  pub one-holder : (h : List Event) (c d name : ℕ) → position_after network.table h c ≡ Some (Holds name) → position_after network.table h d ≡ Some (Holds name) → c ≡ d
+  one-holder [] c d name e f = absurd (cc)
+  one-holder (Enter b entry ∷ h) c d name e f = elim (cases_eq c b) [
+    | inl same ↦ absurd (let z = eq-eqb c b same in cc)
+    | inr other ↦ elim (cases_eq d b) [
+      | inl same ↦ absurd (let z = eq-eqb d b same in cc)
+      | inr another ↦ one-holder h c d name (rw (ne_eqb c b other) at e) (rw (ne_eqb d b another) at f)
+    ]
+  ]
+  one-holder (Step b ∷ h) c d name e f = elim (cases_eq c b) [
+    | inl same ↦ elim (cases_eq d b) [
+      | inl also ↦ same ∙ sym also
+      | inr another ↦ absurd (fresh h b d name (mine h b name (rw same at e)) (rw (ne_eqb d b another) at f))
+    ]
+    | inr other ↦ elim (cases_eq d b) [
+      | inl same ↦ absurd (fresh h b c name (mine h b name (rw same at f)) (rw (ne_eqb c b other) at e))
+      | inr another ↦ one-holder h c d name (rw (ne_eqb c b other) at e) (rw (ne_eqb d b another) at f)
+    ]
+  ]
