@@ -104,6 +104,19 @@ fn turns() -> [Command; 5] {
     [enter(7, 0), Command::Turn, step(7), step(7), Command::Turn]
 }
 
+/// The same, and then client 7 again, which is a stranger to the new epoch until it enters.
+fn turns_and_more() -> [Command; 7] {
+    [
+        enter(7, 0),
+        Command::Turn,
+        step(7),
+        step(7),
+        Command::Turn,
+        step(7),
+        enter(7, 1),
+    ]
+}
+
 fn turn_refused_then_done(alloc: Global) -> Result<Outcome, AllocError> {
     let mut answers = Vec::new(alloc);
     answers.push(Answer::Replied(Reply::Entered))?;
@@ -130,6 +143,28 @@ fn turn_refused_then_done_by_single_calls(rt: HostRuntime) -> Result<(), Fail> {
 fn turn_refused_then_done_by_run(rt: HostRuntime) -> Result<(), Fail> {
     let outcome = outcome_by_run(&rt, &turns())?;
     assert_eq!(rt; outcome, turn_refused_then_done(rt.alloc())?);
+    Ok(())
+}
+
+#[test]
+fn epochs_stand_by_the_calls_so_far(rt: HostRuntime) -> Result<(), Fail> {
+    for (calls, stand) in [(4, (0, 1, 0)), (5, (1, 0, 0)), (7, (1, 1, 1))] {
+        let commands = turns_and_more();
+        let commands = commands.get(..calls).ok_or("so many calls")?;
+        let outcome = outcome_by_single_calls(&rt, commands)?;
+        assert_eq!(rt; (outcome.number, outcome.entered, outcome.inside), stand);
+    }
+    Ok(())
+}
+
+#[test]
+fn a_client_comes_again_after_a_turn(rt: HostRuntime) -> Result<(), Fail> {
+    let outcome = outcome_by_single_calls(&rt, &turns_and_more())?;
+    let wanted = [
+        Answer::Replied(Reply::StepRefused(StepFault::Stranger)),
+        Answer::Replied(Reply::Entered),
+    ];
+    assert_eq!(rt; outcome.answers.get(5..), Some(wanted.as_slice()));
     Ok(())
 }
 
