@@ -4,8 +4,7 @@ use Rattle.std.proofs.lemmas.List.{drop-map, take-append-drop, take-map}
 use Rattle.std.proofs.Math.Nat.{pow-succ'}
 use Rattle.cn_spec.specs.Networks.{IsRow, bitonic}
 use Rattle.cn_spec.specs.declared.limits.TheConstants.{MOST_BALANCERS}
-use Rattle.cn_spec.proofs.Rows.{back_row, front_row, half_row}
-use Rattle.cn_spec.proofs.Sums.{times-append}
+use Rattle.cn_spec.proofs.CallerLemmas.{back_row, front_row, half_row, times-append}
 use Rattle.cn_wiring.specs.Plan.{Plan, AllLoose}
 use Rattle.cn_wiring.proofs.Builds.{Builds-beside, Builds-loose, Builds-same, Builds-sized, Builds-then}
 use Rattle.cn_wiring.proofs.Rows.{half_pow, same_level, shorter}

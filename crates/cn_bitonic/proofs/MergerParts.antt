@@ -6,9 +6,7 @@ use Rattle.std.proofs.Math.Nat.{pow-suc, pow-succ'}
 use Rattle.cn_spec.specs.Networks.{IsRow, evens, odds, layer, merge}
 use Rattle.cn_spec.specs.Sums.{times}
 use Rattle.cn_spec.specs.declared.limits.TheConstants.{MOST_BALANCERS}
-use Rattle.cn_spec.proofs.Flows.{map_evens, map_odds, times_evens_odds}
-use Rattle.cn_spec.proofs.Rows.{evens_row, odds_row}
-use Rattle.cn_spec.proofs.Sums.{times-append}
+use Rattle.cn_spec.proofs.CallerLemmas.{evens_row, map_evens, map_odds, odds_row, times-append, times_evens_odds}
 use Rattle.cn_wiring.specs.Plan.{Plan, AllLoose, Builds, IsFlow}
 use Rattle.cn_wiring.proofs.Builds.{Builds-beside, Builds-like, Builds-loose, Builds-sized, Builds-then}
 use Rattle.cn_wiring.proofs.Rows.{same_level, shorter}

@@ -4,17 +4,15 @@ use Rattle.std.proofs.lemmas.Bool.{cases_eq, cases_lt, eq-eqb, ne_eqb, lt-ltb, l
 use Rattle.std.proofs.lemmas.Nat.{mod_below}
 use Rattle.std.proofs.lemmas.List.FromFn.{sum_by-map-range_with_len_more, get_or-map-range_with_len, length-map-range_with_len}
 use Rattle.std.specs.List.{range_with_len, sum}
-use Rattle.cn_spec.specs.Step.{half, step, steps, name_of}
-use Rattle.cn_spec.proofs.Shares.{shares, get_or-steps}
-use Rattle.cn_spec.proofs.Names.{name-below, exit_of-name_of, name_of-exit_of}
+use Rattle.cn_spec.specs.Step.{half, share, shares, name_of}
+use Rattle.cn_spec.proofs.CallerLemmas.{exit_of-name_of, get_or-shares, half-mono, name-below, name_of-exit_of, row_is_shares, sum_below-same, total_where-agree, total_where-mono, total_where-zero}
 use Rattle.cn_wiring.specs.declared.end.End.{End}
 use Rattle.cn_wiring.specs.declared.end.End.TheVariants.{Balancer, Exit}
 use Rattle.cn_spec.specs.Sums.{when, sum_below, Agree, once_below}
 use Rattle.cn_wiring.specs.Table.{Table, is_end, sum_at, Stands, IsWellFormed, IsFullFlow}
 use Rattle.cn_wiring.specs.Network.{Counts}
-use Rattle.cn_spec.proofs.Sums.{sum_below-same, total_where-agree, total_where-mono, total_where-zero}
 use Rattle.cn_wiring.proofs.Flow.{older, full_flow-unique, full_flow-exists}
-use Rattle.cn_wiring.proofs.Conserve.{half-mono, full_flow-sum}
+use Rattle.cn_wiring.proofs.Conserve.{full_flow-sum}
 use Rattle.cn_core.specs.Ledger.{Ledger, put, IsSound, all_entered, IsQuiet, IsBounded, IsTight, times_given}
 
 pub put-entry : (t : Table) (l : Ledger) (u : ℕ) → u < t.entries → put t l u ≡ l.entered u
@@ -95,14 +93,14 @@ sum_row f (suc n) = rw (ap (λ (k : ℕ). sum (map f (range_with_len 0 k))) (suc
     suc_is n = omega arith
 
 -- each full flow brings each exit its share of the inputs
-pub exit-shares : (t : Table) → IsWellFormed t → Counts t → (f : ℕ → ℕ) → IsFullFlow t f → (i : ℕ) → i < t.width → sum_at t (Exit i) f ≡ step (sum_below t.entries f) t.width i
+pub exit-shares : (t : Table) → IsWellFormed t → Counts t → (f : ℕ → ℕ) → IsFullFlow t f → (i : ℕ) → i < t.width → sum_at t (Exit i) f ≡ share (sum_below t.entries f) t.width i
 exit-shares t w counts f flow i h =
     let row : List ℕ = map (λ j. sum_at t (Exit j) f) (range_with_len 0 t.width) in
     let at : get_or row i 0 ≡ sum_at t (Exit i) f = get_or-map-range_with_len (λ j. sum_at t (Exit j) f) 0 t.width i i 0 h (omega arith) in
     let long : length row ≡ t.width = length-map-range_with_len (λ j. sum_at t (Exit j) f) 0 t.width in
     let all : sum row ≡ sum_below t.entries f = sum_row (λ j. sum_at t (Exit j) f) t.width ∙ full_flow-sum t w f flow in
-    let is : row ≡ steps (sum_below t.entries f) t.width = shares row (counts f flow) ∙ ap (λ n. steps n (length row)) all ∙ ap (steps (sum_below t.entries f)) long in
-    sym at ∙ ap (λ (xs : List ℕ). get_or xs i 0) is ∙ get_or-steps (sum_below t.entries f) t.width i h
+    let is : row ≡ shares (sum_below t.entries f) t.width = row_is_shares row (counts f flow) ∙ ap (λ n. shares n (length row)) all ∙ ap (shares (sum_below t.entries f)) long in
+    sym at ∙ ap (λ (xs : List ℕ). get_or xs i 0) is ∙ get_or-shares (sum_below t.entries f) t.width i h
 
 once-given : (c v : ℕ) → 1 ≤ once_below c v → v < c
 once-given c v h = elim (cases_lt v c) [ inl l ↦ l | inr l ↦ absurd (let z = le-ltb v c l in omega (arith, ap {B = ℕ} (λ b. cond b 1 0) z)) ]
@@ -121,12 +119,12 @@ bounded t w counts l sound =
           rw e (visit i v h (let k = sound.once c i v name in omega arith) f flow inputs);
     }
   where
-    count : (i : ℕ) → i < t.width → (f : ℕ → ℕ) → IsFullFlow t f → Agree t.entries f l.entered → l.count (Exit i) ≤ step (all_entered t l) t.width i
+    count : (i : ℕ) → i < t.width → (f : ℕ → ℕ) → IsFullFlow t f → Agree t.entries f l.entered → l.count (Exit i) ≤ share (all_entered t l) t.width i
     count i h f flow inputs =
         let most = count-at_most t w l sound f flow inputs (Exit i) h in
         let same : sum_below t.entries f ≡ all_entered t l = sum_below-same t.entries f l.entered inputs in
-        let share : sum_at t (Exit i) f ≡ step (all_entered t l) t.width i = exit-shares t w counts f flow i h ∙ ap (λ n. step n t.width i) same in
-        rw share at most
+        let even : sum_at t (Exit i) f ≡ share (all_entered t l) t.width i = exit-shares t w counts f flow i h ∙ ap (λ n. share n t.width i) same in
+        rw even at most
 
     visit : (i v : ℕ) → i < t.width → 1 ≤ l.given (Exit i) v → (f : ℕ → ℕ) → IsFullFlow t f → Agree t.entries f l.entered → name_of t.width i v < all_entered t l
     visit i v h g f flow inputs =
@@ -149,8 +147,8 @@ tight t w counts l sound quiet =
       passes = λ f g inputs b h. quiet-same t w l sound quiet f g inputs (Balancer b) h;
     }
   where
-    count : (i : ℕ) → i < t.width → IsFullFlow t (put t l) → sum_below t.entries (put t l) ≡ all_entered t l → l.count (Exit i) ≡ step (all_entered t l) t.width i
-    count i h flow same = quiet-count t w l sound quiet (Exit i) h ∙ exit-shares t w counts (put t l) flow i h ∙ ap (λ n. step n t.width i) same
+    count : (i : ℕ) → i < t.width → IsFullFlow t (put t l) → sum_below t.entries (put t l) ≡ all_entered t l → l.count (Exit i) ≡ share (all_entered t l) t.width i
+    count i h flow same = quiet-count t w l sound quiet (Exit i) h ∙ exit-shares t w counts (put t l) flow i h ∙ ap (λ n. share n t.width i) same
 
     same-once : (c v m n : ℕ) → (v < c → n < m) → (n < m → v < c) → once_below c v ≡ once_below m n
     same-once c v m n to from =
@@ -167,7 +165,7 @@ tight t w counts l sound quiet =
         let is : name_of t.width (name % t.width) (name / t.width) ≡ name = name_of-exit_of t.width name in
         sound.numbered (Exit (name % t.width)) (name / t.width) h
         ∙ ap (λ n. once_below n (name / t.width)) (count (name % t.width) h flow same)
-        ∙ same-once (step (all_entered t l) t.width (name % t.width)) (name / t.width) (all_entered t l) name
+        ∙ same-once (share (all_entered t l) t.width (name % t.width)) (name / t.width) (all_entered t l) name
         (λ k. rw is at (below.0 k)) (λ k. below.1 (rw is k))
 
     holder : (name : ℕ) → name < all_entered t l → IsFullFlow t (put t l) → sum_below t.entries (put t l) ≡ all_entered t l

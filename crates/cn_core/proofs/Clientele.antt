@@ -6,7 +6,7 @@ use Rattle.std.proofs.lemmas.Bool.{cases_eq, eqb-true}
 use Rattle.std.proofs.lemmas.Bool.Decides.{nat_tests}
 use Rattle.std.proofs.lemmas.List.{map-append}
 use Rattle.std.proofs.lemmas.List.Sums.{sum_by-cons}
-use Rattle.cn_spec.proofs.Sums.{sum_below-zero}
+use Rattle.cn_spec.proofs.CallerLemmas.{sum_below-zero}
 use Rattle.cn_yard.specs.Lists.{empty, Admits, Moves, Releases, Yard, standing, tokens_in}
 use Rattle.cn_names.specs.declared.standing.Standing.{Standing}
 use Rattle.cn_names.specs.declared.standing.Standing.TheVariants.{Walking, Holds as Named}

@@ -2,7 +2,7 @@
 use Rattle.std.proofs.Common.{◌≡◌, ℕ, ◌-◌, ◌/◌, inl, inr, cond, sym, refl, ap, arith, ◌∙◌}
 use Rattle.std.proofs.lemmas.Bool.{cases_lt, lt-ltb, le-ltb}
 use Rattle.cn_spec.specs.Step.{name_of}
-use Rattle.cn_spec.proofs.Sums.{total_where-agree, total_where-zero, sum_below-zero}
+use Rattle.cn_spec.proofs.CallerLemmas.{sum_below-zero, total_where-agree, total_where-zero}
 use Rattle.cn_wiring.specs.declared.end.End.{End}
 use Rattle.cn_wiring.specs.declared.end.End.TheVariants.{Balancer, Exit}
 use Rattle.cn_wiring.specs.Table.{Table, is_end}

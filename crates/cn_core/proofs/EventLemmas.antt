@@ -7,24 +7,12 @@ use Rattle.cn_wiring.specs.declared.end.End.{End}
 use Rattle.cn_wiring.specs.declared.end.End.TheVariants.{Balancer, Exit}
 use Rattle.cn_spec.specs.Sums.{sum_below, when, total_where, once_below}
 use Rattle.cn_wiring.specs.Table.{Table, IsWellFormed, Stands, is_end, sum_at, end_of, output_wire}
-use Rattle.cn_spec.proofs.Sums.{sum_below-same, total_where-agree, total_where-zero}
+use Rattle.cn_spec.proofs.CallerLemmas.{once-next, sum_below-pick, sum_below-same, total_where-agree, total_where-shift, total_where-zero}
 use Rattle.cn_wiring.proofs.Flow.{older}
-use Rattle.cn_wiring.proofs.Conserve.{sum_below-pick}
 use Rattle.cn_core.specs.Ledger.{Ledger, IsSound, AddsUpTo, put}
 use Rattle.cn_core.specs.Events.{Enters, Goes, Passes, Leaves, one_at}
 
 -- ---- sums at an end, where the numbers change
-
--- two sums that are shifted alike
-pub total_where-shift : {A : Type 0} → (p : A → Bool) (xs : List A) (f a g b : ℕ → ℕ) → ((u : ℕ) → u < length xs → f u + a u ≡ g u + b u)
-    → total_where p xs f + total_where p xs a ≡ total_where p xs g + total_where p xs b
-unfolding total_where
-total_where-shift p [] f a g b h = refl
-total_where-shift p (x ∷ xs) f a g b h =
-    let rest = total_where-shift p xs (λ u. f (suc u)) (λ u. a (suc u)) (λ u. g (suc u)) (λ u. b (suc u)) (λ u k. h (suc u) (omega arith)) in
-    let first : when (p x) (f 0) + when (p x) (a 0) ≡ when (p x) (g 0) + when (p x) (b 0) =
-    elim (p x) as (λ q. when q (f 0) + when q (a 0) ≡ when q (g 0) + when q (b 0)) [ true ↦ h 0 (omega arith) | false ↦ refl ] in
-    omega arith
 
 -- one place counts where its member passes
 pub total_where-point : {A : Type 0} → (p : A → Bool) (xs : List A) (d : A) (w : ℕ) → w < length xs → total_where p xs (one_at w) ≡ when (p (get_or xs w d)) 1
@@ -137,12 +125,9 @@ count-from t old new c u end to ev other =
     ev.count other ∙ ap (λ (k : ℕ). old.count other + k)
     (ap (λ q. cond q 1 0) (is_end-sym end other) ∙ ap (λ e. cond (is_end other e) 1 0) (sym ev.ends) ∙ sym (total_where-point (is_end other) t.ends (Balancer 0) u ev.inside))
 
-once-next : (n k : ℕ) → once_below (n + 1) k ≡ once_below n k + cond (eqb n k) 1 0
-once-next n k = grind (arith, nat_tests)
-
 once-more : (here : Bool) (k n c : ℕ) → (here ≡ true → c ≡ n) → once_below (c + cond here 1 0) k ≡ once_below c k + cond (here && eqb n k) 1 0
 once-more false k n c h = ap (λ (m : ℕ). once_below m k) (add-zero c) ∙ sym (add-zero (once_below c k))
-once-more true k n c h = let e = h refl in rw e (once-next n k)
+once-more true k n c h = let e = h refl in let next : n + 1 ≡ suc n = omega arith in rw (e, next) (once-next n k)
 
 numbered-after : (t : Table) (old new : Ledger) (c u : ℕ) (end : End) (to : ℕ → ℕ) → Goes t old new c u end to → (other : End) (n : ℕ)
     → old.given other n ≡ once_below (old.count other) n → new.given other n ≡ once_below (new.count other) n

@@ -7,7 +7,7 @@ use Rattle.std.proofs.lemmas.List.Sums.{sum_by-cons}
 use Rattle.cn_spec.specs.Step.{name_of}
 use Rattle.cn_spec.specs.Sums.{when, once_below}
 use Rattle.cn_spec.specs.declared.limits.TheConstants.{MOST_CLIENTS}
-use Rattle.cn_spec.proofs.Names.{exit_of-name_of}
+use Rattle.cn_spec.proofs.CallerLemmas.{exit_of-name_of}
 use Rattle.cn_wiring.specs.declared.end.End.{End}
 use Rattle.cn_wiring.specs.declared.end.End.TheVariants.{Balancer, Exit}
 use Rattle.cn_wiring.specs.Table.{end_of, is_end, Stands}

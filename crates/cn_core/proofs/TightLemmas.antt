@@ -5,11 +5,9 @@ use Rattle.std.specs.Map.{values_of}
 use Rattle.std.proofs.lemmas.Bool.{eq-eqb, lt-ltb}
 use Rattle.std.proofs.lemmas.Nat.{mod_below}
 use Rattle.std.proofs.lemmas.List.Sums.{sum_by-cons}
-use Rattle.cn_spec.specs.Step.{step, name_of}
+use Rattle.cn_spec.specs.Step.{share, name_of}
 use Rattle.cn_spec.specs.Sums.{once_below, times}
-use Rattle.cn_spec.proofs.EachBelow.{each_below, times-cons}
-use Rattle.cn_spec.proofs.Sums.{times-nil}
-use Rattle.cn_spec.proofs.Names.{name_of-exit_of}
+use Rattle.cn_spec.proofs.CallerLemmas.{each_below, name_of-exit_of, times-cons, times-nil}
 use Rattle.cn_core.specs.declared.position.Position.{Position}
 use Rattle.cn_core.specs.declared.position.Position.TheVariants.{On, Holds}
 use Rattle.cn_core.specs.State.{State, IsState, position_in, name_at, name_in, times_in, is_inside, is_named, is_past, inside_in}
@@ -43,7 +41,7 @@ bounded-state s is =
     let w : ℕ = s.network.table.width in
     record {
       passes = b.passes;
-      counts = λ i within. subst (λ n. slice_index s.visits i ≤ step n w i) is.state.all (b.counts i within);
+      counts = λ i within. subst (λ n. slice_index s.visits i ≤ share n w i) is.state.all (b.counts i within);
       below = λ client name e. subst (λ n. name < n) is.state.all (b.names client (name % w) (name / w) name (granted-name s is.state client name e));
       distinct = λ client other name e f.
           (names-differ s.network.table (ledger_of s h) sound client other (name % w) (name % w) (name / w) (name / w) name name
@@ -91,7 +89,7 @@ tight-state s is none =
     let w : ℕ = s.network.table.width in
     let (least, most) = is.state.network.formed.width in
     record {
-      counts = λ i within. subst (λ n. slice_index s.visits i ≡ step n w i) is.state.all (t.counts i within);
+      counts = λ i within. subst (λ n. slice_index s.visits i ≡ share n w i) is.state.all (t.counts i within);
       everyone = omega (arith, length-grants_in s.clients, inside_or_named s.clients);
       tight = record {
         clients = λ q. omega (arith, clients-grants_in q s.clients, is.state.once q);

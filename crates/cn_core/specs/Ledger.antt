@@ -1,6 +1,6 @@
 -- What has come in, gone by, left and been given at some moment.
 use Rattle.std.specs.Prelude.{◌≡◌, ◌≢◌, ℕ, ◌+◌, ◌-◌, ◌/◌, ◌%◌, ◌<◌, ◌≤◌, ◌==◌, cond, nat_lt, length}
-use Rattle.cn_spec.specs.Step.{half, step, name_of}
+use Rattle.cn_spec.specs.Step.{half, share, name_of}
 use Rattle.cn_spec.specs.Sums.{when, sum_below, Agree, once_below}
 use Rattle.cn_wiring.specs.declared.end.End.{End}
 use Rattle.cn_wiring.specs.declared.end.End.TheVariants.{Balancer, Exit}
@@ -58,7 +58,7 @@ pub record IsBounded (t : Table) (l : Ledger) : Type 0 where
   -- no balancer has passed more than the full flow of what entered brings there
   pub passes : (f : ℕ → ℕ) → IsFullFlow t f → Agree t.entries f l.entered → (b : ℕ) → b < t.balancers → l.count (Balancer b) ≤ sum_at t (Balancer b) f
   -- no exit's count is more than its share of what entered
-  pub counts : (i : ℕ) → i < t.width → l.count (Exit i) ≤ step (all_entered t l) t.width i
+  pub counts : (i : ℕ) → i < t.width → l.count (Exit i) ≤ share (all_entered t l) t.width i
   -- the name of each visit that is given is below the number that entered
   pub visits : (i v : ℕ) → i < t.width → 1 ≤ l.given (Exit i) v → name_of t.width i v < all_entered t l
   -- so is each name that is granted
@@ -71,7 +71,7 @@ times_given t l name = l.given (Exit (name % t.width)) (name / t.width)
 -- the counts and the names are exactly those of what entered
 pub record IsTight (t : Table) (l : Ledger) : Type 0 where
   -- each exit's count is its share of what entered
-  pub counts : (i : ℕ) → i < t.width → l.count (Exit i) ≡ step (all_entered t l) t.width i
+  pub counts : (i : ℕ) → i < t.width → l.count (Exit i) ≡ share (all_entered t l) t.width i
   -- the names given are the numbers below what entered, each once
   pub names : (name : ℕ) → times_given t l name ≡ once_below (all_entered t l) name
   -- each of these names is granted to one client, once, and to no other

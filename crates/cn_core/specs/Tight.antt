@@ -1,6 +1,6 @@
 -- An epoch's grants.
 use Rattle.std.specs.Prelude.{ℕ, ◌≡◌, ◌<◌, ◌≤◌, nat_eq, List, [], ◌∷◌, length, map, count_by, Some, slice_index}
-use Rattle.cn_spec.specs.Step.{step, IsEachBelow}
+use Rattle.cn_spec.specs.Step.{share, IsEachBelow}
 use Rattle.cn_spec.specs.Sums.{Agree}
 use Rattle.cn_wiring.specs.declared.end.End.TheVariants.{Balancer}
 use Rattle.cn_wiring.specs.Table.{IsFullFlow, sum_at}
@@ -22,7 +22,7 @@ pub record IsTightEpoch (k : ℕ) (grants : List (ℕ × ℕ)) : Type 0 where
 -- what a state has given out when nobody is inside
 pub record IsTightState (s : State) : Type 0 where
   -- each exit has let out its share of the clients
-  pub counts : (i : ℕ) → i < s.network.table.width → slice_index s.visits i ≡ step (length s.clients) s.network.table.width i
+  pub counts : (i : ℕ) → i < s.network.table.width → slice_index s.visits i ≡ share (length s.clients) s.network.table.width i
   -- each client has a name, and the names are those below the number of clients
   pub everyone : length (grants_in s.clients) ≡ length s.clients
   pub tight : IsTightEpoch (length s.clients) (grants_in s.clients)
@@ -33,7 +33,7 @@ pub record IsBoundedState (s : State) : Type 0 where
   pub passes : (f : ℕ → ℕ) → IsFullFlow s.network.table f → Agree s.network.table.entries f (λ entry. slice_index s.entered entry)
       → (b : ℕ) → b < s.network.table.balancers → slice_index s.passes b ≤ sum_at s.network.table (Balancer b) f
   -- no exit has let out more than its share of the clients
-  pub counts : (i : ℕ) → i < s.network.table.width → slice_index s.visits i ≤ step (length s.clients) s.network.table.width i
+  pub counts : (i : ℕ) → i < s.network.table.width → slice_index s.visits i ≤ share (length s.clients) s.network.table.width i
   -- each name is below the number of clients, and no two clients have one name
   pub below : (client name : ℕ) → name_in s client ≡ Some name → name < length s.clients
   pub distinct : (client other name : ℕ) → name_in s client ≡ Some name → name_in s other ≡ Some name → client ≡ other

@@ -2,7 +2,7 @@
 
 ghost use Rattle.std.specs.Prelude.{◌≡◌, ℕ, ◌<◌, ◌≤◌, ◌↔◌, List, [], Some, length, slice_index, IfOk, OnOk, OnErr, IfSome, IsTrue};
 ghost use Rattle.cn_spec.specs.declared.limits.TheConstants.{MOST_CLIENTS};
-ghost use Rattle.cn_spec.specs.Step.{step as share};
+ghost use Rattle.cn_spec.specs.Step.{share};
 ghost use Rattle.cn_spec.specs.Sums.{Agree, sum_below};
 ghost use Rattle.cn_wiring.specs.Table.{IsFullFlow, sum_at};
 ghost use Rattle.cn_wiring.specs.declared.end.End.TheVariants.{Balancer};

@@ -1,6 +1,6 @@
 -- The answers of epochs, by the number of turns done and the history since the last of them, the newest event first.
 use Rattle.std.specs.Prelude.{◌≡◌, ◌≢◌, ℕ, ◌+◌, ◌<◌, ◌≤◌, List, [], ◌∷◌, Some, length, slice_index}
-use Rattle.cn_spec.specs.Step.{step}
+use Rattle.cn_spec.specs.Step.{share}
 use Rattle.cn_wiring.specs.Table.{Table}
 use Rattle.cn_wiring.specs.declared.end.End.TheVariants.{Exit}
 use Rattle.cn_core.specs.declared.event.Event.{Event}
@@ -40,7 +40,7 @@ pub record IsRecordOf (table : Table) (turns : ℕ) (history : List Event) (r : 
 -- its own
 pub record IsTightRecord (width : ℕ) (r : EpochRecord) : Type 0 where
   pub exits : length r.counts.items ≡ width
-  pub counts : (i : ℕ) → i < width → slice_index r.counts.items i ≡ step r.clients width i
+  pub counts : (i : ℕ) → i < width → slice_index r.counts.items i ≡ share r.clients width i
   pub names : length r.holders.items ≡ r.clients
   pub distinct : (m n : ℕ) → m < n → n < r.clients → slice_index r.holders.items m ≢ slice_index r.holders.items n
 

@@ -1,7 +1,7 @@
 //! The shares of the exits, and the step property.
 
 ghost use Rattle.std.specs.Prelude.{◌≡◌, ℕ, ◌<◌, ◌≤◌, ◌↔◌, IsTrue, length, slice_index};
-ghost use Rattle.cn_spec.specs.Step.{IsStep, step};
+ghost use Rattle.cn_spec.specs.Step.{IsStep, share};
 
 use cn_spec::limits::{MOST_ARRIVALS, MOST_ENDS};
 
@@ -14,7 +14,7 @@ pub fn expected(width: u32, clients: u64, exit: u32) -> u64
     requires width { width ≤ MOST_ENDS }
     requires exit { exit < width }
     requires clients { clients ≤ MOST_ARRIVALS }
-    ensures { result ≡ step clients width exit }
+    ensures { result ≡ share clients width exit }
 {
     let width = u64::from(width);
     (clients + width - 1 - u64::from(exit)) / width

@@ -6,9 +6,7 @@ use Rattle.std.proofs.Math.Nat.{pow-suc, pow-succ'}
 use Rattle.cn_spec.specs.Networks.{IsRow, a_cochain, b_cochain, block, layer}
 use Rattle.cn_spec.specs.Sums.{times}
 use Rattle.cn_spec.specs.declared.limits.TheConstants.{MOST_BALANCERS}
-use Rattle.cn_spec.proofs.Cochains.{a_row, b_row}
-use Rattle.cn_spec.proofs.Flows.{map_a_cochain, map_b_cochain, times_cochains}
-use Rattle.cn_spec.proofs.Sums.{times-append}
+use Rattle.cn_spec.proofs.CallerLemmas.{a_row, b_row, map_a_cochain, map_b_cochain, times-append, times_cochains}
 use Rattle.cn_wiring.specs.Plan.{Plan, AllLoose, Builds, IsFlow}
 use Rattle.cn_wiring.proofs.Builds.{Builds-beside, Builds-like, Builds-loose, Builds-sized, Builds-then}
 use Rattle.cn_wiring.proofs.Rows.{half_pow, same_level, shorter}

@@ -1,4 +1,6 @@
 pub mod Sums
+pub mod Times
+pub mod Halves
 pub mod Shares
 pub mod Names
 pub mod EachBelow
@@ -14,3 +16,4 @@ pub mod Chains
 pub mod Blocks
 pub mod Periodic
 pub mod Flows
+pub mod CallerLemmas

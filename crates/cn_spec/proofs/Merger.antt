@@ -1,12 +1,12 @@
 -- Merger: of two rows with the step property it makes the tree's row of their sum.
 use Rattle.std.proofs.Common.{◌≡◌, ℕ, zero, suc, ◌+◌, ◌-◌, ◌≤◌, ◌<◌, ◌^◌, ◌⊎◌, List, [], ◌∷◌, refl, sym, ap, ap₂, ◌∙◌, inl, inr, subst, arith}
 use Rattle.std.specs.List.{sum}
-use Rattle.cn_spec.specs.Step.{half, steps, IsStep}
+use Rattle.cn_spec.specs.Step.{half, shares, IsStep}
 use Rattle.cn_spec.specs.Networks.{IsRow, evens, odds, interleave, layer, merge, tree}
 use Rattle.cn_spec.proofs.Pairs.{firsts, seconds, evens_firsts, odds_seconds, firsts_interleave, seconds_interleave}
 use Rattle.cn_spec.proofs.Layers.{sum_layer}
 use Rattle.cn_spec.proofs.Rows.{evens_row, odds_row, layer_row, sum_evens_odds}
-use Rattle.cn_spec.proofs.Tree.{tree_steps, tree_lengths, tree_is_step, step_tree}
+use Rattle.cn_spec.proofs.Tree.{tree_shares, tree_lengths, tree_is_step, step_tree}
 
 -- ---- the tree's rows taken apart
 
@@ -99,8 +99,8 @@ merge-step_tree level x y e f s t = ap₂ (merge level) (step_tree level x e s) 
 pub merge_is_step : (level : ℕ) (x y : List ℕ) → IsRow level x → IsRow level y → IsStep x → IsStep y → IsStep (merge level x y)
 merge_is_step level x y e f s t = subst IsStep (sym (merge-step_tree level x y e f s t)) (tree_is_step (suc level) (sum x + sum y))
 
-pub merge_steps : (level : ℕ) (x y : List ℕ) → IsRow level x → IsRow level y → IsStep x → IsStep y → merge level x y ≡ steps (sum x + sum y) (2 ^ suc level)
-merge_steps level x y e f s t = merge-step_tree level x y e f s t ∙ tree_steps (suc level) (sum x + sum y)
+pub merge_shares : (level : ℕ) (x y : List ℕ) → IsRow level x → IsRow level y → IsStep x → IsStep y → merge level x y ≡ shares (sum x + sum y) (2 ^ suc level)
+merge_shares level x y e f s t = merge-step_tree level x y e f s t ∙ tree_shares (suc level) (sum x + sum y)
 
 -- ---- length and sum
 

@@ -6,21 +6,21 @@ use Rattle.std.proofs.lemmas.List.FromFn.{map-range_with_len_more}
 use Rattle.std.proofs.lemmas.List.Sorted.{IsPermutation-refl, IsPermutation-trans, IsPermutation-append_left, IsPermutation-append_right, IsPermutation-append_comm}
 use Rattle.std.specs.List.{range_with_len, flat_map}
 use Rattle.std.specs.List.Sorted.{IsPermutation}
-use Rattle.cn_spec.specs.Step.{step, name_of, names_at, names, IsEachBelow}
-use Rattle.cn_spec.proofs.Shares.{step_is}
+use Rattle.cn_spec.specs.Step.{share, name_of, names_at, names, IsEachBelow}
+use Rattle.cn_spec.proofs.Shares.{share_is}
 
 -- a name is below m where its visit is below the share of its exit
-pub name-below : (m w i v : ℕ) → i < w → (v < step m w i) ↔ (name_of w i v < m)
+pub name-below : (m w i v : ℕ) → i < w → (v < share m w i) ↔ (name_of w i v < m)
 name-below m w i v h = (λ l. to l, λ l. from l)
   where
     pos : 0 < w
     pos = omega arith
 
-    to : v < step m w i → i + w * v < m
+    to : v < share m w i → i + w * v < m
     to l = let k : (v + 1) * w ≤ m + w - 1 - i = (le-div_iff_mul-le pos).0 (omega arith) in omega arith
 
-    from : i + w * v < m → v < step m w i
-    from l = let k : v + 1 ≤ step m w i = (le-div_iff_mul-le pos).1 (omega arith) in omega arith
+    from : i + w * v < m → v < share m w i
+    from l = let k : v + 1 ≤ share m w i = (le-div_iff_mul-le pos).1 (omega arith) in omega arith
 
 -- exit and visit are the remainder and the quotient of the name
 pub exit_of-name_of : (w i v : ℕ) → i < w → (name_of w i v % w ≡ i) × (name_of w i v / w ≡ v)
@@ -38,13 +38,13 @@ range_more a zero = ap (λ k. k ∷ []) (omega arith)
 range_more a (suc n) = ap (λ r. a ∷ r) (range_more (a + 1) n ∙ ap (λ k. range_with_len (a + 1) n ++ k ∷ []) (omega arith))
 
 -- the share of the exit m mod w grows by one, and no other
-step_next : (m w i : ℕ) → i < w → i ≡ m % w → (step m w i ≡ m / w) × (step (suc m) w i ≡ m / w + 1)
-step_next m w i h e =
+share_next : (m w i : ℕ) → i < w → i ≡ m % w → (share m w i ≡ m / w) × (share (suc m) w i ≡ m / w + 1)
+share_next m w i h e =
     let k : m / w * w + m % w ≡ m = div-add-mod' m w in
-    (step_is m w i (m / w) h (omega arith) (omega arith), step_is (suc m) w i (m / w + 1) h (omega arith) (omega arith))
+    (share_is m w i (m / w) h (omega arith) (omega arith), share_is (suc m) w i (m / w + 1) h (omega arith) (omega arith))
 
-step_stays : (m w i : ℕ) → i < w → i ≢ m % w → step (suc m) w i ≡ step m w i
-step_stays m w i h e = elim (below_or_above i (m % w) e) [ inl l ↦ low l | inr l ↦ high l ]
+share_stays : (m w i : ℕ) → i < w → i ≢ m % w → share (suc m) w i ≡ share m w i
+share_stays m w i h e = elim (below_or_above i (m % w) e) [ inl l ↦ low l | inr l ↦ high l ]
   where
     below_or_above : (a b : ℕ) → a ≢ b → (a < b) ⊎ (b < a)
     below_or_above a b n = grind arith
@@ -55,22 +55,22 @@ step_stays m w i h e = elim (below_or_above i (m % w) e) [ inl l ↦ low l | inr
     r : m % w < w
     r = mod_below m w (omega arith)
 
-    low : i < m % w → step (suc m) w i ≡ step m w i
-    low l = step_is (suc m) w i (m / w + 1) h (omega arith) (omega arith) ∙ sym (step_is m w i (m / w + 1) h (omega arith) (omega arith))
+    low : i < m % w → share (suc m) w i ≡ share m w i
+    low l = share_is (suc m) w i (m / w + 1) h (omega arith) (omega arith) ∙ sym (share_is m w i (m / w + 1) h (omega arith) (omega arith))
 
-    high : m % w < i → step (suc m) w i ≡ step m w i
-    high l = step_is (suc m) w i (m / w) h (omega arith) (omega arith) ∙ sym (step_is m w i (m / w) h (omega arith) (omega arith))
+    high : m % w < i → share (suc m) w i ≡ share m w i
+    high l = share_is (suc m) w i (m / w) h (omega arith) (omega arith) ∙ sym (share_is m w i (m / w) h (omega arith) (omega arith))
 
 names_next : (m w i : ℕ) → i < w → i ≡ m % w → names_at (suc m) w i ≡ names_at m w i ++ m ∷ []
 names_next m w i h e =
-    let s : (step m w i ≡ m / w) × (step (suc m) w i ≡ m / w + 1) = step_next m w i h e in
+    let s : (share m w i ≡ m / w) × (share (suc m) w i ≡ m / w + 1) = share_next m w i h e in
     let n : name_of w i (m / w) ≡ m = ap (λ j. name_of w j (m / w)) e ∙ name_of-exit_of w m in
     ap (λ c. map (name_of w i) (range_with_len 0 c)) s.1
     ∙ map-range_with_len_more (name_of w i) 0 (m / w) (m / w) (omega arith)
     ∙ ap₂ (λ c j. map (name_of w i) (range_with_len 0 c) ++ j ∷ []) (sym s.0) n
 
 names_stay : (m w i : ℕ) → i < w → i ≢ m % w → names_at (suc m) w i ≡ names_at m w i
-names_stay m w i h e = ap (λ c. map (name_of w i) (range_with_len 0 c)) (step_stays m w i h e)
+names_stay m w i h e = ap (λ c. map (name_of w i) (range_with_len 0 c)) (share_stays m w i h e)
 
 -- f and g agree but at k, where g has one more
 same_flat_map : (f g : ℕ → List ℕ) (a n : ℕ) → ((i : ℕ) → a ≤ i → i < a + n → g i ≡ f i) → flat_map g (range_with_len a n) ≡ flat_map f (range_with_len a n)
@@ -105,7 +105,7 @@ one_more f g k x a (suc n) l h e s = elim (here_or_later a k l) [ inl i ↦ here
 no_names : (w a n : ℕ) → a + n ≤ w → flat_map (names_at 0 w) (range_with_len a n) ≡ []
 no_names w a zero l = refl
 no_names w a (suc n) l =
-    let e : step 0 w a ≡ 0 = step_is 0 w a 0 (omega arith) (omega arith) (omega arith) in
+    let e : share 0 w a ≡ 0 = share_is 0 w a 0 (omega arith) (omega arith) (omega arith) in
     ap₂ (λ c r. map (name_of w a) (range_with_len 0 c) ++ r) e (no_names w (a + 1) n (omega arith))
 
 -- the names of m tokens over w exits

@@ -1,7 +1,7 @@
 -- Periodic: its counts are the shares of the sum of its row.
 use Rattle.std.proofs.Common.{◌≡◌, ℕ, zero, suc, ◌+◌, ◌-◌, ◌≤◌, ◌<◌, ◌^◌, List, refl, ap, ◌∙◌, le_refl, arith}
 use Rattle.std.specs.List.{sum}
-use Rattle.cn_spec.specs.Step.{steps, IsStep}
+use Rattle.cn_spec.specs.Step.{shares, IsStep}
 use Rattle.cn_spec.specs.Networks.{IsRow, block, blocks, periodic}
 use Rattle.cn_spec.proofs.Bitonic.{row_steps}
 use Rattle.cn_spec.proofs.Chains.{StepChains, all_step_chains}
@@ -34,8 +34,8 @@ pub periodic_is_step : (level : ℕ) (x : List ℕ) → IsRow level x → IsStep
 unfolding periodic
 periodic_is_step level x e = blocks-is_step level level x (le_refl level) e (all_step_chains level x e)
 
-pub periodic_steps : (level : ℕ) (x : List ℕ) → IsRow level x → periodic level x ≡ steps (sum x) (2 ^ level)
-periodic_steps level x e = row_steps level (sum x) (periodic level x) (periodic_row level x e) (sum_periodic level x e) (periodic_is_step level x e)
+pub periodic_shares : (level : ℕ) (x : List ℕ) → IsRow level x → periodic level x ≡ shares (sum x) (2 ^ level)
+periodic_shares level x e = row_steps level (sum x) (periodic level x) (periodic_row level x e) (sum_periodic level x e) (periodic_is_step level x e)
 
 -- ---- one turn of a loop, its start and its end
 

@@ -1,11 +1,11 @@
--- The step property and the shares `step m w i`.
+-- The step property and the shares `share m w i`.
 use Rattle.std.proofs.Common.{◌≡◌, ℕ, zero, suc, ◌+◌, ◌-◌, ◌*◌, ◌/◌, ◌%◌, ◌≤◌, ◌<◌, ◌↔◌, List, [], ◌∷◌, length, get_or, refl, sym, ap, ◌∙◌, inl, inr, subst, arith}
 use Rattle.std.proofs.Math.Nat.{div-eq_of_lt-le, le-div_iff_mul-le, div-lt_iff_lt-mul, div-mul-le_self, div-add-mod', lt-div-mul-add, eq-or-lt_of_le}
 use Rattle.std.proofs.lemmas.Nat.{mod_below}
 use Rattle.std.proofs.lemmas.List.Sums.{sum_by-cons}
 use Rattle.std.proofs.lemmas.List.FromFn.{get_or-map-range_with_len, length-map-range_with_len, fill_by_all}
 use Rattle.std.specs.List.{sum}
-use Rattle.cn_spec.specs.Step.{step, steps, IsStep}
+use Rattle.cn_spec.specs.Step.{share, shares, IsStep}
 
 -- ---- sums of rows that are c + 1 below place n and c from there on
 
@@ -31,21 +31,21 @@ sum_at_least c (a ∷ x) (suc n) b p q =
     let r : length x * c + n ≤ sum x = sum_at_least c x n (omega arith) (λ j l. p (suc j) (omega arith)) (λ j l m. q (suc j) (omega arith) (omega arith)) in
     omega (arith, sum_by-cons (λ (y : ℕ). y) a x)
 
--- ---- places of `steps`
+-- ---- places of `shares`
 
-pub length-steps : (m w : ℕ) → length (steps m w) ≡ w
-length-steps m w = length-map-range_with_len (step m w) 0 w
+pub length-shares : (m w : ℕ) → length (shares m w) ≡ w
+length-shares m w = length-map-range_with_len (share m w) 0 w
 
-pub get_or-steps : (m w i : ℕ) → i < w → get_or (steps m w) i 0 ≡ step m w i
-get_or-steps m w i h = get_or-map-range_with_len (step m w) 0 w i i 0 h (omega arith)
+pub get_or-shares : (m w i : ℕ) → i < w → get_or (shares m w) i 0 ≡ share m w i
+get_or-shares m w i h = get_or-map-range_with_len (share m w) 0 w i i 0 h (omega arith)
 
 -- a share is c where m lies between
-pub step_is : (m w i c : ℕ) → i < w → c * w ≤ m + w - 1 - i → m + w - 1 - i < (c + 1) * w → step m w i ≡ c
-step_is m w i c h p q = div-eq_of_lt-le w p q
+pub share_is : (m w i c : ℕ) → i < w → c * w ≤ m + w - 1 - i → m + w - 1 - i < (c + 1) * w → share m w i ≡ c
+share_is m w i c h p q = div-eq_of_lt-le w p q
 
 -- ---- a row with the step property has the shares of its sum
 
-shares_at : (x : List ℕ) → IsStep x → (i : ℕ) → i < length x → get_or x i 0 ≡ step (sum x) (length x) i
+shares_at : (x : List ℕ) → IsStep x → (i : ℕ) → i < length x → get_or x i 0 ≡ share (sum x) (length x) i
 shares_at x s i h = go (get_or x i 0) refl
   where
     before : (j : ℕ) → j < i → (get_or x i 0 ≤ get_or x j 0) × (get_or x j 0 ≤ get_or x i 0 + 1)
@@ -57,17 +57,17 @@ shares_at x s i h = go (get_or x i 0) refl
     after : (j : ℕ) → i ≤ j → j < length x → (get_or x j 0 ≤ get_or x i 0) × (get_or x i 0 ≤ get_or x j 0 + 1)
     after j l m = elim (eq-or-lt_of_le l) [ inl e ↦ (omega (arith, ap (λ k. get_or x k 0) e), omega (arith, ap (λ k. get_or x k 0) e)) | inr k ↦ (s.no_less i j k m, s.at_most_one_more i j k m) ]
 
-    go : (c : ℕ) → get_or x i 0 ≡ c → c ≡ step (sum x) (length x) i
+    go : (c : ℕ) → get_or x i 0 ≡ c → c ≡ share (sum x) (length x) i
     go zero e =
         let u : sum x ≤ length x * 0 + i = sum_at_most 0 x i (λ j l. omega (arith, before j l)) (λ j l m. omega (arith, after j l m)) in
-        sym (step_is (sum x) (length x) i 0 h (omega arith) (omega arith))
+        sym (share_is (sum x) (length x) i 0 h (omega arith) (omega arith))
     go (suc c) e =
         let u : sum x ≤ length x * suc c + i = sum_at_most (suc c) x i (λ j l. omega (arith, before j l)) (λ j l m. omega (arith, after j l m)) in
         let v : length x * c + suc i ≤ sum x = sum_at_least c x (suc i) h (λ j l. omega (arith, e, up_to j (omega arith))) (λ j l m. omega (arith, after j (omega arith) m)) in
-        sym (step_is (sum x) (length x) i (suc c) h (omega arith) (omega arith))
+        sym (share_is (sum x) (length x) i (suc c) h (omega arith) (omega arith))
 
-pub shares : (x : List ℕ) → IsStep x → x ≡ steps (sum x) (length x)
-shares x s = fill_by_all (step (sum x) (length x)) x (length x) 0 refl (shares_at x s)
+pub row_is_shares : (x : List ℕ) → IsStep x → x ≡ shares (sum x) (length x)
+row_is_shares x s = fill_by_all (share (sum x) (length x)) x (length x) 0 refl (shares_at x s)
 
 -- ---- and the shares have it
 
@@ -79,28 +79,28 @@ div_below a b w h l =
     let k : a / w < b / w + 2 = (div-lt_iff_lt-mul h).1 (omega (arith, lt-div-mul-add {a = b} h)) in
     omega arith
 
-pub steps-is_step : (m w : ℕ) → IsStep (steps m w)
-steps-is_step m w = record {
-  no_less = λ i j l h. let k : j < w = omega (arith, length-steps m w) in
-      rw (get_or-steps m w i (omega arith), get_or-steps m w j k) (div_mono (m + w - 1 - j) (m + w - 1 - i) w (omega arith) (omega arith));
-  at_most_one_more = λ i j l h. let k : j < w = omega (arith, length-steps m w) in
-      rw (get_or-steps m w i (omega arith), get_or-steps m w j k) (div_below (m + w - 1 - i) (m + w - 1 - j) w (omega arith) (omega arith));
+pub shares-is_step : (m w : ℕ) → IsStep (shares m w)
+shares-is_step m w = record {
+  no_less = λ i j l h. let k : j < w = omega (arith, length-shares m w) in
+      rw (get_or-shares m w i (omega arith), get_or-shares m w j k) (div_mono (m + w - 1 - j) (m + w - 1 - i) w (omega arith) (omega arith));
+  at_most_one_more = λ i j l h. let k : j < w = omega (arith, length-shares m w) in
+      rw (get_or-shares m w i (omega arith), get_or-shares m w j k) (div_below (m + w - 1 - i) (m + w - 1 - j) w (omega arith) (omega arith));
 }
 
 -- the shares are all of m
-pub sum-steps : (m w : ℕ) → 0 < w → sum (steps m w) ≡ m
-sum-steps m w h =
+pub sum-shares : (m w : ℕ) → 0 < w → sum (shares m w) ≡ m
+sum-shares m w h =
     let q = m / w in
     let r = m % w in
     let e : q * w + r ≡ m = div-add-mod' m w in
     let below : r < w = mod_below m w h in
-    let large : (j : ℕ) → j < r → get_or (steps m w) j 0 ≡ q + 1 = λ j l. get_or-steps m w j (omega arith) ∙ step_is m w j (q + 1) (omega arith) (omega arith) (omega arith) in
-    let small : (j : ℕ) → r ≤ j → j < length (steps m w) → get_or (steps m w) j 0 ≡ q =
-    λ j l k. let k' : j < w = omega (arith, length-steps m w) in get_or-steps m w j k' ∙ step_is m w j q k' (omega arith) (omega arith) in
-    let upper : sum (steps m w) ≤ length (steps m w) * q + r = sum_at_most q (steps m w) r (λ j l. omega (arith, large j l)) (λ j l k. omega (arith, small j l k)) in
-    let lower : length (steps m w) * q + r ≤ sum (steps m w) = sum_at_least q (steps m w) r (omega (arith, length-steps m w)) (λ j l. omega (arith, large j l)) (λ j l k. omega (arith, small j l k)) in
-    omega (arith, upper, lower, e, ap (λ n. n * q) (length-steps m w))
+    let large : (j : ℕ) → j < r → get_or (shares m w) j 0 ≡ q + 1 = λ j l. get_or-shares m w j (omega arith) ∙ share_is m w j (q + 1) (omega arith) (omega arith) (omega arith) in
+    let small : (j : ℕ) → r ≤ j → j < length (shares m w) → get_or (shares m w) j 0 ≡ q =
+    λ j l k. let k' : j < w = omega (arith, length-shares m w) in get_or-shares m w j k' ∙ share_is m w j q k' (omega arith) (omega arith) in
+    let upper : sum (shares m w) ≤ length (shares m w) * q + r = sum_at_most q (shares m w) r (λ j l. omega (arith, large j l)) (λ j l k. omega (arith, small j l k)) in
+    let lower : length (shares m w) * q + r ≤ sum (shares m w) = sum_at_least q (shares m w) r (omega (arith, length-shares m w)) (λ j l. omega (arith, large j l)) (λ j l k. omega (arith, small j l k)) in
+    omega (arith, upper, lower, e, ap (λ n. n * q) (length-shares m w))
 
 -- the step property, by the shares
-pub step-shares : (x : List ℕ) → IsStep x ↔ (x ≡ steps (sum x) (length x))
-step-shares x = (shares x, λ e. subst IsStep (sym e) (steps-is_step (sum x) (length x)))
+pub is_step-shares : (x : List ℕ) → IsStep x ↔ (x ≡ shares (sum x) (length x))
+is_step-shares x = (row_is_shares x, λ e. subst IsStep (sym e) (shares-is_step (sum x) (length x)))

@@ -1,7 +1,9 @@
--- Sums over the places of a list.
-use Rattle.std.proofs.Common.{◌≡◌, ℕ, zero, suc, ◌+◌, ◌<◌, ◌≤◌, Bool, true, false, cond, List, [], ◌∷◌, ◌++◌, length, get_or, set, refl, arith, eqb, ltb, zero-add}
+-- Sums over the places of a list, and over ranges.
+use Rattle.std.proofs.Common.{◌≡◌, ◌≢◌, ℕ, zero, suc, ◌+◌, ◌<◌, ◌≤◌, Bool, true, false, cond, List, [], ◌∷◌, ◌++◌, length, map, get_or, set, sum_by, refl, sym, ◌∙◌, inl, inr, arith, eqb, ltb, zero-add}
+use Rattle.std.proofs.lemmas.Bool.{cases_eq, eq-eqb, false_from_ne_true, ne_eqb}
 use Rattle.std.proofs.lemmas.Bool.Decides.{nat_tests}
-use Rattle.cn_spec.specs.Sums.{when, total_where, times, sum_below}
+use Rattle.std.proofs.lemmas.List.Sums.{sum_by-cons}
+use Rattle.cn_spec.specs.Sums.{when, total_where, sum_below}
 
 pub total_where-push : {A : Type 0} → (p : A → Bool) (xs : List A) (x : A) (f : ℕ → ℕ) → p x ≡ false → total_where p (xs ++ x ∷ []) f ≡ total_where p xs f
 unfolding total_where
@@ -25,15 +27,6 @@ total_where-none p [] d f h = refl
 total_where-none p (x ∷ xs) d f h =
     let head : p x ≡ false = h 0 (omega arith) in
     rw (head, zero-add) (total_where-none p xs d (λ u. f (suc u)) (λ i k. h (suc i) (omega arith)))
-
-pub times-append : (w : ℕ) (xs ys : List ℕ) → times w (xs ++ ys) ≡ times w xs + times w ys
-unfolding times
-times-append w [] ys = omega arith
-times-append w (x ∷ xs) ys = omega (arith, times-append w xs ys)
-
-pub times-nil : (w : ℕ) → times w [] ≡ 0
-unfolding times
-times-nil w = refl
 
 -- only the places at which a member passes matter
 pub total_where-agree : {A : Type 0} → (p : A → Bool) (xs : List A) (d : A) (f g : ℕ → ℕ) → ((u : ℕ) → u < length xs → p (get_or xs u d) ≡ true → f u ≡ g u) → total_where p xs f ≡ total_where p xs g
@@ -72,3 +65,122 @@ pub sum_below-same : (n : ℕ) (f g : ℕ → ℕ) → ((u : ℕ) → u < n → 
 unfolding sum_below
 sum_below-same zero f g h = refl
 sum_below-same (suc n) f g h = rw (sum_below-same n f g (λ u k. h u (omega arith)), h n (omega arith))
+
+-- one member more
+pub total_where-more : {A : Type 0} → (p : A → Bool) (xs : List A) (x : A) → total_where p (xs ++ x ∷ []) (λ _. 1) ≡ total_where p xs (λ _. 1) + when (p x) 1
+unfolding total_where
+total_where-more p [] x = omega arith
+total_where-more p (y ∷ xs) x = omega (arith, total_where-more p xs x)
+
+pub total_where-le : {A : Type 0} → (p : A → Bool) (xs : List A) → total_where p xs (λ _. 1) ≤ length xs
+unfolding total_where
+total_where-le p [] = omega arith
+total_where-le p (x ∷ xs) =
+    let rest = total_where-le p xs in
+    elim (p x) as (λ t. when t 1 + total_where p xs (λ _. 1) ≤ length (x ∷ xs)) [ true ↦ omega arith | false ↦ omega arith ]
+
+pub total_where-map : {A B : Type 0} → (p : B → Bool) (g : A → B) (xs : List A) (f : ℕ → ℕ) → total_where p (map g xs) f ≡ total_where (λ x. p (g x)) xs f
+unfolding total_where
+total_where-map p g [] f = refl
+total_where-map p g (x ∷ xs) f = rw (total_where-map p g xs (λ u. f (suc u)))
+
+-- two tests that agree
+pub total_where-tests : {A : Type 0} → (p q : A → Bool) (xs : List A) (f : ℕ → ℕ) → ((x : A) → p x ≡ q x) → total_where p xs f ≡ total_where q xs f
+unfolding total_where
+total_where-tests p q [] f h = refl
+total_where-tests p q (x ∷ xs) f h = rw (h x, total_where-tests p q xs (λ u. f (suc u)) h)
+
+-- one place passes
+pub total_where-one : {A : Type 0} → (p : A → Bool) (xs : List A) (w : ℕ) (d : A) (f : ℕ → ℕ) → w < length xs → p (get_or xs w d) ≡ true → ((u : ℕ) → u < length xs → p (get_or xs u d) ≡ true → u ≡ w) → total_where p xs f ≡ f w
+unfolding total_where
+total_where-one p [] w d f h e o = elim h [ ]
+total_where-one p (x ∷ xs) zero d f h e o =
+    let none = total_where-none p xs d (λ u. f (suc u)) (λ u k. false_from_ne_true (p (get_or xs u d)) (λ q. let z = o (suc u) (omega arith) q in omega arith)) in
+    rw (e, none) (omega arith)
+total_where-one p (x ∷ xs) (suc w) d f h e o =
+    let off : p x ≡ false = false_from_ne_true (p x) (λ q. let z = o 0 (omega arith) q in omega arith) in
+    let rest = total_where-one p xs w d (λ u. f (suc u)) (omega arith) e (λ u k q. let z = o (suc u) (omega arith) q in omega arith) in
+    rw (off, rest) (omega arith)
+
+-- two sums that are shifted alike
+pub total_where-shift : {A : Type 0} → (p : A → Bool) (xs : List A) (f a g b : ℕ → ℕ) → ((u : ℕ) → u < length xs → f u + a u ≡ g u + b u)
+    → total_where p xs f + total_where p xs a ≡ total_where p xs g + total_where p xs b
+unfolding total_where
+total_where-shift p [] f a g b h = refl
+total_where-shift p (x ∷ xs) f a g b h =
+    let rest = total_where-shift p xs (λ u. f (suc u)) (λ u. a (suc u)) (λ u. g (suc u)) (λ u. b (suc u)) (λ u k. h (suc u) (omega arith)) in
+    let first : when (p x) (f 0) + when (p x) (a 0) ≡ when (p x) (g 0) + when (p x) (b 0) =
+    elim (p x) as (λ q. when q (f 0) + when q (a 0) ≡ when q (g 0) + when q (b 0)) [ true ↦ h 0 (omega arith) | false ↦ refl ] in
+    omega arith
+
+-- ---- sums over ranges
+
+pub sum_below-plus : (n : ℕ) (f g : ℕ → ℕ) → sum_below n (λ u. f u + g u) ≡ sum_below n f + sum_below n g
+unfolding sum_below
+sum_below-plus zero f g = refl
+sum_below-plus (suc n) f g = omega (arith, sum_below-plus n f g)
+
+-- two sums that are shifted alike
+pub sum_below-shift : (n : ℕ) (f a g b : ℕ → ℕ) → ((u : ℕ) → u < n → f u + a u ≡ g u + b u) → sum_below n f + sum_below n a ≡ sum_below n g + sum_below n b
+sum_below-shift n f a g b h =
+    sym (sum_below-plus n f a) ∙ sum_below-same n (λ u. f u + a u) (λ u. g u + b u) h ∙ sum_below-plus n g b
+
+pub sum_below-le : (n : ℕ) (f g : ℕ → ℕ) → ((u : ℕ) → u < n → f u ≤ g u) → sum_below n f ≤ sum_below n g
+unfolding sum_below
+sum_below-le zero f g h = omega arith
+sum_below-le (suc n) f g h = omega (arith, sum_below-le n f g (λ u l. h u (omega arith)), h n (omega arith))
+
+pub sum_below-none : (f : ℕ → ℕ) → sum_below 0 f ≡ 0
+unfolding sum_below
+sum_below-none f = refl
+
+-- from the front
+pub sum_below-front : (n : ℕ) (f : ℕ → ℕ) → sum_below (suc n) f ≡ f 0 + sum_below n (λ u. f (suc u))
+unfolding sum_below
+sum_below-front zero f = omega arith
+sum_below-front (suc n) f = omega (arith, sum_below-front n f)
+
+-- one term is v more
+pub sum_below-pick : (n b v : ℕ) (g : ℕ → ℕ) → b < n → sum_below n (λ c. when (eqb b c) v + g c) ≡ v + sum_below n g
+unfolding sum_below
+sum_below-pick zero b v g h = absurd (omega arith)
+sum_below-pick (suc n) b v g h =
+    elim (cases_eq b n) [
+      | inl e ↦
+          rw (sum_below-same n (λ c. when (eqb b c) v + g c) g (λ u k. rw (ne_eqb b u (λ q. omega arith)) (zero-add (g u))), eq-eqb b n e) (omega arith)
+      | inr d ↦ rw (sum_below-pick n b v g (omega arith), ne_eqb b n d) (omega arith)
+    ]
+
+-- one term alone
+pub sum_below-one : (n b v : ℕ) → b < n → sum_below n (λ c. when (eqb b c) v) ≡ v
+sum_below-one n b v h =
+    let a = sum_below-pick n b v (λ _. 0) h in
+    let same = sum_below-same n (λ c. when (eqb b c) v + 0) (λ c. when (eqb b c) v) (λ c l. omega arith) in
+    omega (arith, sum_below-zero n (λ _. 0) (λ _. refl))
+
+-- a term is at most the sum
+pub sum_below-part : (n b : ℕ) (f : ℕ → ℕ) → b < n → f b ≤ sum_below n f
+unfolding sum_below
+sum_below-part zero b f h = absurd (omega arith)
+sum_below-part (suc n) b f h = elim (cases_eq b n) [ inl e ↦ rw e (omega arith) | inr d ↦ omega (arith, sum_below-part n b f (omega arith)) ]
+
+-- and two terms together are
+pub sum_below-parts : (n a b : ℕ) (f : ℕ → ℕ) → a < n → b < n → a ≢ b → f a + f b ≤ sum_below n f
+unfolding sum_below
+sum_below-parts zero a b f h k d = absurd (omega arith)
+sum_below-parts (suc n) a b f h k d = elim (cases_eq a n) [
+  | inl e ↦ rw e (omega (arith, sum_below-part n b f (omega arith)))
+  | inr da ↦ elim (cases_eq b n) [
+    | inl e ↦ rw e (omega (arith, sum_below-part n a f (omega arith)))
+    | inr db ↦ omega (arith, sum_below-parts n a b f (omega arith) (omega arith) d)
+  ]
+]
+
+module _ {X : Type 0} where
+  -- sums in either order
+  pub sum_below-total : (g : ℕ → X → ℕ) (xs : List X) (n : ℕ) → sum_below n (λ k. sum_by (g k) xs) ≡ sum_by (λ x. sum_below n (λ k. g k x)) xs
+  sum_below-total g [] n = sum_below-zero n (λ _. 0) (λ _. refl)
+  sum_below-total g (x ∷ xs) n =
+      sum_below-same n (λ k. sum_by (g k) (x ∷ xs)) (λ k. g k x + sum_by (g k) xs) (λ k l. sum_by-cons (g k) x xs)
+      ∙ sum_below-plus n (λ k. g k x) (λ k. sum_by (g k) xs)
+      ∙ omega (arith, sum_below-total g xs n, sum_by-cons (λ y. sum_below n (λ k. g k y)) x xs)

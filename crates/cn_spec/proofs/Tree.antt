@@ -4,20 +4,20 @@ use Rattle.std.proofs.Math.Nat.{pow-suc, div-div-eq-div-mul}
 use Rattle.std.proofs.lemmas.Nat.{pow_pos}
 use Rattle.std.proofs.lemmas.List.FromFn.{fill_by_all}
 use Rattle.std.specs.List.{sum}
-use Rattle.cn_spec.specs.Step.{half, step, steps, IsStep}
+use Rattle.cn_spec.specs.Step.{half, share, shares, IsStep}
 use Rattle.cn_spec.specs.Networks.{IsRow, interleave, tree}
-use Rattle.cn_spec.proofs.Shares.{length-steps, get_or-steps, shares, steps-is_step, sum-steps}
+use Rattle.cn_spec.proofs.Shares.{length-shares, get_or-shares, row_is_shares, shares-is_step, sum-shares}
 use Rattle.cn_spec.proofs.Interleave.{length_interleave, get_or-even, get_or-odd}
 
 -- ---- the shares of the even exits and of the odd ones are those of the halves
 
-share-even : (m h i : ℕ) → i < h → step m (h * 2) (i + i) ≡ step (half m 0) h i
+share-even : (m h i : ℕ) → i < h → share m (h * 2) (i + i) ≡ share (half m 0) h i
 share-even m h i l =
     ap (λ k. (m + h * 2 - 1 - (i + i)) / k) (omega arith)
     ∙ sym (div-div-eq-div-mul (m + h * 2 - 1 - (i + i)) 2 h)
     ∙ ap (λ n. n / h) (omega arith)
 
-share-odd : (m h i : ℕ) → i < h → step m (h * 2) (i + i + 1) ≡ step (half m 1) h i
+share-odd : (m h i : ℕ) → i < h → share m (h * 2) (i + i + 1) ≡ share (half m 1) h i
 share-odd m h i l =
     ap (λ k. (m + h * 2 - 1 - (i + i + 1)) / k) (omega arith)
     ∙ sym (div-div-eq-div-mul (m + h * 2 - 1 - (i + i + 1)) 2 h)
@@ -26,49 +26,49 @@ share-odd m h i l =
 pub even_or_odd : (k : ℕ) → (k ≡ k / 2 + k / 2) ⊎ (k ≡ k / 2 + k / 2 + 1)
 even_or_odd k = grind arith
 
-interleave-steps : (m h : ℕ) → interleave (steps (half m 0) h) (steps (half m 1) h) ≡ steps m (h * 2)
-interleave-steps m h = fill_by_all (step m (h * 2)) (interleave x y) (h * 2) 0 (omega (arith, length_interleave x y same, length-steps (half m 0) h)) (λ k l. elim (even_or_odd k) [ inl e ↦ even k l e | inr e ↦ odd k l e ])
+interleave-steps : (m h : ℕ) → interleave (shares (half m 0) h) (shares (half m 1) h) ≡ shares m (h * 2)
+interleave-steps m h = fill_by_all (share m (h * 2)) (interleave x y) (h * 2) 0 (omega (arith, length_interleave x y same, length-shares (half m 0) h)) (λ k l. elim (even_or_odd k) [ inl e ↦ even k l e | inr e ↦ odd k l e ])
   where
     x : List ℕ
-    x = steps (half m 0) h
+    x = shares (half m 0) h
 
     y : List ℕ
-    y = steps (half m 1) h
+    y = shares (half m 1) h
 
     same : length x ≡ length y
-    same = length-steps (half m 0) h ∙ sym (length-steps (half m 1) h)
+    same = length-shares (half m 0) h ∙ sym (length-shares (half m 1) h)
 
-    even : (k : ℕ) → k < h * 2 → k ≡ k / 2 + k / 2 → get_or (interleave x y) k 0 ≡ step m (h * 2) k
+    even : (k : ℕ) → k < h * 2 → k ≡ k / 2 + k / 2 → get_or (interleave x y) k 0 ≡ share m (h * 2) k
     even k l e =
         ap (λ n. get_or (interleave x y) n 0) e ∙ get_or-even x y (k / 2) same
-        ∙ get_or-steps (half m 0) h (k / 2) (omega arith) ∙ sym (share-even m h (k / 2) (omega arith)) ∙ ap (step m (h * 2)) (sym e)
+        ∙ get_or-shares (half m 0) h (k / 2) (omega arith) ∙ sym (share-even m h (k / 2) (omega arith)) ∙ ap (share m (h * 2)) (sym e)
 
-    odd : (k : ℕ) → k < h * 2 → k ≡ k / 2 + k / 2 + 1 → get_or (interleave x y) k 0 ≡ step m (h * 2) k
+    odd : (k : ℕ) → k < h * 2 → k ≡ k / 2 + k / 2 + 1 → get_or (interleave x y) k 0 ≡ share m (h * 2) k
     odd k l e =
         ap (λ n. get_or (interleave x y) n 0) e ∙ get_or-odd x y (k / 2) same
-        ∙ get_or-steps (half m 1) h (k / 2) (omega arith) ∙ sym (share-odd m h (k / 2) (omega arith)) ∙ ap (step m (h * 2)) (sym e)
+        ∙ get_or-shares (half m 1) h (k / 2) (omega arith) ∙ sym (share-odd m h (k / 2) (omega arith)) ∙ ap (share m (h * 2)) (sym e)
 
 -- ---- the law
 
-pub tree_steps : (level m : ℕ) → tree level m ≡ steps m (2 ^ level)
+pub tree_shares : (level m : ℕ) → tree level m ≡ shares m (2 ^ level)
 unfolding tree
-tree_steps zero m = ap (λ k. k ∷ []) (omega arith)
-tree_steps (suc level) m =
-    ap₂ interleave (tree_steps level (half m 0)) (tree_steps level (half m 1))
-    ∙ interleave-steps m (2 ^ level) ∙ ap (steps m) (sym (pow-suc 2 level))
+tree_shares zero m = ap (λ k. k ∷ []) (omega arith)
+tree_shares (suc level) m =
+    ap₂ interleave (tree_shares level (half m 0)) (tree_shares level (half m 1))
+    ∙ interleave-steps m (2 ^ level) ∙ ap (shares m) (sym (pow-suc 2 level))
 
 pub tree_row : (level m : ℕ) → IsRow level (tree level m)
-tree_row level m = ap length (tree_steps level m) ∙ length-steps m (2 ^ level)
+tree_row level m = ap length (tree_shares level m) ∙ length-shares m (2 ^ level)
 
 pub tree_is_step : (level m : ℕ) → IsStep (tree level m)
-tree_is_step level m = subst IsStep (sym (tree_steps level m)) (steps-is_step m (2 ^ level))
+tree_is_step level m = subst IsStep (sym (tree_shares level m)) (shares-is_step m (2 ^ level))
 
 pub sum_tree : (level m : ℕ) → sum (tree level m) ≡ m
-sum_tree level m = ap sum (tree_steps level m) ∙ sum-steps m (2 ^ level) (pow_pos level)
+sum_tree level m = ap sum (tree_shares level m) ∙ sum-shares m (2 ^ level) (pow_pos level)
 
 -- a row with the step property is the tree's of its sum
 pub step_tree : (level : ℕ) (x : List ℕ) → IsRow level x → IsStep x → x ≡ tree level (sum x)
-step_tree level x e s = shares x s ∙ ap (steps (sum x)) e ∙ sym (tree_steps level (sum x))
+step_tree level x e s = row_is_shares x s ∙ ap (shares (sum x)) e ∙ sym (tree_shares level (sum x))
 
 -- ---- its recursion
 

@@ -3,27 +3,39 @@
 
 ghost use Rattle.std.specs.Prelude.{◌≡◌, ◌+◌, ◌%◌, ◌/◌, ◌^◌, ◌<◌, ◌↔◌, ℕ, suc, List, [], ◌∷◌, length};
 ghost use Rattle.std.specs.List.{sum};
-ghost use Rattle.cn_spec.specs.Step.{IsEachBelow, IsStep, half, name_of, names, step, steps};
+ghost use Rattle.cn_spec.specs.Step.{IsEachBelow, IsStep, half, name_of, names, share, shares};
 ghost use Rattle.cn_spec.specs.Networks.{HasStepChains, IsRow, a_cochain, b_cochain, bitonic, block, merge, periodic, tree};
 ghost use Rattle.cn_spec.specs.Sums.{IsOnceBelow};
+ghost use Rattle.cn_spec.specs.declared.limits.TheConstants.{MOST_ARRIVALS, MOST_BALANCERS, MOST_CARRIED, MOST_CLIENTS, MOST_DIGITS, MOST_ENDS, MOST_HAND, MOST_LEVEL, MOST_RECORDS, MOST_ROOM, MOST_TOKENS, MOST_WORKERS};
+
+/// What each limit is, in numbers. Clauses and code cite the limits by name; only here are they told.
+pub fn limits_are()
+    ensures widths { MOST_LEVEL ≡ 6 }
+    ensures wirings { (MOST_ENDS ≡ 4_096) × (MOST_BALANCERS ≡ 65_536) }
+    ensures epochs { (MOST_CLIENTS ≡ 65_536) × (MOST_CARRIED ≡ 2_147_483_648) }
+    ensures texts { (MOST_RECORDS ≡ 1_048_576) × (MOST_DIGITS ≡ 20) }
+    ensures counts { MOST_ARRIVALS ≡ 2 ^ 32 }
+    ensures yards { (MOST_TOKENS ≡ 4_194_304) × (MOST_ROOM ≡ 1_048_576) }
+    ensures workers { (MOST_WORKERS ≡ 64) × (MOST_HAND ≡ 64) }
+{}
 
 /// A row of counts has the step property exactly where each count is its share of the sum
 /// (Aspnes, Herlihy, Shavit 1994, section 2.2).
 pub fn step_is_shares()
-    ensures { (counts : List ℕ) → IsStep counts ↔ (counts ≡ steps (sum counts) (length counts)) }
+    ensures { (counts : List ℕ) → IsStep counts ↔ (counts ≡ shares (sum counts) (length counts)) }
 {}
 
 /// The two halves of what passes a balancer, and the shares of all exits, are the whole: no token is lost or made.
 pub fn shares_conserve()
     ensures halves { (n : ℕ) → half n 0 + half n 1 ≡ n }
-    ensures shares { (m w : ℕ) → 0 < w → sum (steps m w) ≡ m }
+    ensures shares { (m w : ℕ) → 0 < w → sum (shares m w) ≡ m }
 {}
 
 /// The names that the exits give out among m tokens are the numbers below m, each once; and a name tells its exit and
 /// its visit.
 pub fn names_are_tight()
     ensures each_once { (m w : ℕ) → 0 < w → IsEachBelow m (names m w) }
-    ensures below { (m w i v : ℕ) → i < w → (v < step m w i) ↔ (name_of w i v < m) }
+    ensures below { (m w i v : ℕ) → i < w → (v < share m w i) ↔ (name_of w i v < m) }
     ensures read { (w i v : ℕ) → i < w → (name_of w i v % w ≡ i) × (name_of w i v / w ≡ v) }
     ensures written { (w n : ℕ) → name_of w (n % w) (n / w) ≡ n }
 {}
@@ -38,7 +50,7 @@ pub fn once_below_is_each_below()
 pub fn merger_counts()
     ensures is_step { (level : ℕ) (x y : List ℕ) → IsRow level x → IsRow level y → IsStep x → IsStep y → IsStep (merge level x y) }
     ensures shares { (level : ℕ) (x y : List ℕ) → IsRow level x → IsRow level y → IsStep x → IsStep y
-        → merge level x y ≡ steps (sum x + sum y) (2 ^ suc level) }
+        → merge level x y ≡ shares (sum x + sum y) (2 ^ suc level) }
     ensures is_row { (level : ℕ) (x y : List ℕ) → IsRow level x → IsRow level y → IsRow (suc level) (merge level x y) }
     ensures conserves { (level : ℕ) (x y : List ℕ) → IsRow level x → IsRow level y → sum (merge level x y) ≡ sum x + sum y }
 {}
@@ -46,7 +58,7 @@ pub fn merger_counts()
 /// The bitonic network's counts are the shares of what enters, whatever enters (Aspnes, Herlihy, Shavit 1994,
 /// section 3): so they have the step property, and no token is lost or made.
 pub fn bitonic_counts()
-    ensures shares { (level : ℕ) (x : List ℕ) → IsRow level x → bitonic level x ≡ steps (sum x) (2 ^ level) }
+    ensures shares { (level : ℕ) (x : List ℕ) → IsRow level x → bitonic level x ≡ shares (sum x) (2 ^ level) }
     ensures is_step { (level : ℕ) (x : List ℕ) → IsRow level x → IsStep (bitonic level x) }
     ensures conserves { (level : ℕ) (x : List ℕ) → IsRow level x → sum (bitonic level x) ≡ sum x }
 {}
@@ -70,7 +82,7 @@ pub fn block_lowers_chains()
 /// The periodic network's counts are the shares of what enters, whatever enters (Aspnes, Herlihy, Shavit 1994,
 /// section 4): so they have the step property, and no token is lost or made.
 pub fn periodic_counts()
-    ensures shares { (level : ℕ) (x : List ℕ) → IsRow level x → periodic level x ≡ steps (sum x) (2 ^ level) }
+    ensures shares { (level : ℕ) (x : List ℕ) → IsRow level x → periodic level x ≡ shares (sum x) (2 ^ level) }
     ensures is_step { (level : ℕ) (x : List ℕ) → IsRow level x → IsStep (periodic level x) }
     ensures conserves { (level : ℕ) (x : List ℕ) → IsRow level x → sum (periodic level x) ≡ sum x }
 {}
@@ -78,7 +90,7 @@ pub fn periodic_counts()
 /// The tree's counts are the shares of what enters (Shavit, Zemach 1996, section 2): so they have the step property,
 /// and no token is lost or made.
 pub fn tree_counts()
-    ensures shares { (level m : ℕ) → tree level m ≡ steps m (2 ^ level) }
+    ensures shares { (level m : ℕ) → tree level m ≡ shares m (2 ^ level) }
     ensures is_step { (level m : ℕ) → IsStep (tree level m) }
     ensures conserves { (level m : ℕ) → sum (tree level m) ≡ m }
 {}
@@ -88,7 +100,7 @@ pub fn tree_counts()
 pub fn worked_rows()
     ensures bitonic_five { bitonic 2 (0 ∷ 0 ∷ 0 ∷ 5 ∷ []) ≡ 2 ∷ 1 ∷ 1 ∷ 1 ∷ [] }
     ensures bitonic_split { bitonic 2 (1 ∷ 0 ∷ 1 ∷ 0 ∷ []) ≡ 1 ∷ 1 ∷ 0 ∷ 0 ∷ [] }
-    ensures bitonic_wide { bitonic 3 (9 ∷ 0 ∷ 4 ∷ 0 ∷ 0 ∷ 7 ∷ 1 ∷ 30 ∷ []) ≡ steps 51 8 }
+    ensures bitonic_wide { bitonic 3 (9 ∷ 0 ∷ 4 ∷ 0 ∷ 0 ∷ 7 ∷ 1 ∷ 30 ∷ []) ≡ shares 51 8 }
     ensures merger_crossed { merge 1 (1 ∷ 0 ∷ []) (1 ∷ 0 ∷ []) ≡ 1 ∷ 1 ∷ 0 ∷ 0 ∷ [] }
     ensures merger_wide { merge 2 (3 ∷ 2 ∷ 2 ∷ 2 ∷ []) (1 ∷ 1 ∷ 1 ∷ 0 ∷ []) ≡ 2 ∷ 2 ∷ 2 ∷ 2 ∷ 1 ∷ 1 ∷ 1 ∷ 1 ∷ [] }
     ensures cochain_a { a_cochain (0 ∷ 1 ∷ 2 ∷ 3 ∷ 4 ∷ 5 ∷ 6 ∷ 7 ∷ []) ≡ 0 ∷ 3 ∷ 4 ∷ 7 ∷ [] }

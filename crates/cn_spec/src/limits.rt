@@ -1,6 +1,9 @@
 //! The limits of the service.
 
-/// The most entries of a wiring, and the most exits.
+/// The greatest level of a network: its width is 2 to the power of the level, and the least level is 1.
+pub const MOST_LEVEL: u32 = 6;
+
+/// The most entries that a wiring may have, and the most exits.
 pub const MOST_ENDS: u32 = 4_096;
 
 /// The most balancers of a wiring.
@@ -8,6 +11,9 @@ pub const MOST_BALANCERS: u32 = 65_536;
 
 /// The most clients of one epoch.
 pub const MOST_CLIENTS: u64 = 65_536;
+
+/// The most clients that may have come before an epoch that goes on from the counts of earlier ones.
+pub const MOST_CARRIED: u64 = 2_147_483_648;
 
 /// The most records of a batch, a schedule or a grant list, its header apart.
 pub const MOST_RECORDS: u64 = 1_048_576;
@@ -20,3 +26,12 @@ pub const MOST_DIGITS: usize = 20;
 
 /// The most records of one yard, live and free.
 pub const MOST_TOKENS: u32 = 4_194_304;
+
+/// The most clients for which a lane takes room at once.
+pub const MOST_ROOM: u64 = 1_048_576;
+
+/// The most workers of one epoch.
+pub const MOST_WORKERS: u32 = 64;
+
+/// The most tokens that one worker has in hand.
+pub const MOST_HAND: u32 = 64;

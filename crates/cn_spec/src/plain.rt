@@ -2,7 +2,7 @@
 
 ghost use Rattle.std.specs.Prelude.{◌≡◌, ◌+◌, ◌<◌, ◌≤◌, ◌^◌, length, IfOk};
 ghost use Rattle.std.specs.List.{sum};
-ghost use Rattle.cn_spec.specs.Step as step;
+ghost use Rattle.cn_spec.specs.Step as counts;
 ghost use Rattle.cn_spec.specs.Networks as net;
 ghost use Rattle.cn_spec.specs.Networks.{IsRow};
 
@@ -13,7 +13,7 @@ use std::alloc::{AllocError, Global};
 pub fn half(count: u64, output: u64) -> u64
     requires count { count < 2 ^ 63 }
     requires output { output ≤ 1 }
-    ensures { result ≡ step.half count output }
+    ensures { result ≡ counts.half count output }
 {
     (count + 1 - output) / 2
 }
@@ -24,7 +24,7 @@ pub fn share(count: u64, width: u64, exit: u64) -> u64
     requires count { count < 2 ^ 63 }
     requires width { width < 2 ^ 63 }
     requires exit { exit < width }
-    ensures { result ≡ step.step count width exit }
+    ensures { result ≡ counts.share count width exit }
 {
     (count + width - 1 - exit) / width
 }
@@ -36,7 +36,7 @@ pub fn share(count: u64, width: u64, exit: u64) -> u64
 pub fn shares(alloc: Global, count: u64, width: u64) -> Result<Vec<u64>, AllocError>
     requires count { count < 2 ^ 63 }
     requires width { width < 2 ^ 63 }
-    ensures { IfOk result (λ shares. shares.items ≡ step.steps count width) }
+    ensures { IfOk result (λ shares. shares.items ≡ counts.shares count width) }
 {
     (0..width)
         .map(|exit| (count + width - 1 - exit) / width)

@@ -1,26 +1,14 @@
 -- A tree from its root and the two trees on the root's outputs.
-use Rattle.std.proofs.Common.{◌≡◌, ℕ, ◌+◌, ◌-◌, ◌^◌, ◌<◌, ◌≤◌, List, [], ◌∷◌, length, map, refl, sym, ap, ap₂, ◌∙◌, arith}
+use Rattle.std.proofs.Common.{◌≡◌, ℕ, ◌+◌, ◌-◌, ◌^◌, ◌<◌, ◌≤◌, List, [], ◌∷◌, length, map, sym, ap, ap₂, ◌∙◌, arith}
 use Rattle.std.proofs.lemmas.Nat.{pow_pos}
 use Rattle.cn_spec.specs.Networks.{IsRow, interleave, tree}
 use Rattle.cn_spec.specs.Step.{half}
-use Rattle.cn_spec.specs.Sums.{times}
 use Rattle.cn_spec.specs.declared.limits.TheConstants.{MOST_BALANCERS}
-use Rattle.cn_spec.proofs.Flows.{map_interleave}
-use Rattle.cn_spec.proofs.Interleave.{length_interleave}
-use Rattle.cn_spec.proofs.Rows.{power_below}
-use Rattle.cn_spec.proofs.Sums.{times-append}
-use Rattle.cn_spec.proofs.Tree.{tree_turn}
+use Rattle.cn_spec.proofs.CallerLemmas.{length_interleave, map_interleave, power_below, times-append, times_interleave, tree_turn}
 use Rattle.cn_wiring.specs.Plan.{Plan, AllLoose, Builds, IsFlow}
 use Rattle.cn_wiring.proofs.Builds.{Builds-beside, Builds-giving, Builds-loose, Builds-loose_with, Builds-sized, Builds-then}
 
 -- ---- interleaved rows
-
-times_interleave : (w : ℕ) (x y : List ℕ) → length x ≡ length y → times w (interleave x y) ≡ times w x + times w y
-unfolding times
-times_interleave w [] [] e = refl
-times_interleave w [] (b ∷ y) e = absurd (omega arith)
-times_interleave w (a ∷ x) [] e = absurd (omega arith)
-times_interleave w (a ∷ x) (b ∷ y) e = omega (arith, times_interleave w x y (omega arith))
 
 -- ---- sizes
 

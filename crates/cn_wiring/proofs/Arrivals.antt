@@ -1,23 +1,12 @@
 -- Counting the wires that end at each balancer and exit.
-use Rattle.std.proofs.Common.{◌≡◌, ℕ, ◌+◌, ◌<◌, ◌≤◌, inl, inr, Bool, true, false, List, [], ◌∷◌, ◌++◌, ◌^◌, replicate, length, get_or, set, take, refl, sym, ◌∙◌, arith, length-set, get_or-set_same, get_or-set_other}
+use Rattle.std.proofs.Common.{◌≡◌, ℕ, ◌+◌, ◌<◌, inl, inr, List, ◌^◌, replicate, length, get_or, set, take, refl, sym, ◌∙◌, arith, length-set, get_or-set_same, get_or-set_other}
 use Rattle.std.proofs.lemmas.Bool.{cases_eq, eq-eqb, ne_eqb}
 use Rattle.std.proofs.lemmas.List.{take_more, length-replicate, get_or-replicate, length-take-le}
 use Rattle.cn_wiring.specs.declared.end.End.{End}
 use Rattle.cn_wiring.specs.declared.end.End.TheVariants.{Balancer, Exit}
-use Rattle.cn_spec.specs.Sums.{when, total_where}
+use Rattle.cn_spec.specs.Sums.{total_where}
 use Rattle.cn_wiring.specs.Table.{is_end}
-
-pub total_where-more : {A : Type 0} → (p : A → Bool) (xs : List A) (x : A) → total_where p (xs ++ x ∷ []) (λ _. 1) ≡ total_where p xs (λ _. 1) + when (p x) 1
-unfolding total_where
-total_where-more p [] x = omega arith
-total_where-more p (y ∷ xs) x = omega (arith, total_where-more p xs x)
-
-pub total_where-le : {A : Type 0} → (p : A → Bool) (xs : List A) → total_where p xs (λ _. 1) ≤ length xs
-unfolding total_where
-total_where-le p [] = omega arith
-total_where-le p (x ∷ xs) =
-    let rest = total_where-le p xs in
-    elim (p x) as (λ t. when t 1 + total_where p xs (λ _. 1) ≤ length (x ∷ xs)) [ true ↦ omega arith | false ↦ omega arith ]
+use Rattle.cn_spec.proofs.CallerLemmas.{total_where-le, total_where-more}
 
 pub record Counted (balancers width : ℕ) (ends : List End) (bs xs : List ℕ) (i : ℕ) : Type 0 where
   pub lens : (length bs ≡ balancers) × (length xs ≡ width)

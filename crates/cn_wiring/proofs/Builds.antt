@@ -3,7 +3,7 @@ use Rattle.std.proofs.Common.{◌≡◌, ℕ, ◌+◌, inl, inr, List, [], ◌++
 use Rattle.std.proofs.lemmas.Bool.{cases_lt}
 use Rattle.cn_spec.specs.Sums.{times}
 use Rattle.cn_wiring.specs.Plan.{Plan, AllLoose, Builds}
-use Rattle.cn_spec.proofs.Sums.{times-append}
+use Rattle.cn_spec.proofs.CallerLemmas.{times-append}
 use Rattle.cn_wiring.proofs.Join.{below_from_loose}
 
 pub Builds-none : (d : Plan) (depth : ℕ) → Builds d d [] [] depth 0

@@ -1,42 +1,17 @@
 -- The exits of a plan.
-use Rattle.std.proofs.Common.{◌≡◌, ℕ, zero, suc, ◌+◌, ◌<◌, ◌≤◌, inl, inr, Bool, true, false, List, [], ◌∷◌, length, get_or, set, map, refl, ap, sym, ◌∙◌, arith, Option, Some, None, subst, add-zero}
+use Rattle.std.proofs.Common.{◌≡◌, ℕ, ◌+◌, ◌<◌, ◌≤◌, inl, inr, true, false, List, length, get_or, set, map, refl, ap, sym, ◌∙◌, arith, Option, Some, None, subst, add-zero}
 use Rattle.std.specs.Option.{is_none}
-use Rattle.std.proofs.lemmas.Bool.{cases_eq, eq-eqb, ne_eqb, eqb-true, false_from_ne_true}
+use Rattle.std.proofs.lemmas.Bool.{cases_eq, eq-eqb, eqb-true}
 use Rattle.std.proofs.lemmas.List.{map-set, set-get_or, get_or-set_same, get_or-set_other, length-map, get_or-map, get_or_default}
 use Rattle.cn_wiring.specs.declared.end.End.{End}
 use Rattle.cn_wiring.specs.declared.end.End.TheVariants.{Balancer, Exit}
-use Rattle.cn_spec.specs.Sums.{when, total_where, times}
+use Rattle.cn_spec.specs.Sums.{when, times}
 use Rattle.cn_wiring.specs.Plan.{Plan, ends_at, passages, IsFlow, loose, Each, HasLevel}
 use Rattle.cn_wiring.specs.Table.{Table, is_end, sum_at, Stands, LeadsOn, IsWellFormed, IsFullFlow, balancer_of, plan_of_table, EndsInOrder, HasDepth}
 use Rattle.cn_wiring.specs.InsideDraft.{IsOrderly}
 use Rattle.cn_spec.specs.declared.limits.TheConstants.{MOST_ENDS}
-use Rattle.cn_spec.proofs.Sums.{total_where-none}
+use Rattle.cn_spec.proofs.CallerLemmas.{times-member, times-place, times-two, total_where-map, total_where-one, total_where-tests}
 use Rattle.cn_wiring.proofs.Join.{below_from_loose, loose_in}
-
--- a member of the list
-pub times-member : (xs : List ℕ) (i : ℕ) → i < length xs → 1 ≤ times (get_or xs i 0) xs
-unfolding times
-times-member [] i h = elim h [ ]
-times-member (x ∷ xs) zero h = rw (eq-eqb x x refl) (omega arith)
-times-member (x ∷ xs) (suc i) h = omega (arith, times-member xs i (omega arith))
-
--- two places with one member
-times-two : (xs : List ℕ) (i j : ℕ) → i < j → j < length xs → get_or xs i 0 ≡ get_or xs j 0 → 2 ≤ times (get_or xs j 0) xs
-unfolding times
-times-two [] i j h k e = elim k [ ]
-times-two (x ∷ xs) i zero h k e = absurd (omega arith)
-times-two (x ∷ xs) zero (suc j) h k e = rw (eq-eqb x (get_or xs j 0) e) (omega (arith, times-member xs j (omega arith)))
-times-two (x ∷ xs) (suc i) (suc j) h k e = omega (arith, times-two xs i j (omega arith) (omega arith) e)
-
--- a member has a place
-place_of : (xs : List ℕ) (w : ℕ) → 1 ≤ times w xs → (i : ℕ) × (i < length xs) × (get_or xs i 0 ≡ w)
-unfolding times
-place_of [] w h = absurd (omega arith)
-place_of (x ∷ xs) w h =
-    elim (cases_eq x w) [
-      | inl e ↦ (0, omega arith, e)
-      | inr d ↦ let r = place_of xs w (let k = rw (ne_eqb x w d) at h in omega arith) in (suc r.0, omega (arith, r.1), r.2)
-    ]
 
 at_most_one : (es : List (Option ℕ)) (w : ℕ) → loose_in es w ≤ 1
 at_most_one es w = elim (is_none (get_or es w (Some 0))) as (λ t. when t 1 ≤ 1) [ true ↦ omega arith | false ↦ omega arith ]
@@ -79,17 +54,6 @@ Closed-more ends exits closed i h k c =
           ];
     }
 
--- What a table with the wires of a plan closed by exits is.
-total_where-map : {A B : Type 0} → (p : B → Bool) (g : A → B) (xs : List A) (f : ℕ → ℕ) → total_where p (map g xs) f ≡ total_where (λ x. p (g x)) xs f
-unfolding total_where
-total_where-map p g [] f = refl
-total_where-map p g (x ∷ xs) f = rw (total_where-map p g xs (λ u. f (suc u)))
-
-total_where-tests : {A : Type 0} → (p q : A → Bool) (xs : List A) (f : ℕ → ℕ) → ((x : A) → p x ≡ q x) → total_where p xs f ≡ total_where q xs f
-unfolding total_where
-total_where-tests p q [] f h = refl
-total_where-tests p q (x ∷ xs) f h = rw (h x, total_where-tests p q xs (λ u. f (suc u)) h)
-
 same_test : (b : ℕ) (e : End) → ends_at b (balancer_of e) ≡ is_end (Balancer b) e
 same_test b (Balancer c) = refl
 same_test b (Exit i) = refl
@@ -101,18 +65,6 @@ pub flow-plan : (t : Table) (f : ℕ → ℕ) → IsFullFlow t f → IsFlow (pla
 flow-plan t f p b h =
     let q = p b h in
     rw (into-passages t b f, add-zero) q
-
--- one place passes
-total_where-one : {A : Type 0} → (p : A → Bool) (xs : List A) (w : ℕ) (d : A) (f : ℕ → ℕ) → w < length xs → p (get_or xs w d) ≡ true → ((u : ℕ) → u < length xs → p (get_or xs u d) ≡ true → u ≡ w) → total_where p xs f ≡ f w
-unfolding total_where
-total_where-one p [] w d f h e o = elim h [ ]
-total_where-one p (x ∷ xs) zero d f h e o =
-    let none = total_where-none p xs d (λ u. f (suc u)) (λ u k. false_from_ne_true (p (get_or xs u d)) (λ q. let z = o (suc u) (omega arith) q in omega arith)) in
-    rw (e, none) (omega arith)
-total_where-one p (x ∷ xs) (suc w) d f h e o =
-    let off : p x ≡ false = false_from_ne_true (p x) (λ q. let z = o 0 (omega arith) q in omega arith) in
-    let rest = total_where-one p xs w d (λ u. f (suc u)) (omega arith) e (λ u k q. let z = o (suc u) (omega arith) q in omega arith) in
-    rw (off, rest) (omega arith)
 
 is_exit : (i : ℕ) (e : End) → is_end (Exit i) e ≡ true → e ≡ Exit i
 is_exit i (Balancer b) q = absurd (cc)
@@ -136,7 +88,7 @@ module _ (t : Table) (d : Plan) (exits : List ℕ) (o : IsOrderly d) (plan : pla
       let below : u < length d.ends = omega (arith, wires) in
       let none' : get_or d.ends u (Some 0) ≡ None = get_or_default d.ends u (Some 0) None below ∙ none in
       let one : loose d u ≡ 1 = rw none' in
-      let r = place_of exits u (let a = all u in omega arith) in
+      let r = times-place exits u (let a = all u in omega arith) in
       let same : get_or t.ends u (Balancer 0) ≡ Exit r.0 = rw r.2 at (order r.0 r.1) in
       let two : Exit i ≡ Exit r.0 = sym e ∙ same in
       let ij : i ≡ r.0 = cc in

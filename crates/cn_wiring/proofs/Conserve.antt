@@ -1,55 +1,17 @@
 -- A full flow keeps the sum.
-use Rattle.std.proofs.Common.{◌≡◌, ℕ, zero, suc, ◌+◌, ◌*◌, ◌<◌, ◌≤◌, inl, inr, List, [], ◌∷◌, length, get_or, refl, ap, arith, eqb, zero-add}
-use Rattle.std.proofs.lemmas.Bool.{cases_eq, eq-eqb, ne_eqb}
+use Rattle.std.proofs.Common.{◌≡◌, ℕ, zero, suc, ◌+◌, ◌*◌, ◌<◌, ◌≤◌, List, [], ◌∷◌, length, get_or, refl, ap, arith, zero-add}
 use Rattle.cn_wiring.specs.declared.end.End.{End}
 use Rattle.cn_wiring.specs.declared.end.End.TheVariants.{Balancer, Exit}
 use Rattle.cn_spec.specs.Step.{half}
-use Rattle.cn_spec.specs.Sums.{when, total_where, sum_below}
-use Rattle.cn_spec.proofs.Sums.{sum_below-same}
+use Rattle.cn_spec.specs.Sums.{total_where, sum_below}
+use Rattle.cn_spec.proofs.CallerLemmas.{half-sum, sum_below-front, sum_below-none, sum_below-pick, sum_below-same, sum_below-zero}
 use Rattle.cn_wiring.specs.Table.{Table, is_end, sum_at, Stands, IsWellFormed, IsFullFlow}
-
-pub half-sum : (n : ℕ) → half n 0 + half n 1 ≡ n
-half-sum n = omega arith
-
-pub half-mono : (m n p : ℕ) → m ≤ n → half m p ≤ half n p
-half-mono m n p h = omega arith
-
-pub sum_below-zero : (n : ℕ) → sum_below n (λ _. 0) ≡ 0
-unfolding sum_below
-sum_below-zero zero = refl
-sum_below-zero (suc n) = rw (sum_below-zero n)
-
-sum_below-add : (n : ℕ) (f g : ℕ → ℕ) → sum_below n (λ u. f u + g u) ≡ sum_below n f + sum_below n g
-unfolding sum_below
-sum_below-add zero f g = refl
-sum_below-add (suc n) f g = omega (arith, sum_below-add n f g)
-
--- one term is v more
-pub sum_below-pick : (n b v : ℕ) (g : ℕ → ℕ) → b < n → sum_below n (λ c. when (eqb b c) v + g c) ≡ v + sum_below n g
-unfolding sum_below
-sum_below-pick zero b v g h = absurd (omega arith)
-sum_below-pick (suc n) b v g h =
-    elim (cases_eq b n) [
-      | inl e ↦
-          rw (sum_below-same n (λ c. when (eqb b c) v + g c) g (λ u k. rw (ne_eqb b u (λ q. omega arith)) (zero-add (g u))), eq-eqb b n e) (omega arith)
-      | inr d ↦ rw (sum_below-pick n b v g (omega arith), ne_eqb b n d) (omega arith)
-    ]
-
--- from the front
-pub sum_below-front : (n : ℕ) (f : ℕ → ℕ) → sum_below (suc n) f ≡ f 0 + sum_below n (λ u. f (suc u))
-unfolding sum_below
-sum_below-front zero f = omega arith
-sum_below-front (suc n) f = omega (arith, sum_below-front n f)
-
-sum-none : (f : ℕ → ℕ) → sum_below 0 f ≡ 0
-unfolding sum_below
-sum-none f = refl
 
 -- each place of the list is at one balancer or at one exit
 count-twice : (t : Table) (xs : List End) (f : ℕ → ℕ) → ((u : ℕ) → u < length xs → Stands t (get_or xs u (Balancer 0)))
     → sum_below t.balancers (λ b. total_where (is_end (Balancer b)) xs f) + sum_below t.width (λ i. total_where (is_end (Exit i)) xs f) ≡ sum_below (length xs) f
 unfolding total_where
-count-twice t [] f h = omega (arith, sum_below-zero t.balancers, sum_below-zero t.width, sum-none f)
+count-twice t [] f h = omega (arith, sum_below-zero t.balancers (λ _. 0) (λ _. refl), sum_below-zero t.width (λ _. 0) (λ _. refl), sum_below-none f)
 count-twice t (Balancer c ∷ xs) f h =
     let rest = count-twice t xs (λ u. f (suc u)) (λ u k. h (suc u) (omega arith)) in
     let first = sum_below-pick t.balancers c (f 0) (λ b. total_where (is_end (Balancer b)) xs (λ u. f (suc u))) (h 0 (omega arith)) in

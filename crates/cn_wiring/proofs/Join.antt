@@ -9,7 +9,7 @@ use Rattle.cn_spec.specs.Sums.{when, total_where, times}
 use Rattle.cn_wiring.specs.Plan.{Plan, ends_at, passages, IsFlow, loose, AllLoose, IsPath, HasLevel, Each, Builds}
 use Rattle.cn_wiring.specs.InsideDraft.{IsOrderly}
 use Rattle.cn_spec.specs.declared.limits.TheConstants.{MOST_BALANCERS}
-use Rattle.cn_spec.proofs.Sums.{total_where-push, total_where-set, total_where-none}
+use Rattle.cn_spec.proofs.CallerLemmas.{total_where-none, total_where-push, total_where-set}
 
 Ends : Type 0
 Ends = List (Option ℕ)

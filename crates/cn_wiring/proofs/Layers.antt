@@ -5,8 +5,7 @@ use Rattle.std.proofs.lemmas.List.{take_more, take-append-drop, map-append, map_
 use Rattle.cn_spec.specs.Step.{half}
 use Rattle.cn_spec.specs.Sums.{times}
 use Rattle.cn_spec.specs.Networks.{layer}
-use Rattle.cn_spec.proofs.Layers.{layer_push}
-use Rattle.cn_spec.proofs.Sums.{times-append}
+use Rattle.cn_spec.proofs.CallerLemmas.{layer_push, times-append}
 use Rattle.cn_wiring.specs.Plan.{Plan, IsFlow, AllLoose, Builds}
 use Rattle.cn_wiring.proofs.Builds.{Builds-none, Builds-like, Builds-beside, Builds-loose}
 use Rattle.cn_wiring.proofs.Join.{next_wire}

@@ -6,7 +6,7 @@ use Rattle.cn_spec.specs.Sums.{when, total_where}
 use Rattle.cn_spec.specs.Sums.{Agree}
 use Rattle.cn_wiring.specs.Plan.{Plan, IsFlow, passages, ends_at, IsPath}
 use Rattle.cn_wiring.specs.InsideDraft.{IsOrderly}
-use Rattle.cn_spec.proofs.Sums.{total_where-agree}
+use Rattle.cn_spec.proofs.CallerLemmas.{total_where-agree}
 
 -- what ends at b
 at_some : (b : ℕ) (x : Option ℕ) → ends_at b x ≡ true → x ≡ Some b

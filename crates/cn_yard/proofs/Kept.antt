@@ -8,9 +8,7 @@ use Rattle.std.proofs.lemmas.List.FromFn.{length-range_with_len}
 use Rattle.std.proofs.lemmas.List.{length-append}
 use Rattle.cn_spec.specs.Sums.{once_below, times}
 use Rattle.cn_spec.specs.declared.limits.TheConstants.{MOST_TOKENS}
-use Rattle.cn_spec.proofs.EachBelow.{times-cons}
-use Rattle.cn_spec.proofs.Names.{range_more}
-use Rattle.cn_spec.proofs.Sums.{times-append, times-nil}
+use Rattle.cn_spec.proofs.CallerLemmas.{range_more, times-append, times-cons, times-nil}
 use Rattle.cn_yard.specs.declared.standing.Standing.{Standing}
 use Rattle.cn_yard.specs.declared.yard.Yard.TheInside.{Inside}
 use Rattle.cn_yard.specs.Lists.{Admits, Moves, Releases, after, first_of, on, standing}

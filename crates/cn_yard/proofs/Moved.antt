@@ -6,7 +6,7 @@ use Rattle.std.specs.List.{sum_by}
 use Rattle.std.proofs.lemmas.Bool.{cases_eq, cases_lt}
 use Rattle.std.proofs.lemmas.Bool.Decides.{nat_tests}
 use Rattle.std.proofs.lemmas.List.Sums.{sum_by-append, sum_by-cons}
-use Rattle.cn_spec.proofs.Sums.{sum_below-same}
+use Rattle.cn_spec.proofs.CallerLemmas.{sum_below-same}
 use Rattle.cn_yard.specs.declared.standing.Standing.{Standing}
 use Rattle.cn_yard.specs.Lists.{Admits, Moves, Releases, Yard, here_or, last_on, on, standing, standing_below, times_in, tokens_in, without}
 use Rattle.cn_yard.specs.InsideYard.{on_wire, place}

@@ -7,7 +7,7 @@ use Rattle.std.specs.List.{sum_by}
 use Rattle.std.proofs.lemmas.Bool.Decides.{nat_tests}
 use Rattle.std.proofs.lemmas.List.Sums.{sum_by-cons}
 use Rattle.cn_spec.specs.Sums.{sum_below}
-use Rattle.cn_spec.proofs.Sums.{sum_below-change, sum_below-zero}
+use Rattle.cn_spec.proofs.CallerLemmas.{sum_below-change, sum_below-zero}
 use Rattle.cn_yard.specs.declared.standing.Standing.{Standing}
 use Rattle.cn_yard.specs.Lists.{after, first_of, last_on, without}
 use Rattle.cn_yard.specs.InsideYard.{on_wire, place}

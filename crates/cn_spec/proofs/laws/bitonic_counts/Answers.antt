@@ -1,8 +1,8 @@
-use Rattle.cn_spec.proofs.Bitonic.{bitonic_steps, bitonic_is_step, sum_bitonic}
+use Rattle.cn_spec.proofs.Bitonic.{bitonic_shares, bitonic_is_step, sum_bitonic}
 use Rattle.cn_spec.proofs.laws.bitonic_counts.Goals as goal
 
 pub returns-clause-shares : goal.returns-clause-shares
-returns-clause-shares c = bitonic_steps
+returns-clause-shares c = bitonic_shares
 
 pub returns-clause-is_step : goal.returns-clause-is_step
 returns-clause-is_step c = bitonic_is_step

@@ -1,11 +1,11 @@
-use Rattle.cn_spec.proofs.Merger.{merge_row, merge_steps, merge_is_step, sum_merge}
+use Rattle.cn_spec.proofs.Merger.{merge_row, merge_shares, merge_is_step, sum_merge}
 use Rattle.cn_spec.proofs.laws.merger_counts.Goals as goal
 
 pub returns-clause-is_step : goal.returns-clause-is_step
 returns-clause-is_step c = merge_is_step
 
 pub returns-clause-shares : goal.returns-clause-shares
-returns-clause-shares c = merge_steps
+returns-clause-shares c = merge_shares
 
 pub returns-clause-is_row : goal.returns-clause-is_row
 returns-clause-is_row c = merge_row

@@ -1,8 +1,8 @@
-use Rattle.cn_spec.proofs.Tree.{tree_steps, tree_is_step, sum_tree}
+use Rattle.cn_spec.proofs.Tree.{tree_shares, tree_is_step, sum_tree}
 use Rattle.cn_spec.proofs.laws.tree_counts.Goals as goal
 
 pub returns-clause-shares : goal.returns-clause-shares
-returns-clause-shares c = tree_steps
+returns-clause-shares c = tree_shares
 
 pub returns-clause-is_step : goal.returns-clause-is_step
 returns-clause-is_step c = tree_is_step

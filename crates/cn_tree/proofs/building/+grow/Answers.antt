@@ -1,6 +1,6 @@
 use Rattle.std.proofs.Common.{◌≡◌, ◌<◌, ◌∙◌, length, sym, arith}
 use Rattle.std.proofs.lemmas.Result.{IfOk-weaker}
-use Rattle.cn_spec.proofs.Tree.{tree_zero}
+use Rattle.cn_spec.proofs.CallerLemmas.{tree_zero}
 use Rattle.cn_tree.proofs.Grown.{first_loose, room_for_first, room_for_root, room_for_second, second_loose, tree_built, tree_flow, tree_row}
 use Rattle.cn_tree.proofs.building.+grow.Goals as goal
 

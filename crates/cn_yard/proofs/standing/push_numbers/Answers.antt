@@ -1,7 +1,7 @@
 use Rattle.std.proofs.Common.{◌≡◌, suc, ◌+◌, ◌-◌, ◌∙◌, ◌∷◌, [], arith}
 use Rattle.std.specs.List.{range_with_len}
 use Rattle.std.proofs.lemmas.List.{append_assoc}
-use Rattle.cn_spec.proofs.Names.{range_more}
+use Rattle.cn_spec.proofs.CallerLemmas.{range_more}
 use Rattle.cn_yard.proofs.standing.push_numbers.Goals as goal
 
 pub push_reserved-requires : goal.push_reserved-requires

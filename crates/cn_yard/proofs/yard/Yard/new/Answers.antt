@@ -1,7 +1,7 @@
 use Rattle.std.proofs.Common.{◌≡◌, [], length, refl, ap, arith}
 use Rattle.std.proofs.lemmas.Bool.Decides.{nat_tests}
 use Rattle.cn_spec.specs.Sums.{once_below}
-use Rattle.cn_spec.proofs.Sums.{times-nil}
+use Rattle.cn_spec.proofs.CallerLemmas.{times-nil}
 use Rattle.cn_yard.proofs.Moved.{tokens-seen}
 use Rattle.cn_yard.proofs.Standings.{empty-seen}
 use Rattle.cn_yard.proofs.yard.Yard.new.Goals as goal

@@ -1,0 +1,86 @@
+-- How often a number stands in a list.
+use Rattle.std.proofs.Common.{◌≡◌, ℕ, zero, suc, ◌+◌, ◌<◌, ◌≤◌, ◌⊎◌, inl, inr, cond, eqb, List, [], ◌∷◌, ◌++◌, All, length, get_or, refl, ap, arith}
+use Rattle.std.specs.List.{range_with_len}
+use Rattle.std.proofs.lemmas.Bool.{cases_eq, eq-eqb, ne_eqb}
+use Rattle.cn_spec.specs.Sums.{sum_below, times, when}
+use Rattle.cn_spec.proofs.Sums.{sum_below-one, sum_below-plus, sum_below-same, sum_below-zero}
+
+pub times-nil : (w : ℕ) → times w [] ≡ 0
+unfolding times
+times-nil w = refl
+
+pub times-cons : (n x : ℕ) (xs : List ℕ) → times n (x ∷ xs) ≡ cond (eqb x n) 1 0 + times n xs
+unfolding times
+times-cons n x xs = refl
+
+pub times-append : (w : ℕ) (xs ys : List ℕ) → times w (xs ++ ys) ≡ times w xs + times w ys
+unfolding times
+times-append w [] ys = omega arith
+times-append w (x ∷ xs) ys = omega (arith, times-append w xs ys)
+
+-- ---- members and their places
+
+pub times-member : (xs : List ℕ) (i : ℕ) → i < length xs → 1 ≤ times (get_or xs i 0) xs
+unfolding times
+times-member [] i h = elim h [ ]
+times-member (x ∷ xs) zero h = rw (eq-eqb x x refl) (omega arith)
+times-member (x ∷ xs) (suc i) h = omega (arith, times-member xs i (omega arith))
+
+-- two places with one member
+pub times-two : (xs : List ℕ) (i j : ℕ) → i < j → j < length xs → get_or xs i 0 ≡ get_or xs j 0 → 2 ≤ times (get_or xs j 0) xs
+unfolding times
+times-two [] i j h k e = elim k [ ]
+times-two (x ∷ xs) i zero h k e = absurd (omega arith)
+times-two (x ∷ xs) zero (suc j) h k e = rw (eq-eqb x (get_or xs j 0) e) (omega (arith, times-member xs j (omega arith)))
+times-two (x ∷ xs) (suc i) (suc j) h k e = omega (arith, times-two xs i j (omega arith) (omega arith) e)
+
+-- a member has a place
+pub times-place : (xs : List ℕ) (w : ℕ) → 1 ≤ times w xs → (i : ℕ) × (i < length xs) × (get_or xs i 0 ≡ w)
+unfolding times
+times-place [] w h = absurd (omega arith)
+times-place (x ∷ xs) w h =
+    elim (cases_eq x w) [
+      | inl e ↦ (0, omega arith, e)
+      | inr d ↦ let r = times-place xs w (let k = rw (ne_eqb x w d) at h in omega arith) in (suc r.0, omega (arith, r.1), r.2)
+    ]
+
+-- a member parts the list
+pub times-parts : (n : ℕ) (xs : List ℕ) → 1 ≤ times n xs → (front : List ℕ) × (back : List ℕ) × (xs ≡ front ++ n ∷ back)
+times-parts n [] h = absurd (omega (arith, times-nil n))
+times-parts n (x ∷ xs) h =
+    elim (cases_eq x n) [
+      | inl e ↦ ([], xs, ap (λ k. k ∷ xs) e)
+      | inr d ↦
+          let none : ◌≡◌ {A = ℕ} (cond (eqb x n) 1 0) 0 = ap {B = ℕ} (λ q. cond q 1 0) (ne_eqb x n d) in
+          let (front, back, e) = times-parts n xs (omega (arith, times-cons n x xs)) in
+          (x ∷ front, back, ap (λ r. x ∷ r) e)
+    ]
+
+-- ---- ranges
+
+-- a number stands in a range once or not at all
+pub times-outside : (w a n : ℕ) → (w < a) ⊎ (a + n ≤ w) → times w (range_with_len a n) ≡ 0
+unfolding times
+times-outside w a zero h = refl
+times-outside w a (suc n) h =
+    rw (ne_eqb a w (λ e. elim h [ inl l ↦ omega arith | inr g ↦ omega arith ]))
+    (omega (arith, times-outside w (a + 1) n (elim h [ inl l ↦ inl (omega arith) | inr g ↦ inr (omega arith) ])))
+
+pub times-inside : (w a n : ℕ) → a ≤ w → w < a + n → times w (range_with_len a n) ≡ 1
+unfolding times
+times-inside w a zero l h = absurd (omega arith)
+times-inside w a (suc n) l h =
+    elim (cases_eq a w) [
+      | inl e ↦ rw (eq-eqb a w e) (omega (arith, times-outside w (a + 1) n (inl (omega arith))))
+      | inr d ↦ rw (ne_eqb a w d) (omega (arith, times-inside w (a + 1) n (omega arith) (omega arith)))
+    ]
+
+-- members below n, counted by what they are
+pub times-below : (n : ℕ) (es : List ℕ) → All (λ (u : ℕ). u < n) es → sum_below n (λ u. times u es) ≡ length es
+unfolding times
+times-below n [] all = sum_below-zero n (λ _. 0) (λ _. refl)
+times-below n (e ∷ es) all =
+    let one = sum_below-one n e 1 (all 0 0 (omega arith)) in
+    let rest = times-below n es (λ k d less. all (suc k) d (omega arith)) in
+    let swap = sum_below-same n (λ u. when (eqb e u) 1 + times u es) (λ u. when (eqb e u) 1 + times u es) (λ u l. refl) in
+    omega (arith, sum_below-plus n (λ u. when (eqb e u) 1) (λ u. times u es))
