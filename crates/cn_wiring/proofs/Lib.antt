@@ -1,5 +1,6 @@
 pub mod Flow
 pub mod Conserve
+pub mod Few
 pub mod Entries
 pub mod Join
 pub mod Builds
@@ -12,3 +13,4 @@ pub mod Levels
 pub mod WidthLemmas
 pub mod Finished
 pub mod Rows
+pub mod CallerLemmas

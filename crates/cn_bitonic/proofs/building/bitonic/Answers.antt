@@ -2,9 +2,7 @@ use Rattle.std.proofs.Common.{◌≡◌, ◌∙◌, length, map, ap, sym, arith}
 use Rattle.std.specs.List.{range_with_len}
 use Rattle.cn_spec.specs.Networks as net
 use Rattle.cn_wiring.specs.declared.kind.Kind.TheVariants.{Bitonic}
-use Rattle.cn_wiring.proofs.Finished.{finished_built, finished_counts, finished_deep, finished_row, finishes}
-use Rattle.cn_wiring.proofs.WidthLemmas.{same_level}
-use Rattle.cn_wiring.proofs.Rows.{entries_row, flows_row, outputs_count, outputs_each}
+use Rattle.cn_wiring.proofs.CallerLemmas.{entries_row, finished_built, finished_counts, finished_deep, finished_row, finishes, flows_row, outputs_count, outputs_each, same_level}
 use Rattle.cn_bitonic.proofs.Halves.{Counted}
 use Rattle.cn_bitonic.proofs.Whole.{place_for_all, room_for_all}
 use Rattle.cn_bitonic.proofs.building.bitonic.Goals as goal

@@ -1,8 +1,7 @@
 use Rattle.std.proofs.Common.{◌≡◌, ◌^◌, ◌∙◌, ap}
 use Rattle.cn_spec.specs.Networks as net
 use Rattle.cn_wiring.specs.declared.kind.Kind.TheVariants.{Tree}
-use Rattle.cn_wiring.proofs.Finished.{finished_built, finished_counts, finished_deep, finished_row, finishes}
-use Rattle.cn_wiring.proofs.WidthLemmas.{same_level}
+use Rattle.cn_wiring.proofs.CallerLemmas.{finished_built, finished_counts, finished_deep, finished_row, finishes, same_level}
 use Rattle.cn_tree.proofs.building.tree.Goals as goal
 
 pub of-requires-clause-counts : goal.of-requires-clause-counts
