@@ -4,7 +4,7 @@ use Rattle.std.proofs.Math.Nat.{mul-le-mul_right}
 use Rattle.cn_spec.specs.Networks.{IsRow, block, blocks, periodic}
 use Rattle.cn_spec.specs.declared.limits.TheConstants.{MOST_BALANCERS}
 use Rattle.cn_wiring.specs.Plan.{Plan, AllLoose, Builds, IsFlow}
-use Rattle.cn_wiring.proofs.Builds.{Builds-same, Builds-sized, Builds-then}
+use Rattle.cn_wiring.proofs.CallerLemmas.{Builds-same, Builds-sized, Builds-then}
 use Rattle.cn_periodic.specs.Parts.{BuildsPeriodic}
 use Rattle.cn_periodic.specs.Sizes.{balancers_of, block_balancers, depth_of}
 use Rattle.cn_periodic.proofs.BlockParts.{Gives, HasRoom, length_outs}

@@ -1,6 +1,6 @@
 -- Sums over the places of a list, and over ranges.
 use Rattle.std.proofs.Common.{◌≡◌, ◌≢◌, ℕ, zero, suc, ◌+◌, ◌<◌, ◌≤◌, Bool, true, false, cond, List, [], ◌∷◌, ◌++◌, length, map, get_or, set, sum_by, refl, sym, ◌∙◌, inl, inr, arith, eqb, ltb, zero-add}
-use Rattle.std.proofs.lemmas.Bool.{cases_eq, eq-eqb, false_from_ne_true, ne_eqb}
+use Rattle.std.proofs.lemmas.Bool.{cases_eq, eq-eqb, false_from_ne_true, le-ltb, lt-ltb, ne_eqb}
 use Rattle.std.proofs.lemmas.Bool.Decides.{nat_tests}
 use Rattle.std.proofs.lemmas.List.Sums.{sum_by-cons}
 use Rattle.cn_spec.specs.Sums.{when, total_where, sum_below}
@@ -174,6 +174,15 @@ sum_below-parts (suc n) a b f h k d = elim (cases_eq a n) [
     | inl e ↦ rw e (omega (arith, sum_below-part n a f (omega arith)))
     | inr db ↦ omega (arith, sum_below-parts n a b f (omega arith) (omega arith) d)
   ]
+]
+
+-- a sum of which the terms from m on are left out
+pub sum_below-cut : (n m : ℕ) (f : ℕ → ℕ) → m ≤ n → sum_below n (λ u. when (ltb u m) (f u)) ≡ sum_below m f
+unfolding sum_below
+sum_below-cut zero m f h = let e : m ≡ 0 = omega arith in rw e refl
+sum_below-cut (suc n) m f h = elim (cases_eq m (suc n)) [
+  | inl e ↦ rw e (sum_below-same (suc n) (λ u. when (ltb u (suc n)) (f u)) f (λ u l. rw (lt-ltb u (suc n) l) refl))
+  | inr d ↦ rw (le-ltb n m (omega arith)) (omega (arith, sum_below-cut n m f (omega arith)))
 ]
 
 module _ {X : Type 0} where

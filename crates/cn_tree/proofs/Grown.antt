@@ -6,7 +6,7 @@ use Rattle.cn_spec.specs.Step.{half}
 use Rattle.cn_spec.specs.declared.limits.TheConstants.{MOST_BALANCERS}
 use Rattle.cn_spec.proofs.CallerLemmas.{length_interleave, map_interleave, power_below, times-append, times_interleave, tree_turn}
 use Rattle.cn_wiring.specs.Plan.{Plan, AllLoose, Builds, IsFlow}
-use Rattle.cn_wiring.proofs.Builds.{Builds-beside, Builds-giving, Builds-loose, Builds-loose_with, Builds-sized, Builds-then}
+use Rattle.cn_wiring.proofs.CallerLemmas.{Builds-beside, Builds-giving, Builds-loose, Builds-loose_with, Builds-sized, Builds-then}
 
 -- ---- interleaved rows
 

@@ -60,6 +60,21 @@ impl Draft {
         })
     }
 
+    /// How many entries there are. They are wires 0 to `entries - 1`.
+    pub fn entries(&self) -> u32
+        ensures { result ≡ self.now.entries }
+    {
+        self.entries
+    }
+
+    /// How many balancers have been made.
+    pub fn balancers(&self) -> u32
+        ensures value { result ≡ self.now.balancers }
+        ensures limit { self.now.balancers ≤ MOST_BALANCERS }
+    {
+        self.balancers
+    }
+
     /// A flow exists for all inputs and is the only one, and there is a path to each wire.
     ///
     /// It does nothing: its contract is the law.

@@ -1,5 +1,5 @@
 use Rattle.std.proofs.Common.{◌∙◌, arith}
-use Rattle.cn_wiring.proofs.Rows.{all_ok}
+use Rattle.cn_wiring.proofs.CallerLemmas.{all_ok}
 use Rattle.cn_bitonic.proofs.MergerParts.{first_asked, gives_all, gives_one, inner_mergers, last_asked, second_asked}
 use Rattle.cn_bitonic.proofs.merging.+merger.Goals as goal
 

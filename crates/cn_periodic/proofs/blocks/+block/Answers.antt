@@ -1,5 +1,5 @@
 use Rattle.std.proofs.Common.{◌∙◌, arith}
-use Rattle.cn_wiring.proofs.Rows.{all_ok}
+use Rattle.cn_wiring.proofs.CallerLemmas.{all_ok}
 use Rattle.cn_periodic.proofs.BlockParts.{first_asked, gives_all, gives_one, inner_blocks, last_asked, second_asked, two_asked}
 use Rattle.cn_periodic.proofs.blocks.+block.Goals as goal
 
