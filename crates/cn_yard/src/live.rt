@@ -9,21 +9,21 @@ use crate::token::Token;
 
 /// A live record: a token, its client, and the wire on which it stands.
 #[derive(Clone, Copy, Debug)]
-pub(crate) struct Standing {
+pub(crate) struct LiveRecord {
     pub(crate) token: Token,
     pub(crate) client: u64,
     pub(crate) wire: u32,
 }
 
 /// The place of a token in the list.
-fn find(list: &[Standing], token: Token) -> Option<usize>
+fn find(list: &[LiveRecord], token: Token) -> Option<usize>
     ensures { result ≡ position (λ s. nat_eq token s.token) list.now }
 {
     list.iter().position(|standing| standing.token == token)
 }
 
 /// The place of a token in the list, or the list's length.
-pub(crate) fn place_of(list: &[Standing], token: Token) -> usize
+pub(crate) fn place_of(list: &[LiveRecord], token: Token) -> usize
     ensures { result ≡ place token list.now }
 {
     find(list, token).unwrap_or(list.len())
@@ -31,7 +31,7 @@ pub(crate) fn place_of(list: &[Standing], token: Token) -> usize
 
 /// The first token of the list that stands on a wire.
 #[tactic(auto, unfolding(crate::specs::InsideYard::on_wire))]
-pub(crate) fn first_on(list: &[Standing], wire: u32) -> Option<Token>
+pub(crate) fn first_on(list: &[LiveRecord], wire: u32) -> Option<Token>
     ensures { result ≡ first_of (on_wire wire list.now) }
 {
     for standing in list {
@@ -43,14 +43,14 @@ pub(crate) fn first_on(list: &[Standing], wire: u32) -> Option<Token>
 }
 
 /// How many tokens of the list stand on a wire.
-pub(crate) fn count_on(list: &[Standing], wire: u32) -> usize
+pub(crate) fn count_on(list: &[LiveRecord], wire: u32) -> usize
     ensures { result ≡ count_by (λ s. s.wire == wire) list.now }
 {
     list.iter().filter(|standing| standing.wire == wire).count()
 }
 
 /// The least wire on which a token of the list stands.
-pub(crate) fn least_wire(list: &[Standing]) -> Option<u32>
+pub(crate) fn least_wire(list: &[LiveRecord]) -> Option<u32>
     ensures { MatchOption result (length list.now ≡ 0) (λ wire. Any (λ s. s.wire ≡ wire) list.now × All (λ s. wire ≤ s.wire) list.now) }
 {
     list.iter().map(|standing| standing.wire).min()

@@ -1,6 +1,6 @@
 use Rattle.std.proofs.Common.{◌≡◌, ◌+◌, ◌-◌, ◌++◌, vec_capacity, vec_len}
 use Rattle.std.specs.List.{range_with_len}
-use Rattle.cn_yard.proofs.standing.push_numbers.Given as goal
+use Rattle.cn_yard.proofs.live.push_numbers.Given as goal
 
 abbrev pub invariant-loop-number : goal.invariant-loop-number
 invariant-loop-number l = record {

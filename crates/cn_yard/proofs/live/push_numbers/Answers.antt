@@ -2,7 +2,7 @@ use Rattle.std.proofs.Common.{◌≡◌, suc, ◌+◌, ◌-◌, ◌∙◌, ◌�
 use Rattle.std.specs.List.{range_with_len}
 use Rattle.std.proofs.lemmas.List.{append_assoc}
 use Rattle.cn_spec.proofs.CallerLemmas.{range_more}
-use Rattle.cn_yard.proofs.standing.push_numbers.Goals as goal
+use Rattle.cn_yard.proofs.live.push_numbers.Goals as goal
 
 pub push_reserved-requires : goal.push_reserved-requires
 push_reserved-requires c =
