@@ -4,7 +4,7 @@ ghost use Rattle.std.specs.Prelude.{◌≡◌, ℕ, ◌+◌, ◌<◌, ◌≤◌,
 ghost use Rattle.cn_spec.specs.declared.limits.TheConstants.{MOST_CLIENTS};
 ghost use Rattle.cn_core.specs.Calls.{entered_reply, stepped_reply};
 ghost use Rattle.cn_core.specs.History.{enters_of, inside_of};
-ghost use Rattle.cn_core.specs.Ledger.{IsSound};
+ghost use Rattle.cn_ledger.specs.Ledger.{IsSound};
 ghost use Rattle.cn_core.specs.State.{inside_in, start};
 ghost use Rattle.cn_core.specs.StateLedger.{ledger_of};
 ghost use Rattle.cn_core.specs.Tight.{IsBoundedState};

@@ -3,10 +3,10 @@ use Rattle.std.proofs.Common.{◌≡◌, ℕ, ◌+◌, ◌%◌, ◌≤◌, arith
 use Rattle.cn_spec.specs.Sums.{sum_below, total_where}
 use Rattle.cn_wiring.specs.declared.end.End.TheVariants.{Balancer, Exit}
 use Rattle.cn_wiring.specs.Table.{output_wire}
-use Rattle.cn_core.specs.Ledger.{Ledger, IsSound, IsQuiet, all_entered, empty}
-use Rattle.cn_core.specs.Events.{Enters, Passes, Leaves, one_at}
-use Rattle.cn_core.proofs.Happening.{standing-le-on}
-use Rattle.cn_core.specs.WorkedNetworks.{two_wide}
+use Rattle.cn_ledger.specs.Ledger.{Ledger, IsSound, IsQuiet, all_entered, empty}
+use Rattle.cn_ledger.specs.Events.{Enters, Passes, Leaves, one_at}
+use Rattle.cn_ledger.proofs.Happening.{standing-le-on}
+use Rattle.cn_ledger.specs.WorkedNetworks.{two_wide}
 
 module _ (a b c d e f : Ledger) (ea : Enters two_wide empty a 7 0) (eb : Enters two_wide a b 9 1) (pc : Passes two_wide b c 9 1 0) (pd : Passes two_wide c d 7 0 0) (le : Leaves two_wide d e 9 2 0) (lf : Leaves two_wide e f 7 3 1) where
   b0 : b.count (Balancer 0) ≡ 0

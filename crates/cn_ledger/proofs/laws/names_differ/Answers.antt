@@ -1,5 +1,5 @@
-use Rattle.cn_core.proofs.Bound.{names-differ, granted-once}
-use Rattle.cn_core.proofs.laws.names_differ.Goals as goal
+use Rattle.cn_ledger.proofs.Bound.{names-differ, granted-once}
+use Rattle.cn_ledger.proofs.laws.names_differ.Goals as goal
 
 pub returns : goal.returns
 returns c = record {

@@ -5,7 +5,7 @@ use Rattle.cn_spec.specs.Sums.{when}
 use Rattle.cn_wiring.specs.declared.end.End.{End}
 use Rattle.cn_wiring.specs.declared.end.End.TheVariants.{Balancer, Exit}
 use Rattle.cn_wiring.specs.Table.{Table, end_of, is_end, output_wire}
-use Rattle.cn_core.specs.Ledger.{Ledger}
+use Rattle.cn_ledger.specs.Ledger.{Ledger}
 
 -- 1 at w, and otherwise 0
 abbrev pub one_at : ℕ → ℕ → ℕ

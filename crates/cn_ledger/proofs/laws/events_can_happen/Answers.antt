@@ -1,5 +1,5 @@
-use Rattle.cn_core.proofs.Happening.{entering, passing, leaving}
-use Rattle.cn_core.proofs.laws.events_can_happen.Goals as goal
+use Rattle.cn_ledger.proofs.Happening.{entering, passing, leaving}
+use Rattle.cn_ledger.proofs.laws.events_can_happen.Goals as goal
 
 pub returns : goal.returns
 returns z = record {

@@ -1,5 +1,5 @@
-use Rattle.cn_core.proofs.Worked.{two_clients, lost, from_nowhere}
-use Rattle.cn_core.proofs.laws.worked_ledgers.Goals as goal
+use Rattle.cn_ledger.proofs.Worked.{two_clients, lost, from_nowhere}
+use Rattle.cn_ledger.proofs.laws.worked_ledgers.Goals as goal
 
 pub returns-clause-two_clients : goal.returns-clause-two_clients
 returns-clause-two_clients z = two_clients

@@ -1,29 +1,20 @@
 -- The ledger after an event, where the event can happen.
-use Rattle.std.proofs.Common.{◌≡◌, ℕ, zero, suc, ◌+◌, ◌-◌, ◌%◌, ◌<◌, ◌≤◌, ◌&&◌, inl, inr, Bool, true, false, cond, eqb, length, arith, refl, ap}
-use Rattle.std.proofs.lemmas.Bool.{cases_eq, cases_lt, eq-eqb, ne_eqb}
+use Rattle.std.proofs.Common.{◌≡◌, ℕ, suc, ◌+◌, ◌-◌, ◌%◌, ◌<◌, ◌≤◌, ◌&&◌, inl, inr, Bool, true, false, cond, eqb, length, arith, refl, ap}
+use Rattle.std.proofs.lemmas.Bool.{cases_eq, eq-eqb, ne_eqb}
 use Rattle.std.proofs.lemmas.Bool.Decides.{nat_tests}
 use Rattle.cn_spec.specs.Step.{name_of}
-use Rattle.cn_spec.specs.Sums.{when, sum_below}
+use Rattle.cn_spec.specs.Sums.{when}
+use Rattle.cn_spec.proofs.CallerLemmas.{sum_below-part}
 use Rattle.cn_wiring.specs.declared.end.End.{End}
 use Rattle.cn_wiring.specs.declared.end.End.TheVariants.{Balancer, Exit}
 use Rattle.cn_wiring.specs.Table.{Table, is_end, end_of, output_wire}
-use Rattle.cn_core.specs.Ledger.{Ledger, IsSound}
-use Rattle.cn_core.specs.Events.{Enters, Goes, Passes, Leaves, one_at, one_number}
-
--- a term of a sum is no more than the sum
-term-le-sum : (n c : ℕ) (f : ℕ → ℕ) → c < n → f c ≤ sum_below n f
-unfolding sum_below
-term-le-sum zero c f h = elim h [ ]
-term-le-sum (suc n) c f h =
-    elim (cases_lt c n) [
-      | inl l ↦ omega (arith, term-le-sum n c f l)
-      | inr l ↦ let e : c ≡ n = omega arith in rw e (omega arith)
-    ]
+use Rattle.cn_ledger.specs.Ledger.{Ledger, IsSound}
+use Rattle.cn_ledger.specs.Events.{Enters, Goes, Passes, Leaves, one_at, one_number}
 
 pub standing-le-on : (t : Table) (l : Ledger) → IsSound t l → (u c : ℕ) → l.standing u c ≤ l.on u
 standing-le-on t l sound u c =
     let (n, sums) = sound.clients u in
-    omega (arith, sums (n + suc c) (omega arith), term-le-sum (n + suc c) c (l.standing u) (omega arith))
+    omega (arith, sums (n + suc c) (omega arith), sum_below-part (n + suc c) c (l.standing u) (omega arith))
 
 pub entering : (t : Table) (old : Ledger) (c u : ℕ) → u < t.entries → (new : Ledger) × Enters t old new c u
 entering t old c u h = (

@@ -1,5 +1,5 @@
-use Rattle.cn_core.proofs.EventLemmas.{sound-enters, sound-passes, sound-leaves}
-use Rattle.cn_core.proofs.laws.events_keep_ledgers_sound.Goals as goal
+use Rattle.cn_ledger.proofs.EventLemmas.{sound-enters, sound-passes, sound-leaves}
+use Rattle.cn_ledger.proofs.laws.events_keep_ledgers_sound.Goals as goal
 
 pub returns : goal.returns
 returns z = record {

@@ -1,5 +1,5 @@
-use Rattle.cn_core.proofs.EventLemmas.{passes-stood, leaves-stood}
-use Rattle.cn_core.proofs.laws.who_goes_stood_there.Goals as goal
+use Rattle.cn_ledger.proofs.EventLemmas.{passes-stood, leaves-stood}
+use Rattle.cn_ledger.proofs.laws.who_goes_stood_there.Goals as goal
 
 pub returns : goal.returns
 returns z = record {

@@ -13,7 +13,7 @@ use Rattle.cn_wiring.specs.Table.{Table, is_end, sum_at, Stands, IsWellFormed, I
 use Rattle.cn_wiring.specs.Network.{Counts}
 use Rattle.cn_wiring.proofs.Flow.{older, full_flow-unique, full_flow-exists}
 use Rattle.cn_wiring.proofs.Conserve.{full_flow-sum}
-use Rattle.cn_core.specs.Ledger.{Ledger, put, IsSound, all_entered, IsQuiet, IsBounded, IsTight, times_given}
+use Rattle.cn_ledger.specs.Ledger.{Ledger, put, IsSound, all_entered, IsQuiet, IsBounded, IsTight, times_given}
 
 pub put-entry : (t : Table) (l : Ledger) (u : ℕ) → u < t.entries → put t l u ≡ l.entered u
 put-entry t l u h = rw (lt-ltb u t.entries h)

@@ -6,7 +6,7 @@ use Rattle.cn_spec.proofs.CallerLemmas.{sum_below-zero, total_where-agree, total
 use Rattle.cn_wiring.specs.declared.end.End.{End}
 use Rattle.cn_wiring.specs.declared.end.End.TheVariants.{Balancer, Exit}
 use Rattle.cn_wiring.specs.Table.{Table, is_end}
-use Rattle.cn_core.specs.Ledger.{Ledger, IsSound, put, empty}
+use Rattle.cn_ledger.specs.Ledger.{Ledger, IsSound, put, empty}
 
 -- nothing came in, went by, stands there or was given
 pub record IsNothing (l : Ledger) : Type 0 where

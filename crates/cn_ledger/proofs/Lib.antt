@@ -1,0 +1,6 @@
+pub mod Bound
+pub mod EventLemmas
+pub mod EmptyLedger
+pub mod Happening
+pub mod Worked
+pub mod CallerLemmas

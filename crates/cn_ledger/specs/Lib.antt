@@ -1,0 +1,3 @@
+pub mod Ledger
+pub mod Events
+pub mod WorkedNetworks
