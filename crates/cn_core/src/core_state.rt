@@ -254,14 +254,8 @@ impl<'a> Core<'a> {
         ensures network { self.new.network ≡ self.old.network }
     {
         match event {
-            Event::Enter { client, entry } => match self.enter(client, entry) {
-                Ok(()) => Reply::Entered,
-                Err(fault) => Reply::EnterRefused(fault),
-            },
-            Event::Step { client } => match self.step(client) {
-                Ok(moved) => Reply::Stepped(moved),
-                Err(fault) => Reply::StepRefused(fault),
-            },
+            Event::Enter { client, entry } => self.enter(client, entry).into(),
+            Event::Step { client } => self.step(client).into(),
         }
     }
 

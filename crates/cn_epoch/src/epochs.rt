@@ -14,7 +14,7 @@ ghost use Rattle.cn_epoch.specs.Turns.{AgreesAfter};
 use crate::answer::{Answer, TurnFault};
 use crate::command::Command;
 use crate::record::EpochRecord;
-use cn_core::{Core, EnterFault, Moved, Reply, StepFault};
+use cn_core::{Core, EnterFault, Moved, StepFault};
 use cn_wiring::Counting;
 use std::alloc::{AllocError, Global};
 use std::hash::RandomState;
@@ -170,18 +170,11 @@ impl<'a> Epochs<'a> {
         ensures number { self.new.number ≤ self.old.number + 1 }
     {
         match command {
-            Command::Enter { client, entry } => match self.enter(client, entry) {
-                Ok(()) => Answer::Replied(Reply::Entered),
-                Err(fault) => Answer::Replied(Reply::EnterRefused(fault)),
-            },
-            Command::Step { client } => match self.step(client) {
-                Ok(moved) => Answer::Replied(Reply::Stepped(moved)),
-                Err(fault) => Answer::Replied(Reply::StepRefused(fault)),
-            },
-            Command::Turn => match self.turn() {
-                Ok(ended) => Answer::Turned(ended),
-                Err(fault) => Answer::TurnRefused(fault),
-            },
+            Command::Enter { client, entry } => {
+                Answer::Replied(self.enter(client, entry).into())
+            }
+            Command::Step { client } => Answer::Replied(self.step(client).into()),
+            Command::Turn => self.turn().into(),
         }
     }
 
