@@ -7,3 +7,7 @@ pub use Rattle.cn_ledger.proofs.EventLemmas.{eqb-sym, is_end-sym, sound-enters, 
 pub use Rattle.cn_ledger.proofs.Happening.{entering, leaving, passing, standing-le-on}
 -- where nobody has come
 pub use Rattle.cn_ledger.proofs.EmptyLedger.{IsNothing, sound-empty, sound-nothing}
+-- what entered, and where it is
+pub use Rattle.cn_ledger.proofs.Kept.{counts-few, nobody-lost}
+-- lists of grants
+pub use Rattle.cn_ledger.proofs.Listed.{names-each}

@@ -1,3 +1,4 @@
 pub mod Ledger
 pub mod Events
+pub mod Grants
 pub mod WorkedNetworks

@@ -1,16 +1,33 @@
 //! The laws of ledgers. Each function does nothing: its contract is the law, and a caller opens it by a call.
 
-ghost use Rattle.std.specs.Prelude.{◌≡◌, ℕ, ◌<◌, ◌≤◌, length};
+ghost use Rattle.std.specs.Prelude.{◌≡◌, ℕ, ◌+◌, ◌<◌, ◌≤◌, List, length, map};
+ghost use Rattle.cn_spec.specs.Step.{IsEachBelow};
+ghost use Rattle.cn_spec.specs.Sums.{sum_below};
 ghost use Rattle.cn_wiring.specs.Network.{Network, IsNetwork};
-ghost use Rattle.cn_wiring.specs.Table.{Table, end_of};
+ghost use Rattle.cn_wiring.specs.Table.{Stands, Table, end_of};
+ghost use Rattle.cn_wiring.specs.declared.end.End.{End};
 ghost use Rattle.cn_wiring.specs.declared.end.End.TheVariants.{Balancer, Exit};
 ghost use Rattle.cn_ledger.specs.Events.{Enters, Passes, Leaves, one_at};
+ghost use Rattle.cn_ledger.specs.Grants.{Grant, ListsGrants};
 ghost use Rattle.cn_ledger.specs.Ledger.{Ledger, IsSound, IsQuiet, IsBounded, IsTight, all_entered, empty};
 ghost use Rattle.cn_ledger.specs.WorkedNetworks.{two_wide};
 
 /// In a sound ledger no count is more than its share of what entered, and each name is below the number that entered.
 pub fn sound_ledgers_are_bounded()
     ensures { (network : Network) (l : Ledger) → IsNetwork network → IsSound network.table l → IsBounded network.table l }
+{}
+
+/// In a sound ledger each count, of a balancer or an exit, is at most what entered.
+pub fn counts_are_few()
+    ensures { (network : Network) (l : Ledger) → IsNetwork network → IsSound network.table l
+        → (end : End) → Stands network.table end → l.count end ≤ all_entered network.table l }
+{}
+
+/// In a sound ledger those that left and those that stand on wires are all that entered.
+pub fn nobody_is_lost()
+    ensures { (network : Network) (l : Ledger) → IsNetwork network → IsSound network.table l
+        → sum_below network.table.width (λ i. l.count (Exit i)) + sum_below (length network.table.ends) l.on
+        ≡ all_entered network.table l }
 {}
 
 /// In a sound ledger two grants of one name are one grant, and it was made once.
@@ -23,6 +40,17 @@ pub fn names_differ()
 /// below that, each granted once.
 pub fn quiet_ledgers_are_tight()
     ensures { (network : Network) (l : Ledger) → IsNetwork network → IsSound network.table l → IsQuiet network.table l → IsTight network.table l }
+{}
+
+/// From one tight ledger to a later one, a list of the grants made between has the names from 0 to one less than the
+/// number of those that entered between, each once, where a name is told less the number that had entered before.
+/// A client may be in the list more than once.
+pub fn listed_grants_are_tight()
+    ensures { (network : Network) (old new : Ledger) (grants : List Grant) (k : ℕ) → IsNetwork network
+        → IsTight network.table old → IsTight network.table new
+        → all_entered network.table new ≡ all_entered network.table old + k
+        → ListsGrants (all_entered network.table old) old new grants
+        → IsEachBelow k (map (λ grant. grant.name) grants) }
 {}
 
 /// Each event keeps a ledger sound.
