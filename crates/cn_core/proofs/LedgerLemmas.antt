@@ -19,8 +19,8 @@ use Rattle.cn_core.specs.declared.event.Event.TheVariants.{Enter, Step}
 use Rattle.cn_core.specs.State.{State, IsState, position_in, with_position, position_past, past, after_enter, after_step, start}
 use Rattle.cn_core.specs.History.{position_after, steps_before, end_at, moved_past, Agrees}
 use Rattle.cn_core.specs.Passages.{passages_of, times_passed, with_passage}
-use Rattle.cn_core.specs.Ledger.{IsSound}
-use Rattle.cn_core.specs.Events.{Enters, Passes, Leaves, one_number}
+use Rattle.cn_ledger.specs.Ledger.{IsSound}
+use Rattle.cn_ledger.specs.Events.{Enters, Passes, Leaves, one_number}
 use Rattle.cn_core.specs.declared.reply.Moved.{Moved}
 use Rattle.cn_core.specs.declared.reply.Reply.TheVariants.{Stepped}
 use Rattle.cn_core.specs.Calls.{IsMoveOf, MovesLedger, StepsTo}
@@ -29,8 +29,8 @@ use Rattle.cn_core.proofs.Placed.{count-push, count-set, count_pair-push, count_
 use Rattle.cn_core.proofs.StateLemmas.{one_more_at, stands-at, zero_at, IsState-start, IsState-after_enter, IsState-after_step}
 use Rattle.cn_core.proofs.HistoryLemmas.{past-after_step, Agrees-start, Agrees-after_enter, Agrees-after_step}
 use Rattle.cn_core.proofs.PassageLemmas.{sound_passages}
-use Rattle.cn_core.proofs.EmptyLedger.{sound-nothing}
-use Rattle.cn_core.proofs.EventLemmas.{eqb-sym, is_end-sym, sound-enters, sound-passes, sound-leaves}
+use Rattle.cn_ledger.proofs.CallerLemmas.{sound-nothing}
+use Rattle.cn_ledger.proofs.CallerLemmas.{eqb-sym, is_end-sym, sound-enters, sound-passes, sound-leaves}
 
 and-sym : (a b : Bool) → (a && b) ≡ (b && a)
 and-sym true true = refl

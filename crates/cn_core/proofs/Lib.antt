@@ -1,7 +1,3 @@
-pub mod Bound
-pub mod EventLemmas
-pub mod EmptyLedger
-pub mod Happening
 pub mod Placed
 pub mod Clientele
 pub mod StateLemmas
@@ -11,4 +7,3 @@ pub mod LedgerLemmas
 pub mod TightLemmas
 pub mod Holders
 pub mod OneHolder
-pub mod Worked

@@ -11,10 +11,10 @@ use Rattle.cn_spec.proofs.CallerLemmas.{each_below, name_of-exit_of, times-cons,
 use Rattle.cn_core.specs.declared.position.Position.{Position}
 use Rattle.cn_core.specs.declared.position.Position.TheVariants.{On, Holds}
 use Rattle.cn_core.specs.State.{State, IsState, position_in, name_at, name_in, times_in, is_inside, is_named, is_past, inside_in}
-use Rattle.cn_core.specs.Ledger.{IsQuiet, times_given}
+use Rattle.cn_ledger.specs.Ledger.{IsQuiet, times_given}
 use Rattle.cn_core.specs.StateLedger.{is_on, holds, granted_in, ledger_of, IsCore}
 use Rattle.cn_core.specs.Tight.{grants_in, IsTightState, IsBoundedState}
-use Rattle.cn_core.proofs.Bound.{bounded, tight, names-differ}
+use Rattle.cn_ledger.proofs.CallerLemmas.{bounded, tight, names-differ}
 use Rattle.cn_core.proofs.Placed.{count_pair-found}
 use Rattle.cn_core.proofs.HistoryLemmas.{inside_or_named}
 

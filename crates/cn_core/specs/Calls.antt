@@ -15,8 +15,8 @@ use Rattle.cn_core.specs.declared.reply.Reply.{Reply}
 use Rattle.cn_core.specs.declared.reply.Reply.TheVariants.{Entered, EnterRefused, Stepped, StepRefused}
 use Rattle.cn_core.specs.declared.event.Event.{Event}
 use Rattle.cn_core.specs.declared.event.Event.TheVariants.{Enter, Step}
-use Rattle.cn_core.specs.Ledger.{Ledger}
-use Rattle.cn_core.specs.Events.{Enters, Passes, Leaves}
+use Rattle.cn_ledger.specs.Ledger.{Ledger}
+use Rattle.cn_ledger.specs.Events.{Enters, Passes, Leaves}
 use Rattle.cn_core.specs.StateLedger.{ledger_of}
 use Rattle.cn_core.specs.State.{State, position_in, past, after_enter, after_step}
 use Rattle.cn_core.specs.History.{Agrees, MayAnswer, MayAnswerAll, grown, grown_by, moved_past}

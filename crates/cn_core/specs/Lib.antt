@@ -1,11 +1,8 @@
-pub mod Ledger
-pub mod Events
 pub mod State
 pub mod History
 pub mod Passages
 pub mod StateLedger
 pub mod Tight
 pub mod Calls
-pub mod WorkedNetworks
 pub mod InsideClients
 pub mod InsideCore

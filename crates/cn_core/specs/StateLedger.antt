@@ -11,7 +11,7 @@ use Rattle.cn_core.specs.declared.position.Position.TheVariants.{On, Holds}
 use Rattle.cn_core.specs.State.{State, IsState, past}
 use Rattle.cn_core.specs.History.{Agrees}
 use Rattle.cn_core.specs.Passages.{passages_of, times_passed}
-use Rattle.cn_core.specs.Ledger.{Ledger, IsSound}
+use Rattle.cn_ledger.specs.Ledger.{Ledger, IsSound}
 
 -- does the token stand on this wire?
 abbrev pub is_on : ℕ → Position → Bool

@@ -51,7 +51,7 @@ impl Clients {
     {
         Ok(Clients {
             yard: Yard::new(alloc, wires)?,
-            names: Names::new(alloc, state),
+            names: Names::new(alloc, state)?,
         })
     }
 

@@ -69,7 +69,7 @@ impl<'a> Core<'a> {
     ghost use Rattle.cn_core.specs.declared.event.Event.TheVariants.{Enter, Step};
     ghost use Rattle.cn_core.specs.State.{start, name_in, inside_in};
     ghost use Rattle.cn_core.specs.History.{Agrees, enters_of, inside_of};
-    ghost use Rattle.cn_core.specs.Ledger.{IsSound};
+    ghost use Rattle.cn_ledger.specs.Ledger.{IsSound};
     ghost use Rattle.cn_core.specs.StateLedger.{ledger_of};
     ghost use Rattle.cn_core.specs.Tight.{IsBoundedState, IsTightState, ListsHolders};
     ghost use Rattle.cn_core.specs.Calls.{AnswersByHistory, EntersLedger, EntersTo, IsLedgerEvent, MovesLedger, RunsByHistory, RunsTo, StepsTo, TakesTo, entered_reply, stepped_reply};
@@ -254,14 +254,8 @@ impl<'a> Core<'a> {
         ensures network { self.new.network ≡ self.old.network }
     {
         match event {
-            Event::Enter { client, entry } => match self.enter(client, entry) {
-                Ok(()) => Reply::Entered,
-                Err(fault) => Reply::EnterRefused(fault),
-            },
-            Event::Step { client } => match self.step(client) {
-                Ok(moved) => Reply::Stepped(moved),
-                Err(fault) => Reply::StepRefused(fault),
-            },
+            Event::Enter { client, entry } => self.enter(client, entry).into(),
+            Event::Step { client } => self.step(client).into(),
         }
     }
 

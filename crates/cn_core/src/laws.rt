@@ -1,83 +1,20 @@
-//! The laws of ledgers and of histories. Each function does nothing: its contract is the law, and a caller opens it by a call.
+//! The laws of histories. Each function does nothing: its contract is the law, and a caller opens it by a call.
 
-ghost use Rattle.std.specs.Prelude.{◌≡◌, ℕ, ◌<◌, ◌≤◌, length, List, ◌∷◌, [], Some};
+ghost use Rattle.std.specs.Prelude.{◌≡◌, ℕ, List, ◌∷◌, [], Some};
 ghost use Rattle.cn_wiring.specs.Network.{Network, IsNetwork};
-ghost use Rattle.cn_wiring.specs.Table.{Table, end_of};
-ghost use Rattle.cn_wiring.specs.declared.end.End.TheVariants.{Balancer, Exit};
-ghost use Rattle.cn_core.specs.Events.{Enters, Passes, Leaves, one_at};
-ghost use Rattle.cn_core.specs.Ledger.{Ledger, IsSound, IsQuiet, IsBounded, IsTight, all_entered, empty};
+ghost use Rattle.cn_ledger.specs.WorkedNetworks.{tree_of_four, two_wide};
 ghost use Rattle.cn_core.specs.History.{IsHistory, answers_to, enters_of, inside_of, position_after};
 ghost use Rattle.cn_core.specs.declared.event.Event.{Event};
 ghost use Rattle.cn_core.specs.declared.position.Position.TheVariants.{Holds};
-ghost use Rattle.cn_core.specs.WorkedNetworks.{tree_of_four, two_wide};
 ghost use Rattle.cn_core.specs.declared.event.Event.TheVariants.{Enter, Step};
 ghost use Rattle.cn_core.specs.declared.reply.EnterFault.TheVariants.{AlreadyIn, NoSuchEntry};
 ghost use Rattle.cn_core.specs.declared.reply.Moved.TheVariants.{On as Passed, Out};
 ghost use Rattle.cn_core.specs.declared.reply.Reply.TheVariants.{Entered, EnterRefused, StepRefused, Stepped};
 ghost use Rattle.cn_core.specs.declared.reply.StepFault.TheVariants.{HasName, Stranger};
 
-/// In a sound ledger no count is more than its share of what entered, and each name is below the number that entered.
-pub fn sound_ledgers_are_bounded()
-    ensures { (network : Network) (l : Ledger) → IsNetwork network → IsSound network.table l → IsBounded network.table l }
-{}
-
-/// In a sound ledger two grants of one name are one grant, and it was made once.
-pub fn names_differ()
-    ensures differ { (network : Network) (l : Ledger) → IsNetwork network → IsSound network.table l → (c d i j u v a b : ℕ) → 1 ≤ l.granted c i u a → 1 ≤ l.granted d j v b → a ≡ b → (c ≡ d) × (i ≡ j) × (u ≡ v) }
-    ensures once { (network : Network) (l : Ledger) → IsNetwork network → IsSound network.table l → (c i v name : ℕ) → 1 ≤ l.granted c i v name → l.granted c i v name ≡ 1 }
-{}
-
-/// In a sound ledger where nobody is inside, the counts are the shares of what entered, and the names are the numbers
-/// below that, each granted once.
-pub fn quiet_ledgers_are_tight()
-    ensures { (network : Network) (l : Ledger) → IsNetwork network → IsSound network.table l → IsQuiet network.table l → IsTight network.table l }
-{}
-
-/// Each event keeps a ledger sound.
-pub fn events_keep_ledgers_sound()
-    ensures enters { (network : Network) (old new : Ledger) (c u : ℕ) → IsNetwork network → Enters network.table old new c u → IsSound network.table old → IsSound network.table new }
-    ensures passes { (network : Network) (old new : Ledger) (c u b : ℕ) → IsNetwork network → Passes network.table old new c u b → IsSound network.table old → IsSound network.table new }
-    ensures leaves { (network : Network) (old new : Ledger) (c u i : ℕ) → IsNetwork network → Leaves network.table old new c u i → IsSound network.table old → IsSound network.table new }
-{}
-
-/// Who passes a balancer or leaves stood on the wire from which it goes.
-pub fn who_goes_stood_there()
-    ensures passes { (network : Network) (old new : Ledger) (c u b : ℕ) → IsNetwork network → Passes network.table old new c u b → (1 ≤ old.standing u c) × (1 ≤ old.on u) }
-    ensures leaves { (network : Network) (old new : Ledger) (c u i : ℕ) → IsNetwork network → Leaves network.table old new c u i → (1 ≤ old.standing u c) × (1 ≤ old.on u) }
-{}
-
-/// On a sound ledger a client stands on a wire no more often than anybody does.
-pub fn who_stands_is_inside()
-    ensures { (network : Network) (l : Ledger) → IsNetwork network → IsSound network.table l → (u c : ℕ) → l.standing u c ≤ l.on u }
-{}
-
-/// A client can come in by each entry; and on a sound ledger a client that stands on a wire can go by the wire's end.
-pub fn events_can_happen()
-    ensures enters { (network : Network) (old : Ledger) (c u : ℕ) → IsNetwork network → u < network.table.entries → (new : Ledger) × Enters network.table old new c u }
-    ensures passes { (network : Network) (old : Ledger) (c u b : ℕ) → IsNetwork network → IsSound network.table old → u < length network.table.ends → end_of network.table u ≡ Balancer b → 1 ≤ old.standing u c → (new : Ledger) × Passes network.table old new c u b }
-    ensures leaves { (network : Network) (old : Ledger) (c u i : ℕ) → IsNetwork network → IsSound network.table old → u < length network.table.ends → end_of network.table u ≡ Exit i → 1 ≤ old.standing u c → (new : Ledger) × Leaves network.table old new c u i }
-{}
-
-/// Where nobody has come, the ledger is sound.
-pub fn empty_ledgers_are_sound()
-    ensures { (table : Table) → IsSound table empty }
-{}
-
 /// After any history two clients that hold one name are one client.
 pub fn a_name_has_one_holder()
     ensures { (network : Network) (history : List Event) (c d name : ℕ) → IsNetwork network → position_after network.table history c ≡ Some (Holds name) → position_after network.table history d ≡ Some (Holds name) → c ≡ d }
-{}
-
-/// Worked ledgers of a network with two entries, one balancer and two exits: client 7 comes in before client 9, which
-/// passes and leaves first and so gets name 0; and ledgers that are not sound.
-pub fn worked_ledgers()
-    ensures two_clients { (first second third fourth fifth last : Ledger) → Enters two_wide empty first 7 0 → Enters two_wide first second 9 1 → Passes two_wide second third 9 1 0 → Passes two_wide third fourth 7 0 0 → Leaves two_wide fourth fifth 9 2 0 → Leaves two_wide fifth last 7 3 1
-        → IsQuiet two_wide last × (all_entered two_wide last ≡ 2) × (last.count (Exit 0) ≡ 1) × (last.count (Exit 1) ≡ 1) × (last.granted 9 0 0 0 ≡ 1) × (last.granted 7 1 0 1 ≡ 1) }
-    ensures no_lost_client { IsSound two_wide (record empty { entered = one_at 0 }) → ⊥ }
-    ensures no_visit_without_client { (l : Ledger) → IsSound two_wide l → 1 ≤ l.count (Exit 0) → ((c : ℕ) → l.granted c 0 0 0 ≡ 0) → ⊥ }
-    ensures no_name_twice { (l : Ledger) → IsSound two_wide l → 1 ≤ l.granted 7 0 0 0 → 1 ≤ l.granted 9 0 0 0 → ⊥ }
-    ensures no_name_of_another_exit { (l : Ledger) → IsSound two_wide l → 1 ≤ l.granted 7 1 0 0 → ⊥ }
-    ensures no_client_from_nowhere { (l : Ledger) → IsSound two_wide l → l.on 2 ≡ 0 → 1 ≤ l.standing 2 7 → ⊥ }
 {}
 
 /// Worked answers: two clients on a balancer, where the second overtakes the first; every refusal but those of a full epoch

@@ -1,5 +1,8 @@
 //! What a core answers.
 
+ghost use Rattle.std.specs.Prelude.{◌≡◌};
+ghost use Rattle.cn_core.specs.Calls.{entered_reply, stepped_reply};
+
 /// Where a step led.
 #[derive(Clone, Copy, Debug, PartialEq, Eq)]
 pub enum Moved {
@@ -50,4 +53,26 @@ pub enum Reply {
     Stepped(Moved),
     /// The step is refused.
     StepRefused(StepFault),
+}
+
+impl From<Result<(), EnterFault>> for Reply {
+    ghost from_gives = { λ entered reply. reply ≡ entered_reply entered };
+
+    fn from(entered: Result<(), EnterFault>) -> Reply {
+        match entered {
+            Ok(()) => Reply::Entered,
+            Err(fault) => Reply::EnterRefused(fault),
+        }
+    }
+}
+
+impl From<Result<Moved, StepFault>> for Reply {
+    ghost from_gives = { λ stepped reply. reply ≡ stepped_reply stepped };
+
+    fn from(stepped: Result<Moved, StepFault>) -> Reply {
+        match stepped {
+            Ok(moved) => Reply::Stepped(moved),
+            Err(fault) => Reply::StepRefused(fault),
+        }
+    }
 }

@@ -19,8 +19,8 @@ use Rattle.cn_epoch.specs.declared.answer.TurnFault.TheVariants.{Memory}
 use Rattle.cn_epoch.specs.declared.command.Command.{Command}
 use Rattle.cn_epoch.specs.declared.command.Command.TheVariants.{Turn}
 use Rattle.cn_epoch.specs.declared.record.EpochRecord.{EpochRecord}
-use Rattle.cn_epoch.specs.Calls.{AnswersAfter, GoTo, GoesTo, RunAfter}
-use Rattle.cn_epoch.specs.Turns.{AgreesAfter, Epochs, IsRecordOf, IsTightRecord}
+use Rattle.cn_epoch.specs.Calls.{AnswersByHistory, RunsTo, TakesTo, RunsByHistory}
+use Rattle.cn_epoch.specs.Turns.{Agrees, Epochs, IsRecordOf, IsTightRecord}
 
 -- ---- a turn
 
@@ -51,7 +51,7 @@ told-tight old r told tight = record {
       omega arith;
 }
 
-pub told-record : (old : Epochs) (r : EpochRecord) → Told old r → (turns : ℕ) (history : List Event) → AgreesAfter old turns history → IsRecordOf old.core.network.table turns history r
+pub told-record : (old : Epochs) (r : EpochRecord) → Told old r → (turns : ℕ) (history : List Event) → Agrees old turns history → IsRecordOf old.core.network.table turns history r
 told-record old r told turns history agrees = record {
   number = told.number ∙ agrees.number;
   clients = told.clients ∙ agrees.core.total;
@@ -65,28 +65,28 @@ told-record old r told turns history agrees = record {
 }
 
 pub turned-after : (old new : Epochs) (r : EpochRecord) → Told old r → inside_in old.core ≡ 0 → new ≡ record { number = old.number + 1; core = start old.core.network }
-    → AnswersAfter old Turn (Turned r) new
+    → AnswersByHistory old Turn (Turned r) new
 turned-after old new r told quiet is turns history agrees = (
   (sym (inside-by_history old.core history agrees.core) ∙ quiet, told-record old r told turns history agrees),
   rw is (record { number = ap (λ (n : ℕ). n + 1) agrees.number; core = Agrees-start old.core.network }),
 )
 
-pub memory-after : (old : Epochs) → inside_in old.core ≡ 0 → AnswersAfter old Turn (TurnRefused Memory) old
+pub memory-after : (old : Epochs) → inside_in old.core ≡ 0 → AnswersByHistory old Turn (TurnRefused Memory) old
 memory-after old quiet turns history agrees = (sym (inside-by_history old.core history agrees.core) ∙ quiet, agrees)
 
 -- ---- commands one after another
 
-pub run-at : (old mid new : Epochs) (cs : List Command) (i : ℕ) (d : Command) (a : Answer) (rest : List Answer) → i < length cs
-    → AnswersAfter old (get_or cs i d) a mid → mid.core.network ≡ old.core.network → RunAfter mid (drop (i + 1) cs) rest new → RunAfter old (drop i cs) (a ∷ rest) new
-run-at old mid new cs i d a rest within answered same runs =
+pub runs-at : (old mid new : Epochs) (cs : List Command) (i : ℕ) (d : Command) (a : Answer) (rest : List Answer) → i < length cs
+    → AnswersByHistory old (get_or cs i d) a mid → mid.core.network ≡ old.core.network → RunsByHistory mid (drop (i + 1) cs) rest new → RunsByHistory old (drop i cs) (a ∷ rest) new
+runs-at old mid new cs i d a rest within answered same runs =
     rw (drop_more cs i d within) (λ turns history agrees.
     let (may, after) = answered turns history agrees in
     let (others, last) = runs _ _ after in
     ((may, rw same at others), last))
 
-pub go_to-at : (old mid new : Epochs) (cs : List Command) (i : ℕ) (d : Command) (a : Answer) (rest : List Answer) → i < length cs
-    → GoesTo old (get_or cs i d) a mid → GoTo mid (drop (i + 1) cs) rest new → GoTo old (drop i cs) (a ∷ rest) new
-go_to-at old mid new cs i d a rest within goes runs = rw (drop_more cs i d within) (mid, goes, runs)
+pub runs_to-at : (old mid new : Epochs) (cs : List Command) (i : ℕ) (d : Command) (a : Answer) (rest : List Answer) → i < length cs
+    → TakesTo old (get_or cs i d) a mid → RunsTo mid (drop (i + 1) cs) rest new → RunsTo old (drop i cs) (a ∷ rest) new
+runs_to-at old mid new cs i d a rest within goes runs = rw (drop_more cs i d within) (mid, goes, runs)
 
 -- an accepted step is one event on the ledger
 pub moved-event : (old new : State) (client : ℕ) (r : Result Moved StepFault) → IfOk r (λ moved. MovesLedger old client moved new) → IsLedgerEvent old (StepEvent client) (stepped_reply r) new

@@ -7,7 +7,7 @@ use Rattle.cn_wiring.specs.Network.{Network, IsNetwork}
 use Rattle.cn_core.specs.declared.event.Event.{Event}
 use Rattle.cn_core.specs.declared.event.Event.TheVariants.{Enter as EnterEvent, Step as StepEvent}
 use Rattle.cn_core.specs.declared.reply.Reply.{Reply}
-use Rattle.cn_core.specs.History.{MayAnswer, grown}
+use Rattle.cn_core.specs.History as core
 use Rattle.cn_core.proofs.OneHolder.{one-holder}
 use Rattle.cn_epoch.specs.declared.answer.Answer.{Answer}
 use Rattle.cn_epoch.specs.declared.answer.Answer.TheVariants.{Replied, Turned, TurnRefused}
@@ -15,7 +15,7 @@ use Rattle.cn_epoch.specs.declared.answer.TurnFault.TheVariants.{NotQuiet, Memor
 use Rattle.cn_epoch.specs.declared.command.Command.{Command}
 use Rattle.cn_epoch.specs.declared.command.Command.TheVariants.{Enter, Step, Turn}
 use Rattle.cn_epoch.specs.declared.record.EpochRecord.{EpochRecord}
-use Rattle.cn_epoch.specs.Turns.{HadMemory, IsRecordOf, IsSameAnswer, IsSameRecord, MayAnswerEach, MayAnswerTo, MayReply, MayTurn, cut_by, history_after, replied_to, turns_after}
+use Rattle.cn_epoch.specs.Turns.{HadMemory, IsRecordOf, IsSameAnswer, IsSameRecord, MayAnswerAll, MayAnswer, MayReply, MayTurn, cut_by, grown, replied_to, turns_after}
 
 module _ (network : Network) (is : IsNetwork network) where
   pub one-record : (turns : ℕ) (history : List Event) (r s : EpochRecord) → IsRecordOf network.table turns history r → IsRecordOf network.table turns history s → IsSameRecord r s
@@ -30,7 +30,7 @@ module _ (network : Network) (is : IsNetwork network) where
         one-holder network is history (slice_index r.holders.items name) (slice_index s.holders.items name) name (one.holders name (omega arith)) (other.holders name (omega arith)));
   }
 
-  one-reply : (history : List Event) (event : Event) (reply other : Reply) → MayAnswer network.table history event reply → MayAnswer network.table history event other
+  one-reply : (history : List Event) (event : Event) (reply other : Reply) → core.MayAnswer network.table history event reply → core.MayAnswer network.table history event other
       → HadMemory (Replied reply) → HadMemory (Replied other) → reply ≡ other
   one-reply history event reply other (inl e) (inl f) told also = e ∙ sym f
   one-reply history event reply other (inr (accepted, memory)) may told also = absurd (told memory)
@@ -55,7 +55,7 @@ module _ (network : Network) (is : IsNetwork network) where
   same-turn turns history (Replied reply) other may might told also = absurd may
   same-turn turns history answer (Replied reply) may might told also = absurd might
 
-  same-answer : (turns : ℕ) (history : List Event) (command : Command) (answer other : Answer) → MayAnswerTo network.table turns history command answer → MayAnswerTo network.table turns history command other
+  same-answer : (turns : ℕ) (history : List Event) (command : Command) (answer other : Answer) → MayAnswer network.table turns history command answer → MayAnswer network.table turns history command other
       → HadMemory answer → HadMemory other → IsSameAnswer answer other
   same-answer turns history (Enter client entry) answer other may might told also = same-reply history (EnterEvent client entry) answer other may might told also
   same-answer turns history (Step client) answer other may might told also = same-reply history (StepEvent client) answer other may might told also
@@ -64,7 +64,7 @@ module _ (network : Network) (is : IsNetwork network) where
   -- answers that tell the same leave the same
   left-same : (turns : ℕ) (history : List Event) (event : Event) (answer other : Answer) → IsSameAnswer answer other
       → (turns_after turns answer ≡ turns_after turns other) × (replied_to history event answer ≡ replied_to history event other) × (cut_by history answer ≡ cut_by history other)
-  left-same turns history event (Replied reply) (Replied other) same = (refl, ap (grown history event) same, refl)
+  left-same turns history event (Replied reply) (Replied other) same = (refl, ap (core.grown history event) same, refl)
   left-same turns history event (Turned r) (Turned s) same = (refl, refl, refl)
   left-same turns history event (TurnRefused fault) (TurnRefused other) same = (refl, refl, refl)
   left-same turns history event (Replied reply) (Turned s) same = absurd same
@@ -77,19 +77,19 @@ module _ (network : Network) (is : IsNetwork network) where
   pub turns-same : (turns : ℕ) (answer other : Answer) → IsSameAnswer answer other → turns_after turns answer ≡ turns_after turns other
   turns-same turns answer other same = (left-same turns [] (StepEvent 0) answer other same).0
 
-  pub history-same : (history : List Event) (command : Command) (answer other : Answer) → IsSameAnswer answer other → history_after history command answer ≡ history_after history command other
+  pub history-same : (history : List Event) (command : Command) (answer other : Answer) → IsSameAnswer answer other → grown history command answer ≡ grown history command other
   history-same history (Enter client entry) answer other same = (left-same 0 history (EnterEvent client entry) answer other same).1
   history-same history (Step client) answer other same = (left-same 0 history (StepEvent client) answer other same).1
   history-same history Turn answer other same = (left-same 0 history (StepEvent 0) answer other same).2
 
   pub one-list : (turns : ℕ) (history : List Event) (commands : List Command) (answers others : List Answer)
-      → MayAnswerEach network.table turns history commands answers → MayAnswerEach network.table turns history commands others → All HadMemory answers → All HadMemory others
+      → MayAnswerAll network.table turns history commands answers → MayAnswerAll network.table turns history commands others → All HadMemory answers → All HadMemory others
       → AllZip IsSameAnswer answers others
   one-list turns history [] [] [] may might told also = tt
   one-list turns history (command ∷ commands) (answer ∷ answers) (other ∷ others) (may, rest) (might, remaining) told also =
       let same = same-answer turns history command answer other may might (All-head HadMemory answer answers told) (All-head HadMemory other others also) in (
         same,
-        one-list (turns_after turns answer) (history_after history command answer) commands answers others rest
+        one-list (turns_after turns answer) (grown history command answer) commands answers others rest
             (rw (turns-same turns answer other same, history-same history command answer other same) remaining) (All-tail HadMemory answer answers told) (All-tail HadMemory other others also),
       )
   one-list turns history [] [] (other ∷ others) may might told also = absurd might

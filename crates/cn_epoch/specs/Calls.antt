@@ -2,7 +2,8 @@
 use Rattle.std.specs.Prelude.{◌≡◌, ℕ, ◌+◌, ◌≤◌, List, [], ◌∷◌, Result, Ok, Err, length}
 use Rattle.cn_core.specs.declared.event.Event.{Event}
 use Rattle.cn_core.specs.declared.event.Event.TheVariants.{Enter as EnterEvent, Step as StepEvent}
-use Rattle.cn_core.specs.Calls.{IsLedgerEvent, TakesTo}
+use Rattle.cn_core.specs.Calls as core
+use Rattle.cn_core.specs.Calls.{IsLedgerEvent}
 use Rattle.cn_core.specs.State.{inside_in, start}
 use Rattle.cn_epoch.specs.declared.answer.Answer.{Answer}
 use Rattle.cn_epoch.specs.declared.answer.Answer.TheVariants.{Replied, Turned, TurnRefused}
@@ -11,7 +12,7 @@ use Rattle.cn_epoch.specs.declared.answer.TurnFault.TheVariants.{NotQuiet, Memor
 use Rattle.cn_epoch.specs.declared.command.Command.{Command}
 use Rattle.cn_epoch.specs.declared.command.Command.TheVariants.{Enter, Step, Turn}
 use Rattle.cn_epoch.specs.declared.record.EpochRecord.{EpochRecord}
-use Rattle.cn_epoch.specs.Turns.{AgreesAfter, Epochs, IsTightRecord, MayAnswerEach, MayAnswerTo, history_after, history_by, turns_after, turns_by}
+use Rattle.cn_epoch.specs.Turns.{Agrees, Epochs, IsTightRecord, MayAnswerAll, MayAnswer, grown, grown_by, turns_after, turns_by}
 
 -- the answer of a turn
 abbrev pub turned_answer : Result EpochRecord TurnFault → Answer
@@ -29,33 +30,33 @@ TurnsTo old (Replied reply) new = ⊥
 
 -- an event with this answer does so, and is one event on the ledger where it is accepted; no epoch ends
 abbrev pub RepliesTo : Epochs → Event → Answer → Epochs → Type 0
-RepliesTo old event (Replied reply) new = TakesTo old.core event reply new.core × IsLedgerEvent old.core event reply new.core × (new.number ≡ old.number)
+RepliesTo old event (Replied reply) new = core.TakesTo old.core event reply new.core × IsLedgerEvent old.core event reply new.core × (new.number ≡ old.number)
 RepliesTo old event (Turned r) new = ⊥
 RepliesTo old event (TurnRefused fault) new = ⊥
 
 -- a command with this answer takes the old epochs to the new ones
-abbrev pub GoesTo : Epochs → Command → Answer → Epochs → Type 0
-GoesTo old (Enter client entry) answer new = RepliesTo old (EnterEvent client entry) answer new
-GoesTo old (Step client) answer new = RepliesTo old (StepEvent client) answer new
-GoesTo old Turn answer new = TurnsTo old answer new
+abbrev pub TakesTo : Epochs → Command → Answer → Epochs → Type 0
+TakesTo old (Enter client entry) answer new = RepliesTo old (EnterEvent client entry) answer new
+TakesTo old (Step client) answer new = RepliesTo old (StepEvent client) answer new
+TakesTo old Turn answer new = TurnsTo old answer new
 
 -- by every number of turns and every history that the old epochs agree with this is an answer to the command, and the new
 -- epochs agree with those after it
-abbrev pub AnswersAfter : Epochs → Command → Answer → Epochs → Type 0
-AnswersAfter old command answer new =
-    (turns : ℕ) (history : List Event) → AgreesAfter old turns history
-    → MayAnswerTo old.core.network.table turns history command answer × AgreesAfter new (turns_after turns answer) (history_after history command answer)
+abbrev pub AnswersByHistory : Epochs → Command → Answer → Epochs → Type 0
+AnswersByHistory old command answer new =
+    (turns : ℕ) (history : List Event) → Agrees old turns history
+    → MayAnswer old.core.network.table turns history command answer × Agrees new (turns_after turns answer) (grown history command answer)
 
 -- commands with these answers take the old epochs to the new ones, one after another
-abbrev pub GoTo : Epochs → List Command → List Answer → Epochs → Type 0
-GoTo old [] [] new = new ≡ old
-GoTo old (command ∷ commands) (answer ∷ answers) new = (mid : Epochs) × GoesTo old command answer mid × GoTo mid commands answers new
-GoTo old [] (answer ∷ answers) new = ⊥
-GoTo old (command ∷ commands) [] new = ⊥
+abbrev pub RunsTo : Epochs → List Command → List Answer → Epochs → Type 0
+RunsTo old [] [] new = new ≡ old
+RunsTo old (command ∷ commands) (answer ∷ answers) new = (mid : Epochs) × TakesTo old command answer mid × RunsTo mid commands answers new
+RunsTo old [] (answer ∷ answers) new = ⊥
+RunsTo old (command ∷ commands) [] new = ⊥
 
 -- by every number of turns and every history that the old epochs agree with these are answers to the commands, and the new
 -- epochs agree with those after them
-abbrev pub RunAfter : Epochs → List Command → List Answer → Epochs → Type 0
-RunAfter old commands answers new =
-    (turns : ℕ) (history : List Event) → AgreesAfter old turns history
-    → MayAnswerEach old.core.network.table turns history commands answers × AgreesAfter new (turns_by turns answers) (history_by history commands answers)
+abbrev pub RunsByHistory : Epochs → List Command → List Answer → Epochs → Type 0
+RunsByHistory old commands answers new =
+    (turns : ℕ) (history : List Event) → Agrees old turns history
+    → MayAnswerAll old.core.network.table turns history commands answers × Agrees new (turns_by turns answers) (grown_by history commands answers)

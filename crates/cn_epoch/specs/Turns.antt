@@ -8,7 +8,8 @@ use Rattle.cn_core.specs.declared.event.Event.TheVariants.{Enter as EnterEvent, 
 use Rattle.cn_core.specs.declared.position.Position.TheVariants.{Holds}
 use Rattle.cn_core.specs.declared.reply.EnterFault.TheVariants.{Memory as EnterMemory}
 use Rattle.cn_core.specs.declared.reply.Reply.TheVariants.{EnterRefused}
-use Rattle.cn_core.specs.History.{Agrees, MayAnswer, enters_of, grown, inside_of, position_after, steps_before}
+use Rattle.cn_core.specs.History as core
+use Rattle.cn_core.specs.History.{enters_of, inside_of, position_after, steps_before}
 use Rattle.cn_core.specs.State.{State}
 use Rattle.cn_epoch.specs.declared.answer.Answer.{Answer}
 use Rattle.cn_epoch.specs.declared.answer.Answer.TheVariants.{Replied, Turned, TurnRefused}
@@ -23,9 +24,9 @@ pub record Epochs : Type 0 where
   pub core : State
 
 -- epochs agree with a number of turns done and the history since the last of them
-pub record AgreesAfter (epochs : Epochs) (turns : ℕ) (history : List Event) : Type 0 where
+pub record Agrees (epochs : Epochs) (turns : ℕ) (history : List Event) : Type 0 where
   pub number : epochs.number ≡ turns
-  pub core : Agrees epochs.core history
+  pub core : core.Agrees epochs.core history
 
 -- the record of a history: its enters, its leaves by exit, and the client of each name
 pub record IsRecordOf (table : Table) (turns : ℕ) (history : List Event) (r : EpochRecord) : Type 0 where
@@ -74,15 +75,15 @@ MayTurn table turns history (Replied reply) = ⊥
 
 -- epochs may answer an event by what a core may reply to it
 abbrev pub MayReply : Table → List Event → Event → Answer → Type 0
-MayReply table history event (Replied reply) = MayAnswer table history event reply
+MayReply table history event (Replied reply) = core.MayAnswer table history event reply
 MayReply table history event (Turned r) = ⊥
 MayReply table history event (TurnRefused fault) = ⊥
 
 -- the answers that a command may have
-abbrev pub MayAnswerTo : Table → ℕ → List Event → Command → Answer → Type 0
-MayAnswerTo table turns history (Enter client entry) answer = MayReply table history (EnterEvent client entry) answer
-MayAnswerTo table turns history (Step client) answer = MayReply table history (StepEvent client) answer
-MayAnswerTo table turns history Turn answer = MayTurn table turns history answer
+abbrev pub MayAnswer : Table → ℕ → List Event → Command → Answer → Type 0
+MayAnswer table turns history (Enter client entry) answer = MayReply table history (EnterEvent client entry) answer
+MayAnswer table turns history (Step client) answer = MayReply table history (StepEvent client) answer
+MayAnswer table turns history Turn answer = MayTurn table turns history answer
 
 -- the number of turns done, and the history, after an answer: a turn that is done cuts the history
 abbrev pub turns_after : ℕ → Answer → ℕ
@@ -91,7 +92,7 @@ turns_after turns (Replied reply) = turns
 turns_after turns (TurnRefused fault) = turns
 
 abbrev pub replied_to : List Event → Event → Answer → List Event
-replied_to history event (Replied reply) = grown history event reply
+replied_to history event (Replied reply) = core.grown history event reply
 replied_to history event (Turned r) = history
 replied_to history event (TurnRefused fault) = history
 
@@ -100,25 +101,25 @@ cut_by history (Turned r) = []
 cut_by history (Replied reply) = history
 cut_by history (TurnRefused fault) = history
 
-abbrev pub history_after : List Event → Command → Answer → List Event
-history_after history (Enter client entry) answer = replied_to history (EnterEvent client entry) answer
-history_after history (Step client) answer = replied_to history (StepEvent client) answer
-history_after history Turn answer = cut_by history answer
+abbrev pub grown : List Event → Command → Answer → List Event
+grown history (Enter client entry) answer = replied_to history (EnterEvent client entry) answer
+grown history (Step client) answer = replied_to history (StepEvent client) answer
+grown history Turn answer = cut_by history answer
 
 -- epochs may give these answers to these commands, one after another
-abbrev pub MayAnswerEach : Table → ℕ → List Event → List Command → List Answer → Type 0
-MayAnswerEach table turns history [] [] = Unit {0}
-MayAnswerEach table turns history (command ∷ commands) (answer ∷ answers) =
-    MayAnswerTo table turns history command answer × MayAnswerEach table (turns_after turns answer) (history_after history command answer) commands answers
-MayAnswerEach table turns history [] (answer ∷ answers) = ⊥
-MayAnswerEach table turns history (command ∷ commands) [] = ⊥
+abbrev pub MayAnswerAll : Table → ℕ → List Event → List Command → List Answer → Type 0
+MayAnswerAll table turns history [] [] = Unit {0}
+MayAnswerAll table turns history (command ∷ commands) (answer ∷ answers) =
+    MayAnswer table turns history command answer × MayAnswerAll table (turns_after turns answer) (grown history command answer) commands answers
+MayAnswerAll table turns history [] (answer ∷ answers) = ⊥
+MayAnswerAll table turns history (command ∷ commands) [] = ⊥
 
 -- the number of turns done, and the history, once the commands have these answers
 abbrev pub turns_by : ℕ → List Answer → ℕ
 turns_by turns [] = turns
 turns_by turns (answer ∷ answers) = turns_by (turns_after turns answer) answers
 
-abbrev pub history_by : List Event → List Command → List Answer → List Event
-history_by history [] answers = history
-history_by history (command ∷ commands) [] = history
-history_by history (command ∷ commands) (answer ∷ answers) = history_by (history_after history command answer) commands answers
+abbrev pub grown_by : List Event → List Command → List Answer → List Event
+grown_by history [] answers = history
+grown_by history (command ∷ commands) [] = history
+grown_by history (command ∷ commands) (answer ∷ answers) = grown_by (grown history command answer) commands answers

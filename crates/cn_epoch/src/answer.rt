@@ -1,5 +1,8 @@
 //! What epochs answer.
 
+ghost use Rattle.std.specs.Prelude.{◌≡◌};
+ghost use Rattle.cn_epoch.specs.Calls.{turned_answer};
+
 use crate::record::EpochRecord;
 use cn_core::Reply;
 
@@ -21,4 +24,15 @@ pub enum Answer {
     Turned(EpochRecord),
     /// The turn is refused.
     TurnRefused(TurnFault),
+}
+
+impl From<Result<EpochRecord, TurnFault>> for Answer {
+    ghost from_gives = { λ turned answer. answer ≡ turned_answer turned };
+
+    fn from(turned: Result<EpochRecord, TurnFault>) -> Answer {
+        match turned {
+            Ok(ended) => Answer::Turned(ended),
+            Err(fault) => Answer::TurnRefused(fault),
+        }
+    }
 }

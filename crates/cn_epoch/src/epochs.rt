@@ -4,17 +4,17 @@ ghost use Rattle.std.specs.Prelude.{◌≡◌, ℕ, ◌+◌, ◌<◌, ◌≤◌,
 ghost use Rattle.cn_spec.specs.declared.limits.TheConstants.{MOST_CLIENTS};
 ghost use Rattle.cn_core.specs.Calls.{entered_reply, stepped_reply};
 ghost use Rattle.cn_core.specs.History.{enters_of, inside_of};
-ghost use Rattle.cn_core.specs.Ledger.{IsSound};
+ghost use Rattle.cn_ledger.specs.Ledger.{IsSound};
 ghost use Rattle.cn_core.specs.State.{inside_in, start};
 ghost use Rattle.cn_core.specs.StateLedger.{ledger_of};
 ghost use Rattle.cn_core.specs.Tight.{IsBoundedState};
-ghost use Rattle.cn_epoch.specs.Calls.{AnswersAfter, GoTo, GoesTo, RepliesTo, RunAfter, TurnsTo, turned_answer};
-ghost use Rattle.cn_epoch.specs.Turns.{AgreesAfter};
+ghost use Rattle.cn_epoch.specs.Calls.{AnswersByHistory, RunsTo, TakesTo, RepliesTo, RunsByHistory, TurnsTo, turned_answer};
+ghost use Rattle.cn_epoch.specs.Turns.{Agrees};
 
 use crate::answer::{Answer, TurnFault};
 use crate::command::Command;
 use crate::record::EpochRecord;
-use cn_core::{Core, EnterFault, Moved, Reply, StepFault};
+use cn_core::{Core, EnterFault, Moved, StepFault};
 use cn_wiring::Counting;
 use std::alloc::{AllocError, Global};
 use std::hash::RandomState;
@@ -65,7 +65,7 @@ impl<'a> Epochs<'a> {
     /// `AllocError` where the counts or the wires get no memory.
     pub fn new(alloc: Global, network: &'a Counting, state: RandomState) -> Result<Self, AllocError>
         ensures start { IfOk result (λ epochs. epochs ≡ record { number = 0; core = start network.now }) }
-        ensures history { IfOk result (λ epochs. AgreesAfter epochs 0 []) }
+        ensures history { IfOk result (λ epochs. Agrees epochs 0 []) }
     {
         Ok(Epochs {
             alloc,
@@ -78,7 +78,7 @@ impl<'a> Epochs<'a> {
     /// How many epochs have ended.
     pub fn number(&self) -> u64
         ensures value { result ≡ self.now.number }
-        ensures by_turns { (turns : ℕ) (history : List Event) → AgreesAfter self.now turns history → result ≡ turns }
+        ensures by_turns { (turns : ℕ) (history : List Event) → Agrees self.now turns history → result ≡ turns }
     {
         self.number
     }
@@ -87,9 +87,9 @@ impl<'a> Epochs<'a> {
     pub fn entered(&self) -> u64
         ensures value { result ≡ length self.now.core.clients }
         ensures few { result ≤ MOST_CLIENTS }
-        ensures by_history { (turns : ℕ) (history : List Event) → AgreesAfter self.now turns history → result ≡ enters_of history }
-        ensures reached { (history : List Event) × AgreesAfter self.now self.now.number history }
-        ensures sound { (turns : ℕ) (history : List Event) → AgreesAfter self.now turns history → IsSound self.now.core.network.table (ledger_of self.now.core history) }
+        ensures by_history { (turns : ℕ) (history : List Event) → Agrees self.now turns history → result ≡ enters_of history }
+        ensures reached { (history : List Event) × Agrees self.now self.now.number history }
+        ensures sound { (turns : ℕ) (history : List Event) → Agrees self.now turns history → IsSound self.now.core.network.table (ledger_of self.now.core history) }
         ensures bounded { IsBoundedState self.now.core }
     {
         self.core.entered()
@@ -98,7 +98,7 @@ impl<'a> Epochs<'a> {
     /// How many clients are inside: they entered the epoch that stands open, and hold no name.
     pub fn inside(&self) -> u64
         ensures value { result ≡ inside_in self.now.core }
-        ensures by_history { (turns : ℕ) (history : List Event) → AgreesAfter self.now turns history → result ≡ inside_of self.now.core.network.table history }
+        ensures by_history { (turns : ℕ) (history : List Event) → Agrees self.now turns history → result ≡ inside_of self.now.core.network.table history }
     {
         self.core.inside()
     }
@@ -109,7 +109,7 @@ impl<'a> Epochs<'a> {
     /// As there.
     pub fn enter(&mut self, client: u64, entry: u64) -> Result<(), EnterFault>
         ensures event { RepliesTo self.old (EnterEvent client entry) (Replied (entered_reply result)) self.new }
-        ensures history { AnswersAfter self.old (Enter client entry) (Replied (entered_reply result)) self.new }
+        ensures history { AnswersByHistory self.old (Enter client entry) (Replied (entered_reply result)) self.new }
         ensures network { self.new.core.network ≡ self.old.core.network }
     {
         self.core.enter(client, entry)
@@ -121,7 +121,7 @@ impl<'a> Epochs<'a> {
     /// As there.
     pub fn step(&mut self, client: u64) -> Result<Moved, StepFault>
         ensures event { RepliesTo self.old (StepEvent client) (Replied (stepped_reply result)) self.new }
-        ensures history { AnswersAfter self.old (Step client) (Replied (stepped_reply result)) self.new }
+        ensures history { AnswersByHistory self.old (Step client) (Replied (stepped_reply result)) self.new }
         ensures network { self.new.core.network ≡ self.old.core.network }
     {
         self.core.step(client)
@@ -138,7 +138,7 @@ impl<'a> Epochs<'a> {
     pub fn turn(&mut self) -> Result<EpochRecord, TurnFault>
         requires { self.old.number + 1 < 2 ^ 64 }
         ensures event { TurnsTo self.old (turned_answer result) self.new }
-        ensures history { AnswersAfter self.old Turn (turned_answer result) self.new }
+        ensures history { AnswersByHistory self.old Turn (turned_answer result) self.new }
         ensures network { self.new.core.network ≡ self.old.core.network }
     {
         if !self.core.is_quiet() {
@@ -164,24 +164,17 @@ impl<'a> Epochs<'a> {
     /// The answer to one command.
     fn answer(&mut self, command: Command) -> Answer
         requires { self.old.number + 1 < 2 ^ 64 }
-        ensures event { GoesTo self.old command result self.new }
-        ensures history { AnswersAfter self.old command result self.new }
+        ensures event { TakesTo self.old command result self.new }
+        ensures history { AnswersByHistory self.old command result self.new }
         ensures network { self.new.core.network ≡ self.old.core.network }
         ensures number { self.new.number ≤ self.old.number + 1 }
     {
         match command {
-            Command::Enter { client, entry } => match self.enter(client, entry) {
-                Ok(()) => Answer::Replied(Reply::Entered),
-                Err(fault) => Answer::Replied(Reply::EnterRefused(fault)),
-            },
-            Command::Step { client } => match self.step(client) {
-                Ok(moved) => Answer::Replied(Reply::Stepped(moved)),
-                Err(fault) => Answer::Replied(Reply::StepRefused(fault)),
-            },
-            Command::Turn => match self.turn() {
-                Ok(ended) => Answer::Turned(ended),
-                Err(fault) => Answer::TurnRefused(fault),
-            },
+            Command::Enter { client, entry } => {
+                Answer::Replied(self.enter(client, entry).into())
+            }
+            Command::Step { client } => Answer::Replied(self.step(client).into()),
+            Command::Turn => self.turn().into(),
         }
     }
 
@@ -195,8 +188,8 @@ impl<'a> Epochs<'a> {
     /// is answered like the others.
     pub fn run(&mut self, commands: &[Command]) -> Result<Vec<Answer>, AllocError>
         requires { self.old.number + length commands.now < 2 ^ 64 }
-        ensures events { IfOk result (λ answers. GoTo self.old commands.now answers.items self.new) }
-        ensures history { IfOk result (λ answers. RunAfter self.old commands.now answers.items self.new) }
+        ensures events { IfOk result (λ answers. RunsTo self.old commands.now answers.items self.new) }
+        ensures history { IfOk result (λ answers. RunsByHistory self.old commands.now answers.items self.new) }
         ensures network { self.new.core.network ≡ self.old.core.network }
         ensures refused { OnErr result (self.new ≡ self.old) }
     {

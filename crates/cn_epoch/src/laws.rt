@@ -7,7 +7,7 @@ ghost use Rattle.cn_core.specs.declared.event.Event.{Event};
 ghost use Rattle.cn_epoch.specs.declared.answer.Answer.{Answer};
 ghost use Rattle.cn_epoch.specs.declared.command.Command.{Command};
 ghost use Rattle.cn_epoch.specs.declared.record.EpochRecord.{EpochRecord};
-ghost use Rattle.cn_epoch.specs.Turns.{HadMemory, IsRecordOf, IsSameAnswer, IsSameRecord, MayAnswerEach};
+ghost use Rattle.cn_epoch.specs.Turns.{HadMemory, IsRecordOf, IsSameAnswer, IsSameRecord, MayAnswerAll};
 
 /// A history has one record: it fixes each count, and the holder of each name.
 pub fn a_history_has_one_record()
@@ -16,6 +16,6 @@ pub fn a_history_has_one_record()
 
 /// Want of memory apart, commands have one list of answers.
 pub fn commands_have_one_list_of_answers()
-    ensures { (network : Network) (turns : ℕ) (history : List Event) (commands : List Command) (answers others : List Answer) → IsNetwork network → MayAnswerEach network.table turns history commands answers → MayAnswerEach network.table turns history commands others
+    ensures { (network : Network) (turns : ℕ) (history : List Event) (commands : List Command) (answers others : List Answer) → IsNetwork network → MayAnswerAll network.table turns history commands answers → MayAnswerAll network.table turns history commands others
         → All HadMemory answers → All HadMemory others → AllZip IsSameAnswer answers others }
 {}

@@ -51,13 +51,16 @@ impl Model for Names {
 }
 
 impl Names {
-    /// Nobody. It takes no memory.
-    pub fn new(alloc: Global, state: RandomState) -> Self
-        ensures { result ≡ [] }
+    /// Nobody has a standing. The table hashes by `state`.
+    ///
+    /// # Errors
+    /// `AllocError` where the table gets no memory. Today it asks for none before the first client.
+    pub fn new(alloc: Global, state: RandomState) -> Result<Self, AllocError>
+        ensures { IfOk result (λ names. names ≡ []) }
     {
-        Names {
+        Ok(Names {
             map: IndexMap::with_hasher(alloc, state),
-        }
+        })
     }
 
     /// How many clients have a standing: each stands there at most once.

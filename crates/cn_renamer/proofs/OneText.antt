@@ -8,7 +8,7 @@ use Rattle.cn_epoch.specs.declared.answer.Answer.{Answer}
 use Rattle.cn_epoch.specs.declared.answer.Answer.TheVariants.{Replied, Turned, TurnRefused}
 use Rattle.cn_epoch.specs.declared.command.Command.{Command}
 use Rattle.cn_epoch.specs.declared.command.Command.TheVariants.{Enter, Step, Turn}
-use Rattle.cn_epoch.specs.Turns.{IsSameAnswer, history_after, history_by, turns_after, turns_by}
+use Rattle.cn_epoch.specs.Turns.{IsSameAnswer, grown, grown_by, turns_after, turns_by}
 use Rattle.cn_epoch.proofs.OneRecord.{history-same, one-list, turns-same}
 use Rattle.cn_report.specs.ReplayText.{answer_line, answer_lines, end_line}
 use Rattle.cn_report.specs.Text.{heading}
@@ -44,11 +44,11 @@ module _ (network : Network) (is : IsNetwork network) where
   turns_by-same turns [] (other ∷ others) same = absurd same
   turns_by-same turns (answer ∷ answers) [] same = absurd same
 
-  history_by-same : (history : List Event) (commands : List Command) (answers others : List Answer) → AllZip IsSameAnswer answers others → history_by history commands answers ≡ history_by history commands others
+  history_by-same : (history : List Event) (commands : List Command) (answers others : List Answer) → AllZip IsSameAnswer answers others → grown_by history commands answers ≡ grown_by history commands others
   history_by-same history [] answers others same = refl
   history_by-same history (command ∷ commands) [] [] same = refl
   history_by-same history (command ∷ commands) (answer ∷ answers) (other ∷ others) (same, rest) =
-      ap (λ h. history_by h commands answers) (history-same network is history command answer other same) ∙ history_by-same (history_after history command other) commands answers others rest
+      ap (λ h. grown_by h commands answers) (history-same network is history command answer other same) ∙ history_by-same (grown history command other) commands answers others rest
   history_by-same history (command ∷ commands) [] (other ∷ others) same = absurd same
   history_by-same history (command ∷ commands) (answer ∷ answers) [] same = absurd same
 
@@ -57,6 +57,6 @@ module _ (network : Network) (is : IsNetwork network) where
       let same = one-list network is 0 [] commands one.answers another.answers one.by_history another.by_history one.memory another.memory in
       one.replayed
       ∙ rw (turns_by-same 0 one.answers another.answers same, history_by-same [] commands one.answers another.answers same)
-      (ap (λ (lines : List ℕ). heading network ++ lines ++ end_line (turns_by 0 another.answers) (enters_of (history_by [] commands another.answers)) (inside_of network.table (history_by [] commands another.answers)))
+      (ap (λ (lines : List ℕ). heading network ++ lines ++ end_line (turns_by 0 another.answers) (enters_of (grown_by [] commands another.answers)) (inside_of network.table (grown_by [] commands another.answers)))
       (lines-same network.table.width commands one.answers another.answers same))
       ∙ sym another.replayed

@@ -5,7 +5,7 @@ use Rattle.cn_wiring.specs.Network.{Network}
 use Rattle.cn_core.specs.History.{enters_of, inside_of}
 use Rattle.cn_epoch.specs.declared.answer.Answer.{Answer}
 use Rattle.cn_epoch.specs.declared.command.Command.{Command}
-use Rattle.cn_epoch.specs.Turns.{HadMemory, MayAnswerEach, history_by, turns_by}
+use Rattle.cn_epoch.specs.Turns.{HadMemory, MayAnswerAll, grown_by, turns_by}
 use Rattle.cn_report.specs.Records.{records_of}
 use Rattle.cn_report.specs.ReplayText.{replay_text}
 use Rattle.cn_report.specs.Schedule.{IsSchedule, IsScheduleFault}
@@ -20,10 +20,10 @@ use Rattle.cn_renamer.specs.declared.replaying.ReplayFault.TheVariants.{Schedule
 -- want of memory
 pub record IsReplayText (network : Network) (commands : List Command) (text : List ℕ) : Type 0 where
   pub answers : List Answer
-  pub by_history : MayAnswerEach network.table 0 [] commands answers
+  pub by_history : MayAnswerAll network.table 0 [] commands answers
   pub memory : All HadMemory answers
   -- the end line tells the epochs that ended, and the enters of the open one and who is inside
-  pub replayed : text ≡ replay_text network commands answers (turns_by 0 answers) (enters_of (history_by [] commands answers)) (inside_of network.table (history_by [] commands answers))
+  pub replayed : text ≡ replay_text network commands answers (turns_by 0 answers) (enters_of (grown_by [] commands answers)) (inside_of network.table (grown_by [] commands answers))
 
 -- the bytes that were read are a schedule, and this is the text of its replay on a network of this kind and width
 pub record IsReplayOf (net : Description) (bytes text : List ℕ) : Type 0 where

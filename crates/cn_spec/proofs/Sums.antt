@@ -1,9 +1,9 @@
 -- Sums over the places of a list, and over ranges.
-use Rattle.std.proofs.Common.{◌≡◌, ◌≢◌, ℕ, zero, suc, ◌+◌, ◌<◌, ◌≤◌, Bool, true, false, cond, List, [], ◌∷◌, ◌++◌, length, map, get_or, set, sum_by, refl, sym, ◌∙◌, inl, inr, arith, eqb, ltb, zero-add}
+use Rattle.std.proofs.Common.{◌≡◌, ◌≢◌, ℕ, zero, suc, ◌+◌, ◌<◌, ◌≤◌, Bool, true, false, cond, List, [], ◌∷◌, ◌++◌, length, map, get_or, set, sum_by, refl, sym, ◌∙◌, inl, inr, arith, eqb, ltb, zero-add, slice_index, nat_eq, get_or-set_same, get_or-set_other}
 use Rattle.std.proofs.lemmas.Bool.{cases_eq, eq-eqb, false_from_ne_true, le-ltb, lt-ltb, ne_eqb}
 use Rattle.std.proofs.lemmas.Bool.Decides.{nat_tests}
 use Rattle.std.proofs.lemmas.List.Sums.{sum_by-cons}
-use Rattle.cn_spec.specs.Sums.{when, total_where, sum_below}
+use Rattle.cn_spec.specs.Sums.{when, one_more, total_where, sum_below}
 
 pub total_where-push : {A : Type 0} → (p : A → Bool) (xs : List A) (x : A) (f : ℕ → ℕ) → p x ≡ false → total_where p (xs ++ x ∷ []) f ≡ total_where p xs f
 unfolding total_where
@@ -193,3 +193,15 @@ module _ {X : Type 0} where
       sum_below-same n (λ k. sum_by (g k) (x ∷ xs)) (λ k. g k x + sum_by (g k) xs) (λ k l. sum_by-cons (g k) x xs)
       ∙ sum_below-plus n (λ k. g k x) (λ k. sum_by (g k) xs)
       ∙ omega (arith, sum_below-total g xs n, sum_by-cons (λ y. sum_below n (λ k. g k y)) x xs)
+
+  -- sums of the same terms
+  pub sum_by-same : (f g : X → ℕ) (xs : List X) (d : X) → ((i : ℕ) → i < length xs → f (get_or xs i d) ≡ g (get_or xs i d)) → sum_by f xs ≡ sum_by g xs
+  sum_by-same f g [] d same = refl
+  sum_by-same f g (x ∷ xs) d same =
+      omega (arith, same 0 (omega arith), sum_by-same f g xs d (λ i h. same (suc i) (omega arith)), sum_by-cons f x xs, sum_by-cons g x xs)
+
+-- ---- lists of counts
+
+-- one more at a place
+pub one_more_at : (counts : List ℕ) (i j : ℕ) → i < length counts → slice_index (one_more counts i) j ≡ slice_index counts j + cond (nat_eq j i) 1 0
+one_more_at counts i j lt = grind (arith, nat_tests, get_or-set_same, get_or-set_other)

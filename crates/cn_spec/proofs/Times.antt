@@ -1,7 +1,8 @@
 -- How often a number stands in a list.
-use Rattle.std.proofs.Common.{◌≡◌, ℕ, zero, suc, ◌+◌, ◌<◌, ◌≤◌, ◌⊎◌, inl, inr, cond, eqb, List, [], ◌∷◌, ◌++◌, All, length, get_or, refl, ap, arith}
-use Rattle.std.specs.List.{range_with_len}
+use Rattle.std.proofs.Common.{◌≡◌, ℕ, zero, suc, ◌+◌, ◌<◌, ◌≤◌, ◌⊎◌, inl, inr, cond, eqb, List, [], ◌∷◌, ◌++◌, All, length, get_or, map, refl, ap, arith}
+use Rattle.std.specs.List.{count_by, range_with_len}
 use Rattle.std.proofs.lemmas.Bool.{cases_eq, eq-eqb, ne_eqb}
+use Rattle.std.proofs.lemmas.List.Sums.{sum_by-cons}
 use Rattle.cn_spec.specs.Sums.{sum_below, times, when}
 use Rattle.cn_spec.proofs.Sums.{sum_below-one, sum_below-plus, sum_below-same, sum_below-zero}
 
@@ -17,6 +18,12 @@ pub times-append : (w : ℕ) (xs ys : List ℕ) → times w (xs ++ ys) ≡ times
 unfolding times
 times-append w [] ys = omega arith
 times-append w (x ∷ xs) ys = omega (arith, times-append w xs ys)
+
+-- in a list of what something makes of members
+pub times-map : {X : Type 0} (f : X → ℕ) (w : ℕ) (xs : List X) → times w (map f xs) ≡ count_by (λ x. eqb (f x) w) xs
+unfolding times
+times-map f w [] = refl
+times-map f w (x ∷ xs) = omega (arith, times-map f w xs, sum_by-cons (λ y. cond (eqb (f y) w) 1 0) x xs)
 
 -- ---- members and their places
 

@@ -1,5 +1,5 @@
--- Sums over lists and ranges, and how often something stands in a list.
-use Rattle.std.specs.Prelude.{◌≡◌, ℕ, suc, zero, ◌+◌, ◌<◌, ◌==◌, Bool, cond, nat_lt, List, [], ◌∷◌}
+-- Sums over lists and ranges, how often something stands in a list, and lists of counts.
+use Rattle.std.specs.Prelude.{◌≡◌, ℕ, suc, zero, ◌+◌, ◌<◌, ◌==◌, Bool, cond, nat_lt, List, [], ◌∷◌, slice_index, slice_set}
 
 -- n where the test holds, and otherwise nothing
 abbrev pub when : Bool → ℕ → ℕ
@@ -31,3 +31,7 @@ once_below m n = when (nat_lt n m) 1
 -- each number below m stands in the list once, and no other number does
 abbrev pub IsOnceBelow : ℕ → List ℕ → Type 0
 IsOnceBelow m xs = (n : ℕ) → times n xs ≡ once_below m n
+
+-- one more at a place of a list of counts
+abbrev pub one_more : List ℕ → ℕ → List ℕ
+one_more counts at = slice_set counts at (slice_index counts at + 1)

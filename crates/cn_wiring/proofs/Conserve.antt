@@ -8,7 +8,7 @@ use Rattle.cn_spec.proofs.CallerLemmas.{half-sum, sum_below-front, sum_below-non
 use Rattle.cn_wiring.specs.Table.{Table, is_end, sum_at, Stands, IsWellFormed, IsFullFlow}
 
 -- each place of the list is at one balancer or at one exit
-count-twice : (t : Table) (xs : List End) (f : ℕ → ℕ) → ((u : ℕ) → u < length xs → Stands t (get_or xs u (Balancer 0)))
+pub count-twice : (t : Table) (xs : List End) (f : ℕ → ℕ) → ((u : ℕ) → u < length xs → Stands t (get_or xs u (Balancer 0)))
     → sum_below t.balancers (λ b. total_where (is_end (Balancer b)) xs f) + sum_below t.width (λ i. total_where (is_end (Exit i)) xs f) ≡ sum_below (length xs) f
 unfolding total_where
 count-twice t [] f h = omega (arith, sum_below-zero t.balancers (λ _. 0) (λ _. refl), sum_below-zero t.width (λ _. 0) (λ _. refl), sum_below-none f)

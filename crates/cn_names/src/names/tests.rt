@@ -5,7 +5,7 @@ use std::test::Fail;
 
 #[test]
 fn nobody_has_a_name(rt: HostRuntime) -> Result<(), Fail> {
-    let mut names = Names::new(rt.alloc(), RandomState::new(&rt)?);
+    let mut names = Names::new(rt.alloc(), RandomState::new(&rt)?)?;
     assert!(rt; names.is_empty());
     assert_eq!(rt; names.standing(5), None);
     let listed = names.by_name().ok().ok_or("no list")?;
@@ -20,7 +20,7 @@ fn exits_and_names(rt: HostRuntime) -> Result<(), Fail> {
     let first = yard.admit(7, 0)?;
     assert!(rt; yard.len() < MOST_TOKENS);
     let second = yard.admit(9, 0)?;
-    let mut names = Names::new(rt.alloc(), RandomState::new(&rt)?);
+    let mut names = Names::new(rt.alloc(), RandomState::new(&rt)?)?;
     assert_eq!(rt; names.admit(7, first), Ok(()));
     assert_eq!(rt; names.admit(7, first), Err(NamesFault::Held));
     assert_eq!(rt; names.by_name().err(), Some(ByNameFault::StillWalking));

@@ -1,10 +1,10 @@
 use Rattle.cn_epoch.proofs.epochs.Epochs.answer.Goals as goal
 
-pub returns-in-Ok-clause-history : goal.returns-in-Ok-clause-history
-returns-in-Ok-clause-history c = rw c.in-Enter.is (rw c.in-Ok.is at c.enter.ensures.history)
+pub returns-in-Enter-clause-history : goal.returns-in-Enter-clause-history
+returns-in-Enter-clause-history c = rw (c.in-Enter.is, c.into.ensures) c.enter.ensures.history
 
-pub returns-in-Ok-step-clause-history : goal.returns-in-Ok-step-clause-history
-returns-in-Ok-step-clause-history c = rw c.in-Step.is (rw c.in-Ok-step.is at c.step.ensures.history)
+pub returns-in-Step-clause-history : goal.returns-in-Step-clause-history
+returns-in-Step-clause-history c = rw (c.in-Step.is, c.into-in-Step.ensures) c.step.ensures.history
 
-pub returns-in-Ok-turn-clause-history : goal.returns-in-Ok-turn-clause-history
-returns-in-Ok-turn-clause-history c = rw c.in-Turn.is (rw c.in-Ok-turn.is at c.turn.ensures.history)
+pub returns-in-Turn-clause-history : goal.returns-in-Turn-clause-history
+returns-in-Turn-clause-history c = rw (c.in-Turn.is, c.into-in-Turn.ensures) c.turn.ensures.history

@@ -1,7 +1,7 @@
 use Rattle.std.proofs.Common.{rules, arith, ◌≡◌, ◌++◌, ◌∷◌, [], drop, append-nil, append_assoc, refl}
 use Rattle.std.proofs.lemmas.Grind.{common_steps}
 use Rattle.cn_epoch.specs.declared.command.Command.TheVariants.{Enter}
-use Rattle.cn_epoch.proofs.Answering.{go_to-at, run-at}
+use Rattle.cn_epoch.proofs.Answering.{runs_to-at, runs-at}
 use Rattle.cn_epoch.proofs.epochs.Epochs.run.Goals as goal
 
 pub loop-command-init : goal.loop-command-init
@@ -23,11 +23,11 @@ loop-command-preserved c = record {
   events = λ rest new runs.
       let joined : c.push_reserved.new.self.items ++ rest ≡ c.loop-command.answers.items ++ (c.answer-answer.result ∷ rest) = rw (c.push_reserved.ensures.items, append_assoc) refl in
       rw joined (c.loop-command.invariant.events (c.answer-answer.result ∷ rest) new
-      (go_to-at c.loop-command.self c.answer-answer.new.self new c.args.commands.now c.loop-command.command-index (Enter 0 0) c.answer-answer.result rest c.loop-command-test.true c.answer-answer.ensures.event runs));
+      (runs_to-at c.loop-command.self c.answer-answer.new.self new c.args.commands.now c.loop-command.command-index (Enter 0 0) c.answer-answer.result rest c.loop-command-test.true c.answer-answer.ensures.event runs));
   rest = λ rest new runs.
       let joined : c.push_reserved.new.self.items ++ rest ≡ c.loop-command.answers.items ++ (c.answer-answer.result ∷ rest) = rw (c.push_reserved.ensures.items, append_assoc) refl in
       rw joined (c.loop-command.invariant.rest (c.answer-answer.result ∷ rest) new
-      (run-at c.loop-command.self c.answer-answer.new.self new c.args.commands.now c.loop-command.command-index (Enter 0 0) c.answer-answer.result rest c.loop-command-test.true c.answer-answer.ensures.history c.answer-answer.ensures.network runs));
+      (runs-at c.loop-command.self c.answer-answer.new.self new c.args.commands.now c.loop-command.command-index (Enter 0 0) c.answer-answer.result rest c.loop-command-test.true c.answer-answer.ensures.history c.answer-answer.ensures.network runs));
 }
 
 pub returns-clause-events : goal.returns-clause-events

@@ -1,0 +1,13 @@
+-- What proofs of other crates cite of this one. They cite nothing else of proofs/.
+
+-- sound ledgers against full flows
+pub use Rattle.cn_ledger.proofs.Bound.{bounded, count-at_most, exit-shares, granted-once, names-differ, quiet-same, tight}
+-- events
+pub use Rattle.cn_ledger.proofs.EventLemmas.{eqb-sym, is_end-sym, sound-enters, sound-leaves, sound-passes}
+pub use Rattle.cn_ledger.proofs.Happening.{entering, leaving, passing, standing-le-on}
+-- where nobody has come
+pub use Rattle.cn_ledger.proofs.EmptyLedger.{IsNothing, sound-empty, sound-nothing}
+-- what entered, and where it is
+pub use Rattle.cn_ledger.proofs.Kept.{counts-few, nobody-lost}
+-- lists of grants
+pub use Rattle.cn_ledger.proofs.Listed.{names-each}

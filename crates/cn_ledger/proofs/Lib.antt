@@ -1,0 +1,9 @@
+pub mod Bound
+pub mod EventLemmas
+pub mod EmptyLedger
+pub mod Happening
+pub mod Few
+pub mod Kept
+pub mod Listed
+pub mod Worked
+pub mod CallerLemmas

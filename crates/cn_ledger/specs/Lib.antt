@@ -1,0 +1,4 @@
+pub mod Ledger
+pub mod Events
+pub mod Grants
+pub mod WorkedNetworks
