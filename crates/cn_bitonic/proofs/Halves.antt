@@ -7,7 +7,8 @@ use Rattle.cn_spec.specs.declared.limits.TheConstants.{MOST_BALANCERS}
 use Rattle.cn_spec.proofs.CallerLemmas.{back_row, front_row, half_row, times-append}
 use Rattle.cn_wiring.specs.Plan.{Plan, AllLoose}
 use Rattle.cn_wiring.proofs.Builds.{Builds-beside, Builds-loose, Builds-same, Builds-sized, Builds-then}
-use Rattle.cn_wiring.proofs.Rows.{half_pow, same_level, shorter}
+use Rattle.cn_wiring.proofs.Rows.{half_pow, shorter}
+use Rattle.cn_wiring.proofs.WidthLemmas.{same_level}
 use Rattle.cn_bitonic.specs.Parts.{BuildsBitonic, BuildsMerger}
 use Rattle.cn_bitonic.specs.Sizes.{balancers_of, depth_of}
 use Rattle.cn_bitonic.proofs.MergerParts.{Gives, HasRoom, length_outs}

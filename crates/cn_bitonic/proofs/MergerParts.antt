@@ -9,7 +9,8 @@ use Rattle.cn_spec.specs.declared.limits.TheConstants.{MOST_BALANCERS}
 use Rattle.cn_spec.proofs.CallerLemmas.{evens_row, map_evens, map_odds, odds_row, times-append, times_evens_odds}
 use Rattle.cn_wiring.specs.Plan.{Plan, AllLoose, Builds, IsFlow}
 use Rattle.cn_wiring.proofs.Builds.{Builds-beside, Builds-like, Builds-loose, Builds-sized, Builds-then}
-use Rattle.cn_wiring.proofs.Rows.{same_level, shorter}
+use Rattle.cn_wiring.proofs.Rows.{shorter}
+use Rattle.cn_wiring.proofs.WidthLemmas.{same_level}
 use Rattle.cn_bitonic.specs.Parts.{BuildsMerger}
 
 -- a plan has room for the merger of x and x2

@@ -9,7 +9,8 @@ use Rattle.cn_spec.specs.declared.limits.TheConstants.{MOST_BALANCERS}
 use Rattle.cn_spec.proofs.CallerLemmas.{a_row, b_row, map_a_cochain, map_b_cochain, times-append, times_cochains}
 use Rattle.cn_wiring.specs.Plan.{Plan, AllLoose, Builds, IsFlow}
 use Rattle.cn_wiring.proofs.Builds.{Builds-beside, Builds-like, Builds-loose, Builds-sized, Builds-then}
-use Rattle.cn_wiring.proofs.Rows.{half_pow, same_level, shorter}
+use Rattle.cn_wiring.proofs.Rows.{half_pow, shorter}
+use Rattle.cn_wiring.proofs.WidthLemmas.{same_level}
 use Rattle.cn_periodic.specs.Parts.{BuildsBlock}
 use Rattle.cn_periodic.specs.Sizes.{block_balancers}
 

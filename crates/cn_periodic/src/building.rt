@@ -14,7 +14,7 @@ ghost use Rattle.cn_periodic.specs.Sizes.{balancers_of, depth_of};
 use crate::blocks::block;
 use cn_spec::laws;
 use cn_spec::limits::MOST_BALANCERS;
-use cn_wiring::{BuildFault, Counting, Draft, Kind, is_width, wires_below};
+use cn_wiring::{BuildFault, Counting, Draft, Kind, level_of, wires_below};
 use std::alloc::{AllocError, Global};
 
 /// The periodic counting network of this width: `width` entries and exits, depth `L * L`, where `L` is the logarithm of
@@ -24,17 +24,17 @@ use std::alloc::{AllocError, Global};
 /// In a block that over the A-cochain comes first, then that over the B-cochain, and then the last layer.
 ///
 /// # Errors
-/// [`BuildFault::Width`] where [`is_width`] is false, and [`BuildFault::Memory`] where the network gets no memory.
+/// [`BuildFault::Width`] where networks of this width are not built, and [`BuildFault::Memory`] where the network gets no
+/// memory.
 pub fn periodic(alloc: Global, width: u32) -> Result<Counting, BuildFault>
     ensures width { IsErrOf result BuildFault.Width ↔ (¬ IsWidth width) }
     ensures accepted { IfOk result (λ _. IsWidth width) }
     ensures built { IfOk result (λ network. (level : ℕ) → width ≡ 2 ^ level → IsBuilt network Kind.Periodic width width (balancers_of level) (depth_of level)) }
     ensures exits { IfOk result (λ network. (level : ℕ) → width ≡ 2 ^ level → (f : ℕ → ℕ) → IsFullFlow network.table f → exit_flows network.table f ≡ net.periodic level (map f (range_with_len 0 width))) }
 {
-    if !is_width(width) {
+    let Some(level) = level_of(width) else {
         return Err(BuildFault::Width);
-    }
-    let level = width.ilog2();
+    };
     let depth = level * level;
     let mut draft = Draft::new(alloc, width)?;
     draft.reserve(width / 2 * depth)?;

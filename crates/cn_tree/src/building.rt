@@ -10,7 +10,7 @@ ghost use Rattle.cn_wiring.specs.Widths.{IsWidth};
 
 use cn_spec::laws;
 use cn_spec::limits::MOST_BALANCERS;
-use cn_wiring::{BuildFault, Counting, Draft, Kind, is_width};
+use cn_wiring::{BuildFault, Counting, Draft, Kind, level_of};
 use std::alloc::{AllocError, Global};
 
 /// The counting tree of this width: one entry and `width` exits, depth `L`, where `L` is the logarithm of `width` to
@@ -20,17 +20,17 @@ use std::alloc::{AllocError, Global};
 /// then that on its output 1.
 ///
 /// # Errors
-/// [`BuildFault::Width`] where [`is_width`] is false, and [`BuildFault::Memory`] where the network gets no memory.
+/// [`BuildFault::Width`] where networks of this width are not built, and [`BuildFault::Memory`] where the network gets no
+/// memory.
 pub fn tree(alloc: Global, width: u32) -> Result<Counting, BuildFault>
     ensures width { IsErrOf result BuildFault.Width ↔ (¬ IsWidth width) }
     ensures accepted { IfOk result (λ _. IsWidth width) }
     ensures built { IfOk result (λ network. (level : ℕ) → width ≡ 2 ^ level → IsBuilt network Kind.Tree 1 width (width - 1) level) }
     ensures exits { IfOk result (λ network. (level : ℕ) → width ≡ 2 ^ level → (f : ℕ → ℕ) → IsFullFlow network.table f → exit_flows network.table f ≡ net.tree level (f 0)) }
 {
-    if !is_width(width) {
+    let Some(level) = level_of(width) else {
         return Err(BuildFault::Width);
-    }
-    let level = width.ilog2();
+    };
     let mut draft = Draft::new(alloc, 1)?;
     let exits = grow(alloc, &mut draft, 0, level)?;
     laws::tree_counts();

@@ -1,11 +1,8 @@
 -- Drafts that are finished with their new wires as exits.
-use Rattle.std.proofs.Common.{◌≡◌, ℕ, suc, ◌+◌, ◌*◌, ◌^◌, ◌<◌, ◌≤◌, List, length, get_or, map, refl, sym, ap, ◌∙◌, subst, arith, inl, inr, replicate, None, zero-add}
+use Rattle.std.proofs.Common.{◌≡◌, ℕ, ◌+◌, ◌<◌, List, length, get_or, map, refl, sym, ap, ◌∙◌, subst, replicate, None, zero-add}
 use Rattle.std.specs.List.{range_with_len}
 use Rattle.std.proofs.lemmas.List.{get_or-map, length-map}
 use Rattle.std.proofs.lemmas.List.FromFn.{fill_by_all}
-use Rattle.std.proofs.lemmas.Bool.{cases_eq, cases_lt}
-use Rattle.std.proofs.Math.Pow.{pow_mono, pow-lt}
-use Rattle.std.proofs.Math.Nat.{pow-succ'}
 use Rattle.cn_spec.specs.Step.{IsStep}
 use Rattle.cn_wiring.specs.declared.end.End.TheVariants.{Exit}
 use Rattle.cn_wiring.specs.declared.kind.Kind.{Kind}
@@ -63,17 +60,3 @@ finished_built {t} {old} {d} {ins} {outs} {depth} {size} entries kind new level 
   depth = refl;
   counts = record { formed = done.formed; counts = counts; deep = finished_deep level built done };
 }
-
--- the level of a width that is a power of two, by the greatest power of two that is not above it
-pub level_is_log : (width log level : ℕ) → 2 ^ log ≤ width → width < 2 * 2 ^ log → width ≡ 2 ^ level → level ≡ log
-level_is_log width log level low high e =
-    elim (cases_lt level log) [
-      | inl l ↦ absurd (omega (arith, pow-lt l))
-      | inr g ↦ elim (cases_eq level log) [
-        | inl same ↦ same
-        | inr d ↦
-            let more : 2 ^ suc log ≤ 2 ^ level = pow_mono (omega arith) in
-            let twice : 2 ^ suc log ≡ 2 * 2 ^ log = pow-succ' 2 log in
-            absurd (omega arith)
-      ]
-    ]

@@ -9,5 +9,6 @@ pub mod Close
 pub mod Tables
 pub mod Arrivals
 pub mod Levels
+pub mod WidthLemmas
 pub mod Finished
 pub mod Rows
