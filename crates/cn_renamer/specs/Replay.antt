@@ -6,12 +6,12 @@ use Rattle.cn_core.specs.History.{enters_of, inside_of}
 use Rattle.cn_epoch.specs.declared.answer.Answer.{Answer}
 use Rattle.cn_epoch.specs.declared.command.Command.{Command}
 use Rattle.cn_epoch.specs.Turns.{HadMemory, MayAnswerAll, grown_by, turns_by}
-use Rattle.cn_report.specs.Records.{records_of}
-use Rattle.cn_report.specs.ReplayText.{replay_text}
-use Rattle.cn_report.specs.Schedule.{IsSchedule, IsScheduleFault}
-use Rattle.cn_report.specs.declared.schedule_fault.ScheduleCause.{ScheduleCause}
-use Rattle.cn_report.specs.declared.schedule_fault.ScheduleCause.TheVariants as cause
-use Rattle.cn_report.specs.declared.schedule_fault.ScheduleFault.{ScheduleFault}
+use Rattle.cn_report.specs.Reading.Records.{records_of}
+use Rattle.cn_report.specs.Writing.Replay.{replay_text}
+use Rattle.cn_report.specs.Reading.Schedule.{IsSchedule, IsScheduleFault}
+use Rattle.cn_report.specs.declared.reading.schedule_fault.ScheduleCause.{ScheduleCause}
+use Rattle.cn_report.specs.declared.reading.schedule_fault.ScheduleCause.TheVariants as cause
+use Rattle.cn_report.specs.declared.reading.schedule_fault.ScheduleFault.{ScheduleFault}
 use Rattle.cn_renamer.specs.Net.{Description, IsNetworkOf}
 use Rattle.cn_renamer.specs.declared.replaying.ReplayFault.{ReplayFault}
 use Rattle.cn_renamer.specs.declared.replaying.ReplayFault.TheVariants.{Schedule, Memory, Write}

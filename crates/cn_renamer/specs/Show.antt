@@ -2,7 +2,7 @@
 use Rattle.std.specs.Prelude.{ℕ, ◌≡◌, ◌≤◌, List, Option, Result, Ok, Err, length, take}
 use Rattle.std.specs.Io.KnownBytes.{Appends}
 use Rattle.cn_wiring.specs.Network.{Network}
-use Rattle.cn_report.specs.WiringText.{wiring_text}
+use Rattle.cn_report.specs.Writing.Wiring.{wiring_text}
 use Rattle.cn_renamer.specs.Net.{Description, IsNetworkOf}
 use Rattle.cn_renamer.specs.declared.showing.ShowFault.{ShowFault}
 use Rattle.cn_renamer.specs.declared.showing.ShowFault.TheVariants.{Memory, Write}

@@ -5,11 +5,15 @@
 #[cfg(test)]
 mod core_calls;
 #[cfg(test)]
+mod emitting;
+#[cfg(test)]
 mod epoch_calls;
 #[cfg(test)]
 mod narrow;
 #[cfg(test)]
 mod replaying;
+#[cfg(test)]
+mod schedules;
 #[cfg(test)]
 mod showing;
 #[cfg(test)]

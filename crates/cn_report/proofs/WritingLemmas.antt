@@ -1,0 +1,5 @@
+-- Lemmas on what is written.
+pub mod Appending
+pub mod Lines
+pub mod Replies
+pub mod SameLines
