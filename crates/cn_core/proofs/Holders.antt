@@ -1,6 +1,7 @@
 -- The clients of a quiet state, listed by the names that they hold.
 use Rattle.std.proofs.Common.{◌≡◌, ℕ, zero, suc, ◌+◌, ◌-◌, ◌<◌, ◌≤◌, Bool, true, false, cond, nat_eq, List, [], ◌∷◌, length, get_or, map, refl, sym, ap, ap₂, subst, ◌∙◌, arith, zero-add, Some, inl, inr}
-use Rattle.std.specs.Prelude.{AllPairs, Contains}
+use Rattle.std.specs.Prelude.{AllPairs, Contains, count_by}
+use Rattle.std.specs.Map.{keys_of, values_of}
 use Rattle.std.specs.List.{range_with_len, sum_by}
 use Rattle.std.specs.List.Sorted.{IsPermutation}
 use Rattle.std.proofs.lemmas.Bool.{eq-eqb}
@@ -14,9 +15,9 @@ use Rattle.cn_names.specs.declared.standing.Standing.{Standing}
 use Rattle.cn_names.specs.declared.standing.Standing.TheVariants.{Walking, Holds as Named}
 use Rattle.cn_names.specs.Grants.{IsRising, ListsByName, grants_in as named_in}
 use Rattle.cn_core.specs.declared.position.Position.{Position}
-use Rattle.cn_core.specs.declared.position.Position.TheVariants.{Holds}
+use Rattle.cn_core.specs.declared.position.Position.TheVariants.{On, Holds}
 use Rattle.cn_core.specs.InsideClients.{Clients, position_by, positions}
-use Rattle.cn_core.specs.State.{State, inside_in, name_at, position_in, times_in}
+use Rattle.cn_core.specs.State.{State, inside_in, is_inside, name_at, position_in, times_in}
 use Rattle.cn_core.specs.StateLedger.{IsCore}
 use Rattle.cn_core.specs.Tight.{ListsHolders, grants_in}
 use Rattle.cn_core.proofs.Clientele.{placed}
@@ -63,11 +64,30 @@ rising-each_below k xs order rising =
 
 -- ---- the names that the table's clients hold
 
--- the table's grants have the names of the state's
-names-of : (y : Yard) (names : List (ℕ × Standing)) → map (λ grant. grant.1) (grants_in (placed y names)) ≡ map (λ grant. grant.0) (named_in names)
-names-of y [] = refl
-names-of y ((client, Walking token) ∷ names) = names-of y names
-names-of y ((client, Named name) ∷ names) = ap (λ ns. name ∷ ns) (names-of y names)
+-- the table's grants are the state's
+grants-of : (y : Yard) (names : List (ℕ × Standing)) → grants_in (placed y names) ≡ named_in names
+grants-of y [] = refl
+grants-of y ((client, Walking token) ∷ names) = grants-of y names
+grants-of y ((client, Named name) ∷ names) = ap (λ grants. (name, client) ∷ grants) (grants-of y names)
+
+-- where nobody is inside, the grants are those of all clients
+keys-granted : (clients : List (ℕ × Position)) → count_by is_inside (values_of clients) ≡ 0 → map (λ grant. grant.1) (grants_in clients) ≡ keys_of clients
+keys-granted [] none = refl
+keys-granted ((client, On wire) ∷ clients) none =
+    absurd (omega (arith, sum_by-cons (λ (p : Position). cond (is_inside p) 1 0) (On wire) (values_of clients)))
+keys-granted ((client, Holds name) ∷ clients) none =
+    ap (λ ks. client ∷ ks) (keys-granted clients (omega (arith, sum_by-cons (λ (p : Position). cond (is_inside p) 1 0) (Holds name) (values_of clients))))
+
+-- a client stands among the keys as often as in the list
+times-keys : (client : ℕ) (clients : List (ℕ × Position)) → count_by (nat_eq client) (keys_of clients) ≡ times_in client clients
+times-keys client [] = refl
+times-keys client (e ∷ clients) =
+    omega (
+      arith,
+      times-keys client clients,
+      sum_by-cons (λ (k : ℕ). cond (nat_eq client k) 1 0) e.0 (keys_of clients),
+      sum_by-cons (λ (x : ℕ × Position). cond (nat_eq client x.0) 1 0) e clients,
+    )
 
 -- whoever is found is in the list
 found-times : (client : ℕ) (clients : List (ℕ × Position)) (p : Position) → position_in clients client ≡ Some p → 1 ≤ times_in client clients
@@ -116,7 +136,7 @@ names-rise grants rising i j d before within =
     omega arith
 
 pub holders-listed : (s : State) (c : Clients) (holders : List ℕ) → s.clients ≡ positions c → IsCore s → inside_in s ≡ 0 → ListsByName c.names holders → ListsHolders s holders
-holders-listed s c holders clients is none l = record { all = all; by_name = by_name }
+holders-listed s c holders clients is none l = record { all = all; by_name = by_name; own = own; once = once }
   where
     k : ℕ
     k = length s.clients
@@ -124,9 +144,21 @@ holders-listed s c holders clients is none l = record { all = all; by_name = by_
     f : ℕ × ℕ → ℕ
     f = λ (grant : ℕ × ℕ). grant.0
 
+    same : grants_in s.clients ≡ named_in c.names
+    same = ap grants_in clients ∙ grants-of c.yard c.names
+
+    own : IsPermutation (keys_of s.clients) holders
+    own =
+        let keys : map (λ (grant : ℕ × ℕ). grant.1) (named_in c.names) ≡ keys_of s.clients = ap (map (λ (grant : ℕ × ℕ). grant.1)) (sym same) ∙ keys-granted s.clients none in
+        rw l.listed (subst (λ (ks : List ℕ). IsPermutation ks (map (λ (grant : ℕ × ℕ). grant.1) l.grants)) keys (IsPermutation-map (λ (grant : ℕ × ℕ). grant.1) (named_in c.names) l.grants l.all))
+
+    once : (client : ℕ) → count_by (nat_eq client) holders ≤ 1
+    once client =
+        omega (arith, sum_by-IsPermutation (λ (k : ℕ). cond (nat_eq client k) 1 0) (keys_of s.clients) holders own, times-keys client s.clients, is.state.once client)
+
     order : IsPermutation (range_with_len 0 k) (map f l.grants)
     order =
-        let names : map (λ grant. grant.1) (grants_in s.clients) ≡ map f (named_in c.names) = ap (λ cs. map (λ grant. grant.1) (grants_in cs)) clients ∙ names-of c.yard c.names in
+        let names : map f (grants_in s.clients) ≡ map f (named_in c.names) = ap (map f) same in
         IsPermutation-trans _ _ _ (rw names at (tight-state s is none).tight.names) (IsPermutation-map f (named_in c.names) l.grants l.all)
 
     names-are : map f l.grants ≡ range_with_len 0 k

@@ -1,5 +1,5 @@
 -- What the calls of a core answer and leave.
-use Rattle.std.specs.Prelude.{◌≡◌, ℕ, ◌%◌, ◌<◌, ◌≤◌, List, [], ◌∷◌, None, Some, Result, Ok, Err, length, IsSome}
+use Rattle.std.specs.Prelude.{◌≡◌, ℕ, ◌+◌, ◌%◌, ◌<◌, ◌≤◌, List, [], ◌∷◌, None, Some, Result, Ok, Err, length, IsSome}
 use Rattle.cn_spec.specs.declared.limits.TheConstants.{MOST_CLIENTS}
 use Rattle.cn_spec.specs.Step.{name_of}
 use Rattle.cn_wiring.specs.declared.end.End.TheVariants.{Balancer, Exit}
@@ -72,12 +72,15 @@ RunsByHistory old events replies new =
     (history : List Event) → Agrees old history
     → MayAnswerAll old.network.table history events replies × Agrees new (grown_by history events replies)
 
--- a step that moved a client so is one event on the ledger: a passage, or a leave
-abbrev pub IsMoveOf : Table → Ledger → Ledger → ℕ → Moved → Type 0
-IsMoveOf table old new client (Passed balancer number wire) =
-    (from : ℕ) × Passes table old new client from balancer × (number ≡ old.count (Balancer balancer)) × (wire ≡ output_wire table balancer (number % 2))
-IsMoveOf table old new client (Out exit visit name) =
-    (from : ℕ) × Leaves table old new client from exit × (visit ≡ old.count (Exit exit)) × (name ≡ name_of table.width exit visit)
+-- a step that moved a client so is one event on the ledger: a passage, or a leave. The name that is told is that of the
+-- visit less the base, the number of those that came in before the epoch.
+abbrev pub IsMoveOf : Table → ℕ → Ledger → Ledger → ℕ → Moved → Type 0
+IsMoveOf table base old new client (Passed balancer number wire) =
+    (from : ℕ) × Passes table old new client from balancer
+    × (number ≡ old.count (Balancer balancer)) × (wire ≡ output_wire table balancer (number % 2))
+IsMoveOf table base old new client (Out exit visit name) =
+    (from : ℕ) × Leaves table old new client from exit
+    × (visit ≡ old.count (Exit exit)) × (name + base ≡ name_of table.width exit visit)
 
 -- an accepted enter is one event on the ledger
 abbrev pub EntersLedger : State → ℕ → ℕ → State → Type 0
@@ -89,7 +92,7 @@ EntersLedger old client entry new =
 abbrev pub MovesLedger : State → ℕ → Moved → State → Type 0
 MovesLedger old client moved new =
     (history : List Event) → Agrees old history
-    → IsMoveOf old.network.table (ledger_of old history) (ledger_of new (Step client ∷ history)) client moved
+    → IsMoveOf old.network.table 0 (ledger_of old history) (ledger_of new (Step client ∷ history)) client moved
 
 -- where the event is accepted, it is one event on the ledger
 abbrev pub IsLedgerEvent : State → Event → Reply → State → Type 0

@@ -151,3 +151,7 @@ pub record Agrees (state : State) (history : List Event) : Type 0 where
   pub total : length state.clients ≡ enters_of history
   pub left : count_by is_named (values_of state.clients) ≡ leaves_of state.network.table history
   pub counts : (end : End) → past state end ≡ steps_before state.network.table history end
+
+-- something holds of each history that the state agrees with
+abbrev pub ByHistories : State → (List Event → Type 0) → Type 0
+ByHistories state P = (history : List Event) → Agrees state history → P history
