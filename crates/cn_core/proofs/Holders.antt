@@ -17,7 +17,7 @@ use Rattle.cn_names.specs.Grants.{IsRising, ListsByName, grants_in as named_in}
 use Rattle.cn_core.specs.declared.position.Position.{Position}
 use Rattle.cn_core.specs.declared.position.Position.TheVariants.{On, Holds}
 use Rattle.cn_core.specs.InsideClients.{Clients, position_by, positions}
-use Rattle.cn_core.specs.State.{State, inside_in, is_inside, name_at, position_in, times_in}
+use Rattle.cn_core.specs.State.{State, inside_in, is_inside, name_at, position_in, times_entered}
 use Rattle.cn_core.specs.StateLedger.{IsCore}
 use Rattle.cn_core.specs.Tight.{ListsHolders, grants_in}
 use Rattle.cn_core.proofs.Clientele.{placed}
@@ -79,7 +79,7 @@ keys-granted ((client, Holds name) ∷ clients) none =
     ap (λ ks. client ∷ ks) (keys-granted clients (omega (arith, sum_by-cons (λ (p : Position). cond (is_inside p) 1 0) (Holds name) (values_of clients))))
 
 -- a client stands among the keys as often as in the list
-times-keys : (client : ℕ) (clients : List (ℕ × Position)) → count_by (nat_eq client) (keys_of clients) ≡ times_in client clients
+times-keys : (client : ℕ) (clients : List (ℕ × Position)) → count_by (nat_eq client) (keys_of clients) ≡ times_entered client clients
 times-keys client [] = refl
 times-keys client (e ∷ clients) =
     omega (
@@ -90,21 +90,21 @@ times-keys client (e ∷ clients) =
     )
 
 -- whoever is found is in the list
-found-times : (client : ℕ) (clients : List (ℕ × Position)) (p : Position) → position_in clients client ≡ Some p → 1 ≤ times_in client clients
+found-times : (client : ℕ) (clients : List (ℕ × Position)) (p : Position) → position_in clients client ≡ Some p → 1 ≤ times_entered client clients
 found-times client [] p found = cc
 found-times client (e ∷ clients) p found = by (nat_eq client e.0) refl found (found-times client clients p)
   where
-    by : (b : Bool) → nat_eq client e.0 ≡ b → cond b (Some e.1) (position_in clients client) ≡ Some p → (position_in clients client ≡ Some p → 1 ≤ times_in client clients) → 1 ≤ times_in client (e ∷ clients)
+    by : (b : Bool) → nat_eq client e.0 ≡ b → cond b (Some e.1) (position_in clients client) ≡ Some p → (position_in clients client ≡ Some p → 1 ≤ times_entered client clients) → 1 ≤ times_entered client (e ∷ clients)
     by true here found rest =
         let one : ◌≡◌ {A = ℕ} (cond (nat_eq client e.0) 1 0) 1 = rw here refl in
         omega (arith, sum_by-cons (λ (x : ℕ × Position). cond (nat_eq client x.0) 1 0) e clients)
     by false here found rest = omega (arith, rest found, sum_by-cons (λ (x : ℕ × Position). cond (nat_eq client x.0) 1 0) e clients)
 
 -- a client that is in the list once is found behind another
-found-later : (client : ℕ) (e : ℕ × Position) (clients : List (ℕ × Position)) (p : Position) → times_in client (e ∷ clients) ≤ 1 → (times_in client clients ≤ 1 → position_in clients client ≡ Some p) → position_in (e ∷ clients) client ≡ Some p
+found-later : (client : ℕ) (e : ℕ × Position) (clients : List (ℕ × Position)) (p : Position) → times_entered client (e ∷ clients) ≤ 1 → (times_entered client clients ≤ 1 → position_in clients client ≡ Some p) → position_in (e ∷ clients) client ≡ Some p
 found-later client e clients p once later = by (nat_eq client e.0) refl
   where
-    sum : times_in client (e ∷ clients) ≡ cond (nat_eq client e.0) 1 0 + times_in client clients
+    sum : times_entered client (e ∷ clients) ≡ cond (nat_eq client e.0) 1 0 + times_entered client clients
     sum = sum_by-cons (λ (x : ℕ × Position). cond (nat_eq client x.0) 1 0) e clients
 
     by : (b : Bool) → nat_eq client e.0 ≡ b → cond b (Some e.1) (position_in clients client) ≡ Some p
@@ -114,7 +114,7 @@ found-later client e clients p once later = by (nat_eq client e.0) refl
     by false here = later (omega (arith, sum))
 
 -- a grant of the table is the position of its client
-holder-found : (y : Yard) (names : List (ℕ × Standing)) (name client : ℕ) → times_in client (placed y names) ≤ 1 → Contains (named_in names) (name, client) → position_in (placed y names) client ≡ Some (Holds name)
+holder-found : (y : Yard) (names : List (ℕ × Standing)) (name client : ℕ) → times_entered client (placed y names) ≤ 1 → Contains (named_in names) (name, client) → position_in (placed y names) client ≡ Some (Holds name)
 holder-found y [] name client once (k, within, is) = absurd (omega arith)
 holder-found y ((c, Walking token) ∷ names) name client once has =
     found-later client (c, position_by y (Walking token)) (placed y names) (Holds name) once (λ once. holder-found y names name client once has)
@@ -177,5 +177,5 @@ holders-listed s c holders clients is none l = record { all = all; by_name = by_
         let its : grant.0 ≡ name = sym (get_or-map f l.grants name (0, 0) 0 there) ∙ ap (λ ns. get_or ns name 0) names-are ∙ get_or-range_with_len 0 k name 0 below ∙ zero-add name in
         let who : get_or holders name 0 ≡ grant.1 = ap (λ hs. get_or hs name 0) l.listed ∙ get_or-map (λ (g : ℕ × ℕ). g.1) l.grants name (0, 0) 0 there in
         let has = Contains-permutation l.grants (named_in c.names) grant (IsPermutation-sym (named_in c.names) l.grants l.all) (Contains-get_or l.grants name (0, 0) there) in
-        let found = holder-found c.yard c.names grant.0 grant.1 (subst (λ cs. times_in grant.1 cs ≤ 1) clients (is.state.once grant.1)) has in
+        let found = holder-found c.yard c.names grant.0 grant.1 (subst (λ cs. times_entered grant.1 cs ≤ 1) clients (is.state.once grant.1)) has in
         rw (who, clients, found, its) refl

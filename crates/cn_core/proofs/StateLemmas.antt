@@ -1,5 +1,5 @@
 -- Each event keeps what each state keeps.
-use Rattle.std.proofs.Common.{◌≡◌, ℕ, zero, suc, ◌+◌, ◌*◌, ◌%◌, ◌<◌, ◌≤◌, cond, nat_eq, List, [], ◌∷◌, ◌++◌, length, refl, arith, Some, None, ◌∙◌, slice_index, length-set, length-append, get_or-set_same, get_or-set_other, subst}
+use Rattle.std.proofs.Common.{◌≡◌, ℕ, zero, suc, ◌+◌, ◌*◌, ◌%◌, ◌<◌, ◌≤◌, nat_eq, List, [], ◌∷◌, ◌++◌, length, refl, arith, Some, None, ◌∙◌, slice_index, length-set, length-append, subst}
 use Rattle.std.specs.Prelude.{replicate}
 use Rattle.std.proofs.lemmas.Bool.Decides.{nat_tests}
 use Rattle.std.proofs.lemmas.List.{length-replicate}
@@ -13,7 +13,7 @@ use Rattle.cn_wiring.specs.Table.{end_of, Stands, LeadsOn}
 use Rattle.cn_wiring.specs.Network.{Network, IsNetwork}
 use Rattle.cn_core.specs.declared.position.Position.{Position}
 use Rattle.cn_core.specs.declared.position.Position.TheVariants.{On}
-use Rattle.cn_core.specs.State.{State, IsState, position_in, position_past, after_enter, after_step, start, times_in}
+use Rattle.cn_core.specs.State.{State, IsState, position_in, position_past, after_enter, after_step, start, times_entered}
 use Rattle.cn_core.proofs.Placed.{lookup-push, lookup-set, times-push, times-absent, times-set}
 
 -- what a table says of the end of a wire
@@ -23,8 +23,8 @@ stands-at network is wire end within e = subst (Stands network.table) e (is.form
 pub leads-on : (network : Network) → IsNetwork network → (wire b : ℕ) → wire < length network.table.ends → end_of network.table wire ≡ Balancer b → wire < network.table.entries + 2 * b
 leads-on network is wire b within e = subst (LeadsOn network.table wire) e (is.formed.forward wire within)
 
-once-push : (clients : List (ℕ × Position)) (client : ℕ) (position : Position) → position_in clients client ≡ None → ((q : ℕ) → times_in q clients ≤ 1)
-    → (q : ℕ) → times_in q (clients ++ (client, position) ∷ []) ≤ 1
+once-push : (clients : List (ℕ × Position)) (client : ℕ) (position : Position) → position_in clients client ≡ None → ((q : ℕ) → times_entered q clients ≤ 1)
+    → (q : ℕ) → times_entered q (clients ++ (client, position) ∷ []) ≤ 1
 once-push clients client position absent once q = grind (arith, nat_tests, once q, times-push clients client position q, times-absent clients client absent)
 
 pub IsState-after_enter : (s : State) (client entry : ℕ) → IsState s → entry < s.network.table.entries → position_in s.clients client ≡ None → length s.clients < MOST_CLIENTS

@@ -5,7 +5,7 @@ use Rattle.std.specs.Map.{values_of}
 use Rattle.std.proofs.lemmas.Bool.{eq-eqb, lt-ltb}
 use Rattle.std.proofs.lemmas.Nat.{mod_below}
 use Rattle.std.proofs.lemmas.List.Sums.{sum_by-cons}
-use Rattle.cn_spec.specs.Step.{share, name_of}
+use Rattle.cn_spec.specs.Step.{name_of}
 use Rattle.cn_spec.specs.Sums.{once_below, times}
 use Rattle.cn_spec.proofs.CallerLemmas.{each_below, name_of-exit_of, sum_below-part, times-cons, times-nil}
 use Rattle.cn_spec.specs.declared.limits.TheConstants.{MOST_ARRIVALS}
@@ -13,7 +13,7 @@ use Rattle.cn_wiring.specs.declared.end.End.{End}
 use Rattle.cn_wiring.specs.Table.{Stands}
 use Rattle.cn_core.specs.declared.position.Position.{Position}
 use Rattle.cn_core.specs.declared.position.Position.TheVariants.{On, Holds}
-use Rattle.cn_core.specs.State.{State, IsState, came_in, past, position_in, name_at, name_in, times_in, is_inside, is_named, inside_in}
+use Rattle.cn_core.specs.State.{State, IsState, past, position_in, name_at, name_in, times_entered, is_inside, is_named, inside_in}
 use Rattle.cn_ledger.specs.Ledger.{IsQuiet, times_given}
 use Rattle.cn_core.specs.StateLedger.{is_on, holds, granted_in, ledger_of, IsCore}
 use Rattle.cn_core.specs.Tight.{grants_in, IsTightState, IsBoundedState}
@@ -72,7 +72,7 @@ length-grants_in [] = refl
 length-grants_in ((c, On wire) ∷ rest) = omega (arith, length-grants_in rest, sum_by-cons (λ (p : Position). cond (is_named p) 1 0) (On wire) (values_of rest))
 length-grants_in ((c, Holds name) ∷ rest) = omega (arith, length-grants_in rest, sum_by-cons (λ (p : Position). cond (is_named p) 1 0) (Holds name) (values_of rest))
 
-clients-grants_in : (q : ℕ) (clients : List (ℕ × Position)) → count_by (λ grant. nat_eq q grant.1) (grants_in clients) ≤ times_in q clients
+clients-grants_in : (q : ℕ) (clients : List (ℕ × Position)) → count_by (λ grant. nat_eq q grant.1) (grants_in clients) ≤ times_entered q clients
 clients-grants_in q [] = omega arith
 clients-grants_in q ((c, On wire) ∷ rest) =
     omega (arith, clients-grants_in q rest, sum_by-cons (λ (e : ℕ × Position). cond (nat_eq q e.0) 1 0) (c, On wire) rest)

@@ -1,5 +1,5 @@
 -- What a core keeps, as contracts see it.
-use Rattle.std.specs.Prelude.{◌≡◌, ℕ, ◌+◌, ◌%◌, ◌<◌, ◌≤◌, Bool, true, false, nat_eq, List, ◌∷◌, [], ◌++◌, Option, None, Some, slice_index, length, count_by, replicate}
+use Rattle.std.specs.Prelude.{◌≡◌, ℕ, ◌%◌, ◌<◌, ◌≤◌, Bool, true, false, nat_eq, List, ◌∷◌, [], ◌++◌, Option, None, Some, slice_index, length, count_by, replicate}
 use Rattle.std.specs.Map.{lookup, set_value, values_of}
 use Rattle.cn_spec.specs.Step.{name_of}
 use Rattle.cn_spec.specs.Sums.{one_more, sum_below}
@@ -103,9 +103,9 @@ name_at (Some (Holds name)) = Some name
 abbrev pub name_in : State → ℕ → Option ℕ
 name_in s client = name_at (position_in s.clients client)
 
--- how often a client is in the list
-abbrev pub times_in : ℕ → List (ℕ × Position) → ℕ
-times_in client clients = count_by (λ e. nat_eq client e.0) clients
+-- how often a client entered, as the list has it
+abbrev pub times_entered : ℕ → List (ℕ × Position) → ℕ
+times_entered client clients = count_by (λ e. nat_eq client e.0) clients
 
 -- the counts and positions of a state fit its network and each other
 pub record IsState (s : State) : Type 0 where
@@ -115,6 +115,6 @@ pub record IsState (s : State) : Type 0 where
   pub exits : length s.visits ≡ s.network.table.width
   pub few : length s.clients ≤ MOST_CLIENTS
   -- each client is there once, and each came in by an entry
-  pub once : (client : ℕ) → times_in client s.clients ≤ 1
+  pub once : (client : ℕ) → times_entered client s.clients ≤ 1
   pub all : came_in s ≡ length s.clients
   pub on_wires : (client wire : ℕ) → position_in s.clients client ≡ Some (On wire) → wire < length s.network.table.ends

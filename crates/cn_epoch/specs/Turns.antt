@@ -28,6 +28,10 @@ pub record Agrees (epochs : Epochs) (turns : ℕ) (history : List Event) : Type 
   pub number : epochs.number ≡ turns
   pub core : core.Agrees epochs.core history
 
+-- something holds of each number of turns and each history that epochs agree with
+abbrev pub ByHistories : Epochs → (ℕ → List Event → Type 0) → Type 0
+ByHistories epochs P = (turns : ℕ) (history : List Event) → Agrees epochs turns history → P turns history
+
 -- the record of a history: its enters, its leaves by exit, and the client of each name
 pub record IsRecordOf (table : Table) (turns : ℕ) (history : List Event) (r : EpochRecord) : Type 0 where
   pub number : r.number ≡ turns

@@ -82,5 +82,5 @@ pub record IsTight (t : Table) (l : Ledger) : Type 0 where
   pub passes : (f : ℕ → ℕ) → IsFullFlow t f → Agree t.entries f l.entered → (b : ℕ) → b < t.balancers → l.count (Balancer b) ≡ sum_at t (Balancer b) f
 
 -- nobody has come
-abbrev pub empty : Ledger
-empty = record { entered = λ _. 0; count = λ _. 0; on = λ _. 0; standing = λ _ _. 0; given = λ _ _. 0; granted = λ _ _ _ _. 0 }
+abbrev pub empty_ledger : Ledger
+empty_ledger = record { entered = λ _. 0; count = λ _. 0; on = λ _. 0; standing = λ _ _. 0; given = λ _ _. 0; granted = λ _ _ _ _. 0 }

@@ -9,7 +9,7 @@ ghost use Rattle.cn_wiring.specs.declared.end.End.{End};
 ghost use Rattle.cn_wiring.specs.declared.end.End.TheVariants.{Balancer, Exit};
 ghost use Rattle.cn_ledger.specs.Events.{Enters, Passes, Leaves, one_at};
 ghost use Rattle.cn_ledger.specs.Grants.{Grant, ListsGrants};
-ghost use Rattle.cn_ledger.specs.Ledger.{Ledger, IsSound, IsQuiet, IsBounded, IsTight, all_entered, empty};
+ghost use Rattle.cn_ledger.specs.Ledger.{Ledger, IsSound, IsQuiet, IsBounded, IsTight, all_entered, empty_ledger};
 ghost use Rattle.cn_ledger.specs.WorkedNetworks.{two_wide};
 
 /// In a sound ledger no count is more than its share of what entered, and each name is below the number that entered.
@@ -80,15 +80,15 @@ pub fn events_can_happen()
 
 /// Where nobody has come, the ledger is sound.
 pub fn empty_ledgers_are_sound()
-    ensures { (table : Table) → IsSound table empty }
+    ensures { (table : Table) → IsSound table empty_ledger }
 {}
 
 /// Worked ledgers of a network with two entries, one balancer and two exits: client 7 comes in before client 9, which
 /// passes and leaves first and so gets name 0; and ledgers that are not sound.
 pub fn worked_ledgers()
-    ensures two_clients { (first second third fourth fifth last : Ledger) → Enters two_wide empty first 7 0 → Enters two_wide first second 9 1 → Passes two_wide second third 9 1 0 → Passes two_wide third fourth 7 0 0 → Leaves two_wide fourth fifth 9 2 0 → Leaves two_wide fifth last 7 3 1
+    ensures two_clients { (first second third fourth fifth last : Ledger) → Enters two_wide empty_ledger first 7 0 → Enters two_wide first second 9 1 → Passes two_wide second third 9 1 0 → Passes two_wide third fourth 7 0 0 → Leaves two_wide fourth fifth 9 2 0 → Leaves two_wide fifth last 7 3 1
         → IsQuiet two_wide last × (all_entered two_wide last ≡ 2) × (last.count (Exit 0) ≡ 1) × (last.count (Exit 1) ≡ 1) × (last.granted 9 0 0 0 ≡ 1) × (last.granted 7 1 0 1 ≡ 1) }
-    ensures no_lost_client { IsSound two_wide (record empty { entered = one_at 0 }) → ⊥ }
+    ensures no_lost_client { IsSound two_wide (record empty_ledger { entered = one_at 0 }) → ⊥ }
     ensures no_visit_without_client { (l : Ledger) → IsSound two_wide l → 1 ≤ l.count (Exit 0) → ((c : ℕ) → l.granted c 0 0 0 ≡ 0) → ⊥ }
     ensures no_name_twice { (l : Ledger) → IsSound two_wide l → 1 ≤ l.granted 7 0 0 0 → 1 ≤ l.granted 9 0 0 0 → ⊥ }
     ensures no_name_of_another_exit { (l : Ledger) → IsSound two_wide l → 1 ≤ l.granted 7 1 0 0 → ⊥ }
