@@ -143,6 +143,12 @@ abbrev pub IsHistory : Table → List Event → Type 0
 IsHistory table [] = Unit {0}
 IsHistory table (event ∷ earlier) = (is_accepted (answer_to table earlier event) ≡ true) × IsHistory table earlier
 
+-- no two clients hold one name
+abbrev pub HasOneHolder : Table → List Event → Type 0
+HasOneHolder table history =
+    (client other name : ℕ) → position_after table history client ≡ Some (Holds name)
+    → position_after table history other ≡ Some (Holds name) → client ≡ other
+
 -- a state agrees with a history: its positions and counts are those that the history gives
 pub record Agrees (state : State) (history : List Event) : Type 0 where
   pub accepted : IsHistory state.network.table history

@@ -117,4 +117,5 @@ pub record IsState (s : State) : Type 0 where
   -- each client is there once, and each came in by an entry
   pub once : (client : ℕ) → times_entered client s.clients ≤ 1
   pub all : came_in s ≡ length s.clients
-  pub on_wires : (client wire : ℕ) → position_in s.clients client ≡ Some (On wire) → wire < length s.network.table.ends
+  pub on_wires : (client wire : ℕ) → position_in s.clients client ≡ Some (On wire)
+      → wire < length s.network.table.ends

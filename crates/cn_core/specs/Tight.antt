@@ -45,18 +45,21 @@ pub record IsBoundedState (s : State) : Type 0 where
   pub counts : (i : ℕ) → i < s.network.table.width
       → slice_index s.visits i ≤ share (came_in s) s.network.table.width i
   -- no count is more than what came in
-  pub entries : (entry : ℕ) → entry < s.network.table.entries → slice_index s.entered entry ≤ came_in s
+  pub entries : (entry : ℕ) → entry < s.network.table.entries
+      → slice_index s.entered entry ≤ came_in s
   pub ends : (end : End) → Stands s.network.table end → past s end ≤ came_in s
   -- each name is below the number of clients, and no two clients have one name
   pub below : (client name : ℕ) → name_in s client ≡ Some name → name < length s.clients
-  pub distinct : (client other name : ℕ) → name_in s client ≡ Some name → name_in s other ≡ Some name → client ≡ other
+  pub distinct : (client other name : ℕ) → name_in s client ≡ Some name
+      → name_in s other ≡ Some name → client ≡ other
 
 -- the clients of a state by rising name
 pub record ListsHolders (s : State) (holders : List ℕ) : Type 0 where
   -- there are as many places as clients
   pub all : length holders ≡ length s.clients
   -- at each place stands the client that holds the place's number
-  pub by_name : (name : ℕ) → name < length s.clients → name_in s (slice_index holders name) ≡ Some name
+  pub by_name : (name : ℕ) → name < length s.clients
+      → name_in s (slice_index holders name) ≡ Some name
   -- they are the clients that entered, each once
   pub own : IsPermutation (keys_of s.clients) holders
   pub once : (client : ℕ) → count_by (nat_eq client) holders ≤ 1

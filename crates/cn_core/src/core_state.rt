@@ -68,8 +68,7 @@ impl<'a> Core<'a> {
     ghost use Rattle.cn_core.specs.declared.event.Event.TheVariants.{Enter, Step};
     ghost use Rattle.cn_core.specs.State.{came_in, inside_in, name_in, start};
     ghost use Rattle.cn_core.specs.History.{Agrees, ByHistories, enters_of, inside_of};
-    ghost use Rattle.cn_ledger.specs.Ledger.{IsSound};
-    ghost use Rattle.cn_core.specs.StateLedger.{ledger_of};
+    ghost use Rattle.cn_core.specs.StateLedger.{HasSoundLedger};
     ghost use Rattle.cn_core.specs.Tight.{BringsAll, IsBoundedState, IsTightState, ListsHolders};
     ghost use Rattle.cn_core.specs.Calls.{AnswersByHistory, EntersLedger, EntersTo, IsLedgerEvent, MovesLedger, RunsByHistory, RunsTo, StepsTo, TakesTo, entered_reply, stepped_reply};
 
@@ -109,7 +108,7 @@ impl<'a> Core<'a> {
         ensures came { came_in self.now ≡ length self.now.clients }
         ensures exits { length self.now.visits ≡ self.now.network.table.width }
         ensures reached { (history : List Event) × Agrees self.now history }
-        ensures sound { ByHistories self.now (λ history. IsSound self.now.network.table (ledger_of self.now history)) }
+        ensures sound { ByHistories self.now (HasSoundLedger self.now) }
         ensures bounded { IsBoundedState self.now }
     {
         // Opens what each core keeps.
@@ -119,7 +118,8 @@ impl<'a> Core<'a> {
     /// How many clients are inside: they entered and hold no name.
     pub fn inside(&self) -> u64
         ensures value { result ≡ inside_in self.now }
-        ensures by_history { ByHistories self.now (λ history. result ≡ inside_of self.now.network.table history) }
+        ensures by_history { ByHistories self.now (λ history.
+            result ≡ inside_of self.now.network.table history) }
     {
         u64::from(self.clients.inside())
     }
@@ -139,7 +139,8 @@ impl<'a> Core<'a> {
         requires { balancer < self.now.network.table.balancers }
         ensures value { result ≡ slice_index self.now.passes balancer }
         ensures few { result ≤ came_in self.now }
-        ensures flow { (f : ℕ → ℕ) → BringsAll self.now f → result ≤ sum_at self.now.network.table (Balancer balancer) f }
+        ensures flow { (f : ℕ → ℕ) → BringsAll self.now f
+            → result ≤ sum_at self.now.network.table (Balancer balancer) f }
     {
         count_at(&self.passes, balancer as usize)
     }
@@ -158,7 +159,8 @@ impl<'a> Core<'a> {
     pub fn name(&self, client: u64) -> Option<u64>
         ensures value { result ≡ name_in self.now client }
         ensures below { IfSome result (λ name. name < length self.now.clients) }
-        ensures own { IfSome result (λ name. (other : ℕ) → name_in self.now other ≡ Some name → other ≡ client) }
+        ensures own { IfSome result (λ name. (other : ℕ)
+            → name_in self.now other ≡ Some name → other ≡ client) }
     {
         match self.clients.find(client)? {
             Found::Named(name) => Some(name),
@@ -198,7 +200,8 @@ impl<'a> Core<'a> {
     /// The first that stands: `NoSuchEntry`, `AlreadyIn` (the client is inside, or holds a name), `EpochFull`, `Memory`.
     pub fn enter(&mut self, client: u64, entry: u64) -> Result<(), EnterFault>
         ensures event { EntersTo self.old client entry (entered_reply result) self.new }
-        ensures history { AnswersByHistory self.old (Enter client entry) (entered_reply result) self.new }
+        ensures history { AnswersByHistory self.old (Enter client entry)
+            (entered_reply result) self.new }
         ensures ledger { OnOk result (EntersLedger self.old client entry self.new) }
         ensures network { self.new.network ≡ self.old.network }
     {
@@ -275,8 +278,10 @@ impl<'a> Core<'a> {
     /// `AllocError` where the replies get no room; then no event has been applied. An enter that meets want of memory is a
     /// reply like the others.
     pub fn run(&mut self, events: &[Event]) -> Result<Vec<Reply>, AllocError>
-        ensures events { IfOk result (λ replies. RunsTo self.old events.now replies.items self.new) }
-        ensures history { IfOk result (λ replies. RunsByHistory self.old events.now replies.items self.new) }
+        ensures events { IfOk result (λ replies.
+            RunsTo self.old events.now replies.items self.new) }
+        ensures history { IfOk result (λ replies.
+            RunsByHistory self.old events.now replies.items self.new) }
         ensures network { self.new.network ≡ self.old.network }
         ensures refused { OnErr result (self.new ≡ self.old) }
     {

@@ -54,7 +54,8 @@ TakesTo old Turn answer new = TurnsTo old answer new
 abbrev pub AnswersByHistory : Epochs → Command → Answer → Epochs → Type 0
 AnswersByHistory old command answer new =
     (turns : ℕ) (history : List Event) → Agrees old turns history
-    → MayAnswer old.core.network.table turns history command answer × Agrees new (turns_after turns answer) (grown history command answer)
+    → MayAnswer old.core.network.table turns history command answer
+        × Agrees new (turns_after turns answer) (grown history command answer)
 
 -- commands with these answers take the old epochs to the new ones, one after another
 abbrev pub RunsTo : Epochs → List Command → List Answer → Epochs → Type 0
@@ -68,4 +69,5 @@ RunsTo old (command ∷ commands) [] new = ⊥
 abbrev pub RunsByHistory : Epochs → List Command → List Answer → Epochs → Type 0
 RunsByHistory old commands answers new =
     (turns : ℕ) (history : List Event) → Agrees old turns history
-    → MayAnswerAll old.core.network.table turns history commands answers × Agrees new (turns_by turns answers) (grown_by history commands answers)
+    → MayAnswerAll old.core.network.table turns history commands answers
+        × Agrees new (turns_by turns answers) (grown_by history commands answers)

@@ -4,9 +4,8 @@ ghost use Rattle.std.specs.Prelude.{◌≡◌, ℕ, ◌+◌, ◌<◌, ◌≤◌,
 ghost use Rattle.cn_spec.specs.declared.limits.TheConstants.{MOST_CLIENTS};
 ghost use Rattle.cn_core.specs.Calls.{entered_reply, stepped_reply};
 ghost use Rattle.cn_core.specs.History.{enters_of, inside_of};
-ghost use Rattle.cn_ledger.specs.Ledger.{IsSound};
 ghost use Rattle.cn_core.specs.State.{came_in, inside_in, start};
-ghost use Rattle.cn_core.specs.StateLedger.{ledger_of};
+ghost use Rattle.cn_core.specs.StateLedger.{HasSoundLedger};
 ghost use Rattle.cn_core.specs.Tight.{IsBoundedState};
 ghost use Rattle.cn_epoch.specs.Calls.{AnswersByHistory, RunsTo, TakesTo, RepliesTo, RunsByHistory, TurnsTo, turned_answer};
 ghost use Rattle.cn_epoch.specs.Turns.{Agrees, ByHistories};
@@ -65,7 +64,8 @@ impl<'a> Epochs<'a> {
     /// # Errors
     /// `AllocError` where the counts or the wires get no memory.
     pub fn new(alloc: Global, network: &'a Counting, state: RandomState) -> Result<Self, AllocError>
-        ensures start { IfOk result (λ epochs. epochs ≡ record { number = 0; core = start network.now }) }
+        ensures start { IfOk result (λ epochs.
+            epochs ≡ record { number = 0; core = start network.now }) }
         ensures history { IfOk result (λ epochs. Agrees epochs 0 []) }
     {
         Ok(Epochs {
@@ -100,7 +100,7 @@ impl<'a> Epochs<'a> {
         ensures few { length self.now.core.clients ≤ MOST_CLIENTS }
         ensures came { came_in self.now.core ≡ length self.now.core.clients }
         ensures reached { (history : List Event) × Agrees self.now self.now.number history }
-        ensures sound { ByHistories self.now (λ turns history. IsSound self.now.core.network.table (ledger_of self.now.core history)) }
+        ensures sound { ByHistories self.now (λ turns. HasSoundLedger self.now.core) }
         ensures bounded { IsBoundedState self.now.core }
     {
         self.core.state_laws();
@@ -109,7 +109,8 @@ impl<'a> Epochs<'a> {
     /// How many clients are inside: they entered the epoch that stands open, and hold no name.
     pub fn inside(&self) -> u64
         ensures value { result ≡ inside_in self.now.core }
-        ensures by_history { ByHistories self.now (λ turns history. result ≡ inside_of self.now.core.network.table history) }
+        ensures by_history { ByHistories self.now (λ turns history.
+            result ≡ inside_of self.now.core.network.table history) }
     {
         self.core.inside()
     }
@@ -119,8 +120,10 @@ impl<'a> Epochs<'a> {
     /// # Errors
     /// As there.
     pub fn enter(&mut self, client: u64, entry: u64) -> Result<(), EnterFault>
-        ensures event { RepliesTo self.old (EnterEvent client entry) (Replied (entered_reply result)) self.new }
-        ensures history { AnswersByHistory self.old (Enter client entry) (Replied (entered_reply result)) self.new }
+        ensures event { TakesTo self.old (Enter client entry)
+            (Replied (entered_reply result)) self.new }
+        ensures history { AnswersByHistory self.old (Enter client entry)
+            (Replied (entered_reply result)) self.new }
         ensures network { self.new.core.network ≡ self.old.core.network }
     {
         self.core.enter(client, entry)
@@ -131,8 +134,9 @@ impl<'a> Epochs<'a> {
     /// # Errors
     /// As there.
     pub fn step(&mut self, client: u64) -> Result<Moved, StepFault>
-        ensures event { RepliesTo self.old (StepEvent client) (Replied (stepped_reply result)) self.new }
-        ensures history { AnswersByHistory self.old (Step client) (Replied (stepped_reply result)) self.new }
+        ensures event { TakesTo self.old (Step client) (Replied (stepped_reply result)) self.new }
+        ensures history { AnswersByHistory self.old (Step client)
+            (Replied (stepped_reply result)) self.new }
         ensures network { self.new.core.network ≡ self.old.core.network }
     {
         self.core.step(client)
@@ -148,7 +152,7 @@ impl<'a> Epochs<'a> {
     /// nothing has changed.
     pub fn turn(&mut self) -> Result<EpochRecord, TurnFault>
         requires { self.old.number + 1 < 2 ^ 64 }
-        ensures event { TurnsTo self.old (turned_answer result) self.new }
+        ensures event { TakesTo self.old Turn (turned_answer result) self.new }
         ensures history { AnswersByHistory self.old Turn (turned_answer result) self.new }
         ensures network { self.new.core.network ≡ self.old.core.network }
     {
@@ -201,8 +205,10 @@ impl<'a> Epochs<'a> {
     /// is answered like the others.
     pub fn run(&mut self, commands: &[Command]) -> Result<Vec<Answer>, AllocError>
         requires { self.old.number + length commands.now < 2 ^ 64 }
-        ensures events { IfOk result (λ answers. RunsTo self.old commands.now answers.items self.new) }
-        ensures history { IfOk result (λ answers. RunsByHistory self.old commands.now answers.items self.new) }
+        ensures events { IfOk result (λ answers.
+            RunsTo self.old commands.now answers.items self.new) }
+        ensures history { IfOk result (λ answers.
+            RunsByHistory self.old commands.now answers.items self.new) }
         ensures network { self.new.core.network ≡ self.old.core.network }
         ensures refused { OnErr result (self.new ≡ self.old) }
     {

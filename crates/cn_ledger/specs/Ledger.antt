@@ -31,19 +31,22 @@ AddsUpTo f m = (n : ℕ) × ((k : ℕ) → n ≤ k → sum_below k f ≡ m)
 -- the counts, the clients, the numbers and the grants of a ledger agree with one another
 pub record IsSound (t : Table) (l : Ledger) : Type 0 where
   -- who was put on the wires that end at an end went by there, or stands there
-  pub balanced : (end : End) → Stands t end → l.count end + sum_at t end l.on ≡ sum_at t end (put t l)
+  pub balanced : (end : End) → Stands t end
+      → l.count end + sum_at t end l.on ≡ sum_at t end (put t l)
   -- those that stand on a wire are clients: how often each stands there adds up to how many do
   pub clients : (u : ℕ) → AddsUpTo (l.standing u) (l.on u)
   -- the numbers given there are those below the count, each once
   pub numbered : (end : End) (n : ℕ) → Stands t end → l.given end n ≡ once_below (l.count end) n
   -- each grant has the name of its exit and visit
-  pub named : (c i v name : ℕ) → 1 ≤ l.granted c i v name → (i < t.width) × (name ≡ name_of t.width i v)
+  pub named : (c i v name : ℕ) → 1 ≤ l.granted c i v name → (i < t.width)
+      × (name ≡ name_of t.width i v)
   -- a client is granted a visit no more often than the exit gives it
   pub once : (c i v name : ℕ) → l.granted c i v name ≤ l.given (Exit i) v
   -- and so are two clients together
   pub apart : (c d i v : ℕ) → c ≢ d → l.granted c i v (name_of t.width i v) + l.granted d i v (name_of t.width i v) ≤ l.given (Exit i) v
   -- each visit that is given is granted to a client
-  pub told : (i v : ℕ) → i < t.width → 1 ≤ l.given (Exit i) v → (c : ℕ) × (1 ≤ l.granted c i v (name_of t.width i v))
+  pub told : (i v : ℕ) → i < t.width → 1 ≤ l.given (Exit i) v → (c : ℕ)
+      × (1 ≤ l.granted c i v (name_of t.width i v))
 
 -- how many have come in
 abbrev pub all_entered : Table → Ledger → ℕ
@@ -56,11 +59,13 @@ IsQuiet t l = (u : ℕ) → u < length t.ends → l.on u ≡ 0
 -- the counts and the names are no more than what entered allows
 pub record IsBounded (t : Table) (l : Ledger) : Type 0 where
   -- no balancer has passed more than the full flow of what entered brings there
-  pub passes : (f : ℕ → ℕ) → IsFullFlow t f → Agree t.entries f l.entered → (b : ℕ) → b < t.balancers → l.count (Balancer b) ≤ sum_at t (Balancer b) f
+  pub passes : (f : ℕ → ℕ) → IsFullFlow t f → Agree t.entries f l.entered → (b : ℕ)
+      → b < t.balancers → l.count (Balancer b) ≤ sum_at t (Balancer b) f
   -- no exit's count is more than its share of what entered
   pub counts : (i : ℕ) → i < t.width → l.count (Exit i) ≤ share (all_entered t l) t.width i
   -- the name of each visit that is given is below the number that entered
-  pub visits : (i v : ℕ) → i < t.width → 1 ≤ l.given (Exit i) v → name_of t.width i v < all_entered t l
+  pub visits : (i v : ℕ) → i < t.width → 1 ≤ l.given (Exit i) v
+      → name_of t.width i v < all_entered t l
   -- so is each name that is granted
   pub names : (c i v name : ℕ) → 1 ≤ l.granted c i v name → name < all_entered t l
 
@@ -75,11 +80,14 @@ pub record IsTight (t : Table) (l : Ledger) : Type 0 where
   -- the names given are the numbers below what entered, each once
   pub names : (name : ℕ) → times_given t l name ≡ once_below (all_entered t l) name
   -- each of these names is granted to one client, once, and to no other
-  pub held : (name : ℕ) → name < all_entered t l → (c : ℕ) × ((d : ℕ) → l.granted d (name % t.width) (name / t.width) name ≡ when (c == d) 1)
+  pub held : (name : ℕ) → name < all_entered t l → (c : ℕ)
+      × ((d : ℕ) → l.granted d (name % t.width) (name / t.width) name ≡ when (c == d) 1)
   -- each grant is of one of these names, by the exit and with the visit that the name tells
-  pub only : (c i v name : ℕ) → 1 ≤ l.granted c i v name → (name < all_entered t l) × (name % t.width ≡ i) × (name / t.width ≡ v)
+  pub only : (c i v name : ℕ) → 1 ≤ l.granted c i v name → (name < all_entered t l)
+      × (name % t.width ≡ i) × (name / t.width ≡ v)
   -- each balancer has passed what the full flow of what entered brings there
-  pub passes : (f : ℕ → ℕ) → IsFullFlow t f → Agree t.entries f l.entered → (b : ℕ) → b < t.balancers → l.count (Balancer b) ≡ sum_at t (Balancer b) f
+  pub passes : (f : ℕ → ℕ) → IsFullFlow t f → Agree t.entries f l.entered → (b : ℕ)
+      → b < t.balancers → l.count (Balancer b) ≡ sum_at t (Balancer b) f
 
 -- nobody has come
 abbrev pub empty_ledger : Ledger

@@ -69,13 +69,15 @@ pub fn who_goes_stood_there()
 
 /// On a sound ledger a client stands on a wire no more often than anybody does.
 pub fn who_stands_is_inside()
-    ensures { AllSound (λ table ledger. (wire client : ℕ) → ledger.standing wire client ≤ ledger.on wire) }
+    ensures { AllSound (λ table ledger. (wire client : ℕ)
+        → ledger.standing wire client ≤ ledger.on wire) }
 {}
 
 /// A client can come in by each entry; and on a sound ledger a client that stands on a wire can go by the wire's end.
 pub fn events_can_happen()
     ensures enters { (network : Network) (old : Ledger) (client entry : ℕ) → IsNetwork network
-        → entry < network.table.entries → (new : Ledger) × Enters network.table old new client entry }
+        → entry < network.table.entries
+        → (new : Ledger) × Enters network.table old new client entry }
     ensures passes { AllSound (λ table old. (client wire balancer : ℕ)
         → StandsAt table old client wire (Balancer balancer)
         → (new : Ledger) × Passes table old new client wire balancer) }
