@@ -1,4 +1,5 @@
--- The answers of a core, by its history: the events that it accepted, the newest first.
+-- The answers of a core, by its history: the events that it accepted, the newest first. They are one sequential execution
+-- of the network (Aspnes, Herlihy, Shavit, JACM 1994, section 2.1); this way to tell it is this project's own.
 use Rattle.std.specs.Prelude.{◌≡◌, ℕ, ◌+◌, ◌-◌, ◌%◌, ◌==◌, nat_le, Bool, true, false, List, ◌∷◌, [], Option, None, Some, is_some, slice_index, if◌then◌else◌, ◌⊎◌, length, count_by}
 use Rattle.std.specs.Map.{values_of}
 use Rattle.std.specs.Option.{option_map}

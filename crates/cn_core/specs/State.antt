@@ -1,4 +1,5 @@
--- What a core keeps, as contracts see it.
+-- What a core keeps, as contracts see it: the state of a balancing network whose tokens belong to clients (Aspnes, Herlihy,
+-- Shavit, JACM 1994, section 2.1).
 use Rattle.std.specs.Prelude.{◌≡◌, ℕ, ◌%◌, ◌<◌, ◌≤◌, Bool, true, false, nat_eq, List, ◌∷◌, [], ◌++◌, Option, None, Some, slice_index, length, count_by, replicate}
 use Rattle.std.specs.Map.{lookup, set_value, values_of}
 use Rattle.cn_spec.specs.Step.{name_of}

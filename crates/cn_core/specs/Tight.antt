@@ -1,4 +1,5 @@
--- An epoch's grants.
+-- An epoch's grants. Tight epochs are this project's own; renaming is that of Attiya, Bar-Noy, Dolev, Peleg, Reischuk,
+-- JACM 1990.
 use Rattle.std.specs.Prelude.{ℕ, ◌≡◌, ◌<◌, ◌≤◌, nat_eq, List, [], ◌∷◌, length, map, count_by, Some, slice_index}
 use Rattle.std.specs.List.Sorted.{IsPermutation}
 use Rattle.std.specs.Map.{keys_of}

@@ -13,7 +13,7 @@ use Rattle.cn_core.specs.declared.reply.StepFault.{StepFault}
 use Rattle.cn_core.specs.Calls.{IsLedgerEvent, MovesLedger, stepped_reply}
 use Rattle.cn_core.specs.State.{State, came_in, inside_in, name_at, position_in, start}
 use Rattle.cn_core.specs.Tight.{IsTightState}
-use Rattle.cn_core.proofs.HistoryLemmas.{Agrees-start, inside-by_history}
+use Rattle.cn_core.proofs.CallerLemmas.{Agrees-start, inside-by_history}
 use Rattle.cn_epoch.specs.declared.answer.Answer.{Answer}
 use Rattle.cn_epoch.specs.declared.answer.Answer.TheVariants.{Turned, TurnRefused}
 use Rattle.cn_epoch.specs.declared.answer.TurnFault.TheVariants.{Memory}

@@ -9,7 +9,7 @@ use Rattle.cn_epoch.specs.declared.answer.Answer.TheVariants.{Replied, Turned, T
 use Rattle.cn_epoch.specs.declared.command.Command.{Command}
 use Rattle.cn_epoch.specs.declared.command.Command.TheVariants.{Enter, Step, Turn}
 use Rattle.cn_epoch.specs.Turns.{IsSameAnswer, grown, grown_by, turns_after, turns_by}
-use Rattle.cn_epoch.proofs.OneRecord.{history-same, one-list, turns-same}
+use Rattle.cn_epoch.proofs.CallerLemmas.{history-same, one-list, turns-same}
 use Rattle.cn_report.specs.ReplayText.{answer_line, answer_lines, end_line}
 use Rattle.cn_report.specs.Text.{heading}
 use Rattle.cn_renamer.specs.Replay.{IsReplayText}
