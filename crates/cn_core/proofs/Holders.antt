@@ -1,6 +1,7 @@
 -- The clients of a quiet state, listed by the names that they hold.
 use Rattle.std.proofs.Common.{◌≡◌, ℕ, zero, suc, ◌+◌, ◌-◌, ◌<◌, ◌≤◌, Bool, true, false, cond, nat_eq, List, [], ◌∷◌, length, get_or, map, refl, sym, ap, ap₂, subst, ◌∙◌, arith, zero-add, Some, inl, inr}
-use Rattle.std.specs.Prelude.{AllPairs, Contains}
+use Rattle.std.specs.Prelude.{AllPairs, Contains, count_by}
+use Rattle.std.specs.Map.{keys_of, values_of}
 use Rattle.std.specs.List.{range_with_len, sum_by}
 use Rattle.std.specs.List.Sorted.{IsPermutation}
 use Rattle.std.proofs.lemmas.Bool.{eq-eqb}
@@ -14,9 +15,9 @@ use Rattle.cn_names.specs.declared.standing.Standing.{Standing}
 use Rattle.cn_names.specs.declared.standing.Standing.TheVariants.{Walking, Holds as Named}
 use Rattle.cn_names.specs.Grants.{IsRising, ListsByName, grants_in as named_in}
 use Rattle.cn_core.specs.declared.position.Position.{Position}
-use Rattle.cn_core.specs.declared.position.Position.TheVariants.{Holds}
+use Rattle.cn_core.specs.declared.position.Position.TheVariants.{On, Holds}
 use Rattle.cn_core.specs.InsideClients.{Clients, position_by, positions}
-use Rattle.cn_core.specs.State.{State, inside_in, name_at, position_in, times_in}
+use Rattle.cn_core.specs.State.{State, inside_in, is_inside, name_at, position_in, times_entered}
 use Rattle.cn_core.specs.StateLedger.{IsCore}
 use Rattle.cn_core.specs.Tight.{ListsHolders, grants_in}
 use Rattle.cn_core.proofs.Clientele.{placed}
@@ -63,28 +64,47 @@ rising-each_below k xs order rising =
 
 -- ---- the names that the table's clients hold
 
--- the table's grants have the names of the state's
-names-of : (y : Lists) (names : List (ℕ × Standing)) → map (λ grant. grant.1) (grants_in (placed y names)) ≡ map (λ grant. grant.0) (named_in names)
-names-of y [] = refl
-names-of y ((client, Walking token) ∷ names) = names-of y names
-names-of y ((client, Named name) ∷ names) = ap (λ ns. name ∷ ns) (names-of y names)
+-- the table's grants are the state's
+grants-of : (y : Lists) (names : List (ℕ × Standing)) → grants_in (placed y names) ≡ named_in names
+grants-of y [] = refl
+grants-of y ((client, Walking token) ∷ names) = grants-of y names
+grants-of y ((client, Named name) ∷ names) = ap (λ grants. (name, client) ∷ grants) (grants-of y names)
+
+-- where nobody is inside, the grants are those of all clients
+keys-granted : (clients : List (ℕ × Position)) → count_by is_inside (values_of clients) ≡ 0 → map (λ grant. grant.1) (grants_in clients) ≡ keys_of clients
+keys-granted [] none = refl
+keys-granted ((client, On wire) ∷ clients) none =
+    absurd (omega (arith, sum_by-cons (λ (p : Position). cond (is_inside p) 1 0) (On wire) (values_of clients)))
+keys-granted ((client, Holds name) ∷ clients) none =
+    ap (λ ks. client ∷ ks) (keys-granted clients (omega (arith, sum_by-cons (λ (p : Position). cond (is_inside p) 1 0) (Holds name) (values_of clients))))
+
+-- a client stands among the keys as often as in the list
+times-keys : (client : ℕ) (clients : List (ℕ × Position)) → count_by (nat_eq client) (keys_of clients) ≡ times_entered client clients
+times-keys client [] = refl
+times-keys client (e ∷ clients) =
+    omega (
+      arith,
+      times-keys client clients,
+      sum_by-cons (λ (k : ℕ). cond (nat_eq client k) 1 0) e.0 (keys_of clients),
+      sum_by-cons (λ (x : ℕ × Position). cond (nat_eq client x.0) 1 0) e clients,
+    )
 
 -- whoever is found is in the list
-found-times : (client : ℕ) (clients : List (ℕ × Position)) (p : Position) → position_in clients client ≡ Some p → 1 ≤ times_in client clients
+found-times : (client : ℕ) (clients : List (ℕ × Position)) (p : Position) → position_in clients client ≡ Some p → 1 ≤ times_entered client clients
 found-times client [] p found = cc
 found-times client (e ∷ clients) p found = by (nat_eq client e.0) refl found (found-times client clients p)
   where
-    by : (b : Bool) → nat_eq client e.0 ≡ b → cond b (Some e.1) (position_in clients client) ≡ Some p → (position_in clients client ≡ Some p → 1 ≤ times_in client clients) → 1 ≤ times_in client (e ∷ clients)
+    by : (b : Bool) → nat_eq client e.0 ≡ b → cond b (Some e.1) (position_in clients client) ≡ Some p → (position_in clients client ≡ Some p → 1 ≤ times_entered client clients) → 1 ≤ times_entered client (e ∷ clients)
     by true here found rest =
         let one : ◌≡◌ {A = ℕ} (cond (nat_eq client e.0) 1 0) 1 = rw here refl in
         omega (arith, sum_by-cons (λ (x : ℕ × Position). cond (nat_eq client x.0) 1 0) e clients)
     by false here found rest = omega (arith, rest found, sum_by-cons (λ (x : ℕ × Position). cond (nat_eq client x.0) 1 0) e clients)
 
 -- a client that is in the list once is found behind another
-found-later : (client : ℕ) (e : ℕ × Position) (clients : List (ℕ × Position)) (p : Position) → times_in client (e ∷ clients) ≤ 1 → (times_in client clients ≤ 1 → position_in clients client ≡ Some p) → position_in (e ∷ clients) client ≡ Some p
+found-later : (client : ℕ) (e : ℕ × Position) (clients : List (ℕ × Position)) (p : Position) → times_entered client (e ∷ clients) ≤ 1 → (times_entered client clients ≤ 1 → position_in clients client ≡ Some p) → position_in (e ∷ clients) client ≡ Some p
 found-later client e clients p once later = by (nat_eq client e.0) refl
   where
-    sum : times_in client (e ∷ clients) ≡ cond (nat_eq client e.0) 1 0 + times_in client clients
+    sum : times_entered client (e ∷ clients) ≡ cond (nat_eq client e.0) 1 0 + times_entered client clients
     sum = sum_by-cons (λ (x : ℕ × Position). cond (nat_eq client x.0) 1 0) e clients
 
     by : (b : Bool) → nat_eq client e.0 ≡ b → cond b (Some e.1) (position_in clients client) ≡ Some p
@@ -94,7 +114,7 @@ found-later client e clients p once later = by (nat_eq client e.0) refl
     by false here = later (omega (arith, sum))
 
 -- a grant of the table is the position of its client
-holder-found : (y : Lists) (names : List (ℕ × Standing)) (name client : ℕ) → times_in client (placed y names) ≤ 1 → Contains (named_in names) (name, client) → position_in (placed y names) client ≡ Some (Holds name)
+holder-found : (y : Lists) (names : List (ℕ × Standing)) (name client : ℕ) → times_entered client (placed y names) ≤ 1 → Contains (named_in names) (name, client) → position_in (placed y names) client ≡ Some (Holds name)
 holder-found y [] name client once (k, within, is) = absurd (omega arith)
 holder-found y ((c, Walking token) ∷ names) name client once has =
     found-later client (c, position_by y (Walking token)) (placed y names) (Holds name) once (λ once. holder-found y names name client once has)
@@ -116,7 +136,7 @@ names-rise grants rising i j d before within =
     omega arith
 
 pub holders-listed : (s : State) (c : Clients) (holders : List ℕ) → s.clients ≡ positions c → IsCore s → inside_in s ≡ 0 → ListsByName c.names holders → ListsHolders s holders
-holders-listed s c holders clients is none l = record { all = all; by_name = by_name }
+holders-listed s c holders clients is none l = record { all = all; by_name = by_name; own = own; once = once }
   where
     k : ℕ
     k = length s.clients
@@ -124,9 +144,21 @@ holders-listed s c holders clients is none l = record { all = all; by_name = by_
     f : ℕ × ℕ → ℕ
     f = λ (grant : ℕ × ℕ). grant.0
 
+    same : grants_in s.clients ≡ named_in c.names
+    same = ap grants_in clients ∙ grants-of c.yard.lists c.names
+
+    own : IsPermutation (keys_of s.clients) holders
+    own =
+        let keys : map (λ (grant : ℕ × ℕ). grant.1) (named_in c.names) ≡ keys_of s.clients = ap (map (λ (grant : ℕ × ℕ). grant.1)) (sym same) ∙ keys-granted s.clients none in
+        rw l.listed (subst (λ (ks : List ℕ). IsPermutation ks (map (λ (grant : ℕ × ℕ). grant.1) l.grants)) keys (IsPermutation-map (λ (grant : ℕ × ℕ). grant.1) (named_in c.names) l.grants l.all))
+
+    once : (client : ℕ) → count_by (nat_eq client) holders ≤ 1
+    once client =
+        omega (arith, sum_by-IsPermutation (λ (k : ℕ). cond (nat_eq client k) 1 0) (keys_of s.clients) holders own, times-keys client s.clients, is.state.once client)
+
     order : IsPermutation (range_with_len 0 k) (map f l.grants)
     order =
-        let names : map (λ grant. grant.1) (grants_in s.clients) ≡ map f (named_in c.names) = ap (λ cs. map (λ grant. grant.1) (grants_in cs)) clients ∙ names-of c.yard.lists c.names in
+        let names : map f (grants_in s.clients) ≡ map f (named_in c.names) = ap (map f) same in
         IsPermutation-trans _ _ _ (rw names at (tight-state s is none).tight.names) (IsPermutation-map f (named_in c.names) l.grants l.all)
 
     names-are : map f l.grants ≡ range_with_len 0 k
@@ -145,5 +177,5 @@ holders-listed s c holders clients is none l = record { all = all; by_name = by_
         let its : grant.0 ≡ name = sym (get_or-map f l.grants name (0, 0) 0 there) ∙ ap (λ ns. get_or ns name 0) names-are ∙ get_or-range_with_len 0 k name 0 below ∙ zero-add name in
         let who : get_or holders name 0 ≡ grant.1 = ap (λ hs. get_or hs name 0) l.listed ∙ get_or-map (λ (g : ℕ × ℕ). g.1) l.grants name (0, 0) 0 there in
         let has = Contains-permutation l.grants (named_in c.names) grant (IsPermutation-sym (named_in c.names) l.grants l.all) (Contains-get_or l.grants name (0, 0) there) in
-        let found = holder-found c.yard.lists c.names grant.0 grant.1 (subst (λ cs. times_in grant.1 cs ≤ 1) clients (is.state.once grant.1)) has in
+        let found = holder-found c.yard.lists c.names grant.0 grant.1 (subst (λ cs. times_entered grant.1 cs ≤ 1) clients (is.state.once grant.1)) has in
         rw (who, clients, found, its) refl

@@ -7,7 +7,7 @@ use Rattle.std.proofs.lemmas.List.Sums.{sum_by-cons}
 use Rattle.cn_spec.specs.Step.{name_of}
 use Rattle.cn_spec.specs.Sums.{when, once_below}
 use Rattle.cn_spec.specs.declared.limits.TheConstants.{MOST_CLIENTS}
-use Rattle.cn_spec.proofs.CallerLemmas.{exit_of-name_of}
+use Rattle.cn_spec.proofs.CallerLemmas.{exit_of-name_of, one_more_at}
 use Rattle.cn_wiring.specs.declared.end.End.{End}
 use Rattle.cn_wiring.specs.declared.end.End.TheVariants.{Balancer, Exit}
 use Rattle.cn_wiring.specs.Table.{end_of, is_end, Stands}
@@ -26,11 +26,10 @@ use Rattle.cn_core.specs.declared.reply.Reply.TheVariants.{Stepped}
 use Rattle.cn_core.specs.Calls.{IsMoveOf, MovesLedger, StepsTo}
 use Rattle.cn_core.specs.StateLedger.{is_on, holds, held_in, given_in, ledger_of, IsCore}
 use Rattle.cn_core.proofs.Placed.{count-push, count-set, count_pair-push, count_pair-set}
-use Rattle.cn_core.proofs.StateLemmas.{one_more_at, stands-at, zero_at, IsState-start, IsState-after_enter, IsState-after_step}
+use Rattle.cn_core.proofs.StateLemmas.{stands-at, zero_at, IsState-start, IsState-after_enter, IsState-after_step}
 use Rattle.cn_core.proofs.HistoryLemmas.{past-after_step, Agrees-start, Agrees-after_enter, Agrees-after_step}
 use Rattle.cn_core.proofs.PassageLemmas.{sound_passages}
-use Rattle.cn_ledger.proofs.CallerLemmas.{sound-nothing}
-use Rattle.cn_ledger.proofs.CallerLemmas.{eqb-sym, is_end-sym, sound-enters, sound-passes, sound-leaves}
+use Rattle.cn_ledger.proofs.CallerLemmas.{eqb-sym, is_end-sym, sound-enters, sound-leaves, sound-nothing, sound-passes}
 
 and-sym : (a b : Bool) → (a && b) ≡ (b && a)
 and-sym true true = refl
@@ -313,6 +312,6 @@ pub ledger-step : (old : State) (client : ℕ) (moved : Moved) (new : State) →
 ledger-step old client moved new is (wire, on, m, e) h a = rw (m, e) (by (end_of old.network.table wire) refl)
   where
     by : (end : End) → end_of old.network.table wire ≡ end
-        → IsMoveOf old.network.table (ledger_of old h) (ledger_of (after_step old client end) (Step client ∷ h)) client (moved_past old.network.table end (past old end))
+        → IsMoveOf old.network.table 0 (ledger_of old h) (ledger_of (after_step old client end) (Step client ∷ h)) client (moved_past old.network.table end (past old end))
     by (Balancer b) ends = (wire, ledger-passes old h client wire b is on ends a, refl, refl)
-    by (Exit i) ends = (wire, ledger-leaves old h client wire i is on ends a, refl, refl)
+    by (Exit i) ends = (wire, ledger-leaves old h client wire i is on ends a, refl, add-zero (name_of old.network.table.width i (slice_index old.visits i)))

@@ -7,3 +7,4 @@ pub mod LedgerLemmas
 pub mod TightLemmas
 pub mod Holders
 pub mod OneHolder
+pub mod CallerLemmas

@@ -1,23 +1,20 @@
 -- Each event keeps what each state keeps.
-use Rattle.std.proofs.Common.{◌≡◌, ℕ, zero, suc, ◌+◌, ◌*◌, ◌%◌, ◌<◌, ◌≤◌, cond, nat_eq, List, [], ◌∷◌, ◌++◌, length, refl, arith, Some, None, ◌∙◌, slice_index, length-set, length-append, get_or-set_same, get_or-set_other, subst}
+use Rattle.std.proofs.Common.{◌≡◌, ℕ, zero, suc, ◌+◌, ◌*◌, ◌%◌, ◌<◌, ◌≤◌, nat_eq, List, [], ◌∷◌, ◌++◌, length, refl, arith, Some, None, ◌∙◌, slice_index, length-set, length-append, subst}
 use Rattle.std.specs.Prelude.{replicate}
 use Rattle.std.proofs.lemmas.Bool.Decides.{nat_tests}
 use Rattle.std.proofs.lemmas.List.{length-replicate}
 use Rattle.std.proofs.lemmas.Map.{length-set_value}
 use Rattle.cn_spec.specs.declared.limits.TheConstants.{MOST_CLIENTS}
-use Rattle.cn_spec.proofs.CallerLemmas.{sum_below-change, sum_below-zero}
+use Rattle.cn_spec.proofs.CallerLemmas.{one_more_at, sum_below-change, sum_below-zero}
+use Rattle.cn_spec.specs.Sums.{one_more}
 use Rattle.cn_wiring.specs.declared.end.End.{End}
 use Rattle.cn_wiring.specs.declared.end.End.TheVariants.{Balancer, Exit}
 use Rattle.cn_wiring.specs.Table.{end_of, Stands, LeadsOn}
 use Rattle.cn_wiring.specs.Network.{Network, IsNetwork}
 use Rattle.cn_core.specs.declared.position.Position.{Position}
 use Rattle.cn_core.specs.declared.position.Position.TheVariants.{On}
-use Rattle.cn_core.specs.State.{State, IsState, position_in, one_more, position_past, after_enter, after_step, start, is_past, is_named, times_in}
-use Rattle.cn_core.proofs.Placed.{lookup-push, lookup-set, count-push, count-set, times-push, times-absent, times-set}
-
--- one more at a place
-pub one_more_at : (counts : List ℕ) (i j : ℕ) → i < length counts → slice_index (one_more counts i) j ≡ slice_index counts j + cond (nat_eq j i) 1 0
-one_more_at counts i j lt = grind (arith, nat_tests, get_or-set_same, get_or-set_other)
+use Rattle.cn_core.specs.State.{State, IsState, position_in, position_past, after_enter, after_step, start, times_entered}
+use Rattle.cn_core.proofs.Placed.{lookup-push, lookup-set, times-push, times-absent, times-set}
 
 -- what a table says of the end of a wire
 pub stands-at : (network : Network) → IsNetwork network → (wire : ℕ) (end : End) → wire < length network.table.ends → end_of network.table wire ≡ end → Stands network.table end
@@ -26,8 +23,8 @@ stands-at network is wire end within e = subst (Stands network.table) e (is.form
 pub leads-on : (network : Network) → IsNetwork network → (wire b : ℕ) → wire < length network.table.ends → end_of network.table wire ≡ Balancer b → wire < network.table.entries + 2 * b
 leads-on network is wire b within e = subst (LeadsOn network.table wire) e (is.formed.forward wire within)
 
-once-push : (clients : List (ℕ × Position)) (client : ℕ) (position : Position) → position_in clients client ≡ None → ((q : ℕ) → times_in q clients ≤ 1)
-    → (q : ℕ) → times_in q (clients ++ (client, position) ∷ []) ≤ 1
+once-push : (clients : List (ℕ × Position)) (client : ℕ) (position : Position) → position_in clients client ≡ None → ((q : ℕ) → times_entered q clients ≤ 1)
+    → (q : ℕ) → times_entered q (clients ++ (client, position) ∷ []) ≤ 1
 once-push clients client position absent once q = grind (arith, nat_tests, once q, times-push clients client position q, times-absent clients client absent)
 
 pub IsState-after_enter : (s : State) (client entry : ℕ) → IsState s → entry < s.network.table.entries → position_in s.clients client ≡ None → length s.clients < MOST_CLIENTS
@@ -47,9 +44,6 @@ IsState-after_enter s client entry is within absent room = record {
     sum_below-change s.network.table.entries entry 1 (λ e. slice_index s.entered e) (λ e. slice_index (one_more s.entered entry) e) (λ u. one_more_at s.entered entry u (omega (arith, is.entries))),
   );
   on_wires = λ q wire on. on-wire q wire on;
-  entered_few = λ e. grind (arith, is.entered_few e, length-append s.clients ((client, On entry) ∷ []), one_more_at s.entered entry e);
-  passes_few = λ b. omega (arith, is.passes_few b, count-push (is_past s.network.table b) s.clients client (On entry));
-  visits_few = λ i. omega (arith, is.visits_few i, count-push is_named s.clients client (On entry));
 }
   where
     entry_below : entry < length s.network.table.ends
@@ -73,9 +67,6 @@ IsState-after_step s client wire (Balancer b) is on ends = record {
   once = λ q. rw (times-set s.clients client to q) (is.once q);
   all = rw (length-set_value (nat_eq client) s.clients to) is.all;
   on_wires = λ q w h. grind (arith, within, lookup-set s.clients client to (On wire) q on, is.on_wires q w);
-  entered_few = λ e. rw (length-set_value (nat_eq client) s.clients to) (is.entered_few e);
-  passes_few = λ a. grind (arith, nat_tests, is.passes_few a, one_more_at s.passes b a, in_range, count-set (is_past s.network.table a) s.clients client to (On wire) on, older);
-  visits_few = λ i. omega (arith, is.visits_few i, count-set is_named s.clients client to (On wire) on);
 }
   where
     to : Position
@@ -101,9 +92,6 @@ IsState-after_step s client wire (Exit i) is on ends = record {
   once = λ q. rw (times-set s.clients client to q) (is.once q);
   all = rw (length-set_value (nat_eq client) s.clients to) is.all;
   on_wires = λ q w h. grind (arith, lookup-set s.clients client to (On wire) q on, is.on_wires q w);
-  entered_few = λ e. rw (length-set_value (nat_eq client) s.clients to) (is.entered_few e);
-  passes_few = λ a. grind (arith, is.passes_few a, count-set (is_past s.network.table a) s.clients client to (On wire) on);
-  visits_few = λ j. grind (arith, nat_tests, is.visits_few j, one_more_at s.visits i j, in_range, count-set is_named s.clients client to (On wire) on);
 }
   where
     to : Position
@@ -130,7 +118,4 @@ IsState-start network is = record {
   once = λ q. omega arith;
   all = sum_below-zero network.table.entries (λ e. slice_index (replicate network.table.entries 0) e) (zero_at network.table.entries);
   on_wires = λ q w h. cc;
-  entered_few = λ e. omega (arith, zero_at network.table.entries e);
-  passes_few = λ b. omega (arith, zero_at network.table.balancers b);
-  visits_few = λ i. omega (arith, zero_at network.table.width i);
 }

@@ -5,16 +5,19 @@ use Rattle.std.specs.Map.{values_of}
 use Rattle.std.proofs.lemmas.Bool.{eq-eqb, lt-ltb}
 use Rattle.std.proofs.lemmas.Nat.{mod_below}
 use Rattle.std.proofs.lemmas.List.Sums.{sum_by-cons}
-use Rattle.cn_spec.specs.Step.{share, name_of}
+use Rattle.cn_spec.specs.Step.{name_of}
 use Rattle.cn_spec.specs.Sums.{once_below, times}
-use Rattle.cn_spec.proofs.CallerLemmas.{each_below, name_of-exit_of, times-cons, times-nil}
+use Rattle.cn_spec.proofs.CallerLemmas.{each_below, name_of-exit_of, sum_below-part, times-cons, times-nil}
+use Rattle.cn_spec.specs.declared.limits.TheConstants.{MOST_ARRIVALS}
+use Rattle.cn_wiring.specs.declared.end.End.{End}
+use Rattle.cn_wiring.specs.Table.{Stands}
 use Rattle.cn_core.specs.declared.position.Position.{Position}
 use Rattle.cn_core.specs.declared.position.Position.TheVariants.{On, Holds}
-use Rattle.cn_core.specs.State.{State, IsState, position_in, name_at, name_in, times_in, is_inside, is_named, is_past, inside_in}
+use Rattle.cn_core.specs.State.{State, IsState, past, position_in, name_at, name_in, times_entered, is_inside, is_named, inside_in}
 use Rattle.cn_ledger.specs.Ledger.{IsQuiet, times_given}
 use Rattle.cn_core.specs.StateLedger.{is_on, holds, granted_in, ledger_of, IsCore}
 use Rattle.cn_core.specs.Tight.{grants_in, IsTightState, IsBoundedState}
-use Rattle.cn_ledger.proofs.CallerLemmas.{bounded, tight, names-differ}
+use Rattle.cn_ledger.proofs.CallerLemmas.{bounded, counts-few, names-differ, tight}
 use Rattle.cn_core.proofs.Placed.{count_pair-found}
 use Rattle.cn_core.proofs.HistoryLemmas.{inside_or_named}
 
@@ -40,8 +43,10 @@ bounded-state s is =
     let b = bounded s.network.table is.state.network.formed is.state.network.counts (ledger_of s h) sound in
     let w : ℕ = s.network.table.width in
     record {
-      passes = b.passes;
-      counts = λ i within. subst (λ n. slice_index s.visits i ≤ share n w i) is.state.all (b.counts i within);
+      passes = λ f brings. b.passes f brings.0 brings.1;
+      counts = b.counts;
+      entries = λ entry within. sum_below-part s.network.table.entries entry (λ e. slice_index s.entered e) within;
+      ends = counts-few s.network.table is.state.network.formed (ledger_of s h) sound;
       below = λ client name e. subst (λ n. name < n) is.state.all (b.names client (name % w) (name / w) name (granted-name s is.state client name e));
       distinct = λ client other name e f.
           (names-differ s.network.table (ledger_of s h) sound client other (name % w) (name % w) (name / w) (name / w) name name
@@ -67,19 +72,19 @@ length-grants_in [] = refl
 length-grants_in ((c, On wire) ∷ rest) = omega (arith, length-grants_in rest, sum_by-cons (λ (p : Position). cond (is_named p) 1 0) (On wire) (values_of rest))
 length-grants_in ((c, Holds name) ∷ rest) = omega (arith, length-grants_in rest, sum_by-cons (λ (p : Position). cond (is_named p) 1 0) (Holds name) (values_of rest))
 
-clients-grants_in : (q : ℕ) (clients : List (ℕ × Position)) → count_by (λ grant. nat_eq q grant.0) (grants_in clients) ≤ times_in q clients
+clients-grants_in : (q : ℕ) (clients : List (ℕ × Position)) → count_by (λ grant. nat_eq q grant.1) (grants_in clients) ≤ times_entered q clients
 clients-grants_in q [] = omega arith
 clients-grants_in q ((c, On wire) ∷ rest) =
     omega (arith, clients-grants_in q rest, sum_by-cons (λ (e : ℕ × Position). cond (nat_eq q e.0) 1 0) (c, On wire) rest)
 clients-grants_in q ((c, Holds name) ∷ rest) =
-    omega (arith, clients-grants_in q rest, sum_by-cons (λ (e : ℕ × Position). cond (nat_eq q e.0) 1 0) (c, Holds name) rest, sum_by-cons (λ (grant : ℕ × ℕ). cond (nat_eq q grant.0) 1 0) (c, name) (grants_in rest))
+    omega (arith, clients-grants_in q rest, sum_by-cons (λ (e : ℕ × Position). cond (nat_eq q e.0) 1 0) (c, Holds name) rest, sum_by-cons (λ (grant : ℕ × ℕ). cond (nat_eq q grant.1) 1 0) (name, c) (grants_in rest))
 
-names-grants_in : (n : ℕ) (clients : List (ℕ × Position)) → times n (map (λ grant. grant.1) (grants_in clients)) ≡ count_by (holds n) (values_of clients)
+names-grants_in : (n : ℕ) (clients : List (ℕ × Position)) → times n (map (λ grant. grant.0) (grants_in clients)) ≡ count_by (holds n) (values_of clients)
 names-grants_in n [] = times-nil n
 names-grants_in n ((c, On wire) ∷ rest) =
     omega (arith, names-grants_in n rest, sum_by-cons (λ (p : Position). cond (holds n p) 1 0) (On wire) (values_of rest))
 names-grants_in n ((c, Holds name) ∷ rest) =
-    omega (arith, names-grants_in n rest, times-cons n name (map (λ grant. grant.1) (grants_in rest)), sum_by-cons (λ (p : Position). cond (holds n p) 1 0) (Holds name) (values_of rest))
+    omega (arith, names-grants_in n rest, times-cons n name (map (λ grant. grant.0) (grants_in rest)), sum_by-cons (λ (p : Position). cond (holds n p) 1 0) (Holds name) (values_of rest))
 
 pub tight-state : (s : State) → IsCore s → inside_in s ≡ 0 → IsTightState s
 tight-state s is none =
@@ -89,27 +94,21 @@ tight-state s is none =
     let w : ℕ = s.network.table.width in
     let (least, most) = is.state.network.formed.width in
     record {
-      counts = λ i within. subst (λ n. slice_index s.visits i ≡ share n w i) is.state.all (t.counts i within);
+      counts = t.counts;
       everyone = omega (arith, length-grants_in s.clients, inside_or_named s.clients);
       tight = record {
         clients = λ q. omega (arith, clients-grants_in q s.clients, is.state.once q);
-        names = each_below (length s.clients) (map (λ grant. grant.1) (grants_in s.clients)) (λ n.
+        names = each_below (length s.clients) (map (λ grant. grant.0) (grants_in s.clients)) (λ n.
             let below : n % w < w = mod_below n w (omega arith) in
             let given : times_given s.network.table (ledger_of s h) n ≡ count_by (holds n) (values_of s.clients) = rw (lt-ltb (n % w) w below, name_of-exit_of w n) refl in
             names-grants_in n s.clients ∙ sym given ∙ t.names n ∙ ap (λ k. once_below k n) is.state.all);
       };
     }
 
--- no balancer has passed more tokens than there are clients
-pub passes-few : (s : State) → IsState s → (b : ℕ) → slice_index s.passes b ≤ length s.clients
-passes-few s is b = omega (arith, is.passes_few b, count-most (is_past s.network.table b) s.clients)
-  where
-    count-most : (p : Position → Bool) (clients : List (ℕ × Position)) → count_by p (values_of clients) ≤ length clients
-    count-most p [] = omega arith
-    count-most p (e ∷ rest) =
-        let one = most (p e.1) in
-        omega (arith, count-most p rest, sum_by-cons (λ (q : Position). cond (p q) 1 0) e.1 (values_of rest))
-      where
-        most : (b : Bool) → cond b 1 0 ≤ 1
-        most true = omega arith
-        most false = omega arith
+-- each count has room for one more
+pub room-entered : (s : State) → IsState s → (entry : ℕ) → entry < s.network.table.entries → slice_index s.entered entry < MOST_ARRIVALS
+room-entered s is entry within =
+    omega (arith, is.few, is.all, sum_below-part s.network.table.entries entry (λ e. slice_index s.entered e) within)
+
+pub room-past : (s : State) → IsCore s → (end : End) → Stands s.network.table end → past s end < MOST_ARRIVALS
+room-past s is end there = omega (arith, is.state.few, is.state.all, (bounded-state s is).ends end there)

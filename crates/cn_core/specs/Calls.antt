@@ -1,5 +1,5 @@
 -- What the calls of a core answer and leave.
-use Rattle.std.specs.Prelude.{◌≡◌, ℕ, ◌%◌, ◌<◌, ◌≤◌, List, [], ◌∷◌, None, Some, Result, Ok, Err, length, IsSome}
+use Rattle.std.specs.Prelude.{◌≡◌, ℕ, ◌+◌, ◌%◌, ◌<◌, ◌≤◌, List, [], ◌∷◌, None, Some, Result, Ok, Err, length, IsSome}
 use Rattle.cn_spec.specs.declared.limits.TheConstants.{MOST_CLIENTS}
 use Rattle.cn_spec.specs.Step.{name_of}
 use Rattle.cn_wiring.specs.declared.end.End.TheVariants.{Balancer, Exit}
@@ -34,14 +34,17 @@ stepped_reply (Err fault) = StepRefused fault
 -- an enter with this reply takes the old state to the new one
 abbrev pub EntersTo : State → ℕ → ℕ → Reply → State → Type 0
 EntersTo old client entry Entered new =
-    (entry < old.network.table.entries) × (position_in old.clients client ≡ None) × (length old.clients < MOST_CLIENTS) × (new ≡ after_enter old client entry)
+    (entry < old.network.table.entries) × (position_in old.clients client ≡ None)
+        × (length old.clients < MOST_CLIENTS) × (new ≡ after_enter old client entry)
 EntersTo old client entry (EnterRefused NoSuchEntry) new = (old.network.table.entries ≤ entry) × (new ≡ old)
 EntersTo old client entry (EnterRefused AlreadyIn) new =
     (entry < old.network.table.entries) × IsSome (position_in old.clients client) × (new ≡ old)
 EntersTo old client entry (EnterRefused EpochFull) new =
-    (entry < old.network.table.entries) × (position_in old.clients client ≡ None) × (MOST_CLIENTS ≤ length old.clients) × (new ≡ old)
+    (entry < old.network.table.entries) × (position_in old.clients client ≡ None)
+        × (MOST_CLIENTS ≤ length old.clients) × (new ≡ old)
 EntersTo old client entry (EnterRefused Memory) new =
-    (entry < old.network.table.entries) × (position_in old.clients client ≡ None) × (length old.clients < MOST_CLIENTS) × (new ≡ old)
+    (entry < old.network.table.entries) × (position_in old.clients client ≡ None)
+        × (length old.clients < MOST_CLIENTS) × (new ≡ old)
 EntersTo old client entry (Stepped moved) new = ⊥
 EntersTo old client entry (StepRefused fault) new = ⊥
 
@@ -64,20 +67,25 @@ TakesTo old (Step client) reply new = StepsTo old client reply new
 -- by every history that the old state agrees with this is an answer to the event, and the new state agrees with the history after it
 abbrev pub AnswersByHistory : State → Event → Reply → State → Type 0
 AnswersByHistory old event reply new =
-    (history : List Event) → Agrees old history → MayAnswer old.network.table history event reply × Agrees new (grown history event reply)
+    (history : List Event) → Agrees old history → MayAnswer old.network.table history event reply
+        × Agrees new (grown history event reply)
 
 -- by every history that the old state agrees with these are answers to the events, and the new state agrees with the history after them
 abbrev pub RunsByHistory : State → List Event → List Reply → State → Type 0
 RunsByHistory old events replies new =
     (history : List Event) → Agrees old history
-    → MayAnswerAll old.network.table history events replies × Agrees new (grown_by history events replies)
+    → MayAnswerAll old.network.table history events replies
+        × Agrees new (grown_by history events replies)
 
--- a step that moved a client so is one event on the ledger: a passage, or a leave
-abbrev pub IsMoveOf : Table → Ledger → Ledger → ℕ → Moved → Type 0
-IsMoveOf table old new client (Passed balancer number wire) =
-    (from : ℕ) × Passes table old new client from balancer × (number ≡ old.count (Balancer balancer)) × (wire ≡ output_wire table balancer (number % 2))
-IsMoveOf table old new client (Out exit visit name) =
-    (from : ℕ) × Leaves table old new client from exit × (visit ≡ old.count (Exit exit)) × (name ≡ name_of table.width exit visit)
+-- a step that moved a client so is one event on the ledger: a passage, or a leave. The name that is told is that of the
+-- visit less the base, the number of those that came in before the epoch.
+abbrev pub IsMoveOf : Table → ℕ → Ledger → Ledger → ℕ → Moved → Type 0
+IsMoveOf table base old new client (Passed balancer number wire) =
+    (from : ℕ) × Passes table old new client from balancer
+    × (number ≡ old.count (Balancer balancer)) × (wire ≡ output_wire table balancer (number % 2))
+IsMoveOf table base old new client (Out exit visit name) =
+    (from : ℕ) × Leaves table old new client from exit
+    × (visit ≡ old.count (Exit exit)) × (name + base ≡ name_of table.width exit visit)
 
 -- an accepted enter is one event on the ledger
 abbrev pub EntersLedger : State → ℕ → ℕ → State → Type 0
@@ -89,7 +97,7 @@ EntersLedger old client entry new =
 abbrev pub MovesLedger : State → ℕ → Moved → State → Type 0
 MovesLedger old client moved new =
     (history : List Event) → Agrees old history
-    → IsMoveOf old.network.table (ledger_of old history) (ledger_of new (Step client ∷ history)) client moved
+    → IsMoveOf old.network.table 0 (ledger_of old history) (ledger_of new (Step client ∷ history)) client moved
 
 -- where the event is accepted, it is one event on the ledger
 abbrev pub IsLedgerEvent : State → Event → Reply → State → Type 0
@@ -101,6 +109,7 @@ IsLedgerEvent old event reply new = Unit {0}
 abbrev pub RunsTo : State → List Event → List Reply → State → Type 0
 RunsTo old [] [] new = new ≡ old
 RunsTo old (event ∷ events) (reply ∷ replies) new =
-    (mid : State) × TakesTo old event reply mid × IsLedgerEvent old event reply mid × RunsTo mid events replies new
+    (mid : State) × TakesTo old event reply mid × IsLedgerEvent old event reply mid
+        × RunsTo mid events replies new
 RunsTo old [] (reply ∷ replies) new = ⊥
 RunsTo old (event ∷ events) [] new = ⊥

@@ -1,4 +1,5 @@
--- The answers of a core, by its history: the events that it accepted, the newest first.
+-- The answers of a core, by its history: the events that it accepted, the newest first. They are one sequential execution
+-- of the network (Aspnes, Herlihy, Shavit, JACM 1994, section 2.1); this way to tell it is this project's own.
 use Rattle.std.specs.Prelude.{◌≡◌, ℕ, ◌+◌, ◌-◌, ◌%◌, ◌==◌, nat_le, Bool, true, false, List, ◌∷◌, [], Option, None, Some, is_some, slice_index, if◌then◌else◌, ◌⊎◌, length, count_by}
 use Rattle.std.specs.Map.{values_of}
 use Rattle.std.specs.Option.{option_map}
@@ -143,6 +144,12 @@ abbrev pub IsHistory : Table → List Event → Type 0
 IsHistory table [] = Unit {0}
 IsHistory table (event ∷ earlier) = (is_accepted (answer_to table earlier event) ≡ true) × IsHistory table earlier
 
+-- no two clients hold one name
+abbrev pub HasOneHolder : Table → List Event → Type 0
+HasOneHolder table history =
+    (client other name : ℕ) → position_after table history client ≡ Some (Holds name)
+    → position_after table history other ≡ Some (Holds name) → client ≡ other
+
 -- a state agrees with a history: its positions and counts are those that the history gives
 pub record Agrees (state : State) (history : List Event) : Type 0 where
   pub accepted : IsHistory state.network.table history
@@ -151,3 +158,7 @@ pub record Agrees (state : State) (history : List Event) : Type 0 where
   pub total : length state.clients ≡ enters_of history
   pub left : count_by is_named (values_of state.clients) ≡ leaves_of state.network.table history
   pub counts : (end : End) → past state end ≡ steps_before state.network.table history end
+
+-- something holds of each history that the state agrees with
+abbrev pub ByHistories : State → (List Event → Type 0) → Type 0
+ByHistories state P = (history : List Event) → Agrees state history → P history

@@ -1,8 +1,9 @@
--- What a core keeps, as contracts see it.
-use Rattle.std.specs.Prelude.{◌≡◌, ℕ, ◌+◌, ◌%◌, ◌<◌, ◌≤◌, Bool, true, false, nat_eq, nat_le, List, ◌∷◌, [], ◌++◌, Option, None, Some, slice_index, slice_set, length, count_by, replicate}
+-- What a core keeps, as contracts see it: the state of a balancing network whose tokens belong to clients (Aspnes, Herlihy,
+-- Shavit, JACM 1994, section 2.1).
+use Rattle.std.specs.Prelude.{◌≡◌, ℕ, ◌%◌, ◌<◌, ◌≤◌, Bool, true, false, nat_eq, List, ◌∷◌, [], ◌++◌, Option, None, Some, slice_index, length, count_by, replicate}
 use Rattle.std.specs.Map.{lookup, set_value, values_of}
 use Rattle.cn_spec.specs.Step.{name_of}
-use Rattle.cn_spec.specs.Sums.{sum_below}
+use Rattle.cn_spec.specs.Sums.{one_more, sum_below}
 use Rattle.cn_spec.specs.declared.limits.TheConstants.{MOST_CLIENTS}
 use Rattle.cn_wiring.specs.declared.end.End.{End}
 use Rattle.cn_wiring.specs.declared.end.End.TheVariants.{Balancer, Exit}
@@ -28,10 +29,6 @@ position_in clients client = lookup (nat_eq client) clients
 abbrev pub with_position : List (ℕ × Position) → ℕ → Position → List (ℕ × Position)
 with_position clients client position = set_value (nat_eq client) clients position
 
--- one more at a place of a list of counts
-abbrev pub one_more : List ℕ → ℕ → List ℕ
-one_more counts at = slice_set counts at (slice_index counts at + 1)
-
 -- where the n-th token, from 0, comes to that goes past an end
 abbrev pub position_past : Table → End → ℕ → Position
 position_past table (Balancer b) n = On (output_wire table b (n % 2))
@@ -41,6 +38,10 @@ position_past table (Exit i) n = Holds (name_of table.width i n)
 abbrev pub past : State → End → ℕ
 past s (Balancer b) = slice_index s.passes b
 past s (Exit i) = slice_index s.visits i
+
+-- how many came in by all entries since the counts were zero
+abbrev pub came_in : State → ℕ
+came_in s = sum_below s.network.table.entries (λ entry. slice_index s.entered entry)
 
 -- the state after a client enters
 abbrev pub after_enter : State → ℕ → ℕ → State
@@ -79,11 +80,6 @@ start network = record {
   clients = [];
 }
 
--- does the token stand on an output of this balancer or of a later one, or is it out?
-abbrev pub is_past : Table → ℕ → Position → Bool
-is_past table b (On wire) = nat_le (output_wire table b 0) wire
-is_past table b (Holds name) = true
-
 -- does the client hold a name?
 abbrev pub is_named : Position → Bool
 is_named (On wire) = false
@@ -108,9 +104,9 @@ name_at (Some (Holds name)) = Some name
 abbrev pub name_in : State → ℕ → Option ℕ
 name_in s client = name_at (position_in s.clients client)
 
--- how often a client is in the list
-abbrev pub times_in : ℕ → List (ℕ × Position) → ℕ
-times_in client clients = count_by (λ e. nat_eq client e.0) clients
+-- how often a client entered, as the list has it
+abbrev pub times_entered : ℕ → List (ℕ × Position) → ℕ
+times_entered client clients = count_by (λ e. nat_eq client e.0) clients
 
 -- the counts and positions of a state fit its network and each other
 pub record IsState (s : State) : Type 0 where
@@ -120,10 +116,7 @@ pub record IsState (s : State) : Type 0 where
   pub exits : length s.visits ≡ s.network.table.width
   pub few : length s.clients ≤ MOST_CLIENTS
   -- each client is there once, and each came in by an entry
-  pub once : (client : ℕ) → times_in client s.clients ≤ 1
-  pub all : sum_below s.network.table.entries (λ entry. slice_index s.entered entry) ≡ length s.clients
-  pub on_wires : (client wire : ℕ) → position_in s.clients client ≡ Some (On wire) → wire < length s.network.table.ends
-  -- no count is more than the clients who can have made it
-  pub entered_few : (entry : ℕ) → slice_index s.entered entry ≤ length s.clients
-  pub passes_few : (b : ℕ) → slice_index s.passes b ≤ count_by (is_past s.network.table b) (values_of s.clients)
-  pub visits_few : (i : ℕ) → slice_index s.visits i ≤ count_by is_named (values_of s.clients)
+  pub once : (client : ℕ) → times_entered client s.clients ≤ 1
+  pub all : came_in s ≡ length s.clients
+  pub on_wires : (client wire : ℕ) → position_in s.clients client ≡ Some (On wire)
+      → wire < length s.network.table.ends

@@ -48,9 +48,13 @@ ledger_of s history = record {
   granted = granted_in s;
 }
 
+-- the ledger is sound by this history
+abbrev pub HasSoundLedger : State → List Event → Type 0
+HasSoundLedger s history = IsSound s.network.table (ledger_of s history)
+
 -- some history leads to this state, and the ledger is sound by it
 abbrev pub IsReached : State → Type 0
-IsReached s = (history : List Event) × Agrees s history × IsSound s.network.table (ledger_of s history)
+IsReached s = (history : List Event) × Agrees s history × HasSoundLedger s history
 
 -- what each core keeps
 pub record IsCore (s : State) : Type 0 where

@@ -1,19 +1,18 @@
 //! The running network of one epoch, by one thread.
 
 ghost use Rattle.std.specs.Prelude.{◌≡◌, ℕ, ◌<◌, ◌≤◌, ◌↔◌, List, [], Some, length, slice_index, IfOk, OnOk, OnErr, IfSome, IsTrue};
-ghost use Rattle.cn_spec.specs.declared.limits.TheConstants.{MOST_CLIENTS};
+ghost use Rattle.cn_spec.specs.declared.limits.TheConstants.{MOST_ARRIVALS, MOST_CLIENTS};
 ghost use Rattle.cn_spec.specs.Step.{share};
-ghost use Rattle.cn_spec.specs.Sums.{Agree, sum_below};
-ghost use Rattle.cn_wiring.specs.Table.{IsFullFlow, sum_at};
+ghost use Rattle.cn_spec.specs.Sums.{one_more};
+ghost use Rattle.cn_wiring.specs.Table.{sum_at};
 ghost use Rattle.cn_wiring.specs.declared.end.End.TheVariants.{Balancer};
-ghost use Rattle.cn_core.specs.State.{one_more};
 
 use crate::clients::{Clients, Found};
 use crate::event::Event;
 use crate::reply::{EnterFault, Moved, Reply, StepFault};
 use cn_balancer::output_of;
 use cn_exit::{Exits, Leave};
-use cn_spec::limits::MOST_CLIENTS;
+use cn_spec::limits::{MOST_ARRIVALS, MOST_CLIENTS};
 use cn_wiring::{Counting, End};
 use std::alloc::{AllocError, Global};
 use std::hash::RandomState;
@@ -55,7 +54,7 @@ fn count_at(counts: &[u64], at: usize) -> u64
 /// Counts one more at a place, and answers the count before.
 fn count_one(counts: &mut Vec<u64>, at: usize) -> u64
     requires in_range { at < length counts.old.items }
-    requires small { slice_index counts.old.items at ≤ MOST_CLIENTS }
+    requires room { slice_index counts.old.items at < MOST_ARRIVALS }
     ensures before { result ≡ slice_index counts.old.items at }
     ensures after { counts.new.items ≡ one_more counts.old.items at }
 {
@@ -67,11 +66,10 @@ fn count_one(counts: &mut Vec<u64>, at: usize) -> u64
 impl<'a> Core<'a> {
     ghost use Rattle.cn_core.specs.declared.event.Event.{Event};
     ghost use Rattle.cn_core.specs.declared.event.Event.TheVariants.{Enter, Step};
-    ghost use Rattle.cn_core.specs.State.{start, name_in, inside_in};
-    ghost use Rattle.cn_core.specs.History.{Agrees, enters_of, inside_of};
-    ghost use Rattle.cn_ledger.specs.Ledger.{IsSound};
-    ghost use Rattle.cn_core.specs.StateLedger.{ledger_of};
-    ghost use Rattle.cn_core.specs.Tight.{IsBoundedState, IsTightState, ListsHolders};
+    ghost use Rattle.cn_core.specs.State.{came_in, inside_in, name_in, start};
+    ghost use Rattle.cn_core.specs.History.{Agrees, ByHistories, enters_of, inside_of};
+    ghost use Rattle.cn_core.specs.StateLedger.{HasSoundLedger};
+    ghost use Rattle.cn_core.specs.Tight.{BringsAll, IsBoundedState, IsTightState, ListsHolders};
     ghost use Rattle.cn_core.specs.Calls.{AnswersByHistory, EntersLedger, EntersTo, IsLedgerEvent, MovesLedger, RunsByHistory, RunsTo, StepsTo, TakesTo, entered_reply, stepped_reply};
 
     /// A network that nobody has entered. The table of its clients hashes by `state`.
@@ -92,25 +90,36 @@ impl<'a> Core<'a> {
         })
     }
 
-    /// How many clients entered. In every state: some history leads to it, and by each that does its ledger is sound; no
-    /// exit has let out more than its share of these clients, and their names differ and are below their number.
+    /// How many clients entered: at most [`MOST_CLIENTS`].
     pub fn entered(&self) -> u64
         ensures value { result ≡ length self.now.clients }
-        ensures few { result ≤ MOST_CLIENTS }
-        ensures by_entry { sum_below self.now.network.table.entries (λ entry. slice_index self.now.entered entry) ≡ result }
-        ensures at_most { (entry : ℕ) → slice_index self.now.entered entry ≤ result }
-        ensures by_history { (history : List Event) → Agrees self.now history → result ≡ enters_of history }
-        ensures reached { (history : List Event) × Agrees self.now history }
-        ensures sound { (history : List Event) → Agrees self.now history → IsSound self.now.network.table (ledger_of self.now history) }
-        ensures bounded { IsBoundedState self.now }
+        ensures by_history { ByHistories self.now (λ history. result ≡ enters_of history) }
     {
         self.clients.len() as u64
+    }
+
+    /// What holds in every state: its clients are few, and all came in by entries; each exit has a count; some history
+    /// leads to it, and by each that does its ledger is sound; no count is more than what came in, and no exit has let out
+    /// more than its share of that; the names differ and are below the number of the clients.
+    ///
+    /// It does nothing: its contract is the law.
+    pub fn state_laws(&self)
+        ensures few { length self.now.clients ≤ MOST_CLIENTS }
+        ensures came { came_in self.now ≡ length self.now.clients }
+        ensures exits { length self.now.visits ≡ self.now.network.table.width }
+        ensures reached { (history : List Event) × Agrees self.now history }
+        ensures sound { ByHistories self.now (HasSoundLedger self.now) }
+        ensures bounded { IsBoundedState self.now }
+    {
+        // Opens what each core keeps.
+        let _ = &self.entered;
     }
 
     /// How many clients are inside: they entered and hold no name.
     pub fn inside(&self) -> u64
         ensures value { result ≡ inside_in self.now }
-        ensures by_history { (history : List Event) → Agrees self.now history → result ≡ inside_of self.now.network.table history }
+        ensures by_history { ByHistories self.now (λ history.
+            result ≡ inside_of self.now.network.table history) }
     {
         u64::from(self.clients.inside())
     }
@@ -124,23 +133,24 @@ impl<'a> Core<'a> {
         self.clients.inside() == 0
     }
 
-    /// How many tokens passed a balancer below [`Counting::balancers`]: at most what the full flow of the clients that
-    /// entered brings there.
+    /// How many tokens passed a balancer below [`Counting::balancers`]: at most what the full flow of all that came in
+    /// brings there.
     pub fn balancer_count(&self, balancer: u32) -> u64
         requires { balancer < self.now.network.table.balancers }
         ensures value { result ≡ slice_index self.now.passes balancer }
-        ensures few { result ≤ length self.now.clients }
-        ensures flow { (f : ℕ → ℕ) → IsFullFlow self.now.network.table f → Agree self.now.network.table.entries f (λ entry. slice_index self.now.entered entry) → result ≤ sum_at self.now.network.table (Balancer balancer) f }
+        ensures few { result ≤ came_in self.now }
+        ensures flow { (f : ℕ → ℕ) → BringsAll self.now f
+            → result ≤ sum_at self.now.network.table (Balancer balancer) f }
     {
         count_at(&self.passes, balancer as usize)
     }
 
-    /// How many tokens left by an exit below [`Counting::width`]: at most its share of the clients that entered.
+    /// How many tokens left by an exit below [`Counting::width`]: at most its share of all that came in.
     pub fn exit_count(&self, exit: u32) -> u64
         requires { exit < self.now.network.table.width }
         ensures value { result ≡ slice_index self.now.visits exit }
-        ensures few { result ≤ share (length self.now.clients) self.now.network.table.width exit }
-        ensures at_most { result ≤ length self.now.clients }
+        ensures few { result ≤ share (came_in self.now) self.now.network.table.width exit }
+        ensures at_most { result ≤ came_in self.now }
     {
         self.exits.count(exit)
     }
@@ -149,7 +159,8 @@ impl<'a> Core<'a> {
     pub fn name(&self, client: u64) -> Option<u64>
         ensures value { result ≡ name_in self.now client }
         ensures below { IfSome result (λ name. name < length self.now.clients) }
-        ensures own { IfSome result (λ name. (other : ℕ) → name_in self.now other ≡ Some name → other ≡ client) }
+        ensures own { IfSome result (λ name. (other : ℕ)
+            → name_in self.now other ≡ Some name → other ≡ client) }
     {
         match self.clients.find(client)? {
             Found::Named(name) => Some(name),
@@ -189,7 +200,8 @@ impl<'a> Core<'a> {
     /// The first that stands: `NoSuchEntry`, `AlreadyIn` (the client is inside, or holds a name), `EpochFull`, `Memory`.
     pub fn enter(&mut self, client: u64, entry: u64) -> Result<(), EnterFault>
         ensures event { EntersTo self.old client entry (entered_reply result) self.new }
-        ensures history { AnswersByHistory self.old (Enter client entry) (entered_reply result) self.new }
+        ensures history { AnswersByHistory self.old (Enter client entry)
+            (entered_reply result) self.new }
         ensures ledger { OnOk result (EntersLedger self.old client entry self.new) }
         ensures network { self.new.network ≡ self.old.network }
     {
@@ -266,8 +278,10 @@ impl<'a> Core<'a> {
     /// `AllocError` where the replies get no room; then no event has been applied. An enter that meets want of memory is a
     /// reply like the others.
     pub fn run(&mut self, events: &[Event]) -> Result<Vec<Reply>, AllocError>
-        ensures events { IfOk result (λ replies. RunsTo self.old events.now replies.items self.new) }
-        ensures history { IfOk result (λ replies. RunsByHistory self.old events.now replies.items self.new) }
+        ensures events { IfOk result (λ replies.
+            RunsTo self.old events.now replies.items self.new) }
+        ensures history { IfOk result (λ replies.
+            RunsByHistory self.old events.now replies.items self.new) }
         ensures network { self.new.network ≡ self.old.network }
         ensures refused { OnErr result (self.new ≡ self.old) }
     {

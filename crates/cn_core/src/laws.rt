@@ -1,11 +1,10 @@
 //! The laws of histories. Each function does nothing: its contract is the law, and a caller opens it by a call.
 
-ghost use Rattle.std.specs.Prelude.{◌≡◌, ℕ, List, ◌∷◌, [], Some};
+ghost use Rattle.std.specs.Prelude.{◌≡◌, List, ◌∷◌, []};
 ghost use Rattle.cn_wiring.specs.Network.{Network, IsNetwork};
 ghost use Rattle.cn_ledger.specs.WorkedNetworks.{tree_of_four, two_wide};
-ghost use Rattle.cn_core.specs.History.{IsHistory, answers_to, enters_of, inside_of, position_after};
+ghost use Rattle.cn_core.specs.History.{HasOneHolder, IsHistory, answers_to, enters_of, inside_of};
 ghost use Rattle.cn_core.specs.declared.event.Event.{Event};
-ghost use Rattle.cn_core.specs.declared.position.Position.TheVariants.{Holds};
 ghost use Rattle.cn_core.specs.declared.event.Event.TheVariants.{Enter, Step};
 ghost use Rattle.cn_core.specs.declared.reply.EnterFault.TheVariants.{AlreadyIn, NoSuchEntry};
 ghost use Rattle.cn_core.specs.declared.reply.Moved.TheVariants.{On as Passed, Out};
@@ -14,22 +13,36 @@ ghost use Rattle.cn_core.specs.declared.reply.StepFault.TheVariants.{HasName, St
 
 /// After any history two clients that hold one name are one client.
 pub fn a_name_has_one_holder()
-    ensures { (network : Network) (history : List Event) (c d name : ℕ) → IsNetwork network → position_after network.table history c ≡ Some (Holds name) → position_after network.table history d ≡ Some (Holds name) → c ≡ d }
+    ensures { (network : Network) (history : List Event)
+        → IsNetwork network → HasOneHolder network.table history }
 {}
 
 /// Worked answers: two clients on a balancer, where the second overtakes the first; every refusal but those of a full epoch
 /// and of want of memory; and three clients on a counting tree, where the last comes out first. A list of events of which
 /// one is refused is no history.
 pub fn worked_answers()
-    ensures two_clients { answers_to two_wide [] (Enter 7 0 ∷ Enter 9 1 ∷ Step 9 ∷ Step 7 ∷ Step 9 ∷ Step 7 ∷ [])
-        ≡ Entered ∷ Entered ∷ Stepped (Passed 0 0 2) ∷ Stepped (Passed 0 1 3) ∷ Stepped (Out 0 0 0) ∷ Stepped (Out 1 0 1) ∷ [] }
-    ensures refusals { answers_to two_wide [] (Step 5 ∷ Enter 7 0 ∷ Enter 7 1 ∷ Enter 7 2 ∷ Step 7 ∷ Step 7 ∷ Step 7 ∷ Enter 7 0 ∷ [])
-        ≡ StepRefused Stranger ∷ Entered ∷ EnterRefused AlreadyIn ∷ EnterRefused NoSuchEntry ∷ Stepped (Passed 0 0 2) ∷ Stepped (Out 0 0 0) ∷ StepRefused (HasName 0) ∷ EnterRefused AlreadyIn ∷ [] }
-    ensures tree_overtaking { answers_to tree_of_four [] (Enter 10 0 ∷ Enter 20 0 ∷ Enter 30 0 ∷ Step 10 ∷ Step 20 ∷ Step 30 ∷ Step 30 ∷ Step 30 ∷ Step 10 ∷ Step 10 ∷ Step 20 ∷ Step 20 ∷ [])
-        ≡ Entered ∷ Entered ∷ Entered ∷ Stepped (Passed 0 0 1) ∷ Stepped (Passed 0 1 2) ∷ Stepped (Passed 0 2 1) ∷ Stepped (Passed 1 0 3) ∷ Stepped (Out 0 0 0)
-        ∷ Stepped (Passed 1 1 4) ∷ Stepped (Out 2 0 2) ∷ Stepped (Passed 2 0 5) ∷ Stepped (Out 1 0 1) ∷ [] }
-    ensures one_is_left_inside { (enters_of (Step 9 ∷ Enter 9 1 ∷ Enter 7 0 ∷ []) ≡ 2) × (inside_of two_wide (Step 9 ∷ Step 9 ∷ Enter 9 1 ∷ Enter 7 0 ∷ []) ≡ 1) }
+    ensures two_clients { answers_to two_wide []
+        (Enter 7 0 ∷ Enter 9 1 ∷ Step 9 ∷ Step 7 ∷ Step 9 ∷ Step 7 ∷ [])
+        ≡ Entered ∷ Entered ∷ Stepped (Passed 0 0 2) ∷ Stepped (Passed 0 1 3)
+        ∷ Stepped (Out 0 0 0) ∷ Stepped (Out 1 0 1) ∷ [] }
+    ensures refusals { answers_to two_wide []
+        (Step 5 ∷ Enter 7 0 ∷ Enter 7 1 ∷ Enter 7 2 ∷ Step 7 ∷ Step 7 ∷ Step 7 ∷ Enter 7 0 ∷ [])
+        ≡ StepRefused Stranger ∷ Entered ∷ EnterRefused AlreadyIn ∷ EnterRefused NoSuchEntry
+        ∷ Stepped (Passed 0 0 2) ∷ Stepped (Out 0 0 0)
+        ∷ StepRefused (HasName 0) ∷ EnterRefused AlreadyIn ∷ [] }
+    ensures tree_overtaking { answers_to tree_of_four []
+        (Enter 10 0 ∷ Enter 20 0 ∷ Enter 30 0 ∷ Step 10 ∷ Step 20 ∷ Step 30
+        ∷ Step 30 ∷ Step 30 ∷ Step 10 ∷ Step 10 ∷ Step 20 ∷ Step 20 ∷ [])
+        ≡ Entered ∷ Entered ∷ Entered
+        ∷ Stepped (Passed 0 0 1) ∷ Stepped (Passed 0 1 2) ∷ Stepped (Passed 0 2 1)
+        ∷ Stepped (Passed 1 0 3) ∷ Stepped (Out 0 0 0)
+        ∷ Stepped (Passed 1 1 4) ∷ Stepped (Out 2 0 2)
+        ∷ Stepped (Passed 2 0 5) ∷ Stepped (Out 1 0 1) ∷ [] }
+    ensures two_entered { enters_of (Step 9 ∷ Enter 9 1 ∷ Enter 7 0 ∷ []) ≡ 2 }
+    ensures one_is_left_inside { inside_of two_wide
+        (Step 9 ∷ Step 9 ∷ Enter 9 1 ∷ Enter 7 0 ∷ []) ≡ 1 }
     ensures no_step_of_a_stranger { IsHistory two_wide (Step 7 ∷ Enter 9 1 ∷ []) → ⊥ }
-    ensures no_step_of_a_named_client { IsHistory two_wide (Step 7 ∷ Step 7 ∷ Step 7 ∷ Enter 7 0 ∷ []) → ⊥ }
+    ensures no_step_of_a_named_client { IsHistory two_wide
+        (Step 7 ∷ Step 7 ∷ Step 7 ∷ Enter 7 0 ∷ []) → ⊥ }
     ensures no_second_enter { IsHistory two_wide (Enter 7 1 ∷ Enter 7 0 ∷ []) → ⊥ }
 {}

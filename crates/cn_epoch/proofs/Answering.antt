@@ -1,6 +1,7 @@
 -- The answers of epochs by their turns and history.
-use Rattle.std.proofs.Common.{◌≡◌, ℕ, ◌+◌, ◌<◌, List, ◌∷◌, length, get_or, drop, refl, sym, ap, ◌∙◌, arith, Option, Some, None, slice_index, Result, Ok, Err}
+use Rattle.std.proofs.Common.{◌≡◌, ℕ, ◌+◌, ◌<◌, List, ◌∷◌, length, get_or, drop, sym, ap, ◌∙◌, arith, Option, Some, None, slice_index, Result, Ok, Err}
 use Rattle.std.proofs.lemmas.List.{drop_more}
+use Rattle.cn_spec.specs.Step.{share}
 use Rattle.cn_wiring.specs.declared.end.End.TheVariants.{Exit}
 use Rattle.cn_core.specs.declared.event.Event.{Event}
 use Rattle.cn_core.specs.declared.event.Event.TheVariants.{Step as StepEvent}
@@ -10,16 +11,16 @@ use Rattle.std.specs.Prelude.{IfOk}
 use Rattle.cn_core.specs.declared.reply.Moved.{Moved}
 use Rattle.cn_core.specs.declared.reply.StepFault.{StepFault}
 use Rattle.cn_core.specs.Calls.{IsLedgerEvent, MovesLedger, stepped_reply}
-use Rattle.cn_core.specs.State.{State, inside_in, name_at, position_in, start}
-use Rattle.cn_core.specs.Tight.{IsTightState, ListsHolders}
-use Rattle.cn_core.proofs.HistoryLemmas.{Agrees-start, inside-by_history}
+use Rattle.cn_core.specs.State.{State, came_in, inside_in, name_at, position_in, start}
+use Rattle.cn_core.specs.Tight.{IsTightState}
+use Rattle.cn_core.proofs.CallerLemmas.{Agrees-start, inside-by_history}
 use Rattle.cn_epoch.specs.declared.answer.Answer.{Answer}
 use Rattle.cn_epoch.specs.declared.answer.Answer.TheVariants.{Turned, TurnRefused}
 use Rattle.cn_epoch.specs.declared.answer.TurnFault.TheVariants.{Memory}
 use Rattle.cn_epoch.specs.declared.command.Command.{Command}
 use Rattle.cn_epoch.specs.declared.command.Command.TheVariants.{Turn}
 use Rattle.cn_epoch.specs.declared.record.EpochRecord.{EpochRecord}
-use Rattle.cn_epoch.specs.Calls.{AnswersByHistory, RunsTo, TakesTo, RunsByHistory}
+use Rattle.cn_epoch.specs.Calls.{AnswersByHistory, TellsEpoch, RunsTo, TakesTo, RunsByHistory}
 use Rattle.cn_epoch.specs.Turns.{Agrees, Epochs, IsRecordOf, IsTightRecord}
 
 -- ---- a turn
@@ -29,18 +30,14 @@ named None name e = absurd (cc)
 named (Some (On wire)) name e = absurd (cc)
 named (Some (Holds other)) name e = ap (λ n. Some (Holds n)) (let same : other ≡ name = cc in same)
 
--- what a turn that is done writes down of a state
-pub record Told (old : Epochs) (r : EpochRecord) : Type 0 where
-  pub number : r.number ≡ old.number
-  pub clients : r.clients ≡ length old.core.clients
-  pub exits : length r.counts.items ≡ old.core.network.table.width
-  pub counts : (i : ℕ) → i < old.core.network.table.width → slice_index r.counts.items i ≡ slice_index old.core.visits i
-  pub holders : ListsHolders old.core r.holders.items
+counted : (old : Epochs) (r : EpochRecord) → TellsEpoch old r → (i : ℕ) → slice_index r.counts.items i ≡ slice_index old.core.visits i
+counted old r told i = ap (λ counts. slice_index counts i) told.counts
 
-pub told-tight : (old : Epochs) (r : EpochRecord) → Told old r → IsTightState old.core → IsTightRecord old.core.network.table.width r
-told-tight old r told tight = record {
-  exits = told.exits;
-  counts = λ i within. told.counts i within ∙ tight.counts i within ∙ rw told.clients refl;
+pub told-tight : (old : Epochs) (r : EpochRecord) → TellsEpoch old r → length old.core.visits ≡ old.core.network.table.width → came_in old.core ≡ length old.core.clients
+    → IsTightState old.core → IsTightRecord old.core.network.table.width r
+told-tight old r told exits came tight = record {
+  exits = ap length told.counts ∙ exits;
+  counts = λ i within. counted old r told i ∙ tight.counts i within ∙ ap (λ n. share n old.core.network.table.width i) (came ∙ sym told.clients);
   names = told.holders.all ∙ sym told.clients;
   distinct = λ m n before within same.
       let many = told.clients in
@@ -51,12 +48,12 @@ told-tight old r told tight = record {
       omega arith;
 }
 
-pub told-record : (old : Epochs) (r : EpochRecord) → Told old r → (turns : ℕ) (history : List Event) → Agrees old turns history → IsRecordOf old.core.network.table turns history r
-told-record old r told turns history agrees = record {
+pub told-record : (old : Epochs) (r : EpochRecord) → TellsEpoch old r → length old.core.visits ≡ old.core.network.table.width → (turns : ℕ) (history : List Event) → Agrees old turns history → IsRecordOf old.core.network.table turns history r
+told-record old r told exits turns history agrees = record {
   number = told.number ∙ agrees.number;
   clients = told.clients ∙ agrees.core.total;
-  exits = told.exits;
-  counts = λ i within. told.counts i within ∙ agrees.core.counts (Exit i);
+  exits = ap length told.counts ∙ exits;
+  counts = λ i within. counted old r told i ∙ agrees.core.counts (Exit i);
   names = told.holders.all ∙ agrees.core.total;
   holders = λ name below.
       let total = agrees.core.total in
@@ -64,10 +61,10 @@ told-record old r told turns history agrees = record {
       sym (agrees.core.positions holder) ∙ named (position_in old.core.clients holder) name (told.holders.by_name name (omega arith));
 }
 
-pub turned-after : (old new : Epochs) (r : EpochRecord) → Told old r → inside_in old.core ≡ 0 → new ≡ record { number = old.number + 1; core = start old.core.network }
+pub turned-after : (old new : Epochs) (r : EpochRecord) → TellsEpoch old r → length old.core.visits ≡ old.core.network.table.width → inside_in old.core ≡ 0 → new ≡ record { number = old.number + 1; core = start old.core.network }
     → AnswersByHistory old Turn (Turned r) new
-turned-after old new r told quiet is turns history agrees = (
-  (sym (inside-by_history old.core history agrees.core) ∙ quiet, told-record old r told turns history agrees),
+turned-after old new r told exits quiet is turns history agrees = (
+  (sym (inside-by_history old.core history agrees.core) ∙ quiet, told-record old r told exits turns history agrees),
   rw is (record { number = ap (λ (n : ℕ). n + 1) agrees.number; core = Agrees-start old.core.network }),
 )
 

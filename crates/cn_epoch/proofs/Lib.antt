@@ -1,2 +1,3 @@
 pub mod Answering
 pub mod OneRecord
+pub mod CallerLemmas

@@ -8,7 +8,7 @@ use Rattle.cn_core.specs.declared.event.Event.{Event}
 use Rattle.cn_core.specs.declared.event.Event.TheVariants.{Enter as EnterEvent, Step as StepEvent}
 use Rattle.cn_core.specs.declared.reply.Reply.{Reply}
 use Rattle.cn_core.specs.History as core
-use Rattle.cn_core.proofs.OneHolder.{one-holder}
+use Rattle.cn_core.proofs.CallerLemmas.{one-holder}
 use Rattle.cn_epoch.specs.declared.answer.Answer.{Answer}
 use Rattle.cn_epoch.specs.declared.answer.Answer.TheVariants.{Replied, Turned, TurnRefused}
 use Rattle.cn_epoch.specs.declared.answer.TurnFault.TheVariants.{NotQuiet, Memory}

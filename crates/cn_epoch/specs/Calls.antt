@@ -5,6 +5,7 @@ use Rattle.cn_core.specs.declared.event.Event.TheVariants.{Enter as EnterEvent, 
 use Rattle.cn_core.specs.Calls as core
 use Rattle.cn_core.specs.Calls.{IsLedgerEvent}
 use Rattle.cn_core.specs.State.{inside_in, start}
+use Rattle.cn_core.specs.Tight.{ListsHolders}
 use Rattle.cn_epoch.specs.declared.answer.Answer.{Answer}
 use Rattle.cn_epoch.specs.declared.answer.Answer.TheVariants.{Replied, Turned, TurnRefused}
 use Rattle.cn_epoch.specs.declared.answer.TurnFault.{TurnFault}
@@ -19,10 +20,18 @@ abbrev pub turned_answer : Result EpochRecord TurnFault → Answer
 turned_answer (Ok r) = Turned r
 turned_answer (Err fault) = TurnRefused fault
 
+-- a record tells the epoch that stands open: how many ended before it, how many clients entered it, how many left by
+-- each exit, and its clients by name
+pub record TellsEpoch (epochs : Epochs) (r : EpochRecord) : Type 0 where
+  pub number : r.number ≡ epochs.number
+  pub clients : r.clients ≡ length epochs.core.clients
+  pub counts : r.counts.items ≡ epochs.core.visits
+  pub holders : ListsHolders epochs.core r.holders.items
+
 -- a turn with this answer takes the old epochs to the new ones
 abbrev pub TurnsTo : Epochs → Answer → Epochs → Type 0
 TurnsTo old (Turned r) new =
-    (inside_in old.core ≡ 0) × (r.number ≡ old.number) × (r.clients ≡ length old.core.clients) × IsTightRecord old.core.network.table.width r
+    (inside_in old.core ≡ 0) × TellsEpoch old r × IsTightRecord old.core.network.table.width r
     × (new ≡ record { number = old.number + 1; core = start old.core.network })
 TurnsTo old (TurnRefused (NotQuiet s)) new = (1 ≤ s) × (s ≡ inside_in old.core) × (new ≡ old)
 TurnsTo old (TurnRefused Memory) new = (inside_in old.core ≡ 0) × (new ≡ old)
@@ -45,7 +54,8 @@ TakesTo old Turn answer new = TurnsTo old answer new
 abbrev pub AnswersByHistory : Epochs → Command → Answer → Epochs → Type 0
 AnswersByHistory old command answer new =
     (turns : ℕ) (history : List Event) → Agrees old turns history
-    → MayAnswer old.core.network.table turns history command answer × Agrees new (turns_after turns answer) (grown history command answer)
+    → MayAnswer old.core.network.table turns history command answer
+        × Agrees new (turns_after turns answer) (grown history command answer)
 
 -- commands with these answers take the old epochs to the new ones, one after another
 abbrev pub RunsTo : Epochs → List Command → List Answer → Epochs → Type 0
@@ -59,4 +69,5 @@ RunsTo old (command ∷ commands) [] new = ⊥
 abbrev pub RunsByHistory : Epochs → List Command → List Answer → Epochs → Type 0
 RunsByHistory old commands answers new =
     (turns : ℕ) (history : List Event) → Agrees old turns history
-    → MayAnswerAll old.core.network.table turns history commands answers × Agrees new (turns_by turns answers) (grown_by history commands answers)
+    → MayAnswerAll old.core.network.table turns history commands answers
+        × Agrees new (turns_by turns answers) (grown_by history commands answers)

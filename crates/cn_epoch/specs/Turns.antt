@@ -1,5 +1,6 @@
 -- The answers of epochs, by the number of turns done and the history since the last of them, the newest event first.
-use Rattle.std.specs.Prelude.{◌≡◌, ◌≢◌, ℕ, ◌+◌, ◌<◌, ◌≤◌, List, [], ◌∷◌, Some, length, slice_index}
+use Rattle.std.specs.Prelude.{All, ◌≡◌, ◌≢◌, ℕ, ◌+◌, ◌<◌, ◌≤◌, List, [], ◌∷◌, Some, length, slice_index}
+use Rattle.std.specs.List.{AllZip}
 use Rattle.cn_spec.specs.Step.{share}
 use Rattle.cn_wiring.specs.Table.{Table}
 use Rattle.cn_wiring.specs.declared.end.End.TheVariants.{Exit}
@@ -28,6 +29,10 @@ pub record Agrees (epochs : Epochs) (turns : ℕ) (history : List Event) : Type 
   pub number : epochs.number ≡ turns
   pub core : core.Agrees epochs.core history
 
+-- something holds of each number of turns and each history that epochs agree with
+abbrev pub ByHistories : Epochs → (ℕ → List Event → Type 0) → Type 0
+ByHistories epochs P = (turns : ℕ) (history : List Event) → Agrees epochs turns history → P turns history
+
 -- the record of a history: its enters, its leaves by exit, and the client of each name
 pub record IsRecordOf (table : Table) (turns : ℕ) (history : List Event) (r : EpochRecord) : Type 0 where
   pub number : r.number ≡ turns
@@ -35,7 +40,8 @@ pub record IsRecordOf (table : Table) (turns : ℕ) (history : List Event) (r : 
   pub exits : length r.counts.items ≡ table.width
   pub counts : (i : ℕ) → i < table.width → slice_index r.counts.items i ≡ steps_before table history (Exit i)
   pub names : length r.holders.items ≡ enters_of history
-  pub holders : (name : ℕ) → name < enters_of history → position_after table history (slice_index r.holders.items name) ≡ Some (Holds name)
+  pub holders : (name : ℕ) → name < enters_of history
+      → position_after table history (slice_index r.holders.items name) ≡ Some (Holds name)
 
 -- what a record says is tight: each exit has let out its share, and each name below the number of clients has a holder of
 -- its own
@@ -43,7 +49,8 @@ pub record IsTightRecord (width : ℕ) (r : EpochRecord) : Type 0 where
   pub exits : length r.counts.items ≡ width
   pub counts : (i : ℕ) → i < width → slice_index r.counts.items i ≡ share r.clients width i
   pub names : length r.holders.items ≡ r.clients
-  pub distinct : (m n : ℕ) → m < n → n < r.clients → slice_index r.holders.items m ≢ slice_index r.holders.items n
+  pub distinct : (m n : ℕ) → m < n → n < r.clients
+      → slice_index r.holders.items m ≢ slice_index r.holders.items n
 
 -- two records tell the same
 pub record IsSameRecord (r s : EpochRecord) : Type 0 where
@@ -58,6 +65,12 @@ IsSameAnswer (Replied reply) (Replied other) = reply ≡ other
 IsSameAnswer (Turned r) (Turned s) = IsSameRecord r s
 IsSameAnswer (TurnRefused fault) (TurnRefused other) = fault ≡ other
 IsSameAnswer answer other = ⊥
+
+-- the records of a history tell the same
+abbrev pub HasOneRecord : Table → ℕ → List Event → Type 0
+HasOneRecord table turns history =
+    (r s : EpochRecord) → IsRecordOf table turns history r → IsRecordOf table turns history s
+        → IsSameRecord r s
 
 -- an answer that is not want of memory
 abbrev pub HadMemory : Answer → Type 0
@@ -123,3 +136,11 @@ abbrev pub grown_by : List Event → List Command → List Answer → List Event
 grown_by history [] answers = history
 grown_by history (command ∷ commands) [] = history
 grown_by history (command ∷ commands) (answer ∷ answers) = grown_by (grown history command answer) commands answers
+
+-- want of memory apart, the answers that these commands may have tell the same
+abbrev pub HaveOneAnswer : Table → ℕ → List Event → List Command → Type 0
+HaveOneAnswer table turns history commands =
+    (answers others : List Answer) → All HadMemory answers → All HadMemory others
+    → MayAnswerAll table turns history commands answers
+        → MayAnswerAll table turns history commands others
+    → AllZip IsSameAnswer answers others

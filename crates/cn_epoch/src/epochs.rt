@@ -1,15 +1,14 @@
 //! Epochs, one after another on one network.
 
-ghost use Rattle.std.specs.Prelude.{◌≡◌, ℕ, ◌+◌, ◌<◌, ◌≤◌, ◌^◌, List, [], length, slice_index, IfOk, OnErr};
+ghost use Rattle.std.specs.Prelude.{◌≡◌, ℕ, ◌+◌, ◌<◌, ◌≤◌, ◌^◌, List, [], length, IfOk, OnErr};
 ghost use Rattle.cn_spec.specs.declared.limits.TheConstants.{MOST_CLIENTS};
 ghost use Rattle.cn_core.specs.Calls.{entered_reply, stepped_reply};
 ghost use Rattle.cn_core.specs.History.{enters_of, inside_of};
-ghost use Rattle.cn_ledger.specs.Ledger.{IsSound};
-ghost use Rattle.cn_core.specs.State.{inside_in, start};
-ghost use Rattle.cn_core.specs.StateLedger.{ledger_of};
+ghost use Rattle.cn_core.specs.State.{came_in, inside_in, start};
+ghost use Rattle.cn_core.specs.StateLedger.{HasSoundLedger};
 ghost use Rattle.cn_core.specs.Tight.{IsBoundedState};
 ghost use Rattle.cn_epoch.specs.Calls.{AnswersByHistory, RunsTo, TakesTo, RepliesTo, RunsByHistory, TurnsTo, turned_answer};
-ghost use Rattle.cn_epoch.specs.Turns.{Agrees};
+ghost use Rattle.cn_epoch.specs.Turns.{Agrees, ByHistories};
 
 use crate::answer::{Answer, TurnFault};
 use crate::command::Command;
@@ -43,9 +42,10 @@ impl<'a> Model for Epochs<'a> {
 /// How many left by each exit, from exit 0 up.
 fn exit_counts(alloc: Global, core: &Core, width: u32) -> Result<Vec<u64>, AllocError>
     requires { width ≡ core.now.network.table.width }
-    ensures length { IfOk result (λ counts. length counts.items ≡ width) }
-    ensures counts { IfOk result (λ counts. (i : ℕ) → i < width → slice_index counts.items i ≡ slice_index core.now.visits i) }
+    ensures { IfOk result (λ counts. counts.items ≡ core.now.visits) }
 {
+    // The core has a count for each exit.
+    core.state_laws();
     let mut counts = Vec::with_capacity(alloc, width as usize)?;
     for exit in 0..width {
         counts.push_reserved(core.exit_count(exit));
@@ -64,7 +64,8 @@ impl<'a> Epochs<'a> {
     /// # Errors
     /// `AllocError` where the counts or the wires get no memory.
     pub fn new(alloc: Global, network: &'a Counting, state: RandomState) -> Result<Self, AllocError>
-        ensures start { IfOk result (λ epochs. epochs ≡ record { number = 0; core = start network.now }) }
+        ensures start { IfOk result (λ epochs.
+            epochs ≡ record { number = 0; core = start network.now }) }
         ensures history { IfOk result (λ epochs. Agrees epochs 0 []) }
     {
         Ok(Epochs {
@@ -78,27 +79,38 @@ impl<'a> Epochs<'a> {
     /// How many epochs have ended.
     pub fn number(&self) -> u64
         ensures value { result ≡ self.now.number }
-        ensures by_turns { (turns : ℕ) (history : List Event) → Agrees self.now turns history → result ≡ turns }
+        ensures by_turns { ByHistories self.now (λ turns history. result ≡ turns) }
     {
         self.number
     }
 
-    /// How many clients entered the epoch that stands open.
+    /// How many clients entered the epoch that stands open: at most [`MOST_CLIENTS`].
     pub fn entered(&self) -> u64
         ensures value { result ≡ length self.now.core.clients }
-        ensures few { result ≤ MOST_CLIENTS }
-        ensures by_history { (turns : ℕ) (history : List Event) → Agrees self.now turns history → result ≡ enters_of history }
-        ensures reached { (history : List Event) × Agrees self.now self.now.number history }
-        ensures sound { (turns : ℕ) (history : List Event) → Agrees self.now turns history → IsSound self.now.core.network.table (ledger_of self.now.core history) }
-        ensures bounded { IsBoundedState self.now.core }
+        ensures by_history { ByHistories self.now (λ turns history. result ≡ enters_of history) }
     {
         self.core.entered()
+    }
+
+    /// What holds of the epoch that stands open, as by [`Core::state_laws`]: some history since the last turn leads to it,
+    /// and by each that does its ledger is sound; no count is more than what came in.
+    ///
+    /// It does nothing: its contract is the law.
+    pub fn state_laws(&self)
+        ensures few { length self.now.core.clients ≤ MOST_CLIENTS }
+        ensures came { came_in self.now.core ≡ length self.now.core.clients }
+        ensures reached { (history : List Event) × Agrees self.now self.now.number history }
+        ensures sound { ByHistories self.now (λ turns. HasSoundLedger self.now.core) }
+        ensures bounded { IsBoundedState self.now.core }
+    {
+        self.core.state_laws();
     }
 
     /// How many clients are inside: they entered the epoch that stands open, and hold no name.
     pub fn inside(&self) -> u64
         ensures value { result ≡ inside_in self.now.core }
-        ensures by_history { (turns : ℕ) (history : List Event) → Agrees self.now turns history → result ≡ inside_of self.now.core.network.table history }
+        ensures by_history { ByHistories self.now (λ turns history.
+            result ≡ inside_of self.now.core.network.table history) }
     {
         self.core.inside()
     }
@@ -108,8 +120,10 @@ impl<'a> Epochs<'a> {
     /// # Errors
     /// As there.
     pub fn enter(&mut self, client: u64, entry: u64) -> Result<(), EnterFault>
-        ensures event { RepliesTo self.old (EnterEvent client entry) (Replied (entered_reply result)) self.new }
-        ensures history { AnswersByHistory self.old (Enter client entry) (Replied (entered_reply result)) self.new }
+        ensures event { TakesTo self.old (Enter client entry)
+            (Replied (entered_reply result)) self.new }
+        ensures history { AnswersByHistory self.old (Enter client entry)
+            (Replied (entered_reply result)) self.new }
         ensures network { self.new.core.network ≡ self.old.core.network }
     {
         self.core.enter(client, entry)
@@ -120,15 +134,16 @@ impl<'a> Epochs<'a> {
     /// # Errors
     /// As there.
     pub fn step(&mut self, client: u64) -> Result<Moved, StepFault>
-        ensures event { RepliesTo self.old (StepEvent client) (Replied (stepped_reply result)) self.new }
-        ensures history { AnswersByHistory self.old (Step client) (Replied (stepped_reply result)) self.new }
+        ensures event { TakesTo self.old (Step client) (Replied (stepped_reply result)) self.new }
+        ensures history { AnswersByHistory self.old (Step client)
+            (Replied (stepped_reply result)) self.new }
         ensures network { self.new.core.network ≡ self.old.core.network }
     {
         self.core.step(client)
     }
 
-    /// Ends the epoch that stands open, where nobody is inside, and tells what it gave out: each exit's count is its share
-    /// of the clients, and the names below their number have a holder each. The next epoch begins with nobody.
+    /// Ends the epoch that stands open, where nobody is inside, and tells what it gave out: how many left by each exit, which
+    /// is its share of the clients, and the clients by name, each once. The next epoch begins with nobody.
     ///
     /// Fewer than 2^64 - 1 epochs have ended before ([`Epochs::number`]).
     ///
@@ -137,13 +152,15 @@ impl<'a> Epochs<'a> {
     /// nothing has changed.
     pub fn turn(&mut self) -> Result<EpochRecord, TurnFault>
         requires { self.old.number + 1 < 2 ^ 64 }
-        ensures event { TurnsTo self.old (turned_answer result) self.new }
+        ensures event { TakesTo self.old Turn (turned_answer result) self.new }
         ensures history { AnswersByHistory self.old Turn (turned_answer result) self.new }
         ensures network { self.new.core.network ≡ self.old.core.network }
     {
         if !self.core.is_quiet() {
             return Err(TurnFault::NotQuiet(self.core.inside()));
         }
+        // All that came in are clients of this epoch.
+        self.core.state_laws();
         let Ok(counts) = exit_counts(self.alloc, &self.core, self.network.width()) else {
             return Err(TurnFault::Memory);
         };
@@ -188,8 +205,10 @@ impl<'a> Epochs<'a> {
     /// is answered like the others.
     pub fn run(&mut self, commands: &[Command]) -> Result<Vec<Answer>, AllocError>
         requires { self.old.number + length commands.now < 2 ^ 64 }
-        ensures events { IfOk result (λ answers. RunsTo self.old commands.now answers.items self.new) }
-        ensures history { IfOk result (λ answers. RunsByHistory self.old commands.now answers.items self.new) }
+        ensures events { IfOk result (λ answers.
+            RunsTo self.old commands.now answers.items self.new) }
+        ensures history { IfOk result (λ answers.
+            RunsByHistory self.old commands.now answers.items self.new) }
         ensures network { self.new.core.network ≡ self.old.core.network }
         ensures refused { OnErr result (self.new ≡ self.old) }
     {

@@ -6,7 +6,7 @@ use Rattle.cn_spec.proofs.CallerLemmas.{sum_below-zero, total_where-agree, total
 use Rattle.cn_wiring.specs.declared.end.End.{End}
 use Rattle.cn_wiring.specs.declared.end.End.TheVariants.{Balancer, Exit}
 use Rattle.cn_wiring.specs.Table.{Table, is_end}
-use Rattle.cn_ledger.specs.Ledger.{Ledger, IsSound, put, empty}
+use Rattle.cn_ledger.specs.Ledger.{Ledger, IsSound, put, empty_ledger}
 
 -- nothing came in, went by, stands there or was given
 pub record IsNothing (l : Ledger) : Type 0 where
@@ -41,5 +41,5 @@ sound-nothing t l none = record {
   told = λ i v h g. absurd (omega (arith, none.given (Exit i) v));
 }
 
-pub sound-empty : (t : Table) → IsSound t empty
-sound-empty t = sound-nothing t empty (record { entered = λ e. refl; count = λ end. refl; on = λ u. refl; standing = λ u c. refl; given = λ end n. refl; granted = λ c i v name. refl })
+pub sound-empty : (t : Table) → IsSound t empty_ledger
+sound-empty t = sound-nothing t empty_ledger (record { entered = λ e. refl; count = λ end. refl; on = λ u. refl; standing = λ u c. refl; given = λ end n. refl; granted = λ c i v name. refl })

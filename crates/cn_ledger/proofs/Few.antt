@@ -1,7 +1,6 @@
 -- No end has more of a full flow than all inputs together.
 use Rattle.std.proofs.Common.{◌≡◌, ℕ, zero, suc, ◌+◌, ◌*◌, ◌≤◌, inl, inr, List, [], ◌∷◌, length, refl, arith, eqb, ltb, zero-add}
 use Rattle.std.proofs.lemmas.Bool.{cases_eq, cases_lt, ne_eqb, lt-ltb, le-ltb}
-use Rattle.cn_spec.specs.Step.{half}
 use Rattle.cn_spec.specs.Sums.{when, total_where, sum_below}
 use Rattle.cn_spec.proofs.CallerLemmas.{half-sum, sum_below-front, sum_below-part, sum_below-pick, sum_below-same, sum_below-zero, total_where-agree}
 use Rattle.cn_wiring.specs.declared.end.End.{End}

@@ -1,5 +1,5 @@
 -- Counts are few, and nobody is lost.
-use Rattle.std.proofs.Common.{◌≡◌, ℕ, zero, suc, ◌+◌, ◌*◌, ◌<◌, ◌≤◌, length, sym, refl, ap, ◌∙◌, arith}
+use Rattle.std.proofs.Common.{◌≡◌, ℕ, zero, suc, ◌+◌, ◌*◌, ◌≤◌, length, sym, refl, ap, ◌∙◌, arith}
 use Rattle.cn_spec.specs.Step.{half}
 use Rattle.cn_spec.specs.Sums.{sum_below}
 use Rattle.cn_spec.proofs.CallerLemmas.{half-sum, sum_below-plus, sum_below-same}

@@ -4,7 +4,7 @@ use Rattle.std.specs.Prelude.{count_by}
 use Rattle.std.proofs.lemmas.Bool.{cases_eq, cases_lt, eq-eqb, ne_eqb, lt-ltb, le-ltb, eqb-true}
 use Rattle.std.proofs.lemmas.List.Sums.{get_or-le-sum_by, sum_by-cons}
 use Rattle.cn_spec.specs.Step.{IsEachBelow}
-use Rattle.cn_spec.specs.Sums.{once_below, times, when}
+use Rattle.cn_spec.specs.Sums.{when}
 use Rattle.cn_spec.proofs.CallerLemmas.{each_below, sum_by-same, times-map}
 use Rattle.cn_wiring.specs.Table.{Table}
 use Rattle.cn_ledger.specs.Ledger.{Ledger, IsTight, all_entered}

@@ -3,12 +3,12 @@ use Rattle.std.proofs.Common.{◌≡◌, ℕ, ◌+◌, ◌%◌, ◌≤◌, arith
 use Rattle.cn_spec.specs.Sums.{sum_below, total_where}
 use Rattle.cn_wiring.specs.declared.end.End.TheVariants.{Balancer, Exit}
 use Rattle.cn_wiring.specs.Table.{output_wire}
-use Rattle.cn_ledger.specs.Ledger.{Ledger, IsSound, IsQuiet, all_entered, empty}
+use Rattle.cn_ledger.specs.Ledger.{Ledger, IsSound, IsQuiet, all_entered, empty_ledger}
 use Rattle.cn_ledger.specs.Events.{Enters, Passes, Leaves, one_at}
 use Rattle.cn_ledger.proofs.Happening.{standing-le-on}
 use Rattle.cn_ledger.specs.WorkedNetworks.{two_wide}
 
-module _ (a b c d e f : Ledger) (ea : Enters two_wide empty a 7 0) (eb : Enters two_wide a b 9 1) (pc : Passes two_wide b c 9 1 0) (pd : Passes two_wide c d 7 0 0) (le : Leaves two_wide d e 9 2 0) (lf : Leaves two_wide e f 7 3 1) where
+module _ (a b c d e f : Ledger) (ea : Enters two_wide empty_ledger a 7 0) (eb : Enters two_wide a b 9 1) (pc : Passes two_wide b c 9 1 0) (pd : Passes two_wide c d 7 0 0) (le : Leaves two_wide d e 9 2 0) (lf : Leaves two_wide e f 7 3 1) where
   b0 : b.count (Balancer 0) ≡ 0
   b0 = omega (arith, eb.count (Balancer 0), ea.count (Balancer 0))
 
@@ -56,7 +56,7 @@ module _ (a b c d e f : Ledger) (ea : Enters two_wide empty a 7 0) (eb : Enters 
   pub two_clients : IsQuiet two_wide f × (all_entered two_wide f ≡ 2) × (f.count (Exit 0) ≡ 1) × (f.count (Exit 1) ≡ 1) × (f.granted 9 0 0 0 ≡ 1) × (f.granted 7 1 0 1 ≡ 1)
   two_clients = (quiet, two, one_left, other_left, nine, seven)
 
-pub lost : IsSound two_wide (record empty { entered = one_at 0 }) → ⊥
+pub lost : IsSound two_wide (record empty_ledger { entered = one_at 0 }) → ⊥
 unfolding total_where
 lost sound = let s = sound.balanced (Balancer 0) (omega arith) in absurd (omega arith)
 

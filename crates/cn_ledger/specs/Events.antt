@@ -1,4 +1,5 @@
--- The events of a ledger, as relations between the ledgers before and after.
+-- The events of a ledger, as relations between the ledgers before and after: the moves of tokens, each one atomic step
+-- (Aspnes, Herlihy, Shavit, JACM 1994, section 2.1).
 use Rattle.std.specs.Prelude.{◌≡◌, ℕ, ◌+◌, ◌%◌, ◌<◌, ◌==◌, ◌&&◌, length}
 use Rattle.cn_spec.specs.Step.{name_of}
 use Rattle.cn_spec.specs.Sums.{when}

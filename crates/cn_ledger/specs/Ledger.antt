@@ -1,4 +1,6 @@
--- What has come in, gone by, left and been given at some moment.
+-- What has come in, gone by, left and been given at some moment. Quiet moments and the step property are those of
+-- Aspnes, Herlihy, Shavit, Counting Networks, JACM 1994, section 2; the ledger, its soundness and what follows from it
+-- at any moment are this project's own.
 use Rattle.std.specs.Prelude.{◌≡◌, ◌≢◌, ℕ, ◌+◌, ◌-◌, ◌/◌, ◌%◌, ◌<◌, ◌≤◌, ◌==◌, cond, nat_lt, length}
 use Rattle.cn_spec.specs.Step.{half, share, name_of}
 use Rattle.cn_spec.specs.Sums.{when, sum_below, Agree, once_below}
@@ -31,36 +33,41 @@ AddsUpTo f m = (n : ℕ) × ((k : ℕ) → n ≤ k → sum_below k f ≡ m)
 -- the counts, the clients, the numbers and the grants of a ledger agree with one another
 pub record IsSound (t : Table) (l : Ledger) : Type 0 where
   -- who was put on the wires that end at an end went by there, or stands there
-  pub balanced : (end : End) → Stands t end → l.count end + sum_at t end l.on ≡ sum_at t end (put t l)
+  pub balanced : (end : End) → Stands t end
+      → l.count end + sum_at t end l.on ≡ sum_at t end (put t l)
   -- those that stand on a wire are clients: how often each stands there adds up to how many do
   pub clients : (u : ℕ) → AddsUpTo (l.standing u) (l.on u)
   -- the numbers given there are those below the count, each once
   pub numbered : (end : End) (n : ℕ) → Stands t end → l.given end n ≡ once_below (l.count end) n
   -- each grant has the name of its exit and visit
-  pub named : (c i v name : ℕ) → 1 ≤ l.granted c i v name → (i < t.width) × (name ≡ name_of t.width i v)
+  pub named : (c i v name : ℕ) → 1 ≤ l.granted c i v name
+      → (i < t.width) × (name ≡ name_of t.width i v)
   -- a client is granted a visit no more often than the exit gives it
   pub once : (c i v name : ℕ) → l.granted c i v name ≤ l.given (Exit i) v
   -- and so are two clients together
   pub apart : (c d i v : ℕ) → c ≢ d → l.granted c i v (name_of t.width i v) + l.granted d i v (name_of t.width i v) ≤ l.given (Exit i) v
   -- each visit that is given is granted to a client
-  pub told : (i v : ℕ) → i < t.width → 1 ≤ l.given (Exit i) v → (c : ℕ) × (1 ≤ l.granted c i v (name_of t.width i v))
+  pub told : (i v : ℕ) → i < t.width → 1 ≤ l.given (Exit i) v
+      → (c : ℕ) × (1 ≤ l.granted c i v (name_of t.width i v))
 
 -- how many have come in
 abbrev pub all_entered : Table → Ledger → ℕ
 all_entered t l = sum_below t.entries l.entered
 
--- nobody is inside
+-- nobody is inside: the network is quiescent (section 2.2)
 abbrev pub IsQuiet : Table → Ledger → Type 0
 IsQuiet t l = (u : ℕ) → u < length t.ends → l.on u ≡ 0
 
 -- the counts and the names are no more than what entered allows
 pub record IsBounded (t : Table) (l : Ledger) : Type 0 where
   -- no balancer has passed more than the full flow of what entered brings there
-  pub passes : (f : ℕ → ℕ) → IsFullFlow t f → Agree t.entries f l.entered → (b : ℕ) → b < t.balancers → l.count (Balancer b) ≤ sum_at t (Balancer b) f
+  pub passes : (f : ℕ → ℕ) → IsFullFlow t f → Agree t.entries f l.entered
+      → (b : ℕ) → b < t.balancers → l.count (Balancer b) ≤ sum_at t (Balancer b) f
   -- no exit's count is more than its share of what entered
   pub counts : (i : ℕ) → i < t.width → l.count (Exit i) ≤ share (all_entered t l) t.width i
   -- the name of each visit that is given is below the number that entered
-  pub visits : (i v : ℕ) → i < t.width → 1 ≤ l.given (Exit i) v → name_of t.width i v < all_entered t l
+  pub visits : (i v : ℕ) → i < t.width → 1 ≤ l.given (Exit i) v
+      → name_of t.width i v < all_entered t l
   -- so is each name that is granted
   pub names : (c i v name : ℕ) → 1 ≤ l.granted c i v name → name < all_entered t l
 
@@ -68,19 +75,23 @@ pub record IsBounded (t : Table) (l : Ledger) : Type 0 where
 abbrev pub times_given : Table → Ledger → ℕ → ℕ
 times_given t l name = l.given (Exit (name % t.width)) (name / t.width)
 
--- the counts and the names are exactly those of what entered
+-- the counts and the names are exactly those of what entered (tightness is this project's own; renaming is that of Attiya,
+-- Bar-Noy, Dolev, Peleg, Reischuk, JACM 1990)
 pub record IsTight (t : Table) (l : Ledger) : Type 0 where
   -- each exit's count is its share of what entered
   pub counts : (i : ℕ) → i < t.width → l.count (Exit i) ≡ share (all_entered t l) t.width i
   -- the names given are the numbers below what entered, each once
   pub names : (name : ℕ) → times_given t l name ≡ once_below (all_entered t l) name
   -- each of these names is granted to one client, once, and to no other
-  pub held : (name : ℕ) → name < all_entered t l → (c : ℕ) × ((d : ℕ) → l.granted d (name % t.width) (name / t.width) name ≡ when (c == d) 1)
+  pub held : (name : ℕ) → name < all_entered t l
+      → (c : ℕ) × ((d : ℕ) → l.granted d (name % t.width) (name / t.width) name ≡ when (c == d) 1)
   -- each grant is of one of these names, by the exit and with the visit that the name tells
-  pub only : (c i v name : ℕ) → 1 ≤ l.granted c i v name → (name < all_entered t l) × (name % t.width ≡ i) × (name / t.width ≡ v)
+  pub only : (c i v name : ℕ) → 1 ≤ l.granted c i v name
+      → (name < all_entered t l) × (name % t.width ≡ i) × (name / t.width ≡ v)
   -- each balancer has passed what the full flow of what entered brings there
-  pub passes : (f : ℕ → ℕ) → IsFullFlow t f → Agree t.entries f l.entered → (b : ℕ) → b < t.balancers → l.count (Balancer b) ≡ sum_at t (Balancer b) f
+  pub passes : (f : ℕ → ℕ) → IsFullFlow t f → Agree t.entries f l.entered
+      → (b : ℕ) → b < t.balancers → l.count (Balancer b) ≡ sum_at t (Balancer b) f
 
 -- nobody has come
-abbrev pub empty : Ledger
-empty = record { entered = λ _. 0; count = λ _. 0; on = λ _. 0; standing = λ _ _. 0; given = λ _ _. 0; granted = λ _ _ _ _. 0 }
+abbrev pub empty_ledger : Ledger
+empty_ledger = record { entered = λ _. 0; count = λ _. 0; on = λ _. 0; standing = λ _ _. 0; given = λ _ _. 0; granted = λ _ _ _ _. 0 }

@@ -2,3 +2,4 @@ pub mod Ledger
 pub mod Events
 pub mod Grants
 pub mod WorkedNetworks
+pub mod Laws

@@ -124,7 +124,8 @@ impl Names {
     pub fn by_name(&self) -> Result<Vec<u64>, ByNameFault>
         ensures listed { IfOk result (λ clients. ListsByName self.now clients.items) }
         ensures everyone { IfOk result (λ clients. length clients.items ≡ length self.now) }
-        ensures walking { (result ≡ Err ByNameFault.StillWalking) ↔ ((client : ℕ) × IsWalking self.now client) }
+        ensures walking { (result ≡ Err ByNameFault.StillWalking)
+            ↔ ((client : ℕ) × IsWalking self.now client) }
         ensures settled { OnOk result ((client : ℕ) → ¬ IsWalking self.now client) }
     {
         if self.is_any_walking() {

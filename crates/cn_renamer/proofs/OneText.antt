@@ -7,7 +7,7 @@ use Rattle.cn_core.specs.History.{enters_of, inside_of}
 use Rattle.cn_epoch.specs.declared.answer.Answer.{Answer}
 use Rattle.cn_epoch.specs.declared.command.Command.{Command}
 use Rattle.cn_epoch.specs.Turns.{IsSameAnswer, grown, grown_by, turns_after, turns_by}
-use Rattle.cn_epoch.proofs.OneRecord.{history-same, one-list, turns-same}
+use Rattle.cn_epoch.proofs.CallerLemmas.{history-same, one-list, turns-same}
 use Rattle.cn_report.specs.Writing.Replay.{end_line}
 use Rattle.cn_report.proofs.CallerLemmas.{lines-same}
 use Rattle.cn_report.specs.Writing.Text.{heading}

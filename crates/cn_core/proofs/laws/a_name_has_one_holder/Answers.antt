@@ -2,4 +2,4 @@ use Rattle.cn_core.proofs.OneHolder.{one-holder}
 use Rattle.cn_core.proofs.laws.a_name_has_one_holder.Goals as goal
 
 pub returns : goal.returns
-returns c network history client other name is = one-holder network is history client other name
+returns c network history is = one-holder network is history

@@ -1,11 +1,15 @@
 use Rattle.std.proofs.Common.{◌∙◌, rules, ◌≡◌, arith, None, ◌++◌, ◌∷◌, []}
 use Rattle.cn_core.proofs.LedgerLemmas.{IsCore-after_enter}
+use Rattle.cn_core.proofs.TightLemmas.{room-entered}
 use Rattle.cn_core.proofs.HistoryLemmas.{history-enter}
 use Rattle.cn_core.specs.InsideClients.{positions}
 use Rattle.cn_core.specs.InsideCore.{state_of}
 use Rattle.cn_core.specs.State.{State, position_in}
 use Rattle.cn_core.specs.declared.position.Position.TheVariants.{On}
 use Rattle.cn_core.proofs.core_state.Core.enter.Goals as goal
+
+pub count_one-requires-clause-room : goal.count_one-requires-clause-room
+count_one-requires-clause-room c = room-entered (state_of c.self.inside) c.self.invariant.core.state c.args.entry (omega arith)
 
 pub invariant_of-self-2 : goal.invariant_of-self-2
 invariant_of-self-2 c =

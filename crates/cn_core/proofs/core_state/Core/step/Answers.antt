@@ -10,8 +10,17 @@ use Rattle.cn_core.specs.State.{State, position_in, position_past, with_position
 use Rattle.cn_core.specs.declared.position.Position.TheVariants.{On}
 use Rattle.cn_core.specs.declared.reply.Moved.TheVariants.{On as Passed, Out}
 use Rattle.cn_core.proofs.HistoryLemmas.{history-step}
+use Rattle.cn_core.proofs.TightLemmas.{room-past}
 use Rattle.cn_core.proofs.LedgerLemmas.{IsCore-after_step, ledger-step}
 use Rattle.cn_core.proofs.core_state.Core.step.Goals as goal
+
+pub count_one-number-requires-clause-room : goal.count_one-number-requires-clause-room
+count_one-number-requires-clause-room c =
+    room-past (state_of c.self.inside) c.self.invariant.core (Balancer c.in-Balancer.balancer) (search rules)
+
+pub take-visit-requires-clause-room : goal.take-visit-requires-clause-room
+take-visit-requires-clause-room c =
+    room-past (state_of c.self.inside) c.self.invariant.core (Exit c.in-Exit.exit) (search rules)
 
 pub invariant_of-self : goal.invariant_of-self
 invariant_of-self c =

@@ -1,9 +1,10 @@
-use Rattle.std.proofs.Common.{◌≡◌, ◌+◌, refl, ap, ◌∙◌, rules}
+use Rattle.std.proofs.Common.{◌≡◌, ◌+◌, refl, ap, rules}
 use Rattle.cn_core.specs.State.{inside_in, start}
 use Rattle.cn_core.specs.Tight.{IsTightState}
+use Rattle.cn_epoch.specs.Calls.{TellsEpoch}
 use Rattle.cn_epoch.specs.Turns.{Epochs}
 use Rattle.cn_epoch.specs.InsideEpochs.{epochs_of}
-use Rattle.cn_epoch.proofs.Answering.{Told, memory-after, told-tight, turned-after}
+use Rattle.cn_epoch.proofs.Answering.{memory-after, told-tight, turned-after}
 use Rattle.cn_epoch.proofs.epochs.Epochs.turn.Goals as goal
 
 pub returns-in_default-clause-history : goal.returns-in_default-clause-history
@@ -17,16 +18,13 @@ returns-in_default-holders-clause-history c =
     rw (← c.self.view_is) (memory-after (epochs_of c.self.inside) quiet)
 
 -- the record tells the state
-told : (c : goal.After-self-1) → Told (epochs_of c.self.inside) (record { number = c.self.inside.number; clients = c.entered.result; counts = c.in-Ok.counts; holders = c.in-Ok-holders.holders })
-told c =
-    let width : c.width.result ≡ c.self.inside.core.network.table.width = rw c.self.invariant.network c.width.ensures.value in
-    record {
-      number = refl;
-      clients = c.entered.ensures.value;
-      exits = c.in-Ok.ensures.length ∙ width;
-      counts = rw width at c.in-Ok.ensures.counts;
-      holders = c.in-Ok-holders.ensures;
-    }
+told : (c : goal.After-self-1) → TellsEpoch (epochs_of c.self.inside) (record { number = c.self.inside.number; clients = c.entered.result; counts = c.in-Ok.counts; holders = c.in-Ok-holders.holders })
+told c = record {
+  number = refl;
+  clients = c.entered.ensures.value;
+  counts = c.in-Ok.ensures;
+  holders = c.in-Ok-holders.ensures;
+}
 
 -- the next epoch begins
 begun : (c : goal.After-self-1) → ◌≡◌ {A = Epochs} (record { number = c.self.inside.number + 1; core = c.clear.new.self }) (record { number = c.self.inside.number + 1; core = start c.self.inside.core.network })
@@ -36,9 +34,9 @@ pub returns-clause-event : goal.returns-clause-event
 returns-clause-event c =
     let quiet : inside_in c.self.inside.core ≡ 0 = search rules in
     let tight : IsTightState c.self.inside.core = search rules in
-    rw (← c.self.view_is) (quiet, refl, c.entered.ensures.value, told-tight (epochs_of c.self.inside) _ (told c) tight, begun c)
+    rw (← c.self.view_is) (quiet, told c, told-tight (epochs_of c.self.inside) _ (told c) c.state_laws.ensures.exits c.state_laws.ensures.came tight, begun c)
 
 pub returns-clause-history : goal.returns-clause-history
 returns-clause-history c =
     let quiet : inside_in c.self.inside.core ≡ 0 = search rules in
-    rw (← c.self.view_is) (turned-after (epochs_of c.self.inside) (record { number = c.self.inside.number + 1; core = c.clear.new.self }) _ (told c) quiet (begun c))
+    rw (← c.self.view_is) (turned-after (epochs_of c.self.inside) (record { number = c.self.inside.number + 1; core = c.clear.new.self }) _ (told c) c.state_laws.ensures.exits quiet (begun c))

@@ -1,6 +1,6 @@
 use Rattle.cn_core.proofs.LedgerLemmas.{sound-by_history}
 use Rattle.cn_core.proofs.TightLemmas.{bounded-state}
-use Rattle.cn_core.proofs.core_state.Core.entered.Goals as goal
+use Rattle.cn_core.proofs.core_state.Core.state_laws.Goals as goal
 
 pub returns-clause-sound : goal.returns-clause-sound
 returns-clause-sound c = rw (← c.self.view_is) (sound-by_history _ c.self.invariant.core)
