@@ -1,5 +1,3 @@
-pub mod CommandLine
-pub mod Net
+pub mod Outputs
 pub mod Replay
 pub mod Show
-pub mod Words

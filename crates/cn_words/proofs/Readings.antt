@@ -4,11 +4,11 @@ use Rattle.clap.specs.Words.{App, IsAmong, Kinds, Row, Text, fault_of, is_simple
 use Rattle.clap.specs.declared.error.ErrorKind.{ErrorKind}
 use Rattle.clap.specs.declared.error.ErrorKind.TheVariants.{DisplayHelp, OutOfMemory}
 use Rattle.clap.proofs.OnLiterals.{clap_on_literals}
-use Rattle.cn_renamer.specs.CommandLine.{command_line}
-use Rattle.cn_renamer.specs.Words.{Asks, IsFaultBy, IsFaultOf, IsJobOf, IsRefusalOf, faults_in}
-use Rattle.cn_renamer.specs.declared.words.Job.{Job}
-use Rattle.cn_renamer.specs.declared.words.WordsFault.{WordsFault}
-use Rattle.cn_renamer.specs.declared.words.WordsFault.TheVariants.{Help, Refused, Memory}
+use Rattle.cn_words.specs.CommandLine.{command_line}
+use Rattle.cn_words.specs.Words.{Asks, IsFaultBy, IsFaultOf, IsJobOf, IsRefusalOf, faults_in}
+use Rattle.cn_words.specs.declared.words.Job.{Job}
+use Rattle.cn_words.specs.declared.words.WordsFault.{WordsFault}
+use Rattle.cn_words.specs.declared.words.WordsFault.TheVariants.{Help, Refused, Memory}
 
 -- clap says exactly what it reads of this command line
 pub command_line_is_simple : is_simple command_line ≡ true

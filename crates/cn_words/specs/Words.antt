@@ -1,19 +1,16 @@
 -- What the words of a command line ask for, and what a refusal of them ends with.
-use Rattle.std.specs.Prelude.{◌≡◌, ◌≢◌, ℕ, List, [], ◌∷◌, Option, Some, None, ⊤, codes}
-use Rattle.std.specs.Prelude.{option_and_then, if◌then◌else◌}
-use Rattle.std.specs.Str.{bytes_eq}
+use Rattle.std.specs.Prelude.{◌≡◌, ◌≢◌, ℕ, List, [], ◌∷◌, Option, Some, None, ⊤, codes, decimal}
 use Rattle.clap.specs.Words.{IsAmong, Kinds, Row, Text, fault_of, first_of, subcommand_of}
 use Rattle.clap.specs.declared.error.ErrorKind.{ErrorKind}
 use Rattle.clap.specs.declared.error.ErrorKind.TheVariants.{DisplayHelp, OutOfMemory}
-use Rattle.cn_wiring.specs.declared.kind.Kind.{Kind}
-use Rattle.cn_wiring.specs.declared.kind.Kind.TheVariants.{Bitonic, Periodic, Tree}
+use Rattle.cn_wiring.specs.Kinds.{kind_word}
 use Rattle.cn_wiring.specs.Widths.{IsWidth}
-use Rattle.cn_renamer.specs.CommandLine.{command_line}
-use Rattle.cn_renamer.specs.Net.{Description}
-use Rattle.cn_renamer.specs.declared.words.Job.{Job}
-use Rattle.cn_renamer.specs.declared.words.Job.TheVariants.{Replay, Show}
-use Rattle.cn_renamer.specs.declared.words.WordsFault.{WordsFault}
-use Rattle.cn_renamer.specs.declared.words.WordsFault.TheVariants.{Help, Refused, Memory}
+use Rattle.cn_words.specs.CommandLine.{command_line}
+use Rattle.cn_words.specs.Net.{Description}
+use Rattle.cn_words.specs.declared.words.Job.{Job}
+use Rattle.cn_words.specs.declared.words.Job.TheVariants.{Replay, Show}
+use Rattle.cn_words.specs.declared.words.WordsFault.{WordsFault}
+use Rattle.cn_words.specs.declared.words.WordsFault.TheVariants.{Help, Refused, Memory}
 
 -- the status that a fault ends the program with
 abbrev pub status_of : WordsFault → ℕ
@@ -21,31 +18,14 @@ status_of (Help text) = 0
 status_of (Refused text) = 2
 status_of Memory = 3
 
--- what a word stands for
-abbrev pub meaning : {X : Type 0} → List (Text × X) → Text → Option X
-meaning [] text = None
-meaning ((word, value) ∷ rest) text = if bytes_eq text word then Some value else meaning rest text
-
--- the words for the kinds of network
-abbrev pub kinds : List (Text × Kind)
-kinds = (codes "bitonic", Bitonic) ∷ (codes "periodic", Periodic) ∷ (codes "tree", Tree) ∷ []
-
--- the words for the widths
-abbrev pub widths : List (Text × ℕ)
-widths = (codes "2", 2) ∷ (codes "4", 4) ∷ (codes "8", 8)
-    ∷ (codes "16", 16) ∷ (codes "32", 32) ∷ (codes "64", 64) ∷ []
-
--- the kind and the width that the options name
-abbrev pub kind_in : List Row → Option Kind
-kind_in options = option_and_then (meaning kinds) (first_of (codes "network") options)
-
-abbrev pub width_in : List Row → Option ℕ
-width_in options = option_and_then (meaning widths) (first_of (codes "width") options)
-
--- the options name this network
+-- the options name this network: its kind by the word for it, and its width in decimal digits
 pub record Names (options : List Row) (net : Description) : Type 0 where
-  pub kind : kind_in options ≡ Some net.kind
-  pub width : width_in options ≡ Some net.width
+  pub kind : first_of (codes "network") options ≡ Some (kind_word net.kind)
+  pub width : first_of (codes "width") options ≡ Some (decimal net.width)
+
+-- the options name no network that is built
+abbrev pub NamesNone : List Row → Type 0
+NamesNone options = (net : Description) → Names options net → ¬ IsWidth net.width
 
 -- a subcommand with its options asks for this job, of a network that is built
 abbrev pub Asks : Option (Text × List Row) → Job → Type 0

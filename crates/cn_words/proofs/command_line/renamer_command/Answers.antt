@@ -1,9 +1,9 @@
 use Rattle.std.proofs.Common.{◌≡◌, ◌∙◌, ap, ap₂, rules}
 use Rattle.std.proofs.lemmas.Result.{IfOk-weaker}
 use Rattle.clap.specs.Words.{App, app_of, with_subcommand}
-use Rattle.cn_renamer.specs.CommandLine.{renamer_words, replay_words}
-use Rattle.cn_renamer.proofs.PlainCommands.{third_is_false}
-use Rattle.cn_renamer.proofs.command_line.renamer_command.Goals as goal
+use Rattle.cn_words.specs.CommandLine.{renamer_words, replay_words}
+use Rattle.cn_words.proofs.PlainCommands.{third_is_false}
+use Rattle.cn_words.proofs.command_line.renamer_command.Goals as goal
 
 pub returns : goal.returns
 returns c =

@@ -1,19 +1,20 @@
 //! The words of a command line, and the job that they ask for.
 
-ghost use Rattle.std.specs.Prelude.{◌≡◌, ◌≢◌, IfErr, IfOk, IsErr, MatchResult};
-ghost use Rattle.std.specs.Prelude.{map, option_map, string_bytes};
+ghost use Rattle.std.specs.Prelude.{◌≡◌, ◌≢◌, ℕ, IfErr, IfOk, MatchOption, MatchResult};
+ghost use Rattle.std.specs.Prelude.{decimal, map, option_map, string_bytes};
 ghost use Rattle.clap.specs.Words.{first_of, found_of, kind_of, rows_of, subcommand_rows_of};
+ghost use Rattle.cn_wiring.specs.declared.kind.Kind.{Kind};
+ghost use Rattle.cn_wiring.specs.Kinds.{kind_word};
 ghost use Rattle.cn_wiring.specs.Widths.{IsWidth};
-ghost use Rattle.cn_renamer.specs.Net.{Description};
-ghost use Rattle.cn_renamer.specs.Words.{Asks, IsFaultBy, IsFaultOf, IsJobOf, IsRefusalOf, Names};
-ghost use Rattle.cn_renamer.specs.Words.{kind_in, kinds, meaning, status_of, width_in, widths};
-ghost use Rattle.cn_renamer.specs.declared.words.WordsFault.TheVariants.{Memory};
+ghost use Rattle.cn_words.specs.Words.{Asks, IsFaultBy, IsFaultOf, IsJobOf, IsRefusalOf, Names, NamesNone};
+ghost use Rattle.cn_words.specs.Words.{status_of};
+ghost use Rattle.cn_words.specs.declared.words.WordsFault.TheVariants.{Memory};
 
-use crate::command_line::command;
+use crate::command_line::{command, widths_help};
 use crate::net::{Net, NetFault};
 use clap::error::ErrorKind;
 use clap::{ArgMatches, Command};
-use cn_wiring::Kind;
+use cn_wiring::{Kind, is_width};
 use std::alloc::{AllocError, Global};
 use thiserror::Error;
 
@@ -82,28 +83,36 @@ impl WordsFault {
     }
 }
 
-fn kind_named(name: &str) -> Option<Kind>
-    ensures { result ≡ meaning kinds name.now }
+/// The kind that a word is for.
+fn kind_named(word: &str) -> Option<Kind>
+    ensures { MatchOption result ((kind : Kind) → word.now ≢ kind_word kind)
+        (λ kind. word.now ≡ kind_word kind) }
 {
-    match name {
-        "bitonic" => Some(Kind::Bitonic),
-        "periodic" => Some(Kind::Periodic),
-        "tree" => Some(Kind::Tree),
-        _ => None,
+    if word == Kind::Bitonic.word() {
+        Some(Kind::Bitonic)
+    } else if word == Kind::Periodic.word() {
+        Some(Kind::Periodic)
+    } else if word == Kind::Tree.word() {
+        Some(Kind::Tree)
+    } else {
+        None
     }
 }
 
-fn width_named(name: &str) -> Option<u32>
-    ensures { result ≡ meaning widths name.now }
+/// The width that a word is the decimal digits of.
+fn width_named(alloc: Global, word: &str) -> Result<Option<u32>, AllocError>
+    ensures { IfOk result (λ found. MatchOption found
+        ((width : ℕ) → IsWidth width → word.now ≢ decimal width)
+        (λ width. IsWidth width × (word.now ≡ decimal width))) }
 {
-    match name {
-        "2" => Some(2),
-        "4" => Some(4),
-        "8" => Some(8),
-        "16" => Some(16),
-        "32" => Some(32),
-        "64" => Some(64),
-        _ => None,
+    let Ok(width) = word.parse::<u32>() else {
+        return Ok(None);
+    };
+    let digits = width.to_string(alloc)?;
+    if is_width(width) && digits.as_str() == word {
+        Ok(Some(width))
+    } else {
+        Ok(None)
     }
 }
 
@@ -114,27 +123,19 @@ fn value_of<'a>(options: &ArgMatches<'a>, name: &str) -> Option<&'a str>
     options.get_str(name)
 }
 
-fn chosen_kind(options: &ArgMatches<'_>) -> Option<Kind>
-    ensures { result ≡ kind_in (rows_of (found_of options.now)) }
+/// The network that the options name, if they name one that is built.
+fn chosen_net(alloc: Global, options: &ArgMatches<'_>) -> Result<Option<Net>, AllocError>
+    ensures { let given = rows_of (found_of options.now) in
+        IfOk result (λ found. MatchOption found (NamesNone given) (λ net. Names given net × IsWidth net.width)) }
 {
-    kind_named(value_of(options, "network")?)
-}
-
-fn chosen_width(options: &ArgMatches<'_>) -> Option<u32>
-    ensures { result ≡ width_in (rows_of (found_of options.now)) }
-{
-    width_named(value_of(options, "width")?)
-}
-
-fn chosen_net(options: &ArgMatches<'_>) -> Result<Net, NetFault>
-    ensures ok { IfOk result (Names (rows_of (found_of options.now))) }
-    ensures err { IsErr result → (net : Description) → Names (rows_of (found_of options.now)) net
-        → ¬ IsWidth net.width }
-{
-    match (chosen_kind(options), chosen_width(options)) {
-        (Some(kind), Some(width)) => Net::new(kind, width),
-        _ => Err(NetFault::Width),
-    }
+    let (Some(network), Some(width)) = (value_of(options, "network"), value_of(options, "width"))
+    else {
+        return Ok(None);
+    };
+    let (Some(kind), Some(width)) = (kind_named(network), width_named(alloc, width)?) else {
+        return Ok(None);
+    };
+    Ok(Net::new(kind, width).ok())
 }
 
 fn asked_job(alloc: Global, matches: &ArgMatches<'_>) -> Result<Job, WordsFault>
@@ -142,21 +143,25 @@ fn asked_job(alloc: Global, matches: &ArgMatches<'_>) -> Result<Job, WordsFault>
         MatchResult result (Asks asked) (IsRefusalOf asked) }
 {
     let asked = match matches.subcommand() {
-        Some(("replay", options)) => chosen_net(options).map(Job::Replay),
-        Some(("show", options)) => chosen_net(options).map(Job::Show),
-        _ => Err(NetFault::Width),
+        Some(("replay", options)) => chosen_net(alloc, options)?.map(Job::Replay),
+        Some(("show", options)) => chosen_net(alloc, options)?.map(Job::Show),
+        _ => None,
     };
     match asked {
-        Ok(job) => Ok(job),
-        Err(fault) => Err(WordsFault::of_net(alloc, fault)),
+        Some(job) => Ok(job),
+        None => Err(WordsFault::of_net(alloc, NetFault::Width)),
     }
 }
 
-fn read_words<'a>(alloc: Global, words: &'a [String]) -> Result<Job, WordsFault>
+fn read_words<'a>(
+    alloc: Global,
+    words: &'a [String],
+    widths: &'a str,
+) -> Result<Job, WordsFault>
     ensures { let texts = map string_bytes words.entry.now in
         MatchResult result (IsJobOf texts) (IsFaultOf texts) }
 {
-    let command: Command<'a> = command(alloc)?;
+    let command: Command<'a> = command(alloc, widths)?;
     match command.try_get_matches_from(words) {
         Ok(matches) => asked_job(alloc, &matches),
         Err(error) => Err(WordsFault::of_parse(alloc, error)),
@@ -172,8 +177,6 @@ pub fn parse_words(alloc: Global, words: Vec<String>) -> Result<Job, WordsFault>
     ensures ok { IfOk result (IsJobOf (map string_bytes words.items)) }
     ensures err { IfErr result (IsFaultOf (map string_bytes words.items)) }
 {
-    read_words(alloc, words.as_slice())
+    let widths = widths_help(alloc)?;
+    read_words(alloc, words.as_slice(), &widths)
 }
-
-#[cfg(test)]
-mod tests;

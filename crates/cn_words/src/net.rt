@@ -1,9 +1,14 @@
 //! A network that is built, known by its kind and width.
 
-ghost use Rattle.std.specs.Prelude.{◌≡◌, ◌↔◌, IfOk, IsErrOf};
+ghost use Rattle.std.specs.Prelude.{◌≡◌, ◌↔◌, IfErr, IfOk, IsErrOf};
 ghost use Rattle.cn_wiring.specs.Widths.{IsWidth};
+ghost use Rattle.cn_words.specs.Net.{IsNetworkOf};
 
-use cn_wiring::{Kind, is_width};
+use cn_bitonic::bitonic;
+use cn_periodic::periodic;
+use cn_tree::tree;
+use cn_wiring::{BuildFault, Counting, Kind, is_width};
+use std::alloc::Global;
 use std::marker::Model;
 use thiserror::Error;
 
@@ -15,7 +20,7 @@ pub struct Net {
 }
 
 impl Model for Net {
-    ghost use Rattle.cn_renamer.specs.Net.{Description};
+    ghost use Rattle.cn_words.specs.Net.{Description};
     ghost use Rattle.cn_wiring.specs.Widths.{IsWidth};
 
     ghost Value = { Description };
@@ -74,5 +79,20 @@ impl Net {
         ensures built { IsWidth self.now.width }
     {
         self.width
+    }
+
+    /// The network itself.
+    ///
+    /// # Errors
+    /// `BuildFault::Memory` where it gets no memory.
+    pub fn build(&self, alloc: Global) -> Result<Counting, BuildFault>
+        ensures ok { IfOk result (IsNetworkOf self.now) }
+        ensures memory { IfErr result (λ fault. fault ≡ BuildFault.Memory) }
+    {
+        match self.kind {
+            Kind::Bitonic => bitonic(alloc, self.width),
+            Kind::Periodic => periodic(alloc, self.width),
+            Kind::Tree => tree(alloc, self.width),
+        }
     }
 }

@@ -1,8 +1,8 @@
 use Rattle.std.proofs.Common.{◌≡◌, ◌∙◌, ap, sym, List, map, string_bytes}
 use Rattle.clap.specs.Words.{App, Text, app_of, fault_of, is_simple, is_simple_and_free, kind_of, subcommand_of, subcommand_rows_of}
-use Rattle.cn_renamer.specs.CommandLine.{command_line}
-use Rattle.cn_renamer.proofs.Readings.{answer_to_fault, answer_to_taken, command_line_is_free, command_line_is_simple}
-use Rattle.cn_renamer.proofs.words.read_words.Goals as goal
+use Rattle.cn_words.specs.CommandLine.{command_line}
+use Rattle.cn_words.proofs.Readings.{answer_to_fault, answer_to_taken, command_line_is_free, command_line_is_simple}
+use Rattle.cn_words.proofs.words.read_words.Goals as goal
 
 pub returns-in-Ok : goal.returns-in-Ok
 returns-in-Ok c =
