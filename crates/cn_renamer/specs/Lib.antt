@@ -1,3 +1,4 @@
 pub mod Outputs
+pub mod Performing
 pub mod Replay
 pub mod Show

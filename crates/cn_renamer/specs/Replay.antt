@@ -1,5 +1,5 @@
 -- The text of a replay, and what is told where it is not written.
-use Rattle.std.specs.Prelude.{ℕ, ◌≡◌, ◌≢◌, All, IfSome, List, [], Option, Result, Ok, Err}
+use Rattle.std.specs.Prelude.{ℕ, ◌≡◌, ◌≢◌, All, IfSome, List, [], Option}
 use Rattle.cn_wiring.specs.Network.{Network}
 use Rattle.cn_core.specs.History.{enters_of, inside_of}
 use Rattle.cn_epoch.specs.declared.answer.Answer.{Answer}
@@ -11,7 +11,7 @@ use Rattle.cn_report.specs.Reading.Schedule.{IsSchedule, IsScheduleFault}
 use Rattle.cn_report.specs.declared.reading.schedule_fault.ScheduleCause.{ScheduleCause}
 use Rattle.cn_report.specs.declared.reading.schedule_fault.ScheduleCause.TheVariants as cause
 use Rattle.cn_report.specs.declared.reading.schedule_fault.ScheduleFault.{ScheduleFault}
-use Rattle.cn_report.specs.Writing.Written.{Written, Whole, First, Nothing}
+use Rattle.cn_report.specs.Writing.Written.{Written, First, Nothing}
 use Rattle.cn_words.specs.Net.{Description, IsNetworkOf}
 use Rattle.cn_renamer.specs.declared.output_fault.OutputFault.{OutputFault}
 use Rattle.cn_renamer.specs.declared.output_fault.OutputFault.TheVariants as output
@@ -43,12 +43,11 @@ pub record IsReplayOf (net : Description) (bytes text : List ℕ) : Type 0 where
 abbrev pub IsReplayOfKnown : Description → Option (List ℕ) → List ℕ → Type 0
 IsReplayOfKnown net known text = IfSome known (λ bytes. IsReplayOf net bytes text)
 
--- how much of its text a replay has written, by its answer
-abbrev pub written_by_replay : {U : Type 0} → Result U ReplayFault → Written
-written_by_replay (Ok done) = Whole
-written_by_replay (Err (Schedule fault)) = Nothing
-written_by_replay (Err Memory) = Nothing
-written_by_replay (Err (Write written)) = First written
+-- how much of its text a replay has written that met a fault
+abbrev pub until_replay : ReplayFault → Written
+until_replay (Schedule fault) = Nothing
+until_replay Memory = Nothing
+until_replay (Write written) = First written
 
 -- a schedule that is refused is told by its own fault, which is never want of memory
 abbrev pub IsReplayFault : Option (List ℕ) → ReplayFault → Type 0

@@ -1,8 +1,10 @@
 //! The calls of the program: what each of its jobs writes.
 #![tactic(auto)]
 
+mod fault;
 pub mod laws;
 mod output_fault;
+mod performing;
 mod replaying;
 mod runtime;
 mod showing;
@@ -10,7 +12,9 @@ mod writing;
 
 pub use cn_report::{ScheduleCause, ScheduleFault};
 pub use cn_words::{Job, Net, NetFault, WordsFault, parse_words};
+pub use fault::{Fault, end};
 pub use output_fault::OutputFault;
+pub use performing::{perform, run};
 pub use replaying::{ReplayFault, replay};
 pub use runtime::RuntimeFault;
 pub use showing::{ShowFault, show};

@@ -3,9 +3,9 @@
 ghost use Rattle.std.specs.Prelude.{◌≡◌, ◌↔◌, IfErr, IfOk, IsTrue};
 ghost use Rattle.std.specs.List.{All};
 ghost use Rattle.cn_epoch.specs.Turns.{HadMemory};
-ghost use Rattle.cn_report.specs.Writing.Written.{HasWritten};
-ghost use Rattle.cn_renamer.specs.Outputs.{written_by};
-ghost use Rattle.cn_renamer.specs.Replay.{IsReplayFault, IsReplayOfCommands, IsReplayOfKnown, IsReplayText, fault_of_output, fault_of_schedule, status_of_replay, written_by_replay};
+ghost use Rattle.cn_report.specs.Writing.Written.{HasWritten, written_by};
+ghost use Rattle.cn_renamer.specs.Outputs.{until_output};
+ghost use Rattle.cn_renamer.specs.Replay.{IsReplayFault, IsReplayOfCommands, IsReplayOfKnown, IsReplayText, fault_of_output, fault_of_schedule, status_of_replay, until_replay};
 
 use crate::output_fault::OutputFault;
 use crate::writing::write_text;
@@ -121,7 +121,7 @@ fn replay_commands<W: Write>(
     commands: &[Command],
     state: RandomState,
 ) -> Result<(), OutputFault>
-    ensures { HasWritten W.contents (IsReplayOfCommands net.now commands.now) (written_by result) writer.old writer.new }
+    ensures { HasWritten W.contents (IsReplayOfCommands net.now commands.now) (written_by until_output result) writer.old writer.new }
 {
     let network = net.build(alloc)?;
     let text = replayed(alloc, &network, commands, state)?;
@@ -146,7 +146,7 @@ pub fn replay<R: Read + Drop, W: Write>(
     state: RandomState,
 ) -> Result<(), ReplayFault>
     ensures written { let Is = IsReplayOfKnown net.now (R.remaining reader) in
-        HasWritten W.contents Is (written_by_replay result) writer.old writer.new }
+        HasWritten W.contents Is (written_by until_replay result) writer.old writer.new }
     ensures refused { IfErr result (IsReplayFault (R.remaining reader)) }
 {
     let commands = read_schedule(alloc, reader)?;

@@ -1,7 +1,7 @@
 //! The wiring of a network, shown.
 
-ghost use Rattle.cn_report.specs.Writing.Written.{HasWritten};
-ghost use Rattle.cn_renamer.specs.Outputs.{written_by};
+ghost use Rattle.cn_report.specs.Writing.Written.{HasWritten, written_by};
+ghost use Rattle.cn_renamer.specs.Outputs.{until_output};
 ghost use Rattle.cn_renamer.specs.Show.{IsWiringOf};
 
 use crate::output_fault::OutputFault;
@@ -20,7 +20,7 @@ pub type ShowFault = OutputFault;
 /// `Memory` where any growth was refused, and then nothing was written; `Write` where a write failed or the flush at the
 /// end, with the number of bytes that were written: they are the first of the text.
 pub fn show<W: Write>(alloc: Global, writer: &mut W, net: &Net) -> Result<(), ShowFault>
-    ensures { HasWritten W.contents (IsWiringOf net.now) (written_by result) writer.old writer.new }
+    ensures { HasWritten W.contents (IsWiringOf net.now) (written_by until_output result) writer.old writer.new }
 {
     let network = net.build(alloc)?;
     let text = render_wiring(alloc, &network)?;

@@ -153,11 +153,7 @@ fn asked_job(alloc: Global, matches: &ArgMatches<'_>) -> Result<Job, WordsFault>
     }
 }
 
-fn read_words<'a>(
-    alloc: Global,
-    words: &'a [String],
-    widths: &'a str,
-) -> Result<Job, WordsFault>
+fn read_words<'a>(alloc: Global, words: &'a [String], widths: &'a str) -> Result<Job, WordsFault>
     ensures { let texts = map string_bytes words.entry.now in
         MatchResult result (IsJobOf texts) (IsFaultOf texts) }
 {
