@@ -1,3 +1,1 @@
-pub mod PlainCommands
-pub mod Readings
 pub mod OneText

@@ -1,4 +1,5 @@
 pub mod Plan
+pub mod Kinds
 pub mod Table
 pub mod Network
 pub mod InsideWiring

@@ -1,5 +1,5 @@
 -- How much of its text a job has written.
-use Rattle.std.specs.Prelude.{ℕ, ◌≡◌, ◌≤◌, List, Option, length, take}
+use Rattle.std.specs.Prelude.{ℕ, ◌≡◌, ◌≤◌, List, Option, Result, Ok, Err, length, take}
 use Rattle.std.specs.Io.KnownBytes.{Appends}
 
 -- the whole text, its first bytes up to this number, or nothing
@@ -15,3 +15,8 @@ HasWritten contents Is Whole old new = (text : List ℕ) × Is text × Appends (
 HasWritten contents Is (First count) old new =
     (text : List ℕ) × Is text × (count ≤ length text) × Appends (contents old) (contents new) (take count text)
 HasWritten contents Is Nothing old new = new ≡ old
+
+-- a job that is done has written its whole text; one that met a fault as much as its fault tells
+abbrev pub written_by : {U F : Type 0} → (F → Written) → Result U F → Written
+written_by until (Ok done) = Whole
+written_by until (Err fault) = until fault
