@@ -285,6 +285,3 @@ impl<'a> Core<'a> {
         Ok(replies)
     }
 }
-
-#[cfg(test)]
-mod tests;

@@ -175,6 +175,3 @@ impl Names {
         self.map.clear();
     }
 }
-
-#[cfg(test)]
-mod tests;

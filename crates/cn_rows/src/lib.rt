@@ -3,16 +3,8 @@
 #![tactic(auto)]
 
 #[cfg(test)]
-mod core_calls;
-#[cfg(test)]
-mod epoch_calls;
-#[cfg(test)]
 mod narrow;
 #[cfg(test)]
 mod replaying;
 #[cfg(test)]
 mod showing;
-#[cfg(test)]
-mod walking;
-#[cfg(test)]
-mod wiring_tables;

@@ -78,18 +78,20 @@ fn tree(alloc: Global, count: u64, level: u32) -> Result<Vec<u64>, Fail> {
 
 const WIDE: [u64; 8] = [9, 0, 4, 0, 0, 7, 1, 30];
 
+const SHARES: [(u64, u64, &[u64]); 8] = [
+    (0, 2, &[0, 0]),
+    (1, 2, &[1, 0]),
+    (7, 2, &[4, 3]),
+    (3, 4, &[1, 1, 1, 0]),
+    (4, 4, &[1, 1, 1, 1]),
+    (5, 4, &[2, 1, 1, 1]),
+    (8, 4, &[2, 2, 2, 2]),
+    (11, 8, &[2, 2, 2, 1, 1, 1, 1, 1]),
+];
+
 #[test]
 fn expected_counts(rt: HostRuntime) -> Result<(), Fail> {
-    for (count, width, wanted) in [
-        (0, 2, [0, 0].as_slice()),
-        (1, 2, &[1, 0]),
-        (7, 2, &[4, 3]),
-        (3, 4, &[1, 1, 1, 0]),
-        (4, 4, &[1, 1, 1, 1]),
-        (5, 4, &[2, 1, 1, 1]),
-        (8, 4, &[2, 2, 2, 2]),
-        (11, 8, &[2, 2, 2, 1, 1, 1, 1, 1]),
-    ] {
+    for (count, width, wanted) in SHARES {
         let counts = shares(rt.alloc(), count, width)?;
         assert_eq!(rt; counts.as_slice(), wanted, "{count} over {width}");
     }
@@ -128,73 +130,78 @@ fn layer_of_two_balancers(rt: HostRuntime) -> Result<(), Fail> {
     Ok(())
 }
 
+const MERGED: [(&[u64], &[u64], u32, &[u64]); 2] = [
+    (&[1, 0], &[1, 0], 1, &[1, 1, 0, 0]),
+    (&[3, 2, 2, 2], &[1, 1, 1, 0], 2, &[2, 2, 2, 2, 1, 1, 1, 1]),
+];
+
 #[test]
 fn merger_counts(rt: HostRuntime) -> Result<(), Fail> {
-    for (x, y, level, wanted) in [
-        (
-            [1, 0].as_slice(),
-            [1, 0].as_slice(),
-            1,
-            [1, 1, 0, 0].as_slice(),
-        ),
-        (&[3, 2, 2, 2], &[1, 1, 1, 0], 2, &[2, 2, 2, 2, 1, 1, 1, 1]),
-    ] {
+    for (x, y, level, wanted) in MERGED {
         let row = merge(rt.alloc(), x, y, level)?;
         assert_eq!(rt; row.as_slice(), wanted, "at level {level}");
     }
     Ok(())
 }
 
+const BITONIC: [(&[u64], u32, &[u64]); 5] = [
+    (&[7], 0, &[7]),
+    (&[0, 3], 1, &[2, 1]),
+    (&[0, 0, 0, 5], 2, &[2, 1, 1, 1]),
+    (&[1, 0, 1, 0], 2, &[1, 1, 0, 0]),
+    (&WIDE, 3, &[7, 7, 7, 6, 6, 6, 6, 6]),
+];
+
 #[test]
 fn bitonic_counts(rt: HostRuntime) -> Result<(), Fail> {
-    for (row, level, wanted) in [
-        ([7].as_slice(), 0, [7].as_slice()),
-        (&[0, 3], 1, &[2, 1]),
-        (&[0, 0, 0, 5], 2, &[2, 1, 1, 1]),
-        (&[1, 0, 1, 0], 2, &[1, 1, 0, 0]),
-        (&WIDE, 3, &[7, 7, 7, 6, 6, 6, 6, 6]),
-    ] {
+    for (row, level, wanted) in BITONIC {
         let counts = bitonic(rt.alloc(), row, level)?;
         assert_eq!(rt; counts.as_slice(), wanted, "{row:?}");
     }
     Ok(())
 }
 
+const BLOCKS: [(&[u64], u32, &[u64]); 2] = [
+    (&[2, 0, 0, 0], 2, &[1, 0, 1, 0]),
+    (&[0, 3], 1, &[2, 1]),
+];
+
 #[test]
 fn one_block_is_not_enough(rt: HostRuntime) -> Result<(), Fail> {
-    for (row, level, wanted) in [
-        ([2, 0, 0, 0].as_slice(), 2, [1, 0, 1, 0].as_slice()),
-        (&[0, 3], 1, &[2, 1]),
-    ] {
+    for (row, level, wanted) in BLOCKS {
         let counts = block(rt.alloc(), row, level)?;
         assert_eq!(rt; counts.as_slice(), wanted, "{row:?}");
     }
     Ok(())
 }
 
+const PERIODIC: [(&[u64], u32, &[u64]); 3] = [
+    (&[7], 0, &[7]),
+    (&[2, 0, 0, 0], 2, &[1, 1, 0, 0]),
+    (&WIDE, 3, &[7, 7, 7, 6, 6, 6, 6, 6]),
+];
+
 #[test]
 fn periodic_counts(rt: HostRuntime) -> Result<(), Fail> {
-    for (row, level, wanted) in [
-        ([7].as_slice(), 0, [7].as_slice()),
-        (&[2, 0, 0, 0], 2, &[1, 1, 0, 0]),
-        (&WIDE, 3, &[7, 7, 7, 6, 6, 6, 6, 6]),
-    ] {
+    for (row, level, wanted) in PERIODIC {
         let counts = periodic(rt.alloc(), row, level)?;
         assert_eq!(rt; counts.as_slice(), wanted, "{row:?}");
     }
     Ok(())
 }
 
+const TREES: [(u64, u32, &[u64]); 6] = [
+    (5, 0, &[5]),
+    (3, 1, &[2, 1]),
+    (3, 2, &[1, 1, 1, 0]),
+    (5, 2, &[2, 1, 1, 1]),
+    (11, 3, &[2, 2, 2, 1, 1, 1, 1, 1]),
+    (65_536, 6, &[1_024; 64]),
+];
+
 #[test]
 fn tree_counts(rt: HostRuntime) -> Result<(), Fail> {
-    for (count, level, wanted) in [
-        (5, 0, [5].as_slice()),
-        (3, 1, &[2, 1]),
-        (3, 2, &[1, 1, 1, 0]),
-        (5, 2, &[2, 1, 1, 1]),
-        (11, 3, &[2, 2, 2, 1, 1, 1, 1, 1]),
-        (65_536, 6, &[1_024; 64]),
-    ] {
+    for (count, level, wanted) in TREES {
         let counts = tree(rt.alloc(), count, level)?;
         assert_eq!(rt; counts.as_slice(), wanted, "{count} at level {level}");
     }

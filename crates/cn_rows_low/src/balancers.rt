@@ -45,8 +45,7 @@ fn five_tokens() -> (Traffic, [Option<Pass>; 3], Traffic) {
 
 #[test]
 fn outputs_alternate(rt: HostRuntime) {
-    let passes =
-        [(0, 0), (1, 1), (2, 0)].map(|(number, output)| Some(Pass { number, output }));
+    let passes = [(0, 0), (1, 1), (2, 0)].map(|(number, output)| Some(Pass { number, output }));
     assert_eq!(rt;
         five_tokens(),
         (([2, 3], [0, 0], 5), passes, ([2, 3], [2, 1], 2))
@@ -62,15 +61,17 @@ fn halves(count: u64) -> Option<(u64, u64)> {
     }
 }
 
+const HALVES: [(u64, (u64, u64)); 5] = [
+    (0, (0, 0)),
+    (1, (1, 0)),
+    (2, (1, 1)),
+    (7, (4, 3)),
+    (MOST_ARRIVALS, (2_147_483_648, 2_147_483_648)),
+];
+
 #[test]
 fn departures_halve(rt: HostRuntime) {
-    for (count, wanted) in [
-        (0, (0, 0)),
-        (1, (1, 0)),
-        (2, (1, 1)),
-        (7, (4, 3)),
-        (MOST_ARRIVALS, (2_147_483_648, 2_147_483_648)),
-    ] {
+    for (count, wanted) in HALVES {
         assert_eq!(rt; halves(count), Some(wanted));
     }
     assert_eq!(rt; (output_of(0), output_of(u64::MAX)), (0, 1));

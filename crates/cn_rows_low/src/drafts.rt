@@ -11,6 +11,7 @@ fn loose_wires(draft: &Draft) -> [bool; 6] {
 }
 
 const FRESH: [bool; 6] = [true, true, true, false, false, false];
+
 const JOINED: [bool; 6] = [false, true, false, true, true, false];
 
 /// The outputs of a balancer over wires 2 and 0 of three, and which wires are loose before and after it.

@@ -22,35 +22,39 @@ fn shares(alloc: Global, width: u32, clients: u64) -> Result<Vec<u64>, Fail> {
     Ok(shares)
 }
 
+const SHARES: [(u32, u64, &[u64]); 10] = [
+    (2, 0, &[0, 0]),
+    (2, 1, &[1, 0]),
+    (2, 7, &[4, 3]),
+    (4, 0, &[0, 0, 0, 0]),
+    (4, 3, &[1, 1, 1, 0]),
+    (4, 4, &[1, 1, 1, 1]),
+    (4, 5, &[2, 1, 1, 1]),
+    (4, 8, &[2, 2, 2, 2]),
+    (8, 11, &[2, 2, 2, 1, 1, 1, 1, 1]),
+    (64, 65_536, &[1_024; 64]),
+];
+
 #[test]
 fn expected_counts(rt: HostRuntime) -> Result<(), Fail> {
-    for (width, clients, counts) in [
-        (2, 0, [0, 0].as_slice()),
-        (2, 1, &[1, 0]),
-        (2, 7, &[4, 3]),
-        (4, 0, &[0, 0, 0, 0]),
-        (4, 3, &[1, 1, 1, 0]),
-        (4, 4, &[1, 1, 1, 1]),
-        (4, 5, &[2, 1, 1, 1]),
-        (4, 8, &[2, 2, 2, 2]),
-        (8, 11, &[2, 2, 2, 1, 1, 1, 1, 1]),
-        (64, 65_536, &[1_024; 64]),
-    ] {
+    for (width, clients, counts) in SHARES {
         assert_eq!(rt; shares(rt.alloc(), width, clients)?.as_slice(), counts);
     }
     Ok(())
 }
 
+const STEPS: [(&[u64], bool); 6] = [
+    (&[], true),
+    (&[3], true),
+    (&[2, 1, 1, 1], true),
+    (&[1, 0, 1, 0], false),
+    (&[2, 0], false),
+    (&[0, 1], false),
+];
+
 #[test]
 fn steps(rt: HostRuntime) {
-    for (counts, wanted) in [
-        ([].as_slice(), true),
-        (&[3], true),
-        (&[2, 1, 1, 1], true),
-        (&[1, 0, 1, 0], false),
-        (&[2, 0], false),
-        (&[0, 1], false),
-    ] {
+    for (counts, wanted) in STEPS {
         assert_eq!(rt; is_step(counts), wanted, "{counts:?}");
     }
 }
@@ -96,10 +100,7 @@ fn counts_until_cleared(rt: HostRuntime) -> Result<(), AllocError> {
     let wanted = Leave { visit: 0, name: 1 };
     assert_eq!(rt;
         cleared(rt.alloc())?,
-        (
-            [wanted, wanted],
-            [(2, Some([0, 1])), (2, Some([0, 0]))]
-        )
+        ([wanted, wanted], [(2, Some([0, 1])), (2, Some([0, 0]))])
     );
     Ok(())
 }

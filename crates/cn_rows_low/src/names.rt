@@ -28,7 +28,11 @@ type Told = ((usize, bool), [Stands; 3]);
 fn told_by(names: &Names) -> Told {
     (
         (names.len(), names.is_empty()),
-        [standing_of(names, 5), standing_of(names, 7), standing_of(names, 9)],
+        [
+            standing_of(names, 5),
+            standing_of(names, 7),
+            standing_of(names, 9),
+        ],
     )
 }
 

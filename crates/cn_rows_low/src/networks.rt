@@ -33,19 +33,7 @@ pub(crate) fn table(alloc: Global, kind: Kind, width: u32) -> Result<Vec<End>, F
     Ok(ends_of(alloc, &network)?)
 }
 
-#[test]
-fn tables_of_width_two(rt: HostRuntime) -> Result<(), Fail> {
-    let joined = [Balancer(0), Balancer(0), Exit(0), Exit(1)];
-    for (kind, wanted) in [
-        (Bitonic, joined.as_slice()),
-        (Periodic, &joined),
-        (Tree, &[Balancer(0), Exit(0), Exit(1)]),
-    ] {
-        let ends = table(rt.alloc(), kind, 2)?;
-        assert_eq!(rt; ends.as_slice(), wanted, "{kind:?}");
-    }
-    Ok(())
-}
+const JOINED_TWO: [End; 4] = [Balancer(0), Balancer(0), Exit(0), Exit(1)];
 
 const BITONIC_FOUR: [End; 16] = [
     Balancer(0),
@@ -118,14 +106,19 @@ const TREE_EIGHT: [End; 15] = [
     Exit(7),
 ];
 
+const TABLES: [(Kind, u32, &[End]); 7] = [
+    (Bitonic, 2, &JOINED_TWO),
+    (Periodic, 2, &JOINED_TWO),
+    (Tree, 2, &[Balancer(0), Exit(0), Exit(1)]),
+    (Bitonic, 4, &BITONIC_FOUR),
+    (Periodic, 4, &PERIODIC_FOUR),
+    (Tree, 4, &TREE_FOUR),
+    (Tree, 8, &TREE_EIGHT),
+];
+
 #[test]
 fn tables_wire_by_wire(rt: HostRuntime) -> Result<(), Fail> {
-    for (kind, width, wanted) in [
-        (Bitonic, 4, BITONIC_FOUR.as_slice()),
-        (Periodic, 4, &PERIODIC_FOUR),
-        (Tree, 4, &TREE_FOUR),
-        (Tree, 8, &TREE_EIGHT),
-    ] {
+    for (kind, width, wanted) in TABLES {
         let ends = table(rt.alloc(), kind, width)?;
         assert_eq!(rt; ends.as_slice(), wanted, "{kind:?} {width}");
     }
@@ -218,25 +211,64 @@ fn sizes(alloc: Global, kind: Kind, width: u32) -> Result<Sizes, BuildFault> {
     ))
 }
 
+/// Per width the sizes of the networks, and their depths.
+const SIX_WIDTHS: [(u32, [Sizes; 3]); 6] = [
+    (
+        2,
+        [
+            (Bitonic, [2, 2, 1], 1),
+            (Periodic, [2, 2, 1], 1),
+            (Tree, [1, 2, 1], 1),
+        ],
+    ),
+    (
+        4,
+        [
+            (Bitonic, [4, 4, 6], 3),
+            (Periodic, [4, 4, 8], 4),
+            (Tree, [1, 4, 3], 2),
+        ],
+    ),
+    (
+        8,
+        [
+            (Bitonic, [8, 8, 24], 6),
+            (Periodic, [8, 8, 36], 9),
+            (Tree, [1, 8, 7], 3),
+        ],
+    ),
+    (
+        16,
+        [
+            (Bitonic, [16, 16, 80], 10),
+            (Periodic, [16, 16, 128], 16),
+            (Tree, [1, 16, 15], 4),
+        ],
+    ),
+    (
+        32,
+        [
+            (Bitonic, [32, 32, 240], 15),
+            (Periodic, [32, 32, 400], 25),
+            (Tree, [1, 32, 31], 5),
+        ],
+    ),
+    (
+        64,
+        [
+            (Bitonic, [64, 64, 672], 21),
+            (Periodic, [64, 64, 1_152], 36),
+            (Tree, [1, 64, 63], 6),
+        ],
+    ),
+];
+
 #[test]
 fn six_widths(rt: HostRuntime) {
-    for (width, bitonic, periodic, tree) in [
-        (2, (1, 1), (1, 1), (1, 1)),
-        (4, (6, 3), (8, 4), (3, 2)),
-        (8, (24, 6), (36, 9), (7, 3)),
-        (16, (80, 10), (128, 16), (15, 4)),
-        (32, (240, 15), (400, 25), (31, 5)),
-        (64, (672, 21), (1_152, 36), (63, 6)),
-    ] {
-        for (kind, entries, (balancers, depth)) in [
-            (Bitonic, width, bitonic),
-            (Periodic, width, periodic),
-            (Tree, 1, tree),
-        ] {
-            assert_eq!(rt;
-                sizes(rt.alloc(), kind, width),
-                Ok((kind, [entries, width, balancers], depth))
-            );
+    for (width, wanted) in SIX_WIDTHS {
+        for (kind, wires, depth) in wanted {
+            let told = sizes(rt.alloc(), kind, width);
+            assert_eq!(rt; told, Ok((kind, wires, depth)), "{kind:?} {width}");
         }
     }
 }

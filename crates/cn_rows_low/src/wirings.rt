@@ -30,11 +30,7 @@ fn is_told_back(
 }
 
 /// The fault that the list of ends gets, which comes back with it, or none where it is a wiring with these ends.
-pub(crate) fn told(
-    alloc: Global,
-    sizes: Sizes,
-    ends: &[End],
-) -> Result<Option<WiringFault>, Fail> {
+pub(crate) fn told(alloc: Global, sizes: Sizes, ends: &[End]) -> Result<Option<WiringFault>, Fail> {
     let [entries, width, balancers] = sizes;
     let list = ends.to_vec(alloc)?;
     match Wiring::from_ends(alloc, entries, width, balancers, list) {
@@ -45,59 +41,64 @@ pub(crate) fn told(
     }
 }
 
+const TWO_WIDE: [End; 4] = [Balancer(0), Balancer(0), Exit(0), Exit(1)];
+
+const REFUSALS: [(Sizes, &[End], Option<WiringFault>); 9] = [
+    ([2, 2, 1], &TWO_WIDE, None),
+    ([2, 2, 2], &TWO_WIDE, Some(Length)),
+    (
+        [2, 2, 1],
+        &[Balancer(0), Balancer(1), Exit(0), Exit(1)],
+        Some(NoSuchEnd(1)),
+    ),
+    (
+        [1, 2, 1],
+        &[Balancer(0), Balancer(0), Exit(0)],
+        Some(Backward(1)),
+    ),
+    (
+        [3, 3, 1],
+        &[Balancer(0), Balancer(0), Balancer(0), Exit(0), Exit(1)],
+        Some(InDegree(0)),
+    ),
+    (
+        [2, 2, 1],
+        &[Balancer(0), Balancer(0), Exit(0), Exit(0)],
+        Some(ExitCount(0)),
+    ),
+    (
+        [2, 2, 1],
+        &[Balancer(0), Balancer(0), Balancer(0), Exit(5)],
+        Some(NoSuchEnd(3)),
+    ),
+    (
+        [2, 2, 1],
+        &[Exit(0), Exit(1), Exit(0), Exit(1)],
+        Some(InDegree(0)),
+    ),
+    ([2, 2, 0], &[Exit(1), Exit(0)], None),
+];
+
 #[test]
 fn wiring_refusals(rt: HostRuntime) -> Result<(), Fail> {
-    let two = [Balancer(0), Balancer(0), Exit(0), Exit(1)];
-    for (sizes, ends, wanted) in [
-        ([2, 2, 1], two.as_slice(), None),
-        ([2, 2, 2], &two, Some(Length)),
-        (
-            [2, 2, 1],
-            &[Balancer(0), Balancer(1), Exit(0), Exit(1)],
-            Some(NoSuchEnd(1)),
-        ),
-        (
-            [1, 2, 1],
-            &[Balancer(0), Balancer(0), Exit(0)],
-            Some(Backward(1)),
-        ),
-        (
-            [3, 3, 1],
-            &[Balancer(0), Balancer(0), Balancer(0), Exit(0), Exit(1)],
-            Some(InDegree(0)),
-        ),
-        (
-            [2, 2, 1],
-            &[Balancer(0), Balancer(0), Exit(0), Exit(0)],
-            Some(ExitCount(0)),
-        ),
-        (
-            [2, 2, 1],
-            &[Balancer(0), Balancer(0), Balancer(0), Exit(5)],
-            Some(NoSuchEnd(3)),
-        ),
-        (
-            [2, 2, 1],
-            &[Exit(0), Exit(1), Exit(0), Exit(1)],
-            Some(InDegree(0)),
-        ),
-        ([2, 2, 0], &[Exit(1), Exit(0)], None),
-    ] {
+    for (sizes, ends, wanted) in REFUSALS {
         assert_eq!(rt; told(rt.alloc(), sizes, ends)?, wanted, "{ends:?}");
     }
     Ok(())
 }
 
+const HOSTILE: [Sizes; 6] = [
+    [0, 2, 0],
+    [4_097, 2, 0],
+    [2, 0, 1],
+    [2, 4_097, 1],
+    [2, 2, 65_537],
+    [u32::MAX, u32::MAX, u32::MAX],
+];
+
 #[test]
 fn hostile_wirings(rt: HostRuntime) -> Result<(), Fail> {
-    for sizes in [
-        [0, 2, 0],
-        [4_097, 2, 0],
-        [2, 0, 1],
-        [2, 4_097, 1],
-        [2, 2, 65_537],
-        [u32::MAX, u32::MAX, u32::MAX],
-    ] {
+    for sizes in HOSTILE {
         assert_eq!(rt; told(rt.alloc(), sizes, &[])?, Some(Length), "{sizes:?}");
     }
     Ok(())
@@ -113,20 +114,22 @@ fn all_to_exit_zero(alloc: Global, sizes: Sizes) -> Result<Vec<End>, Fail> {
     }
 }
 
+const LIMITS: [(Sizes, Option<WiringFault>); 9] = [
+    ([1, 1, 0], None),
+    ([0, 1, 0], Some(Length)),
+    ([1, 0, 0], Some(Length)),
+    ([4_096, 1, 0], Some(ExitCount(0))),
+    ([4_097, 1, 0], Some(Length)),
+    ([1, 4_096, 0], Some(ExitCount(1))),
+    ([1, 4_097, 0], Some(Length)),
+    ([1, 1, 65_536], Some(InDegree(0))),
+    ([1, 1, 65_537], Some(Length)),
+];
+
 /// Each limit of length at its last good value, where the next fault stands, and at its first bad one.
 #[test]
 fn limits_of_length(rt: HostRuntime) -> Result<(), Fail> {
-    for (sizes, wanted) in [
-        ([1, 1, 0], None),
-        ([0, 1, 0], Some(Length)),
-        ([1, 0, 0], Some(Length)),
-        ([4_096, 1, 0], Some(ExitCount(0))),
-        ([4_097, 1, 0], Some(Length)),
-        ([1, 4_096, 0], Some(ExitCount(1))),
-        ([1, 4_097, 0], Some(Length)),
-        ([1, 1, 65_536], Some(InDegree(0))),
-        ([1, 1, 65_537], Some(Length)),
-    ] {
+    for (sizes, wanted) in LIMITS {
         let ends = all_to_exit_zero(rt.alloc(), sizes)?;
         assert_eq!(rt; told(rt.alloc(), sizes, &ends)?, wanted, "{sizes:?}");
     }
@@ -158,30 +161,79 @@ fn tables_are_given_back(rt: HostRuntime) -> Result<(), Fail> {
     Ok(())
 }
 
-/// The table of width 64 with another end at the wire that is this many from the last.
-fn changed(alloc: Global, kind: Kind, back: usize, end: End) -> Result<Vec<End>, Fail> {
+/// The table of width 64 with another end of its last wire.
+fn changed(alloc: Global, kind: Kind, end: End) -> Result<Vec<End>, Fail> {
     let mut ends = table(alloc, kind, 64)?;
-    let at = ends.len().saturating_sub(back);
-    *ends.get_mut(at).ok_or("a wire")? = end;
+    *ends.last_mut().ok_or("a wire")? = end;
     Ok(ends)
 }
 
-/// A fault at the last balancer or exit is told. The last wire ends at the last exit; the last output of the last
-/// balancer but one is wire 3 from the end.
+/// What is told of the table of width 64 where its last wire ends elsewhere.
+fn told_of_change(
+    alloc: Global,
+    kind: Kind,
+    sizes: Sizes,
+    end: End,
+) -> Result<Option<WiringFault>, Fail> {
+    told(alloc, sizes, &changed(alloc, kind, end)?)
+}
+
+/// The last wire ends at the last exit. Another end of it, and the fault that is told: another exit, no exit, and the
+/// balancer of which it is an output.
+const LAST_WIRES: [(Kind, Sizes, End, WiringFault); 9] = [
+    (Bitonic, [64, 64, 672], Exit(62), ExitCount(62)),
+    (Bitonic, [64, 64, 672], Exit(64), NoSuchEnd(1_407)),
+    (Bitonic, [64, 64, 672], Balancer(671), Backward(1_407)),
+    (Periodic, [64, 64, 1_152], Exit(62), ExitCount(62)),
+    (Periodic, [64, 64, 1_152], Exit(64), NoSuchEnd(2_367)),
+    (Periodic, [64, 64, 1_152], Balancer(1_151), Backward(2_367)),
+    (Tree, [1, 64, 63], Exit(61), ExitCount(61)),
+    (Tree, [1, 64, 63], Exit(64), NoSuchEnd(126)),
+    (Tree, [1, 64, 63], Balancer(62), Backward(126)),
+];
+
+/// A fault at the last wire is told.
 #[test]
 fn faults_at_the_last_end(rt: HostRuntime) -> Result<(), Fail> {
-    for (kind, sizes) in WIDEST {
-        let [_, _, balancers] = sizes;
-        let own = Balancer(balancers.saturating_sub(1));
-        let wires = sizes[0].saturating_add(balancers.saturating_mul(2));
-        for (end, wanted) in [
-            (Exit(62), ExitCount(62)),
-            (Exit(64), NoSuchEnd(wires.saturating_sub(1))),
-            (own, Backward(wires.saturating_sub(1))),
-        ] {
-            let ends = changed(rt.alloc(), kind, 1, end)?;
-            assert_eq!(rt; told(rt.alloc(), sizes, &ends)?, Some(wanted), "{kind:?}");
-        }
+    for (kind, sizes, end, wanted) in LAST_WIRES {
+        let fault = told_of_change(rt.alloc(), kind, sizes, end)?;
+        assert_eq!(rt; fault, Some(wanted), "{kind:?}");
+    }
+    Ok(())
+}
+
+/// What is told of the table of width 64 and more wires.
+fn told_of_more(
+    alloc: Global,
+    kind: Kind,
+    sizes: Sizes,
+    more: &[End],
+) -> Result<Option<WiringFault>, Fail> {
+    let mut ends = table(alloc, kind, 64)?;
+    ends.extend_from_slice(more)?;
+    told(alloc, sizes, &ends)
+}
+
+/// One exit more than are reached, and one balancer more than are fed.
+const ONE_MORE: [(Kind, Sizes, &[End], WiringFault); 6] = [
+    (Bitonic, [64, 65, 672], &[], ExitCount(64)),
+    (Periodic, [64, 65, 1_152], &[], ExitCount(64)),
+    (Tree, [1, 65, 63], &[], ExitCount(64)),
+    (Bitonic, [64, 66, 673], &[Exit(64), Exit(65)], InDegree(672)),
+    (
+        Periodic,
+        [64, 66, 1_153],
+        &[Exit(64), Exit(65)],
+        InDegree(1_152),
+    ),
+    (Tree, [1, 66, 64], &[Exit(64), Exit(65)], InDegree(63)),
+];
+
+#[test]
+fn faults_at_one_more(rt: HostRuntime) -> Result<(), Fail> {
+    for (kind, sizes, more, wanted) in ONE_MORE {
+        let fault = told_of_more(rt.alloc(), kind, sizes, more)?;
+        assert_eq!(rt; fault, Some(wanted), "{kind:?}");
     }
     Ok(())
 }

@@ -102,11 +102,7 @@ impl Guarded {
     }
 }
 
-type Stand = (
-    [[Option<u64>; 2]; 3],
-    Option<u32>,
-    (u32, u32, bool),
-);
+type Stand = ([[Option<u64>; 2]; 3], Option<u32>, (u32, u32, bool));
 
 fn yard_of(alloc: Global, wires: u32) -> Result<Guarded, Fail> {
     Ok(Guarded {
@@ -142,23 +138,11 @@ fn yard_moves(rt: HostRuntime) -> Result<(), Fail> {
         stands(rt.alloc())?,
         [
             ([NOBODY, NOBODY, NOBODY], None, (0, 2, true)),
-            (
-                [[Some(7), Some(8)], NOBODY, NOBODY],
-                Some(0),
-                (2, 0, false)
-            ),
-            (
-                [[Some(8), Some(7)], NOBODY, NOBODY],
-                Some(0),
-                (2, 0, false)
-            ),
+            ([[Some(7), Some(8)], NOBODY, NOBODY], Some(0), (2, 0, false)),
+            ([[Some(8), Some(7)], NOBODY, NOBODY], Some(0), (2, 0, false)),
             ([[Some(7), None], NOBODY, eight], Some(0), (2, 0, false)),
             ([NOBODY, NOBODY, eight], Some(2), (1, 1, false)),
-            (
-                [NOBODY, [Some(9), Some(10)], eight],
-                Some(1),
-                (3, 0, false)
-            ),
+            ([NOBODY, [Some(9), Some(10)], eight], Some(1), (3, 0, false)),
         ]
     );
     Ok(())
@@ -205,9 +189,6 @@ fn full(alloc: Global, records: u32) -> Result<[(u32, u32); 2], Fail> {
 
 #[test]
 fn room_for_all_clients_of_an_epoch(rt: HostRuntime) -> Result<(), Fail> {
-    assert_eq!(rt;
-        full(rt.alloc(), 65_536)?,
-        [(3, 65_536), (65_536, 0)]
-    );
+    assert_eq!(rt; full(rt.alloc(), 65_536)?, [(3, 65_536), (65_536, 0)]);
     Ok(())
 }

@@ -1,5 +1,6 @@
 //! Epochs by their single calls and by runs of commands, on the bitonic network of width 2.
 
+use crate::calls::{Calls, answers_to};
 use cn_bitonic::bitonic;
 use cn_core::{EnterFault, Moved, Reply, StepFault};
 use cn_epoch::{Answer, Command, EpochRecord, Epochs, TurnFault};
@@ -16,47 +17,17 @@ struct Outcome {
     inside: u64,
 }
 
-/// The answer to one command, by its call. The rows have few turns.
-fn answered_by_its_call(epochs: &mut Epochs<'_>, command: Command) -> Result<Answer, &'static str> {
-    Ok(match command {
-        Command::Enter { client, entry } => match epochs.enter(client, entry) {
-            Ok(()) => Answer::Replied(Reply::Entered),
-            Err(fault) => Answer::Replied(Reply::EnterRefused(fault)),
-        },
-        Command::Step { client } => match epochs.step(client) {
-            Ok(moved) => Answer::Replied(Reply::Stepped(moved)),
-            Err(fault) => Answer::Replied(Reply::StepRefused(fault)),
-        },
-        Command::Turn if epochs.number() > 9 => return Err("too many turns"),
-        Command::Turn => match epochs.turn() {
-            Ok(ended) => Answer::Turned(ended),
-            Err(fault) => Answer::TurnRefused(fault),
-        },
-    })
-}
-
-/// What the commands are answered by a call for each.
-fn outcome_by_single_calls(rt: &HostRuntime, commands: &[Command]) -> Result<Outcome, Fail> {
-    let network = bitonic(rt.alloc(), 2)?;
-    let mut epochs = Epochs::new(rt.alloc(), &network, RandomState::new(rt)?)?;
-    let mut answers = Vec::new(rt.alloc());
-    for command in commands {
-        answers.push(answered_by_its_call(&mut epochs, *command)?)?;
-    }
+fn outcome_of(
+    alloc: Global,
+    state: RandomState,
+    commands: &[Command],
+    calls: Calls,
+) -> Result<Outcome, Fail> {
+    let network = bitonic(alloc, 2)?;
+    let mut epochs = Epochs::new(alloc, &network, state)?;
+    let answers = answers_to(&mut epochs, alloc, commands, calls)?;
     Ok(Outcome {
         answers,
-        number: epochs.number(),
-        entered: epochs.entered(),
-        inside: epochs.inside(),
-    })
-}
-
-/// What the commands are answered by one run.
-fn outcome_by_run(rt: &HostRuntime, commands: &[Command]) -> Result<Outcome, Fail> {
-    let network = bitonic(rt.alloc(), 2)?;
-    let mut epochs = Epochs::new(rt.alloc(), &network, RandomState::new(rt)?)?;
-    Ok(Outcome {
-        answers: epochs.run(commands)?,
         number: epochs.number(),
         entered: epochs.entered(),
         inside: epochs.inside(),
@@ -133,33 +104,35 @@ fn turn_refused_then_done(alloc: Global) -> Result<Outcome, AllocError> {
 }
 
 #[test]
-fn turn_refused_then_done_by_single_calls(rt: HostRuntime) -> Result<(), Fail> {
-    let outcome = outcome_by_single_calls(&rt, &turns())?;
-    assert_eq!(rt; outcome, turn_refused_then_done(rt.alloc())?);
+fn turn_is_refused_then_done(rt: HostRuntime) -> Result<(), Fail> {
+    for calls in [Calls::Single, Calls::Run] {
+        let outcome = outcome_of(rt.alloc(), RandomState::new(&rt)?, &turns(), calls)?;
+        assert_eq!(rt; outcome, turn_refused_then_done(rt.alloc())?, "{calls:?}");
+    }
     Ok(())
 }
 
-#[test]
-fn turn_refused_then_done_by_run(rt: HostRuntime) -> Result<(), Fail> {
-    let outcome = outcome_by_run(&rt, &turns())?;
-    assert_eq!(rt; outcome, turn_refused_then_done(rt.alloc())?);
-    Ok(())
+/// How epochs stand after so many of the calls: how many ended, and how many clients entered and are inside.
+fn stand_after(alloc: Global, state: RandomState, calls: usize) -> Result<[u64; 3], Fail> {
+    let commands = turns_and_more();
+    let commands = commands.get(..calls).ok_or("so many calls")?;
+    let outcome = outcome_of(alloc, state, commands, Calls::Single)?;
+    Ok([outcome.number, outcome.entered, outcome.inside])
 }
 
 #[test]
 fn epochs_stand_by_the_calls_so_far(rt: HostRuntime) -> Result<(), Fail> {
-    for (calls, stand) in [(4, (0, 1, 0)), (5, (1, 0, 0)), (7, (1, 1, 1))] {
-        let commands = turns_and_more();
-        let commands = commands.get(..calls).ok_or("so many calls")?;
-        let outcome = outcome_by_single_calls(&rt, commands)?;
-        assert_eq!(rt; (outcome.number, outcome.entered, outcome.inside), stand);
+    for (calls, wanted) in [(4, [0, 1, 0]), (5, [1, 0, 0]), (7, [1, 1, 1])] {
+        let stand = stand_after(rt.alloc(), RandomState::new(&rt)?, calls)?;
+        assert_eq!(rt; stand, wanted, "after {calls} calls");
     }
     Ok(())
 }
 
 #[test]
 fn a_client_comes_again_after_a_turn(rt: HostRuntime) -> Result<(), Fail> {
-    let outcome = outcome_by_single_calls(&rt, &turns_and_more())?;
+    let commands = turns_and_more();
+    let outcome = outcome_of(rt.alloc(), RandomState::new(&rt)?, &commands, Calls::Single)?;
     let wanted = [
         Answer::Replied(Reply::StepRefused(StepFault::Stranger)),
         Answer::Replied(Reply::Entered),
@@ -209,15 +182,10 @@ fn every_refusal(alloc: Global) -> Result<Outcome, AllocError> {
 }
 
 #[test]
-fn every_refusal_by_single_calls(rt: HostRuntime) -> Result<(), Fail> {
-    let outcome = outcome_by_single_calls(&rt, &refusals())?;
-    assert_eq!(rt; outcome, every_refusal(rt.alloc())?);
-    Ok(())
-}
-
-#[test]
-fn every_refusal_by_run(rt: HostRuntime) -> Result<(), Fail> {
-    let outcome = outcome_by_run(&rt, &refusals())?;
-    assert_eq!(rt; outcome, every_refusal(rt.alloc())?);
+fn every_refusal_then_turn(rt: HostRuntime) -> Result<(), Fail> {
+    for calls in [Calls::Single, Calls::Run] {
+        let outcome = outcome_of(rt.alloc(), RandomState::new(&rt)?, &refusals(), calls)?;
+        assert_eq!(rt; outcome, every_refusal(rt.alloc())?, "{calls:?}");
+    }
     Ok(())
 }
