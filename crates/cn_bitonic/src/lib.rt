@@ -9,6 +9,3 @@ mod merging;
 pub use building::bitonic;
 pub use cn_wiring::BuildFault;
 pub use merging::merger;
-
-#[cfg(test)]
-mod tests;

@@ -9,6 +9,3 @@ mod building;
 pub use blocks::block;
 pub use building::periodic;
 pub use cn_wiring::BuildFault;
-
-#[cfg(test)]
-mod tests;

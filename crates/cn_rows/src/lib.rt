@@ -3,11 +3,7 @@
 #![tactic(auto)]
 
 #[cfg(test)]
-mod core_calls;
-#[cfg(test)]
 mod emitting;
-#[cfg(test)]
-mod epoch_calls;
 #[cfg(test)]
 mod narrow;
 #[cfg(test)]
@@ -16,7 +12,3 @@ mod replaying;
 mod schedules;
 #[cfg(test)]
 mod showing;
-#[cfg(test)]
-mod walking;
-#[cfg(test)]
-mod wiring_tables;

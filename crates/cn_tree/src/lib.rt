@@ -8,6 +8,3 @@ mod building;
 
 pub use building::tree;
 pub use cn_wiring::BuildFault;
-
-#[cfg(test)]
-mod tests;

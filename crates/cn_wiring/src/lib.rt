@@ -24,6 +24,3 @@ pub use kind::Kind;
 pub use row::wires_below;
 pub use width::{is_width, level_of, width_of};
 pub use wiring::Wiring;
-
-#[cfg(test)]
-mod tests;

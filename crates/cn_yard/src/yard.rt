@@ -228,6 +228,3 @@ impl Yard {
         place_of(&self.live, token) < self.live.len()
     }
 }
-
-#[cfg(test)]
-mod tests;
