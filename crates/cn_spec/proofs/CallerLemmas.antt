@@ -4,7 +4,7 @@
 pub use Rattle.cn_spec.proofs.Halves.{half-mono, half-sum}
 pub use Rattle.cn_spec.proofs.Sums.{total_where-agree, total_where-le, total_where-map, total_where-mono, total_where-more}
 pub use Rattle.cn_spec.proofs.Sums.{total_where-none, total_where-one, total_where-push, total_where-set, total_where-shift}
-pub use Rattle.cn_spec.proofs.Sums.{total_where-tests, total_where-zero}
+pub use Rattle.cn_spec.proofs.Sums.{total_where-part, total_where-parts, total_where-tests, total_where-zero}
 pub use Rattle.cn_spec.proofs.Sums.{sum_below-change, sum_below-cut, sum_below-front, sum_below-le, sum_below-none, sum_below-one}
 pub use Rattle.cn_spec.proofs.Sums.{sum_below-part, sum_below-parts, sum_below-pick, sum_below-plus, sum_below-same, sum_below-shift}
 pub use Rattle.cn_spec.proofs.Sums.{sum_below-total, sum_below-zero}

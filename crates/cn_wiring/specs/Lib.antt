@@ -1,5 +1,6 @@
 pub mod Plan
 pub mod Table
+pub mod Made
 pub mod Network
 pub mod InsideWiring
 pub mod InsideDraft
