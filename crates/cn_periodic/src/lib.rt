@@ -4,8 +4,8 @@
 #![tactic(auto)]
 
 mod blocks;
-mod building;
+mod periodic_network;
 
 pub use blocks::block;
-pub use building::periodic;
 pub use cn_wiring::BuildFault;
+pub use periodic_network::periodic;

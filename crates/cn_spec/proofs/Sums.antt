@@ -1,5 +1,5 @@
 -- Sums over the places of a list, and over ranges.
-use Rattle.std.proofs.Common.{◌≡◌, ◌≢◌, ℕ, zero, suc, ◌+◌, ◌<◌, ◌≤◌, Bool, true, false, cond, List, [], ◌∷◌, ◌++◌, length, map, get_or, set, sum_by, refl, sym, ◌∙◌, inl, inr, arith, eqb, ltb, zero-add, slice_index, nat_eq, get_or-set_same, get_or-set_other}
+use Rattle.std.proofs.Common.{◌≡◌, ◌≢◌, ℕ, zero, suc, ◌+◌, ◌<◌, ◌≤◌, Bool, true, false, cond, List, [], ◌∷◌, ◌++◌, length, map, get_or, set, sum_by, refl, sym, ◌∙◌, inl, inr, arith, eqb, ltb, zero-add, slice_index, nat_eq, get_or-set_same, get_or-set_other, ap}
 use Rattle.std.proofs.lemmas.Bool.{cases_eq, eq-eqb, false_from_ne_true, le-ltb, lt-ltb, ne_eqb}
 use Rattle.std.proofs.lemmas.Bool.Decides.{nat_tests}
 use Rattle.std.proofs.lemmas.List.Sums.{sum_by-cons}
@@ -49,6 +49,25 @@ pub total_where-zero : {A : Type 0} → (p : A → Bool) (xs : List A) → total
 unfolding total_where
 total_where-zero p [] = refl
 total_where-zero p (x ∷ xs) = rw (total_where-zero p xs) (elim (p x) as (λ t. when t 0 + 0 ≡ 0) [ true ↦ refl | false ↦ refl ])
+
+-- a term is at most the sum
+pub total_where-part : {A : Type 0} → (p : A → Bool) (xs : List A) (d : A) (f : ℕ → ℕ) (u : ℕ) → u < length xs → p (get_or xs u d) ≡ true → f u ≤ total_where p xs f
+unfolding total_where
+total_where-part p [] d f u h e = absurd (omega arith)
+total_where-part p (x ∷ xs) d f zero h e = rw e (omega arith)
+total_where-part p (x ∷ xs) d f (suc u) h e = let rest = total_where-part p xs d (λ v. f (suc v)) u (omega arith) e in omega arith
+
+-- and two terms together are
+pub total_where-parts : {A : Type 0} → (p : A → Bool) (xs : List A) (d : A) (f : ℕ → ℕ) (u v : ℕ) → u < length xs → v < length xs → u ≢ v
+    → p (get_or xs u d) ≡ true → p (get_or xs v d) ≡ true → f u + f v ≤ total_where p xs f
+unfolding total_where
+total_where-parts p [] d f u v h k n a b = absurd (omega arith)
+total_where-parts p (x ∷ xs) d f zero zero h k n a b = absurd (n refl)
+total_where-parts p (x ∷ xs) d f zero (suc v) h k n a b = let rest = total_where-part p xs d (λ w. f (suc w)) v (omega arith) b in rw a (omega arith)
+total_where-parts p (x ∷ xs) d f (suc u) zero h k n a b = let rest = total_where-part p xs d (λ w. f (suc w)) u (omega arith) a in rw b (omega arith)
+total_where-parts p (x ∷ xs) d f (suc u) (suc v) h k n a b =
+    let rest = total_where-parts p xs d (λ w. f (suc w)) u v (omega arith) (omega arith) (λ e. n (ap suc e)) a b in
+    omega arith
 
 -- a sum of which one term rises by x
 pub sum_below-change : (n w x : ℕ) (f g : ℕ → ℕ) → ((u : ℕ) → g u ≡ f u + cond (eqb u w) x 0) → sum_below n g ≡ sum_below n f + cond (ltb w n) x 0

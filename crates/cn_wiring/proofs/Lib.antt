@@ -9,6 +9,7 @@ pub mod PlanFlow
 pub mod Close
 pub mod Tables
 pub mod Arrivals
+pub mod Unique
 pub mod Levels
 pub mod WidthLemmas
 pub mod Finished

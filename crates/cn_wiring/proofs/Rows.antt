@@ -7,9 +7,7 @@ use Rattle.std.proofs.lemmas.List.FromFn.{length-range_with_len}
 use Rattle.std.proofs.lemmas.Nat.{pow_pos}
 use Rattle.std.proofs.Math.Nat.{pow-succ'}
 use Rattle.cn_spec.specs.Networks.{IsRow}
-use Rattle.cn_spec.specs.Sums.{times}
 use Rattle.cn_spec.specs.declared.limits.TheConstants.{MOST_ENDS, MOST_LEVEL}
-use Rattle.cn_wiring.specs.Plan.{Plan, Builds, loose}
 use Rattle.cn_wiring.specs.Widths.{IsWidthOf}
 use Rattle.cn_wiring.proofs.WidthLemmas.{width_few}
 
@@ -31,9 +29,6 @@ flows_row f width level l = length-map (range_with_len 0 width) f ∙ entries_ro
 -- what finishing a draft asks of the wires that came out of a part over all of its entries
 pub outputs_count : (level : ℕ) (y : List ℕ) → level ≤ MOST_LEVEL → IsRow level y → (1 ≤ length y) × (length y ≤ MOST_ENDS)
 outputs_count level y small row = (omega (arith, row, pow_pos level), omega (arith, row, width_few level small))
-
-pub outputs_each : {old new : Plan} {x y : List ℕ} {depth size : ℕ} → Builds old new x y depth size → ((w : ℕ) → loose old w ≡ times w x) → (w : ℕ) → times w y ≡ loose new w
-outputs_each built all w = let h = built.loosed w in let k = all w in omega arith
 
 -- what holds of a result by three of its clauses
 pub all_ok : {T E : Type 0} (r : Result T E) (P Q R S : T → Type 0) → ((x : T) → P x → Q x → R x → S x) → IfOk r P → IfOk r Q → IfOk r R → IfOk r S

@@ -20,14 +20,14 @@ entries_of Tree width = 1
 
 -- how many balancers a network has whose width is 2 ^ level
 abbrev pub size_of : Kind → ℕ → ℕ → ℕ
-size_of Bitonic width level = bitonic.balancers_of level
-size_of Periodic width level = periodic.balancers_of level
+size_of Bitonic width level = bitonic.bitonic_balancers level
+size_of Periodic width level = periodic.periodic_balancers level
 size_of Tree width level = width - 1
 
 -- and how many balancers each of its paths passes
 abbrev pub levels_of : Kind → ℕ → ℕ
-levels_of Bitonic level = bitonic.depth_of level
-levels_of Periodic level = periodic.depth_of level
+levels_of Bitonic level = bitonic.bitonic_depth level
+levels_of Periodic level = periodic.periodic_depth level
 levels_of Tree level = level
 
 -- a counting network of this kind and width, and of its sizes

@@ -1,8 +1,8 @@
 use Rattle.std.proofs.Common.{◌≡◌, ◌<◌, ◌∙◌, length, sym, arith}
 use Rattle.std.proofs.lemmas.Result.{IfOk-weaker}
 use Rattle.cn_spec.proofs.CallerLemmas.{tree_zero}
-use Rattle.cn_tree.proofs.Grown.{first_loose, room_for_first, room_for_root, room_for_second, second_loose, tree_built, tree_flow, tree_row}
-use Rattle.cn_tree.proofs.building.+grow.Goals as goal
+use Rattle.cn_tree.proofs.Grown.{first_loose, made_more, made_none, room_for_first, room_for_root, room_for_second, second_loose, tree_built, tree_flow, tree_row}
+use Rattle.cn_tree.proofs.counting_tree.+grow.Goals as goal
 
 pub returns-then-level-eq0-clause-flow : goal.returns-then-level-eq0-clause-flow
 returns-then-level-eq0-clause-flow t c f flow = rw (c.in_ok-vec.ensures.items, c.if-level-eq0.true) (sym (tree_zero (f c.args.wire)))
@@ -42,3 +42,11 @@ returns-clause-flow t c =
     IfOk-weaker c.interleave.result _ _
     (λ exits e f flow. rw e (flows f flow c.in_ok-first.ensures.halves c.in_ok-even.ensures.flow c.in_ok-odd.ensures.flow))
     (rw (c.deref.ensures.value, c.deref-2.ensures.value) at c.interleave.ensures)
+
+pub returns-then-level-eq0-clause-order : goal.returns-then-level-eq0-clause-order
+returns-then-level-eq0-clause-order t c = rw (c.in_ok-vec.ensures.items, c.if-level-eq0.true) (made_none c.args.draft.now c.args.wire)
+
+pub returns-clause-order : goal.returns-clause-order
+returns-clause-order t c =
+    let made = made_more c.args.draft.now c.args.wire c.args.level (omega arith) c.in_ok-first.ensures.plan c.in_ok-first.ensures.wires c.in_ok-even.ensures.order c.in_ok-odd.ensures.order in
+    IfOk-weaker c.interleave.result _ _ (λ exits e. rw e made) (rw (c.deref.ensures.value, c.deref-2.ensures.value) at c.interleave.ensures)
