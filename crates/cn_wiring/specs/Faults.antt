@@ -1,5 +1,5 @@
 -- What can be wrong with a table of wire ends, in the order in which it is told.
-use Rattle.std.specs.Prelude.{◌≡◌, ℕ, ◌+◌, ◌*◌, ◌<◌, ◌≤◌, length}
+use Rattle.std.specs.Prelude.{◌≡◌, ℕ, ◌+◌, ◌*◌, ◌<◌, ◌≤◌, MatchOption, Option, length}
 use Rattle.cn_spec.specs.declared.limits.TheConstants.{MOST_BALANCERS, MOST_ENDS}
 use Rattle.cn_wiring.specs.declared.end.End.TheVariants.{Balancer, Exit}
 use Rattle.cn_wiring.specs.declared.fault.WiringFault.{WiringFault}
@@ -9,6 +9,10 @@ use Rattle.cn_wiring.specs.Table.{Table, LeadsOn, Stands, end_of, sum_at}
 -- k is the first number below n at which P does not hold
 abbrev pub IsFirst : ℕ → (ℕ → Type 0) → ℕ → Type 0
 IsFirst n P k = (k < n) × (¬ P k) × ((m : ℕ) → m < k → P m)
+
+-- the answer is the first number below n at which P does not hold, or none where P holds of all
+abbrev pub IsFirstFailure : Option ℕ → ℕ → (ℕ → Type 0) → Type 0
+IsFirstFailure answer n P = MatchOption answer ((k : ℕ) → k < n → P k) (IsFirst n P)
 
 -- from least to most, both included
 abbrev pub IsWithin : ℕ → ℕ → ℕ → Type 0
@@ -27,8 +31,8 @@ abbrev pub IsFed : Table → ℕ → Type 0
 IsFed t b = IsWithin 1 2 (sum_at t (Balancer b) (λ _. 1))
 
 -- one wire ends at exit i
-abbrev pub IsReached : Table → ℕ → Type 0
-IsReached t i = IsWithin 1 1 (sum_at t (Exit i) (λ _. 1))
+abbrev pub HasOneWire : Table → ℕ → Type 0
+HasOneWire t i = IsWithin 1 1 (sum_at t (Exit i) (λ _. 1))
 
 -- the numbers are within the limits, and each wire has an end
 pub record SizesFit (t : Table) : Type 0 where
@@ -58,5 +62,5 @@ IsFault t Length = ¬ SizesFit t
 IsFault t (NoSuchEnd wire) = SizesFit t × IsFirst (length t.ends) (StandsAt t) wire
 IsFault t (Backward wire) = EndsStand t × IsFirst (length t.ends) (LeadsOnAt t) wire
 IsFault t (InDegree balancer) = EndsLeadOn t × IsFirst t.balancers (IsFed t) balancer
-IsFault t (ExitCount exit) = BalancersFed t × IsFirst t.width (IsReached t) exit
+IsFault t (ExitCount exit) = BalancersFed t × IsFirst t.width (HasOneWire t) exit
 IsFault t Memory = EndsLeadOn t

@@ -1,4 +1,4 @@
--- The levels of wires.
+-- The levels of wires: their depths (Aspnes, Herlihy, Shavit, Counting Networks, JACM 1994, section 2.1).
 use Rattle.std.specs.Prelude.{◌≡◌, ℕ, ◌+◌, ◌<◌, length}
 use Rattle.cn_wiring.specs.declared.end.End.TheVariants.{Balancer, Exit}
 use Rattle.cn_wiring.specs.Plan.{HasLevel}

@@ -6,7 +6,7 @@ use Rattle.cn_wiring.specs.declared.end.End.TheVariants.{Exit}
 use Rattle.cn_wiring.specs.declared.kind.Kind.{Kind}
 use Rattle.cn_wiring.specs.Table.{Table, IsWellFormed, IsFullFlow, HasDepth, sum_at}
 
--- every full flow gives the exits counts with the step property
+-- every full flow gives the exits counts with the step property (section 2.2)
 abbrev pub Counts : Table → Type 0
 Counts t = (f : ℕ → ℕ) → IsFullFlow t f → IsStep (map (λ i. sum_at t (Exit i) f) (range_with_len 0 t.width))
 

@@ -1,4 +1,5 @@
--- Networks in the making.
+-- Networks in the making: balancing networks, wire by wire (Aspnes, Herlihy, Shavit, Counting Networks, JACM 1994,
+-- section 2.1).
 use Rattle.std.specs.Prelude.{◌≡◌, ℕ, ◌+◌, ◌*◌, ◌<◌, ◌≤◌, ◌==◌, ◌⊎◌, Bool, false, List, [], ◌∷◌, length, Option, Some, None, is_none, slice_index_or, slice_set, replicate, ◌++◌}
 use Rattle.cn_spec.specs.Step.{half}
 use Rattle.cn_spec.specs.Sums.{total_where, times, when}

@@ -1,4 +1,4 @@
--- Tables of wire ends.
+-- Tables of wire ends: networks of balancers (Aspnes, Herlihy, Shavit, Counting Networks, JACM 1994, section 2.1).
 use Rattle.std.specs.Prelude.{◌≡◌, ℕ, ◌+◌, ◌*◌, ◌<◌, ◌≤◌, ◌==◌, Bool, false, List, length, map, slice_index_or, Option, Some, None}
 use Rattle.cn_wiring.specs.declared.end.End.{End}
 use Rattle.cn_wiring.specs.declared.end.End.TheVariants.{Balancer, Exit}
@@ -14,6 +14,10 @@ pub record Table : Type 0 where
   pub width : ℕ
   pub balancers : ℕ
   pub ends : List End
+
+-- the table of these numbers and ends
+abbrev pub table_with : ℕ → ℕ → ℕ → List End → Table
+table_with entries width balancers ends = record { entries = entries; width = width; balancers = balancers; ends = ends }
 
 -- where wire u ends
 abbrev pub end_of : Table → ℕ → End
@@ -55,7 +59,8 @@ pub record IsWellFormed (t : Table) : Type 0 where
   pub degree : (b : ℕ) → b < t.balancers → (1 ≤ sum_at t (Balancer b) (λ _. 1)) × (sum_at t (Balancer b) (λ _. 1) ≤ 2)
   pub exits : (i : ℕ) → i < t.width → sum_at t (Exit i) (λ _. 1) ≡ 1
 
--- A full flow gives each wire a number, and each output of a balancer its half of what comes in.
+-- A full flow gives each wire a number, and each output of a balancer its half of what comes in: it is what passes in a
+-- quiet state (section 2.1).
 abbrev pub IsFullFlow : Table → (ℕ → ℕ) → Type 0
 IsFullFlow t f = (b : ℕ) → b < t.balancers → (f (t.entries + 2 * b) ≡ half (sum_at t (Balancer b) f) 0) × (f (t.entries + 2 * b + 1) ≡ half (sum_at t (Balancer b) f) 1)
 

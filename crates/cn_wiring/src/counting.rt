@@ -41,6 +41,7 @@ impl Counting {
         requires deep { HasDepth wiring depth }
         ensures { result ≡ record { table = wiring; kind = kind; depth = depth } }
     {
+        // Asked, so that what a wiring keeps is known.
         let _ = wiring.entries();
         Counting {
             wiring,
@@ -105,14 +106,18 @@ impl Counting {
     ///
     /// It does nothing: its contract is the law.
     pub fn full_flow_laws(&self)
-        ensures exists { (x : ℕ → ℕ) → (f : ℕ → ℕ) × IsFullFlow self.now.table f × Agree self.now.table.entries f x }
+        ensures exists { (x : ℕ → ℕ) → (f : ℕ → ℕ)
+            × IsFullFlow self.now.table f × Agree self.now.table.entries f x }
         ensures unique { (f g : ℕ → ℕ) → IsFullFlow self.now.table f → IsFullFlow self.now.table g
-            → Agree self.now.table.entries f g → Agree (self.now.table.entries + 2 * self.now.table.balancers) f g }
-        ensures draft { (f : ℕ → ℕ) → IsFullFlow self.now.table f ↔ IsFlow (plan_of_table self.now.table) f }
+            → Agree self.now.table.entries f g
+            → Agree (self.now.table.entries + 2 * self.now.table.balancers) f g }
+        ensures draft { (f : ℕ → ℕ)
+            → IsFullFlow self.now.table f ↔ IsFlow (plan_of_table self.now.table) f }
         ensures sum { (f : ℕ → ℕ) → IsFullFlow self.now.table f
-            → sum_below self.now.table.width (λ i. sum_at self.now.table (Exit i) f) ≡ sum_below self.now.table.entries f }
-        ensures few { (f : ℕ → ℕ) → IsFullFlow self.now.table f → (end : End) → Stands self.now.table end
-            → sum_at self.now.table end f ≤ sum_below self.now.table.entries f }
+            → sum_below self.now.table.width (λ i. sum_at self.now.table (Exit i) f)
+            ≡ sum_below self.now.table.entries f }
+        ensures few { (f : ℕ → ℕ) → IsFullFlow self.now.table f
+            → (end : End) → Stands self.now.table end → sum_at self.now.table end f ≤ sum_below self.now.table.entries f }
         ensures paths { (u : ℕ) → u < length self.now.table.ends
             → (us : List ℕ) × IsPath (plan_of_table self.now.table) u us }
     {

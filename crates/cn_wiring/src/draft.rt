@@ -84,10 +84,14 @@ impl Draft {
     ///
     /// It does nothing: its contract is the law.
     pub fn flow_laws(&self)
-        ensures exists { (x : ℕ → ℕ) → (f : ℕ → ℕ) × IsFlow self.now f × Agree self.now.entries f x }
-        ensures unique { (f g : ℕ → ℕ) → IsFlow self.now f → IsFlow self.now g → Agree self.now.entries f g → Agree (length self.now.ends) f g }
-        ensures paths { (w : ℕ) → w < length self.now.ends → (us : List ℕ) × IsPath self.now w us }
+        ensures exists { (x : ℕ → ℕ)
+            → (f : ℕ → ℕ) × IsFlow self.now f × Agree self.now.entries f x }
+        ensures unique { (f g : ℕ → ℕ) → IsFlow self.now f → IsFlow self.now g
+            → Agree self.now.entries f g → Agree (length self.now.ends) f g }
+        ensures paths { (w : ℕ) → w < length self.now.ends
+            → (us : List ℕ) × IsPath self.now w us }
     {
+        // Read, so that what a draft keeps is known.
         let _ = &self.entries;
     }
 
@@ -121,8 +125,10 @@ impl Draft {
         ensures wires { IfOk result (λ r. (r.0 ≡ next_wire self.old) × (r.1 ≡ r.0 + 1)) }
         ensures plan { OnOk result (self.new ≡ with_balancer self.old (u ∷ v ∷ [])) }
         ensures built { IfOk result (λ r. Builds self.old self.new (u ∷ v ∷ []) (r.0 ∷ r.1 ∷ []) 1 1) }
-        ensures halves { IfOk result (λ r. (f : ℕ → ℕ) → IsFlow self.new f → (f r.0 ≡ half (f u + f v) 0) × (f r.1 ≡ half (f u + f v) 1)) }
-        ensures flows { IfOk result (λ r. (f : ℕ → ℕ) → IsFlow self.old f → f r.0 ≡ half (f u + f v) 0 → f r.1 ≡ half (f u + f v) 1 → IsFlow self.new f) }
+        ensures halves { IfOk result (λ r. (f : ℕ → ℕ) → IsFlow self.new f
+            → (f r.0 ≡ half (f u + f v) 0) × (f r.1 ≡ half (f u + f v) 1)) }
+        ensures flows { IfOk result (λ r. (f : ℕ → ℕ) → IsFlow self.old f
+            → f r.0 ≡ half (f u + f v) 0 → f r.1 ≡ half (f u + f v) 1 → IsFlow self.new f) }
         ensures refused { OnErr result (self.new ≡ self.old) }
     {
         self.ends.reserve(2)?;
@@ -146,8 +152,10 @@ impl Draft {
         ensures wires { IfOk result (λ r. (r.0 ≡ next_wire self.old) × (r.1 ≡ r.0 + 1)) }
         ensures plan { OnOk result (self.new ≡ with_balancer self.old (wire ∷ [])) }
         ensures built { IfOk result (λ r. Builds self.old self.new (wire ∷ []) (r.0 ∷ r.1 ∷ []) 1 1) }
-        ensures halves { IfOk result (λ r. (f : ℕ → ℕ) → IsFlow self.new f → (f r.0 ≡ half (f wire) 0) × (f r.1 ≡ half (f wire) 1)) }
-        ensures flows { IfOk result (λ r. (f : ℕ → ℕ) → IsFlow self.old f → f r.0 ≡ half (f wire) 0 → f r.1 ≡ half (f wire) 1 → IsFlow self.new f) }
+        ensures halves { IfOk result (λ r. (f : ℕ → ℕ) → IsFlow self.new f
+            → (f r.0 ≡ half (f wire) 0) × (f r.1 ≡ half (f wire) 1)) }
+        ensures flows { IfOk result (λ r. (f : ℕ → ℕ) → IsFlow self.old f
+            → f r.0 ≡ half (f wire) 0 → f r.1 ≡ half (f wire) 1 → IsFlow self.new f) }
         ensures refused { OnErr result (self.new ≡ self.old) }
     {
         self.ends.reserve(2)?;
@@ -170,10 +178,13 @@ impl Draft {
         requires same { length xs.now ≡ length ys.now }
         requires room { self.old.balancers + length xs.now ≤ MOST_BALANCERS }
         requires loose { AllLoose self.old (xs.now ++ ys.now) }
-        ensures wires { IfOk result (λ outs. outs.items ≡ range_with_len (next_wire self.old) (2 * length xs.now)) }
+        ensures wires { IfOk result (λ outs.
+            outs.items ≡ range_with_len (next_wire self.old) (2 * length xs.now)) }
         ensures plan { OnOk result (self.new ≡ with_layer self.old xs.now ys.now) }
-        ensures built { IfOk result (λ outs. Builds self.old self.new (xs.now ++ ys.now) outs.items 1 (length xs.now)) }
-        ensures flow { IfOk result (λ outs. (f : ℕ → ℕ) → IsFlow self.new f → map f outs.items ≡ layer (map f xs.now) (map f ys.now)) }
+        ensures built { IfOk result (λ outs.
+            Builds self.old self.new (xs.now ++ ys.now) outs.items 1 (length xs.now)) }
+        ensures flow { IfOk result (λ outs. (f : ℕ → ℕ) → IsFlow self.new f
+            → map f outs.items ≡ layer (map f xs.now) (map f ys.now)) }
     {
         let mut outs = Vec::with_capacity(self.alloc, 2 * xs.len())?;
         for i in 0..xs.len() {
@@ -194,7 +205,8 @@ impl Draft {
         requires each { (w : ℕ) → times w exits.now ≡ loose self w }
         ensures table { IfOk result (λ t. IsTableOf t (self, exits.now)) }
         ensures formed { IfOk result IsWellFormed }
-        ensures flow { IfOk result (λ t. (i : ℕ) (f : ℕ → ℕ) → i < length exits.now → sum_at t (Exit i) f ≡ f (slice_index exits.now i)) }
+        ensures flow { IfOk result (λ t. (i : ℕ) (f : ℕ → ℕ) → i < length exits.now
+            → sum_at t (Exit i) f ≡ f (slice_index exits.now i)) }
         ensures depth { IfOk result (λ t. (n : ℕ) → Each (HasLevel self n) exits.now → HasDepth t n) }
         ensures refused { IfErr result (λ e. e.0 ≡ self) }
     {
@@ -236,9 +248,11 @@ impl Draft {
 /// The ends of the wires, where wire exits[i] ends at exit i.
 fn close(alloc: Global, ends: &[Option<u32>], exits: &[u32]) -> Result<Vec<End>, AllocError>
     requires count { length exits.now ≤ MOST_ENDS }
-    requires loose { (w : ℕ) → times w exits.now ≤ when (is_none (slice_index_or ends.now w (Some 0))) 1 }
+    requires loose { (w : ℕ)
+        → times w exits.now ≤ when (is_none (slice_index_or ends.now w (Some 0))) 1 }
     ensures plan { IfOk result (λ v. map balancer_of v.items ≡ ends.now) }
-    ensures exits { IfOk result (λ v. (i : ℕ) → i < length exits.now → slice_index_or v.items (slice_index exits.now i) (Balancer 0) ≡ Exit i) }
+    ensures exits { IfOk result (λ v. (i : ℕ) → i < length exits.now
+        → slice_index_or v.items (slice_index exits.now i) (Balancer 0) ≡ Exit i) }
 {
     let mut closed = Vec::with_capacity(alloc, ends.len())?;
     for end in ends {

@@ -1,9 +1,9 @@
 //! What can be wrong with a table of wire ends.
 
-ghost use Rattle.std.specs.Prelude.{◌≡◌, ℕ, ◌+◌, ◌*◌, ◌<◌, ◌↔◌, ◌^◌, IfErr, IfOk, IsTrue, MatchOption, length, slice_index, vec_len};
+ghost use Rattle.std.specs.Prelude.{◌≡◌, ℕ, ◌+◌, ◌*◌, ◌<◌, ◌↔◌, ◌^◌, IfErr, IfOk, IsTrue, length, slice_index, vec_len};
 ghost use Rattle.cn_spec.specs.Sums.{total_where};
-ghost use Rattle.cn_wiring.specs.Faults.{EndsStand, IsFault, IsFirst, IsWithin, LeadsOnAt, SizesFit, StandsAt};
-ghost use Rattle.cn_wiring.specs.Table.{IsWellFormed, Table, is_end};
+ghost use Rattle.cn_wiring.specs.Faults.{EndsStand, IsFault, IsFirstFailure, IsWithin, LeadsOnAt, SizesFit, StandsAt};
+ghost use Rattle.cn_wiring.specs.Table.{IsWellFormed, is_end, table_with};
 ghost use Rattle.cn_wiring.specs.declared.end.End.TheVariants.{Balancer, Exit};
 
 use crate::end::End;
@@ -36,8 +36,8 @@ pub(crate) fn check_ends(
     balancers: u32,
     ends: &[End],
 ) -> Result<(), WiringFault>
-    ensures formed { let t : Table = record { entries = entries; width = width; balancers = balancers; ends = ends.now } in IfOk result (λ _. IsWellFormed t) }
-    ensures fault { let t : Table = record { entries = entries; width = width; balancers = balancers; ends = ends.now } in IfErr result (IsFault t) }
+    ensures formed { IfOk result (λ _. IsWellFormed (table_with entries width balancers ends.now)) }
+    ensures fault { IfErr result (IsFault (table_with entries width balancers ends.now)) }
 {
     if !sizes_fit(entries, width, balancers, ends) {
         return Err(WiringFault::Length);
@@ -62,7 +62,7 @@ pub(crate) fn check_ends(
 
 /// Whether the numbers are within the limits, and the list has an end for each wire.
 fn sizes_fit(entries: u32, width: u32, balancers: u32, ends: &[End]) -> bool
-    ensures { let t : Table = record { entries = entries; width = width; balancers = balancers; ends = ends.now } in IsTrue result ↔ SizesFit t }
+    ensures { IsTrue result ↔ SizesFit (table_with entries width balancers ends.now) }
 {
     1 <= entries
         && entries <= MOST_ENDS
@@ -75,7 +75,7 @@ fn sizes_fit(entries: u32, width: u32, balancers: u32, ends: &[End]) -> bool
 /// The first wire that ends at no balancer and no exit of the table.
 fn find_no_such_end(entries: u32, width: u32, balancers: u32, ends: &[End]) -> Option<u32>
     requires { length ends.now < 2 ^ 32 }
-    ensures { let t : Table = record { entries = entries; width = width; balancers = balancers; ends = ends.now } in MatchOption result ((u : ℕ) → u < length ends.now → StandsAt t u) (IsFirst (length ends.now) (StandsAt t)) }
+    ensures { IsFirstFailure result (length ends.now) (StandsAt (table_with entries width balancers ends.now)) }
 {
     for (u, end) in ends.iter().enumerate() {
         let stands = match end {
@@ -91,8 +91,8 @@ fn find_no_such_end(entries: u32, width: u32, balancers: u32, ends: &[End]) -> O
 
 /// The first wire that leads back.
 fn find_backward(entries: u32, width: u32, balancers: u32, ends: &[End]) -> Option<u32>
-    requires { let t : Table = record { entries = entries; width = width; balancers = balancers; ends = ends.now } in EndsStand t }
-    ensures { let t : Table = record { entries = entries; width = width; balancers = balancers; ends = ends.now } in MatchOption result ((u : ℕ) → u < length ends.now → LeadsOnAt t u) (IsFirst (length ends.now) (LeadsOnAt t)) }
+    requires { EndsStand (table_with entries width balancers ends.now) }
+    ensures { IsFirstFailure result (length ends.now) (LeadsOnAt (table_with entries width balancers ends.now)) }
 {
     for (u, end) in ends.iter().enumerate() {
         if let End::Balancer(b) = end {
@@ -112,9 +112,11 @@ fn arrivals(
     balancers: u32,
     ends: &[End],
 ) -> Result<(Vec<u32>, Vec<u32>), AllocError>
-    requires { let t : Table = record { entries = entries; width = width; balancers = balancers; ends = ends.now } in EndsStand t }
-    ensures at_balancers { IfOk result (λ r. (vec_len r.0 ≡ balancers) × ((b : ℕ) → b < balancers → slice_index r.0.items b ≡ total_where (is_end (Balancer b)) ends.now (λ _. 1))) }
-    ensures at_exits { IfOk result (λ r. (vec_len r.1 ≡ width) × ((i : ℕ) → i < width → slice_index r.1.items i ≡ total_where (is_end (Exit i)) ends.now (λ _. 1))) }
+    requires { EndsStand (table_with entries width balancers ends.now) }
+    ensures at_balancers { IfOk result (λ r. (vec_len r.0 ≡ balancers) × ((b : ℕ) → b < balancers
+        → slice_index r.0.items b ≡ total_where (is_end (Balancer b)) ends.now (λ _. 1))) }
+    ensures at_exits { IfOk result (λ r. (vec_len r.1 ≡ width) × ((i : ℕ) → i < width
+        → slice_index r.1.items i ≡ total_where (is_end (Exit i)) ends.now (λ _. 1))) }
 {
     let mut at_balancers = vec![in alloc; 0u32; balancers as usize]?;
     let mut at_exits = vec![in alloc; 0u32; width as usize]?;
@@ -130,7 +132,8 @@ fn arrivals(
 /// The first place at which the count is not from `least` to `most`.
 fn find_outside(counts: &[u32], least: u32, most: u32) -> Option<u32>
     requires { length counts.now < 2 ^ 32 }
-    ensures { MatchOption result ((k : ℕ) → k < length counts.now → IsWithin least most (slice_index counts.now k)) (IsFirst (length counts.now) (λ k. IsWithin least most (slice_index counts.now k))) }
+    ensures { IsFirstFailure result (length counts.now)
+        (λ k. IsWithin least most (slice_index counts.now k)) }
 {
     for (place, count) in counts.iter().enumerate() {
         if *count < least || most < *count {

@@ -10,7 +10,8 @@ ghost use Rattle.cn_wiring.specs.Table.{IsWellFormed, Table};
 /// Each wire of a counting network has one level: 0 for an entry, one more than the inputs of its balancer for an output,
 /// and the depth of the network for the wire of each exit.
 pub fn wires_have_levels()
-    ensures { (network : Network) → IsNetwork network → (level : ℕ → ℕ) × IsLevel network.table network.depth level }
+    ensures { (network : Network) → IsNetwork network
+        → (level : ℕ → ℕ) × IsLevel network.table network.depth level }
 {}
 
 /// A plan, and wires that end at its exits in order, have one table: two networks that are made alike are the same.

@@ -5,7 +5,7 @@ ghost use Rattle.cn_wiring.specs.declared.end.End.TheVariants.{Exit};
 ghost use Rattle.cn_spec.specs.Sums.{Agree, sum_below};
 ghost use Rattle.cn_wiring.specs.Faults.{IsFault};
 ghost use Rattle.cn_wiring.specs.Plan.{IsFlow, IsPath};
-ghost use Rattle.cn_wiring.specs.Table.{IsFullFlow, IsWellFormed, Stands, Table, end_of, plan_of_table, sum_at};
+ghost use Rattle.cn_wiring.specs.Table.{IsFullFlow, IsWellFormed, Stands, end_of, plan_of_table, sum_at, table_with};
 ghost use Rattle.cn_wiring.specs.declared.end.End.{End};
 
 use crate::end::End;
@@ -49,10 +49,11 @@ impl Wiring {
         balancers: u32,
         ends: Vec<End>,
     ) -> Result<Wiring, (WiringFault, Vec<End>)>
-        ensures table { IfOk result (λ t. t ≡ record { entries = entries; width = width; balancers = balancers; ends = ends.items }) }
+        ensures table { IfOk result (λ t. t ≡ table_with entries width balancers ends.items) }
         ensures formed { IfOk result IsWellFormed }
-        ensures fault { let t : Table = record { entries = entries; width = width; balancers = balancers; ends = ends.items } in IfErr result (λ e. IsFault t e.0) }
-        ensures accepts { let t : Table = record { entries = entries; width = width; balancers = balancers; ends = ends.items } in IsWellFormed t → IfErr result (λ e. e.0 ≡ WiringFault.Memory) }
+        ensures fault { IfErr result (λ e. IsFault (table_with entries width balancers ends.items) e.0) }
+        ensures accepts { IsWellFormed (table_with entries width balancers ends.items)
+            → IfErr result (λ e. e.0 ≡ WiringFault.Memory) }
         ensures handed_back { IfErr result (λ e. e.1 ≡ ends) }
     {
         match check_ends(alloc, entries, width, balancers, &ends) {
@@ -63,8 +64,8 @@ impl Wiring {
 
     /// The wiring of a well-formed table.
     pub(crate) fn of_parts(entries: u32, width: u32, balancers: u32, ends: Vec<End>) -> Wiring
-        requires { IsWellFormed (record { entries = entries; width = width; balancers = balancers; ends = ends.items }) }
-        ensures { result ≡ record { entries = entries; width = width; balancers = balancers; ends = ends.items } }
+        requires { IsWellFormed (table_with entries width balancers ends.items) }
+        ensures { result ≡ table_with entries width balancers ends.items }
     {
         Wiring {
             entries,
@@ -126,6 +127,7 @@ impl Wiring {
         ensures paths { (u : ℕ) → u < length self.now.ends
             → (us : List ℕ) × IsPath (plan_of_table self.now) u us }
     {
+        // Read, so that what a wiring keeps is known.
         let _ = &self.entries;
     }
 }
