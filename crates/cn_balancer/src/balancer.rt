@@ -111,6 +111,3 @@ impl Balancer {
         self.arrivals[0] + self.arrivals[1] >= MOST_ARRIVALS
     }
 }
-
-#[cfg(test)]
-mod tests;

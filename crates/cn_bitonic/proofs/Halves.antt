@@ -6,29 +6,33 @@ use Rattle.cn_spec.specs.Networks.{IsRow, bitonic}
 use Rattle.cn_spec.specs.declared.limits.TheConstants.{MOST_BALANCERS}
 use Rattle.cn_spec.proofs.CallerLemmas.{back_row, front_row, half_row, times-append}
 use Rattle.cn_wiring.specs.Plan.{Plan, AllLoose}
-use Rattle.cn_wiring.proofs.Builds.{Builds-beside, Builds-loose, Builds-same, Builds-sized, Builds-then}
-use Rattle.cn_wiring.proofs.Rows.{half_pow, same_level, shorter}
+use Rattle.cn_wiring.proofs.CallerLemmas.{Builds-beside, Builds-loose, Builds-same, Builds-sized, Builds-then, half_pow, same_level, shorter}
+use Rattle.cn_bitonic.specs.Order.{bitonic_made, merger_made}
 use Rattle.cn_bitonic.specs.Parts.{BuildsBitonic, BuildsMerger}
-use Rattle.cn_bitonic.specs.Sizes.{balancers_of, depth_of}
-use Rattle.cn_bitonic.proofs.MergerParts.{Gives, HasRoom, length_outs}
+use Rattle.cn_bitonic.specs.Sizes.{bitonic_balancers, bitonic_depth}
+use Rattle.cn_bitonic.proofs.MergerParts.{Gives, HasRoom, Orders, length_outs}
 
 -- a plan has room for the bitonic network over x
 abbrev pub HasPlace : Plan → List ℕ → Type 0
-HasPlace d x = (level : ℕ) × IsRow level x × (d.balancers + balancers_of level ≤ MOST_BALANCERS)
+HasPlace d x = (level : ℕ) × IsRow level x × (d.balancers + bitonic_balancers level ≤ MOST_BALANCERS)
 
 -- what the bitonic network over x gives
 abbrev pub Counted : Plan → Plan → List ℕ → List ℕ → Type 0
 Counted old new x y = (level : ℕ) → IsRow level x → BuildsBitonic old new x y level
 
+-- in which order it makes them
+abbrev pub Sequence : Plan → Plan → List ℕ → List ℕ → Type 0
+Sequence old new x y = (level : ℕ) → IsRow level x → bitonic_made level old x ≡ (new, y)
+
 -- ---- sizes
 
-depth_suc : (n : ℕ) → depth_of (suc n) ≡ depth_of n + (n + 1)
+depth_suc : (n : ℕ) → bitonic_depth (suc n) ≡ bitonic_depth n + (n + 1)
 depth_suc n = omega arith
 
 -- two networks and a merger
-balancers_suc : (n : ℕ) → balancers_of (suc n) ≡ (balancers_of n + balancers_of n) + (n + 1) * 2 ^ n
+balancers_suc : (n : ℕ) → bitonic_balancers (suc n) ≡ (bitonic_balancers n + bitonic_balancers n) + (n + 1) * 2 ^ n
 balancers_suc zero = refl
-balancers_suc (suc n) = go (depth_of (suc n)) (depth_of (suc (suc n))) (depth_suc (suc n))
+balancers_suc (suc n) = go (bitonic_depth (suc n)) (bitonic_depth (suc (suc n))) (depth_suc (suc n))
   where
     go : (d e : ℕ) → e ≡ d + (suc n + 1) → 2 ^ suc (suc n) / 2 * e ≡ (2 ^ suc n / 2 * d + 2 ^ suc n / 2 * d) + (suc n + 1) * 2 ^ suc n
     go d e h = rw (h, half_pow (suc n), half_pow n, pow-succ' 2 n) (omega arith)
@@ -38,13 +42,13 @@ balancers_suc (suc n) = go (depth_of (suc n)) (depth_of (suc (suc n))) (depth_su
 -- a row of level n + 1 over which a plan can build
 record Splittable (d : Plan) (x : List ℕ) (n : ℕ) : Type 0 where
   row : IsRow (suc n) x
-  room : d.balancers + ((balancers_of n + balancers_of n) + (n + 1) * 2 ^ n) ≤ MOST_BALANCERS
+  room : d.balancers + ((bitonic_balancers n + bitonic_balancers n) + (n + 1) * 2 ^ n) ≤ MOST_BALANCERS
   there : AllLoose d (take (2 ^ n) x ++ drop (2 ^ n) x)
 
 splittable : (d : Plan) (x : List ℕ) → (length x ≡ 1 → ⊥) → HasPlace d x → AllLoose d x → (n : ℕ) × Splittable d x n
 splittable d x many place there = go place.0 place.1 place.2
   where
-    go : (level : ℕ) → IsRow level x → d.balancers + balancers_of level ≤ MOST_BALANCERS → (n : ℕ) × Splittable d x n
+    go : (level : ℕ) → IsRow level x → d.balancers + bitonic_balancers level ≤ MOST_BALANCERS → (n : ℕ) × Splittable d x n
     go zero row r = absurd (many row)
     go (suc n) row r = (n, record { row = row; room = let e = balancers_suc n in omega (arith, r, e); there = rw (take-append-drop (2 ^ n) x) there })
 
@@ -59,7 +63,7 @@ front_asked d x front e many place there =
     let (n, s) = splittable d x many place there in
     let row = front_row n x s.row in
     let r = s.room in
-    let fits : d.balancers + balancers_of n ≤ MOST_BALANCERS = omega (arith, r) in
+    let fits : d.balancers + bitonic_balancers n ≤ MOST_BALANCERS = omega (arith, r) in
     rw (e, half_row n x s.row) (shorter n x (take (2 ^ n) x) s.row row, ((n, row, fits), front_loose s))
 
 -- and over the second
@@ -73,7 +77,7 @@ back_asked d e x front back y p q many place there first =
     let built = (first' n (front_row n x s.row)).built in
     let r = s.room in
     let made = built.balancers in
-    let fits : e.balancers + balancers_of n ≤ MOST_BALANCERS = omega (arith, r, made) in
+    let fits : e.balancers + bitonic_balancers n ≤ MOST_BALANCERS = omega (arith, r, made) in
     rw (q, half_row n x s.row) (shorter n x (drop (2 ^ n) x) s.row row, ((n, row, fits), Builds-loose (drop (2 ^ n) x) s.there built))
 
 -- ---- the networks over both halves
@@ -82,15 +86,23 @@ pub record BothHalves (d e f : Plan) (x y y2 : List ℕ) (n : ℕ) : Type 0 wher
   whole : Splittable d x n
   first : BuildsBitonic d e (take (2 ^ n) x) y n
   second : BuildsBitonic e f (drop (2 ^ n) x) y2 n
+  first_order : bitonic_made n d (take (2 ^ n) x) ≡ (e, y)
+  second_order : bitonic_made n e (drop (2 ^ n) x) ≡ (f, y2)
 
 pub both_halves : (d e f : Plan) (x front back y y2 : List ℕ) → front ≡ take (length x / 2) x → back ≡ drop (length x / 2) x
-    → (length x ≡ 1 → ⊥) → HasPlace d x → AllLoose d x → Counted d e front y → Counted e f back y2
+    → (length x ≡ 1 → ⊥) → HasPlace d x → AllLoose d x
+    → Counted d e front y → Sequence d e front y → Counted e f back y2 → Sequence e f back y2
     → (n : ℕ) × BothHalves d e f x y y2 n
-both_halves d e f x front back y y2 p q many place there first second =
+both_halves d e f x front back y y2 p q many place there first order second order2 =
     let (n, s) = splittable d x many place there in
-    let first' : Counted d e (take (2 ^ n) x) y = rw (p, half_row n x s.row) at first in
-    let second' : Counted e f (drop (2 ^ n) x) y2 = rw (q, half_row n x s.row) at second in
-    (n, record { whole = s; first = first' n (front_row n x s.row); second = second' n (back_row n x s.row) })
+    let half = half_row n x s.row in
+    let first' : Counted d e (take (2 ^ n) x) y = rw (p, half) at first in
+    let second' : Counted e f (drop (2 ^ n) x) y2 = rw (q, half) at second in
+    let order' : Sequence d e (take (2 ^ n) x) y = rw (p, half) at order in
+    let order2' : Sequence e f (drop (2 ^ n) x) y2 = rw (q, half) at order2 in
+    let front = front_row n x s.row in
+    let back = back_row n x s.row in
+    (n, record { whole = s; first = first' n front; second = second' n back; first_order = order' n front; second_order = order2' n back })
 
 -- what their merger is asked
 pub merger_asked : {d e f : Plan} {x y y2 : List ℕ} {n : ℕ} → BothHalves d e f x y y2 n → HasRoom f y y2 × AllLoose f (y ++ y2)
@@ -107,7 +119,7 @@ unfolding bitonic
 counted_suc {d} {e} {f} {g} {x} {y} {y2} {z} {n} b m = record {
   built =
       let both = rw (take-append-drop (2 ^ n) x) at (Builds-beside b.whole.there b.first.built b.second.built) in
-      Builds-sized (depth_of (suc n)) (balancers_of (suc n)) (depth_suc n) (balancers_suc n) (Builds-then both m.built);
+      Builds-sized (bitonic_depth (suc n)) (bitonic_balancers (suc n)) (depth_suc n) (balancers_suc n) (Builds-then both m.built);
   row = length_outs m ∙ sym (pow-succ' 2 n);
   flow = λ h k.
       let j = m.built.flow h k in
@@ -118,7 +130,20 @@ pub counted_all : {d e f g : Plan} {x y y2 : List ℕ} (n : ℕ) (z : List ℕ) 
 counted_all {d} {e} {f} {g} {x} {y} {y2} n z b gives level row =
     subst (λ l. BuildsBitonic d g x z l) (sym (same_level (length x) (suc n) level b.whole.row row)) (counted_suc b (gives n b.first.row))
 
+ordered_suc : {d e f g : Plan} {x y y2 z : List ℕ} {n : ℕ} → BothHalves d e f x y y2 n → merger_made n f y y2 ≡ (g, z) → bitonic_made (suc n) d x ≡ (g, z)
+unfolding bitonic_made
+ordered_suc b merged = rw (b.first_order, b.second_order) merged
+
+pub ordered_all : {d e f g : Plan} {x y y2 : List ℕ} (n : ℕ) (z : List ℕ) → BothHalves d e f x y y2 n → Orders f g y y2 z → Sequence d g x z
+ordered_all {d} {e} {f} {g} {x} {y} {y2} n z b orders level row =
+    rw (same_level (length x) (suc n) level b.whole.row row) (ordered_suc b (orders n b.first.row))
+
 -- ---- one wire
+
+pub ordered_one : (d : Plan) {x : List ℕ} (y : List ℕ) → length x ≡ 1 → y ≡ x → Sequence d d x y
+unfolding bitonic_made
+ordered_one d {x} y one e zero row = rw e refl
+ordered_one d {x} y one e (suc n) row = absurd (let t = row ∙ pow-succ' 2 n in omega (arith, t))
 
 pub counted_one : {d : Plan} {x : List ℕ} (y : List ℕ) → length x ≡ 1 → y ≡ x → Counted d d x y
 unfolding bitonic

@@ -7,9 +7,10 @@ use Rattle.cn_spec.specs.Networks.{IsRow, evens, odds, layer, merge}
 use Rattle.cn_spec.specs.Sums.{times}
 use Rattle.cn_spec.specs.declared.limits.TheConstants.{MOST_BALANCERS}
 use Rattle.cn_spec.proofs.CallerLemmas.{evens_row, map_evens, map_odds, odds_row, times-append, times_evens_odds}
-use Rattle.cn_wiring.specs.Plan.{Plan, AllLoose, Builds, IsFlow}
-use Rattle.cn_wiring.proofs.Builds.{Builds-beside, Builds-like, Builds-loose, Builds-sized, Builds-then}
-use Rattle.cn_wiring.proofs.Rows.{same_level, shorter}
+use Rattle.cn_wiring.specs.Made.{with_layer}
+use Rattle.cn_wiring.specs.Plan.{Plan, AllLoose, Builds, IsFlow, next_wire}
+use Rattle.cn_wiring.proofs.CallerLemmas.{Builds-beside, Builds-like, Builds-loose, Builds-sized, Builds-then, same_level, shorter}
+use Rattle.cn_bitonic.specs.Order.{merger_made}
 use Rattle.cn_bitonic.specs.Parts.{BuildsMerger}
 
 -- a plan has room for the merger of x and x2
@@ -19,6 +20,10 @@ HasRoom d x x2 = (level : ℕ) × IsRow level x × IsRow level x2 × (d.balancer
 -- what a merger gives
 abbrev pub Gives : Plan → Plan → List ℕ → List ℕ → List ℕ → Type 0
 Gives old new x x2 y = (level : ℕ) → IsRow level x → BuildsMerger old new x x2 y level
+
+-- in which order it makes them
+abbrev pub Orders : Plan → Plan → List ℕ → List ℕ → List ℕ → Type 0
+Orders old new x x2 y = (level : ℕ) → IsRow level x → merger_made level old x x2 ≡ (new, y)
 
 -- ---- sizes
 
@@ -92,15 +97,22 @@ pub record InnerMergers (d e f : Plan) (x x2 z z2 : List ℕ) (n : ℕ) : Type 0
   whole : Mergeable d x x2 n
   first : BuildsMerger d e (evens x) (odds x2) z n
   second : BuildsMerger e f (odds x) (evens x2) z2 n
+  first_order : merger_made n d (evens x) (odds x2) ≡ (e, z)
+  second_order : merger_made n e (odds x) (evens x2) ≡ (f, z2)
 
 pub inner_mergers : (d e f : Plan) (x x2 even odd2 odd even2 z z2 : List ℕ) → even ≡ evens x → odd2 ≡ odds x2 → odd ≡ odds x → even2 ≡ evens x2
-    → (length x ≡ 1 → ⊥) → HasRoom d x x2 → AllLoose d (x ++ x2) → Gives d e even odd2 z → Gives e f odd even2 z2
+    → (length x ≡ 1 → ⊥) → HasRoom d x x2 → AllLoose d (x ++ x2)
+    → Gives d e even odd2 z → Orders d e even odd2 z → Gives e f odd even2 z2 → Orders e f odd even2 z2
     → (n : ℕ) × InnerMergers d e f x x2 z z2 n
-inner_mergers d e f x x2 even odd2 odd even2 z z2 p q p2 q2 many room there first second =
+inner_mergers d e f x x2 even odd2 odd even2 z z2 p q p2 q2 many room there first order second order2 =
     let (n, m) = mergeable d x x2 many room there in
     let first' : Gives d e (evens x) (odds x2) z = rw (p, q) at first in
     let second' : Gives e f (odds x) (evens x2) z2 = rw (p2, q2) at second in
-    (n, record { whole = m; first = first' n (evens_row n x m.row); second = second' n (odds_row n x m.row) })
+    let order' : Orders d e (evens x) (odds x2) z = rw (p, q) at order in
+    let order2' : Orders e f (odds x) (evens x2) z2 = rw (p2, q2) at order2 in
+    let even = evens_row n x m.row in
+    let odd = odds_row n x m.row in
+    (n, record { whole = m; first = first' n even; second = second' n odd; first_order = order' n even; second_order = order2' n odd })
 
 pub length_outs : {old new : Plan} {x x2 y : List ℕ} {level : ℕ} → BuildsMerger old new x x2 y level → length y ≡ 2 * 2 ^ level
 length_outs m = ap length m.wires ∙ length-range_with_len _ _
@@ -147,7 +159,23 @@ pub gives_all : {d e f g : Plan} {x x2 z z2 : List ℕ} (n : ℕ) (y : List ℕ)
 gives_all {d} {e} {f} {g} {x} {x2} {z} {z2} n y m wires last flow level row =
     subst (λ l. BuildsMerger d g x x2 y l) (sym (same_level (length x) (suc n) level m.whole.row row)) (merges_all m wires last flow)
 
+ordered_all : {d e f g : Plan} {x x2 z z2 y : List ℕ} {n : ℕ} → InnerMergers d e f x x2 z z2 n
+    → y ≡ range_with_len (next_wire f) (2 * length z) → g ≡ with_layer f z z2 → merger_made (suc n) d x x2 ≡ (g, y)
+unfolding merger_made
+ordered_all m wires plan = rw (m.first_order, m.second_order, wires, plan) refl
+
+pub orders_all : {d e f g : Plan} {x x2 z z2 : List ℕ} (n : ℕ) (y : List ℕ) → InnerMergers d e f x x2 z z2 n
+    → y ≡ range_with_len (next_wire f) (2 * length z) → g ≡ with_layer f z z2 → Orders d g x x2 y
+orders_all {d} {e} {f} {g} {x} {x2} {z} {z2} n y m wires plan level row =
+    rw (same_level (length x) (suc n) level m.whole.row row) (ordered_all m wires plan)
+
 -- ---- two wires
+
+pub orders_one : (d : Plan) (x x2 : List ℕ) {g : Plan} (y : List ℕ) → length x ≡ 1
+    → y ≡ range_with_len (next_wire d) (2 * length x) → g ≡ with_layer d x x2 → Orders d g x x2 y
+unfolding merger_made
+orders_one d x x2 {g} y one wires plan zero row = rw (wires, plan) refl
+orders_one d x x2 {g} y one wires plan (suc n) row = absurd (let t = row ∙ pow-succ' 2 n in omega (arith, t))
 
 -- their balancer
 pub gives_one : {d g : Plan} {x x2 : List ℕ} (y : List ℕ) → length x ≡ 1

@@ -3,7 +3,7 @@ use Rattle.std.specs.Prelude.{◌≡◌, ℕ, ◌+◌, ◌*◌, ◌^◌, List, �
 use Rattle.std.specs.List.{range_with_len}
 use Rattle.cn_spec.specs.Networks.{IsRow, bitonic, merge}
 use Rattle.cn_wiring.specs.Plan.{Plan, IsFlow, Builds}
-use Rattle.cn_bitonic.specs.Sizes.{balancers_of, depth_of}
+use Rattle.cn_bitonic.specs.Sizes.{bitonic_balancers, bitonic_depth}
 
 -- the merger of two rows of wires of a level, x and x2, with the outputs y
 pub record BuildsMerger (old new : Plan) (x x2 y : List ℕ) (level : ℕ) : Type 0 where
@@ -16,7 +16,7 @@ pub record BuildsMerger (old new : Plan) (x x2 y : List ℕ) (level : ℕ) : Typ
 
 -- the bitonic network over a row of wires of a level, x, with the outputs y
 pub record BuildsBitonic (old new : Plan) (x y : List ℕ) (level : ℕ) : Type 0 where
-  pub built : Builds old new x y (depth_of level) (balancers_of level)
+  pub built : Builds old new x y (bitonic_depth level) (bitonic_balancers level)
   pub row : IsRow level y
   -- in each flow, the outputs have the counts that a bitonic network makes of those of x
   pub flow : (f : ℕ → ℕ) → IsFlow new f → map f y ≡ bitonic level (map f x)

@@ -3,12 +3,9 @@
 //! [`merger`] adds a merger to a draft, over two lists of its wires; [`bitonic`] builds the whole network of a width.
 #![tactic(auto)]
 
-mod building;
+mod bitonic_network;
 mod merging;
 
-pub use building::bitonic;
+pub use bitonic_network::bitonic;
 pub use cn_wiring::BuildFault;
 pub use merging::merger;
-
-#[cfg(test)]
-mod tests;

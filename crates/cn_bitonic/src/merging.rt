@@ -3,6 +3,7 @@
 ghost use Rattle.std.specs.Prelude.{◌≡◌, ℕ, ◌+◌, ◌*◌, ◌^◌, ◌≤◌, ◌++◌, IfOk};
 ghost use Rattle.cn_spec.specs.Networks.{IsRow, evens, odds};
 ghost use Rattle.cn_wiring.specs.Plan.{AllLoose};
+ghost use Rattle.cn_bitonic.specs.Order.{merger_made};
 ghost use Rattle.cn_bitonic.specs.Parts.{BuildsMerger};
 
 use cn_spec::limits::MOST_BALANCERS;
@@ -26,9 +27,13 @@ pub fn merger(
     x: &[u32],
     x2: &[u32],
 ) -> Result<Vec<u32>, AllocError>
-    requires rows { (level : ℕ) × IsRow level x.now × IsRow level x2.now × (draft.old.balancers + (level + 1) * 2 ^ level ≤ MOST_BALANCERS) }
+    requires rows { (level : ℕ) × IsRow level x.now × IsRow level x2.now
+        × (draft.old.balancers + (level + 1) * 2 ^ level ≤ MOST_BALANCERS) }
     requires loose { AllLoose draft.old (x.now ++ x2.now) }
-    ensures { IfOk result (λ y. (level : ℕ) → IsRow level x.now → BuildsMerger draft.old draft.new x.now x2.now y.items level) }
+    ensures built { IfOk result (λ y. (level : ℕ) → IsRow level x.now
+        → BuildsMerger draft.old draft.new x.now x2.now y.items level) }
+    ensures order { IfOk result (λ y. (level : ℕ) → IsRow level x.now
+        → merger_made level draft.old x.now x2.now ≡ (draft.new, y.items)) }
 {
     if x.len() == 1 {
         return draft.join_all(x, x2);

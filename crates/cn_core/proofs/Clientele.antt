@@ -1,13 +1,12 @@
 -- Clients whose tokens stand in a yard: who comes, who moves, who leaves.
-use Rattle.std.proofs.Common.{◌≡◌, ◌≢◌, ℕ, zero, suc, ◌+◌, ◌≤◌, Bool, true, false, cond, nat_eq, eqb, List, [], ◌∷◌, ◌++◌, length, get_or, map, refl, sym, ap, ◌∙◌, arith, Option, Some, None, inl, inr}
-use Rattle.std.specs.Prelude.{All, IsSome, count_by, option_map, replicate}
+use Rattle.std.proofs.Common.{◌≡◌, ◌≢◌, ℕ, zero, suc, ◌+◌, ◌≤◌, Bool, true, false, cond, nat_eq, eqb, List, [], ◌∷◌, ◌++◌, get_or, map, refl, sym, ap, ◌∙◌, arith, Option, Some, None, inl, inr}
+use Rattle.std.specs.Prelude.{All, IsSome, count_by, option_map}
 use Rattle.std.specs.Map.{values_of}
 use Rattle.std.proofs.lemmas.Bool.{cases_eq, eqb-true}
 use Rattle.std.proofs.lemmas.Bool.Decides.{nat_tests}
 use Rattle.std.proofs.lemmas.List.{map-append}
 use Rattle.std.proofs.lemmas.List.Sums.{sum_by-cons}
-use Rattle.cn_spec.proofs.CallerLemmas.{sum_below-zero}
-use Rattle.cn_yard.specs.Lists.{empty, Admits, Moves, Releases, Yard, standing, tokens_in}
+use Rattle.cn_yard.specs.Lists.{Admits, Lists, Moves, Releases, Yard, standing, tokens_in}
 use Rattle.cn_names.specs.declared.standing.Standing.{Standing}
 use Rattle.cn_names.specs.declared.standing.Standing.TheVariants.{Walking, Holds as Named}
 use Rattle.cn_names.specs.Names.{is_walking, standing_in, with_standing}
@@ -18,10 +17,10 @@ use Rattle.cn_core.proofs.Placed.{count-push, count-set, times-absent, times-pus
 use Rattle.cn_core.specs.InsideClients.{IsPlaced, StandsFor, position_by}
 
 -- the table's entries with their positions in the yard
-abbrev pub placed : Yard → List (ℕ × Standing) → List (ℕ × Position)
+abbrev pub placed : Lists → List (ℕ × Standing) → List (ℕ × Position)
 placed y names = map (λ e. (e.0, position_by y e.1)) names
 
-pub position-found : (y : Yard) (names : List (ℕ × Standing)) (client : ℕ) → position_in (placed y names) client ≡ option_map (position_by y) (standing_in names client)
+pub position-found : (y : Lists) (names : List (ℕ × Standing)) (client : ℕ) → position_in (placed y names) client ≡ option_map (position_by y) (standing_in names client)
 position-found y [] client = refl
 position-found y (e ∷ names) client = by (nat_eq client e.0) (position-found y names client)
   where
@@ -30,7 +29,7 @@ position-found y (e ∷ names) client = by (nat_eq client e.0) (position-found y
     by true rest = refl
     by false rest = rest
 
-pub inside-found : (y : Yard) (names : List (ℕ × Standing)) → count_by is_inside (values_of (placed y names)) ≡ count_by is_walking (values_of names)
+pub inside-found : (y : Lists) (names : List (ℕ × Standing)) → count_by is_inside (values_of (placed y names)) ≡ count_by is_walking (values_of names)
 inside-found y [] = refl
 inside-found y ((client, Walking token) ∷ names) =
     omega (arith, inside-found y names, sum_by-cons (λ p. cond (is_inside p) 1 0) (position_by y (Walking token)) (values_of (placed y names)), sum_by-cons (λ s. cond (is_walking s) 1 0) (Walking token) (values_of names))
@@ -40,17 +39,17 @@ inside-found y ((client, Named name) ∷ names) =
 -- ---- what a yard that has changed says of a client
 
 -- a client whose token did not change stands where it stood
-abbrev StaysFor : Yard → Yard → ℕ × Standing → Type 0
+abbrev StaysFor : Lists → Lists → ℕ × Standing → Type 0
 StaysFor y z e = (position_by z e.1 ≡ position_by y e.1) × StandsFor z e.0 e.1
 
-stays : (y z : Yard) (client token : ℕ) (s : Standing) → ((other : ℕ) → other ≢ token → standing z other ≡ standing y other) → (s ≡ Walking token → ⊥) → StandsFor y client s → StaysFor y z (client, s)
+stays : (y z : Lists) (client token : ℕ) (s : Standing) → ((other : ℕ) → other ≢ token → standing z other ≡ standing y other) → (s ≡ Walking token → ⊥) → StandsFor y client s → StaysFor y z (client, s)
 stays y z client token (Walking other) same apart (wire, stands) =
     let e = same other (λ t. apart (ap Walking t)) in
     (rw e refl, (wire, e ∙ stands))
 stays y z client token (Named name) same apart stands = (refl, tt)
 
 -- the token of one client is not another's
-apart-by : (y : Yard) (client other token wire : ℕ) (s : Standing) → standing y token ≡ Some (wire, client) → StandsFor y other s → client ≢ other → s ≡ Walking token → ⊥
+apart-by : (y : Lists) (client other token wire : ℕ) (s : Standing) → standing y token ≡ Some (wire, client) → StandsFor y other s → client ≢ other → s ≡ Walking token → ⊥
 apart-by y client other token wire (Walking t) stands (w, its) differ e =
     let same : t ≡ token = cc in
     let both : ◌≡◌ {A = Option (ℕ × ℕ)} (Some (wire, client)) (Some (w, other)) = sym stands ∙ (rw same at its) in
@@ -63,24 +62,24 @@ apart-by y client other token wire (Named name) stands its differ e = cc
 -- ---- all clients but one
 
 -- each walking client's token stands for it
-abbrev pub AllStand : Yard → List (ℕ × Standing) → Type 0
+abbrev pub AllStand : Lists → List (ℕ × Standing) → Type 0
 AllStand y names = All (λ e. StandsFor y e.0 e.1) names
 
-tail : (y : Yard) (e : ℕ × Standing) (names : List (ℕ × Standing)) → AllStand y (e ∷ names) → AllStand y names
+tail : (y : Lists) (e : ℕ × Standing) (names : List (ℕ × Standing)) → AllStand y (e ∷ names) → AllStand y names
 tail y e names all k d h = all (suc k) d (omega arith)
 
-push-front : (y : Yard) (e : ℕ × Standing) (names : List (ℕ × Standing)) → StandsFor y e.0 e.1 → AllStand y names → AllStand y (e ∷ names)
+push-front : (y : Lists) (e : ℕ × Standing) (names : List (ℕ × Standing)) → StandsFor y e.0 e.1 → AllStand y names → AllStand y (e ∷ names)
 push-front y e names here rest zero d h = here
 push-front y e names here rest (suc k) d h = rest k d (omega arith)
 
-placed-same : (y z : Yard) (names : List (ℕ × Standing)) → ((e : ℕ × Standing) → StandsFor y e.0 e.1 → StaysFor y z e) → AllStand y names → placed z names ≡ placed y names
+placed-same : (y z : Lists) (names : List (ℕ × Standing)) → ((e : ℕ × Standing) → StandsFor y e.0 e.1 → StaysFor y z e) → AllStand y names → placed z names ≡ placed y names
 placed-same y z [] each all = refl
 placed-same y z (e ∷ names) each all =
     let here = (each e (all 0 e (omega arith))).0 in
     let rest = placed-same y z names each (tail y e names all) in
     rw (here, rest) refl
 
-stand-same : (y z : Yard) (names : List (ℕ × Standing)) → ((e : ℕ × Standing) → StandsFor y e.0 e.1 → StaysFor y z e) → AllStand y names → AllStand z names
+stand-same : (y z : Lists) (names : List (ℕ × Standing)) → ((e : ℕ × Standing) → StandsFor y e.0 e.1 → StaysFor y z e) → AllStand y names → AllStand z names
 stand-same y z names each all k d h = (each (get_or names k d) (all k d h)).1
 
 -- where a client is nowhere in the table, no entry is its
@@ -90,10 +89,10 @@ not-its client e names none =
     (λ same. let here : nat_eq client e.0 ≡ true = grind (arith, nat_tests) in let one : ◌≡◌ {A = ℕ} (cond (nat_eq client e.0) 1 0) 1 = rw here refl in omega arith, omega arith)
 
 -- a change that leaves alone whoever is not the client
-abbrev Spares : Yard → Yard → ℕ → Type 0
+abbrev Spares : Lists → Lists → ℕ → Type 0
 Spares y z client = (e : ℕ × Standing) → StandsFor y e.0 e.1 → client ≢ e.0 → StaysFor y z e
 
-placed-others : (y z : Yard) (client : ℕ) (names : List (ℕ × Standing)) → Spares y z client → AllStand y names → count_by (λ e. nat_eq client e.0) names ≡ 0 → placed z names ≡ placed y names
+placed-others : (y z : Lists) (client : ℕ) (names : List (ℕ × Standing)) → Spares y z client → AllStand y names → count_by (λ e. nat_eq client e.0) names ≡ 0 → placed z names ≡ placed y names
 placed-others y z client [] spares all none = refl
 placed-others y z client (e ∷ names) spares all none =
     let (differ, left) = not-its client e names none in
@@ -101,14 +100,14 @@ placed-others y z client (e ∷ names) spares all none =
     let rest = placed-others y z client names spares (tail y e names all) left in
     rw (here, rest) refl
 
-stand-others : (y z : Yard) (client : ℕ) (names : List (ℕ × Standing)) → Spares y z client → AllStand y names → count_by (λ e. nat_eq client e.0) names ≡ 0 → AllStand z names
+stand-others : (y z : Lists) (client : ℕ) (names : List (ℕ × Standing)) → Spares y z client → AllStand y names → count_by (λ e. nat_eq client e.0) names ≡ 0 → AllStand z names
 stand-others y z client [] spares all none = λ k d h. absurd (omega arith)
 stand-others y z client (e ∷ names) spares all none =
     let (differ, left) = not-its client e names none in
     push-front z e names (spares e (all 0 e (omega arith)) differ).1 (stand-others y z client names spares (tail y e names all) left)
 
 -- one client has another standing, or its token another wire: so its position changes, and no other
-placed-one : (y z : Yard) (client token : ℕ) (s : Standing) (p : Position) (names : List (ℕ × Standing)) → Spares y z client → position_by z s ≡ p
+placed-one : (y z : Lists) (client token : ℕ) (s : Standing) (p : Position) (names : List (ℕ × Standing)) → Spares y z client → position_by z s ≡ p
     → AllStand y names → count_by (λ e. nat_eq client e.0) names ≤ 1
     → placed z (with_standing names client s) ≡ with_position (placed y names) client p
 placed-one y z client token s p [] spares is all once = refl
@@ -130,7 +129,7 @@ placed-one y z client token s p (e ∷ names) spares is all once =
         let stays = (spares e (all 0 e (omega arith)) differ).0 in
         rw (stays, rest (omega arith)) refl
 
-stand-one : (y z : Yard) (client : ℕ) (s : Standing) (names : List (ℕ × Standing)) → Spares y z client → StandsFor z client s
+stand-one : (y z : Lists) (client : ℕ) (s : Standing) (names : List (ℕ × Standing)) → Spares y z client → StandsFor z client s
     → AllStand y names → count_by (λ e. nat_eq client e.0) names ≤ 1
     → AllStand z (with_standing names client s)
 stand-one y z client s [] spares is all once = λ k d h. absurd (omega arith)
@@ -164,11 +163,11 @@ with-same client s (e ∷ names) found = by (nat_eq client e.0) found (with-same
 -- ---- the changes
 
 -- whoever is not the client of a token is spared where only that token changes
-spared : (y z : Yard) (client token wire : ℕ) → standing y token ≡ Some (wire, client) → ((other : ℕ) → other ≢ token → standing z other ≡ standing y other) → Spares y z client
+spared : (y z : Lists) (client token wire : ℕ) → standing y token ≡ Some (wire, client) → ((other : ℕ) → other ≢ token → standing z other ≡ standing y other) → Spares y z client
 spared y z client token wire stands same e its differ = stays y z e.0 token e.1 same (apart-by y client e.0 token wire e.1 stands its differ) its
 
 -- the token of a walking client stands for it
-pub stands-for : (y : Yard) (names : List (ℕ × Standing)) (client token : ℕ) → AllStand y names → standing_in names client ≡ Some (Walking token)
+pub stands-for : (y : Lists) (names : List (ℕ × Standing)) (client token : ℕ) → AllStand y names → standing_in names client ≡ Some (Walking token)
     → (wire : ℕ) × (standing y token ≡ Some (wire, client))
 stands-for y [] client token all found = absurd (cc)
 stands-for y (e ∷ names) client token all found = by (nat_eq client e.0) refl found (stands-for y names client token (tail y e names all))
@@ -183,11 +182,11 @@ stands-for y (e ∷ names) client token all found = by (nat_eq client e.0) refl 
 
 -- a client comes in with a token
 pub come : (y z : Yard) (names : List (ℕ × Standing)) (client token wire : ℕ) → Admits y z token client wire → IsPlaced (record { yard = y; names = names }) → standing_in names client ≡ None
-    → (placed z (names ++ (client, Walking token) ∷ []) ≡ placed y names ++ (client, On wire) ∷ []) × IsPlaced (record { yard = z; names = names ++ (client, Walking token) ∷ [] })
+    → (placed z.lists (names ++ (client, Walking token) ∷ []) ≡ placed y.lists names ++ (client, On wire) ∷ []) × IsPlaced (record { yard = z; names = names ++ (client, Walking token) ∷ [] })
 come y z names client token wire a is absent =
-    let self : standing z token ≡ Some (wire, client) = a.standing_now token ∙ (let yes : eqb token token ≡ true = grind (arith, nat_tests) in rw yes refl) in
-    let all = stand-same y z names each is.stand in (
-      map-append (λ (e : ℕ × Standing). (e.0, position_by z e.1)) names ((client, Walking token) ∷ []) ∙ rw (placed-same y z names each is.stand, self) refl,
+    let self : standing z.lists token ≡ Some (wire, client) = a.standing_now token ∙ (let yes : eqb token token ≡ true = grind (arith, nat_tests) in rw yes refl) in
+    let all = stand-same y.lists z.lists names each is.stand in (
+      map-append (λ (e : ℕ × Standing). (e.0, position_by z.lists e.1)) names ((client, Walking token) ∷ []) ∙ rw (placed-same y.lists z.lists names each is.stand, self) refl,
       record {
         stand = push-back names all (wire, self);
         once = λ q. grind (arith, nat_tests, is.once q, times-push names client (Walking token) q, times-absent names client absent);
@@ -195,41 +194,41 @@ come y z names client token wire a is absent =
       },
     )
   where
-    each : (e : ℕ × Standing) → StandsFor y e.0 e.1 → StaysFor y z e
-    each e its = stays y z e.0 token e.1 (λ other n. a.standing_now other ∙ (let no : eqb other token ≡ false = grind (arith, nat_tests) in rw no refl)) (fresh e.1 its) its
+    each : (e : ℕ × Standing) → StandsFor y.lists e.0 e.1 → StaysFor y.lists z.lists e
+    each e its = stays y.lists z.lists e.0 token e.1 (λ other n. a.standing_now other ∙ (let no : eqb other token ≡ false = grind (arith, nat_tests) in rw no refl)) (fresh e.1 its) its
       where
-        fresh : (s : Standing) → StandsFor y e.0 s → s ≡ Walking token → ⊥
+        fresh : (s : Standing) → StandsFor y.lists e.0 s → s ≡ Walking token → ⊥
         fresh (Walking t) (w, h) q = let same : t ≡ token = cc in let found = rw same at h in let none = a.fresh in absurd (cc)
         fresh (Named name) h q = cc
 
-    push-back : (names : List (ℕ × Standing)) → AllStand z names → StandsFor z client (Walking token) → AllStand z (names ++ (client, Walking token) ∷ [])
-    push-back [] all here = push-front z (client, Walking token) [] here all
-    push-back (e ∷ names) all here = push-front z e (names ++ (client, Walking token) ∷ []) (all 0 e (omega arith)) (push-back names (tail z e names all) here)
+    push-back : (names : List (ℕ × Standing)) → AllStand z.lists names → StandsFor z.lists client (Walking token) → AllStand z.lists (names ++ (client, Walking token) ∷ [])
+    push-back [] all here = push-front z.lists (client, Walking token) [] here all
+    push-back (e ∷ names) all here = push-front z.lists e (names ++ (client, Walking token) ∷ []) (all 0 e (omega arith)) (push-back names (tail z.lists e names all) here)
 
 -- a client's token goes to another wire
-pub go : (y z : Yard) (names : List (ℕ × Standing)) (client token wire : ℕ) → ((from who : ℕ) → standing y token ≡ Some (from, who) → Moves y z token who wire)
+pub go : (y z : Yard) (names : List (ℕ × Standing)) (client token wire : ℕ) → ((from who : ℕ) → standing y.lists token ≡ Some (from, who) → Moves y z token who wire)
     → IsPlaced (record { yard = y; names = names }) → standing_in names client ≡ Some (Walking token)
-    → (placed z names ≡ with_position (placed y names) client (On wire)) × IsPlaced (record { yard = z; names = names })
+    → (placed z.lists names ≡ with_position (placed y.lists names) client (On wire)) × IsPlaced (record { yard = z; names = names })
 go y z names client token wire moves is found =
-    let (from, stands) = stands-for y names client token is.stand found in
+    let (from, stands) = stands-for y.lists names client token is.stand found in
     let m = moves from client stands in
-    let spares = spared y z client token from stands (λ other n. m.standing_now other ∙ (let no : eqb other token ≡ false = grind (arith, nat_tests) in rw no refl)) in
-    let self : standing z token ≡ Some (wire, client) = m.standing_now token ∙ (let yes : eqb token token ≡ true = grind (arith, nat_tests) in rw yes refl) in
+    let spares = spared y.lists z.lists client token from stands (λ other n. m.standing_now other ∙ (let no : eqb other token ≡ false = grind (arith, nat_tests) in rw no refl)) in
+    let self : standing z.lists token ≡ Some (wire, client) = m.standing_now token ∙ (let yes : eqb token token ≡ true = grind (arith, nat_tests) in rw yes refl) in
     let same = with-same client (Walking token) names found in
-    let one = placed-one y z client token (Walking token) (On wire) names spares (rw self refl) is.stand (is.once client) in
-    let all = stand-one y z client (Walking token) names spares (wire, self) is.stand (is.once client) in
+    let one = placed-one y.lists z.lists client token (Walking token) (On wire) names spares (rw self refl) is.stand (is.once client) in
+    let all = stand-one y.lists z.lists client (Walking token) names spares (wire, self) is.stand (is.once client) in
     (rw same at one, record { stand = rw same at all; once = is.once; walking = m.tokens ∙ is.walking })
 
 -- a client leaves with a name
 pub leave : (y z : Yard) (names : List (ℕ × Standing)) (client token name : ℕ) → Releases y z token
     → IsPlaced (record { yard = y; names = names }) → standing_in names client ≡ Some (Walking token)
-    → (placed z (with_standing names client (Named name)) ≡ with_position (placed y names) client (Holds name)) × IsPlaced (record { yard = z; names = with_standing names client (Named name) })
+    → (placed z.lists (with_standing names client (Named name)) ≡ with_position (placed y.lists names) client (Holds name)) × IsPlaced (record { yard = z; names = with_standing names client (Named name) })
 leave y z names client token name r is found =
-    let (from, stands) = stands-for y names client token is.stand found in
-    let spares = spared y z client token from stands (λ other n. r.standing_now other ∙ (let no : eqb other token ≡ false = grind (arith, nat_tests) in rw no refl)) in (
-      placed-one y z client token (Named name) (Holds name) names spares refl is.stand (is.once client),
+    let (from, stands) = stands-for y.lists names client token is.stand found in
+    let spares = spared y.lists z.lists client token from stands (λ other n. r.standing_now other ∙ (let no : eqb other token ≡ false = grind (arith, nat_tests) in rw no refl)) in (
+      placed-one y.lists z.lists client token (Named name) (Holds name) names spares refl is.stand (is.once client),
       record {
-        stand = stand-one y z client (Named name) names spares tt is.stand (is.once client);
+        stand = stand-one y.lists z.lists client (Named name) names spares tt is.stand (is.once client);
         once = λ q. rw (times-set names client (Named name) q) (is.once q);
         walking = omega (arith, r.tokens, is.walking, count-set is_walking names client (Named name) (Walking token) found);
       },
@@ -237,42 +236,34 @@ leave y z names client token name r is found =
 
 -- a client that came in and went at once has left no trace
 pub undo : (y z w : Yard) (names : List (ℕ × Standing)) (client token wire : ℕ) → Admits y z token client wire → Releases z w token → IsPlaced (record { yard = y; names = names })
-    → (placed w names ≡ placed y names) × IsPlaced (record { yard = w; names = names })
+    → (placed w.lists names ≡ placed y.lists names) × IsPlaced (record { yard = w; names = names })
 undo y z w names client token wire a r is =
-    (placed-same y w names each is.stand, record { stand = stand-same y w names each is.stand; once = is.once; walking = omega (arith, a.tokens, r.tokens, is.walking) })
+    (placed-same y.lists w.lists names each is.stand, record { stand = stand-same y.lists w.lists names each is.stand; once = is.once; walking = omega (arith, a.tokens, r.tokens, is.walking) })
   where
-    same : (other : ℕ) → standing w other ≡ standing y other
+    same : (other : ℕ) → standing w.lists other ≡ standing y.lists other
     same other = elim (cases_eq other token) [
       | inl e ↦ let yes : eqb other token ≡ true = grind (arith, nat_tests) in r.standing_now other ∙ rw (yes, e) (sym a.fresh)
       | inr n ↦ let no : eqb other token ≡ false = grind (arith, nat_tests) in r.standing_now other ∙ rw no (a.standing_now other ∙ rw no refl)
     ]
 
-    each : (e : ℕ × Standing) → StandsFor y e.0 e.1 → StaysFor y w e
+    each : (e : ℕ × Standing) → StandsFor y.lists e.0 e.1 → StaysFor y.lists w.lists e
     each e its = by e.1 its
       where
-        by : (s : Standing) → StandsFor y e.0 s → (position_by w s ≡ position_by y s) × StandsFor w e.0 s
+        by : (s : Standing) → StandsFor y.lists e.0 s → (position_by w.lists s ≡ position_by y.lists s) × StandsFor w.lists e.0 s
         by (Walking t) (u, h) = (rw (same t) refl, (u, same t ∙ h))
         by (Named name) h = (refl, tt)
 
 -- ---- who is in the table
 
-pub absent-found : (y : Yard) (names : List (ℕ × Standing)) (client : ℕ) → position_in (placed y names) client ≡ None → standing_in names client ≡ None
+pub absent-found : (y : Lists) (names : List (ℕ × Standing)) (client : ℕ) → position_in (placed y names) client ≡ None → standing_in names client ≡ None
 absent-found y names client none = by (standing_in names client) refl (sym (position-found y names client) ∙ none)
   where
     by : (s : Option Standing) → standing_in names client ≡ s → option_map (position_by y) s ≡ None → standing_in names client ≡ None
     by None e h = e
     by (Some s) e h = absurd (cc)
 
-pub live-found : (y : Yard) (names : List (ℕ × Standing)) (client token : ℕ) → IsPlaced (record { yard = y; names = names }) → standing_in names client ≡ Some (Walking token) → IsSome (standing y token)
-live-found y names client token is found = let (wire, stands) = stands-for y names client token is.stand found in rw stands refl
+pub live-found : (y : Yard) (names : List (ℕ × Standing)) (client token : ℕ) → IsPlaced (record { yard = y; names = names }) → standing_in names client ≡ Some (Walking token) → IsSome (standing y.lists token)
+live-found y names client token is found = let (wire, stands) = stands-for y.lists names client token is.stand found in rw stands refl
 
-pub nobody : (wires : ℕ) → IsPlaced (record { yard = empty wires; names = [] })
-nobody wires = record { stand = λ k d h. absurd (omega arith); once = λ q. omega arith; walking = none }
-  where
-    nothing : (n u : ℕ) → get_or {A = List (ℕ × ℕ)} (replicate n []) u [] ≡ []
-    nothing zero u = refl
-    nothing (suc n) zero = refl
-    nothing (suc n) (suc u) = nothing n u
-
-    none : tokens_in (empty wires) ≡ 0
-    none = sum_below-zero (length {A = List (ℕ × ℕ)} (replicate wires [])) (λ u. length (get_or {A = List (ℕ × ℕ)} (replicate wires []) u [])) (λ u. ap length (nothing wires u))
+pub nobody : (y : Yard) → tokens_in y.lists ≡ 0 → IsPlaced (record { yard = y; names = [] })
+nobody y none = record { stand = λ k d h. absurd (omega arith); once = λ q. omega arith; walking = none }

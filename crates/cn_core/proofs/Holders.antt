@@ -10,7 +10,7 @@ use Rattle.std.proofs.lemmas.List.Elements.{Contains-get_or}
 use Rattle.std.proofs.lemmas.List.FromFn.{get_or-range_with_len, length-range_with_len}
 use Rattle.std.proofs.lemmas.List.Sorted.{Contains-permutation, IsPermutation-map, IsPermutation-sym, IsPermutation-trans, length_permutation, sum_by-IsPermutation}
 use Rattle.std.proofs.lemmas.List.Sums.{sum_by-cons}
-use Rattle.cn_yard.specs.Lists.{Yard}
+use Rattle.cn_yard.specs.Lists.{Lists}
 use Rattle.cn_names.specs.declared.standing.Standing.{Standing}
 use Rattle.cn_names.specs.declared.standing.Standing.TheVariants.{Walking, Holds as Named}
 use Rattle.cn_names.specs.Grants.{IsRising, ListsByName, grants_in as named_in}
@@ -65,7 +65,7 @@ rising-each_below k xs order rising =
 -- ---- the names that the table's clients hold
 
 -- the table's grants are the state's
-grants-of : (y : Yard) (names : List (ℕ × Standing)) → grants_in (placed y names) ≡ named_in names
+grants-of : (y : Lists) (names : List (ℕ × Standing)) → grants_in (placed y names) ≡ named_in names
 grants-of y [] = refl
 grants-of y ((client, Walking token) ∷ names) = grants-of y names
 grants-of y ((client, Named name) ∷ names) = ap (λ grants. (name, client) ∷ grants) (grants-of y names)
@@ -114,7 +114,7 @@ found-later client e clients p once later = by (nat_eq client e.0) refl
     by false here = later (omega (arith, sum))
 
 -- a grant of the table is the position of its client
-holder-found : (y : Yard) (names : List (ℕ × Standing)) (name client : ℕ) → times_entered client (placed y names) ≤ 1 → Contains (named_in names) (name, client) → position_in (placed y names) client ≡ Some (Holds name)
+holder-found : (y : Lists) (names : List (ℕ × Standing)) (name client : ℕ) → times_entered client (placed y names) ≤ 1 → Contains (named_in names) (name, client) → position_in (placed y names) client ≡ Some (Holds name)
 holder-found y [] name client once (k, within, is) = absurd (omega arith)
 holder-found y ((c, Walking token) ∷ names) name client once has =
     found-later client (c, position_by y (Walking token)) (placed y names) (Holds name) once (λ once. holder-found y names name client once has)
@@ -145,7 +145,7 @@ holders-listed s c holders clients is none l = record { all = all; by_name = by_
     f = λ (grant : ℕ × ℕ). grant.0
 
     same : grants_in s.clients ≡ named_in c.names
-    same = ap grants_in clients ∙ grants-of c.yard c.names
+    same = ap grants_in clients ∙ grants-of c.yard.lists c.names
 
     own : IsPermutation (keys_of s.clients) holders
     own =
@@ -177,5 +177,5 @@ holders-listed s c holders clients is none l = record { all = all; by_name = by_
         let its : grant.0 ≡ name = sym (get_or-map f l.grants name (0, 0) 0 there) ∙ ap (λ ns. get_or ns name 0) names-are ∙ get_or-range_with_len 0 k name 0 below ∙ zero-add name in
         let who : get_or holders name 0 ≡ grant.1 = ap (λ hs. get_or hs name 0) l.listed ∙ get_or-map (λ (g : ℕ × ℕ). g.1) l.grants name (0, 0) 0 there in
         let has = Contains-permutation l.grants (named_in c.names) grant (IsPermutation-sym (named_in c.names) l.grants l.all) (Contains-get_or l.grants name (0, 0) there) in
-        let found = holder-found c.yard c.names grant.0 grant.1 (subst (λ cs. times_entered grant.1 cs ≤ 1) clients (is.state.once grant.1)) has in
+        let found = holder-found c.yard.lists c.names grant.0 grant.1 (subst (λ cs. times_entered grant.1 cs ≤ 1) clients (is.state.once grant.1)) has in
         rw (who, clients, found, its) refl

@@ -1,7 +1,7 @@
 -- The clients of an epoch, as a yard and a table of names keep them.
 use Rattle.std.specs.Prelude.{◌≡◌, ℕ, ◌≤◌, nat_eq, All, List, Option, None, Some, map, count_by}
 use Rattle.std.specs.Map.{values_of}
-use Rattle.cn_yard.specs.Lists.{Yard, standing, tokens_in}
+use Rattle.cn_yard.specs.Lists.{Lists, Yard, standing, tokens_in}
 use Rattle.cn_names.specs.declared.standing.Standing.{Standing}
 use Rattle.cn_names.specs.declared.standing.Standing.TheVariants.{Walking, Holds as Named}
 use Rattle.cn_names.specs.Names.{is_walking, standing_in}
@@ -21,24 +21,24 @@ wire_at None = 0
 wire_at (Some (wire, client)) = wire
 
 -- the position of a client with this standing
-abbrev pub position_by : Yard → Standing → Position
-position_by yard (Walking token) = On (wire_at (standing yard token))
-position_by yard (Named name) = Holds name
+abbrev pub position_by : Lists → Standing → Position
+position_by lists (Walking token) = On (wire_at (standing lists token))
+position_by lists (Named name) = Holds name
 
 -- the clients with their positions
 abbrev pub positions : Clients → List (ℕ × Position)
-positions c = map (λ e. (e.0, position_by c.yard e.1)) c.names
+positions c = map (λ e. (e.0, position_by c.yard.lists e.1)) c.names
 
 -- while a client walks, its token stands in the yard for it
-abbrev pub StandsFor : Yard → ℕ → Standing → Type 0
-StandsFor yard client (Walking token) = (wire : ℕ) × (standing yard token ≡ Some (wire, client))
-StandsFor yard client (Named name) = Unit {0}
+abbrev pub StandsFor : Lists → ℕ → Standing → Type 0
+StandsFor lists client (Walking token) = (wire : ℕ) × (standing lists token ≡ Some (wire, client))
+StandsFor lists client (Named name) = Unit {0}
 
 -- the yard and the table fit each other
 pub record IsPlaced (c : Clients) : Type 0 where
-  pub stand : All (λ e. StandsFor c.yard e.0 e.1) c.names
+  pub stand : All (λ e. StandsFor c.yard.lists e.0 e.1) c.names
   pub once : (client : ℕ) → count_by (λ e. nat_eq client e.0) c.names ≤ 1
-  pub walking : tokens_in c.yard ≡ count_by is_walking (values_of c.names)
+  pub walking : tokens_in c.yard.lists ≡ count_by is_walking (values_of c.names)
 
 -- the position of a client that was found
 abbrev pub position_found : Found → Position

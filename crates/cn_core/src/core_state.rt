@@ -293,6 +293,3 @@ impl<'a> Core<'a> {
         Ok(replies)
     }
 }
-
-#[cfg(test)]
-mod tests;

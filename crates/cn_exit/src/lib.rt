@@ -9,6 +9,3 @@ mod shares;
 pub use exits::{Exits, Leave};
 pub use names::{Place, exit_of, name_of};
 pub use shares::{expected, is_step};
-
-#[cfg(test)]
-mod tests;

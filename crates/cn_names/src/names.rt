@@ -179,6 +179,3 @@ impl Names {
         self.map.clear();
     }
 }
-
-#[cfg(test)]
-mod tests;

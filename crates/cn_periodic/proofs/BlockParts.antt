@@ -1,5 +1,5 @@
 -- The parts of a block, and the block of its parts.
-use Rattle.std.proofs.Common.{◌≡◌, ℕ, zero, suc, ◌+◌, ◌-◌, ◌*◌, ◌/◌, ◌^◌, ◌<◌, ◌≤◌, List, ◌++◌, length, map, sym, ap, ◌∙◌, subst, arith}
+use Rattle.std.proofs.Common.{◌≡◌, ℕ, zero, suc, ◌+◌, ◌-◌, ◌*◌, ◌/◌, ◌^◌, ◌<◌, ◌≤◌, List, ◌++◌, length, map, refl, sym, ap, ◌∙◌, subst, arith}
 use Rattle.std.specs.List.{range_with_len}
 use Rattle.std.proofs.lemmas.List.FromFn.{length-range_with_len}
 use Rattle.std.proofs.Math.Nat.{pow-suc, pow-succ'}
@@ -7,9 +7,10 @@ use Rattle.cn_spec.specs.Networks.{IsRow, a_cochain, b_cochain, block, layer}
 use Rattle.cn_spec.specs.Sums.{times}
 use Rattle.cn_spec.specs.declared.limits.TheConstants.{MOST_BALANCERS}
 use Rattle.cn_spec.proofs.CallerLemmas.{a_row, b_row, map_a_cochain, map_b_cochain, times-append, times_cochains}
-use Rattle.cn_wiring.specs.Plan.{Plan, AllLoose, Builds, IsFlow}
-use Rattle.cn_wiring.proofs.Builds.{Builds-beside, Builds-like, Builds-loose, Builds-sized, Builds-then}
-use Rattle.cn_wiring.proofs.Rows.{half_pow, same_level, shorter}
+use Rattle.cn_wiring.specs.Made.{layer_made, with_layer}
+use Rattle.cn_wiring.specs.Plan.{Plan, AllLoose, Builds, IsFlow, next_wire}
+use Rattle.cn_wiring.proofs.CallerLemmas.{Builds-beside, Builds-like, Builds-loose, Builds-sized, Builds-then, half_pow, same_level, shorter}
+use Rattle.cn_periodic.specs.Order.{block_made}
 use Rattle.cn_periodic.specs.Parts.{BuildsBlock}
 use Rattle.cn_periodic.specs.Sizes.{block_balancers}
 
@@ -20,6 +21,10 @@ HasRoom d x = (level : ℕ) × (1 ≤ level) × IsRow level x × (d.balancers + 
 -- what a block gives
 abbrev pub Gives : Plan → Plan → List ℕ → List ℕ → Type 0
 Gives old new x y = (level : ℕ) → IsRow level x → BuildsBlock old new x y level
+
+-- in which order it makes them
+abbrev pub Orders : Plan → Plan → List ℕ → List ℕ → Type 0
+Orders old new x y = (level : ℕ) → IsRow level x → block_made level old x ≡ (new, y)
 
 -- ---- sizes
 
@@ -91,14 +96,21 @@ pub record InnerBlocks (d e f : Plan) (x z z2 : List ℕ) (n : ℕ) : Type 0 whe
   whole : Splittable d x (suc n)
   first : BuildsBlock d e (a_cochain x) z (suc n)
   second : BuildsBlock e f (b_cochain x) z2 (suc n)
+  first_order : block_made (suc n) d (a_cochain x) ≡ (e, z)
+  second_order : block_made (suc n) e (b_cochain x) ≡ (f, z2)
 
-pub inner_blocks : (d e f : Plan) (x a b z z2 : List ℕ) → a ≡ a_cochain x → b ≡ b_cochain x → (length x ≡ 2 → ⊥) → HasRoom d x → AllLoose d x → Gives d e a z → Gives e f b z2
+pub inner_blocks : (d e f : Plan) (x a b z z2 : List ℕ) → a ≡ a_cochain x → b ≡ b_cochain x → (length x ≡ 2 → ⊥) → HasRoom d x → AllLoose d x
+    → Gives d e a z → Orders d e a z → Gives e f b z2 → Orders e f b z2
     → (n : ℕ) × InnerBlocks d e f x z z2 n
-inner_blocks d e f x a b z z2 p q many room there first second =
+inner_blocks d e f x a b z z2 p q many room there first order second order2 =
     let (n, s) = splittable_many d x many room there in
     let first' : Gives d e (a_cochain x) z = rw p at first in
     let second' : Gives e f (b_cochain x) z2 = rw q at second in
-    (n, record { whole = s; first = first' (suc n) (a_row (suc n) x s.row); second = second' (suc n) (b_row (suc n) x s.row) })
+    let order' : Orders d e (a_cochain x) z = rw p at order in
+    let order2' : Orders e f (b_cochain x) z2 = rw q at order2 in
+    let row = a_row (suc n) x s.row in
+    let row2 = b_row (suc n) x s.row in
+    (n, record { whole = s; first = first' (suc n) row; second = second' (suc n) row2; first_order = order' (suc n) row; second_order = order2' (suc n) row2 })
 
 pub length_outs : {old new : Plan} {x y : List ℕ} {level : ℕ} → BuildsBlock old new x y level → IsRow level y
 length_outs b = ap length b.wires ∙ length-range_with_len _ _
@@ -145,6 +157,24 @@ pub gives_all : {d e f g : Plan} {x z z2 : List ℕ} (n : ℕ) (y : List ℕ) �
 gives_all {d} {e} {f} {g} {x} {z} {z2} n y s wires last flow level row =
     subst (λ l. BuildsBlock d g x y l) (sym (same_level (length x) (suc (suc n)) level s.whole.row row)) (blocks_all s wires last flow)
 
+block_made_suc : (level : ℕ) (d : Plan) (x : List ℕ) {e f : Plan} {z z2 : List ℕ} → block_made level d (a_cochain x) ≡ (e, z) → block_made level e (b_cochain x) ≡ (f, z2)
+    → block_made (suc level) d x ≡ layer_made f z z2
+unfolding block_made
+block_made_suc level d x first second = rw (first, second) refl
+
+block_made_zero : (d : Plan) (x : List ℕ) → block_made 0 d x ≡ (d, x)
+unfolding block_made
+block_made_zero d x = refl
+
+ordered_all : {d e f g : Plan} {x z z2 y : List ℕ} {n : ℕ} → InnerBlocks d e f x z z2 n
+    → y ≡ range_with_len (next_wire f) (2 * length z) → g ≡ with_layer f z z2 → block_made (suc (suc n)) d x ≡ (g, y)
+ordered_all {d} {e} {f} {g} {x} {z} {z2} {y} {n} s wires plan = block_made_suc (suc n) d x s.first_order s.second_order ∙ rw (wires, plan) refl
+
+pub orders_all : {d e f g : Plan} {x z z2 : List ℕ} (n : ℕ) (y : List ℕ) → InnerBlocks d e f x z z2 n
+    → y ≡ range_with_len (next_wire f) (2 * length z) → g ≡ with_layer f z z2 → Orders d g x y
+orders_all {d} {e} {f} {g} {x} {z} {z2} n y s wires plan level row =
+    rw (same_level (length x) (suc (suc n)) level s.whole.row row) (ordered_all s wires plan)
+
 -- ---- two wires
 
 -- what their balancer is asked
@@ -181,3 +211,11 @@ gives_one {d} {g} {x} {a} {b} y p q two wires last flow level row =
     let made = rw (p, q) at last in
     let flows = rw (p, q) at flow in
     subst (λ l. BuildsBlock d g x y l) (sym (same_level (length x) 1 level two row)) (gives_two two first made flows)
+
+pub orders_one : (d : Plan) (x : List ℕ) {g : Plan} {a b : List ℕ} (y : List ℕ) → a ≡ a_cochain x → b ≡ b_cochain x → length x ≡ 2
+    → y ≡ range_with_len (next_wire d) (2 * length a) → g ≡ with_layer d a b → Orders d g x y
+orders_one d x {g} {a} {b} y p q two wires plan level row =
+    let made = block_made_suc 0 d x (block_made_zero d (a_cochain x)) (block_made_zero d (b_cochain x)) in
+    let wires' = rw p at wires in
+    let plan' = rw (p, q) at plan in
+    rw (same_level (length x) 1 level two row) (made ∙ rw (wires', plan') refl)

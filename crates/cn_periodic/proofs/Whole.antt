@@ -1,24 +1,25 @@
 -- The network over all entries of a new draft.
-use Rattle.std.proofs.Common.{◌≡◌, ℕ, zero, suc, ◌+◌, ◌*◌, ◌/◌, ◌≤◌, arith, lit≤}
-use Rattle.cn_spec.specs.declared.limits.TheConstants.{MOST_BALANCERS}
+use Rattle.std.proofs.Common.{◌≡◌, ℕ, ◌+◌, ◌*◌, ◌/◌, ◌^◌, ◌≤◌, arith, lit≤}
+use Rattle.std.proofs.Math.Pow.{pow_mono}
+use Rattle.std.proofs.Math.Nat.{mul-le-mul}
+use Rattle.cn_spec.specs.declared.limits.TheConstants.{MOST_BALANCERS, MOST_LEVEL}
 use Rattle.cn_wiring.specs.Plan.{Plan}
-use Rattle.cn_wiring.proofs.Rows.{IsWidthOf}
-use Rattle.cn_periodic.specs.Sizes.{balancers_of}
+use Rattle.cn_wiring.specs.Widths.{IsWidthOf}
+use Rattle.cn_periodic.specs.Sizes.{periodic_balancers, periodic_depth}
 
 -- the widest network
-widest : (level : ℕ) → level ≤ 6 → balancers_of level ≤ 1152
-widest zero h = lit≤ tt
-widest (suc zero) h = lit≤ tt
-widest (suc (suc zero)) h = lit≤ tt
-widest (suc (suc (suc zero))) h = lit≤ tt
-widest (suc (suc (suc (suc zero)))) h = lit≤ tt
-widest (suc (suc (suc (suc (suc zero))))) h = lit≤ tt
-widest (suc (suc (suc (suc (suc (suc zero)))))) h = lit≤ tt
-widest (suc (suc (suc (suc (suc (suc (suc n))))))) h = absurd (omega arith)
+widest : (level : ℕ) → level ≤ MOST_LEVEL → periodic_balancers level ≤ MOST_BALANCERS
+widest level small =
+    let wide : 2 ^ level ≤ 2 ^ MOST_LEVEL = pow_mono small in
+    let pairs : 2 ^ level / 2 ≤ 2 ^ MOST_LEVEL / 2 = omega arith in
+    let deep : periodic_depth level ≤ periodic_depth MOST_LEVEL = mul-le-mul small small in
+    let most : periodic_balancers level ≤ periodic_balancers MOST_LEVEL = mul-le-mul pairs deep in
+    let all : periodic_balancers MOST_LEVEL ≤ MOST_BALANCERS = lit≤ tt in
+    omega arith
 
 -- there is room for it, at its level and at its width
-pub place_for_all : (d : Plan) (width level : ℕ) → IsWidthOf width level → d.balancers ≡ 0 → d.balancers + balancers_of level ≤ MOST_BALANCERS
+pub place_for_all : (d : Plan) (width level : ℕ) → IsWidthOf level width → d.balancers ≡ 0 → d.balancers + periodic_balancers level ≤ MOST_BALANCERS
 place_for_all d width level l none = let w = widest level l.small in rw none (omega (arith, w))
 
-pub room_for_all : (d : Plan) (width level : ℕ) → IsWidthOf width level → d.balancers ≡ 0 → d.balancers + width / 2 * (level * level) ≤ MOST_BALANCERS
+pub room_for_all : (d : Plan) (width level : ℕ) → IsWidthOf level width → d.balancers ≡ 0 → d.balancers + width / 2 * (level * level) ≤ MOST_BALANCERS
 room_for_all d width level l none = rw l.wide (place_for_all d width level l none)

@@ -3,7 +3,7 @@ use Rattle.std.specs.Prelude.{◌≡◌, ℕ, ◌+◌, ◌-◌, ◌*◌, ◌/◌
 use Rattle.std.specs.List.{range_with_len}
 use Rattle.cn_spec.specs.Networks.{IsRow, block, periodic}
 use Rattle.cn_wiring.specs.Plan.{Plan, IsFlow, Builds}
-use Rattle.cn_periodic.specs.Sizes.{balancers_of, block_balancers, depth_of}
+use Rattle.cn_periodic.specs.Sizes.{periodic_balancers, block_balancers, periodic_depth}
 
 -- the block over a row of wires of a level from 1 upward, x, with the outputs y
 pub record BuildsBlock (old new : Plan) (x y : List ℕ) (level : ℕ) : Type 0 where
@@ -16,7 +16,7 @@ pub record BuildsBlock (old new : Plan) (x y : List ℕ) (level : ℕ) : Type 0 
 
 -- the periodic network over a row of wires of a level, x, with the outputs y
 pub record BuildsPeriodic (old new : Plan) (x y : List ℕ) (level : ℕ) : Type 0 where
-  pub built : Builds old new x y (depth_of level) (balancers_of level)
+  pub built : Builds old new x y (periodic_depth level) (periodic_balancers level)
   pub row : IsRow level y
   -- in each flow, the outputs have the counts that a periodic network makes of those of x
   pub flow : (f : ℕ → ℕ) → IsFlow new f → map f y ≡ periodic level (map f x)

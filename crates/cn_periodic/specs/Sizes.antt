@@ -6,9 +6,9 @@ abbrev pub block_balancers : ℕ → ℕ
 block_balancers level = 2 ^ level / 2 * level
 
 -- the depth of the periodic network: level blocks
-abbrev pub depth_of : ℕ → ℕ
-depth_of level = level * level
+abbrev pub periodic_depth : ℕ → ℕ
+periodic_depth level = level * level
 
 -- its balancers: one for each two wires, depth times
-abbrev pub balancers_of : ℕ → ℕ
-balancers_of level = 2 ^ level / 2 * depth_of level
+abbrev pub periodic_balancers : ℕ → ℕ
+periodic_balancers level = 2 ^ level / 2 * periodic_depth level

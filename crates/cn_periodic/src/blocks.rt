@@ -3,6 +3,7 @@
 ghost use Rattle.std.specs.Prelude.{◌≡◌, ℕ, ◌+◌, ◌≤◌, IfOk};
 ghost use Rattle.cn_spec.specs.Networks.{IsRow, a_cochain, b_cochain};
 ghost use Rattle.cn_wiring.specs.Plan.{AllLoose};
+ghost use Rattle.cn_periodic.specs.Order.{block_made};
 ghost use Rattle.cn_periodic.specs.Parts.{BuildsBlock};
 ghost use Rattle.cn_periodic.specs.Sizes.{block_balancers};
 
@@ -23,9 +24,13 @@ use std::alloc::{AllocError, Global};
 /// `AllocError` where a list gets no memory. The draft may have some of the balancers then, and is only good to be
 /// dropped.
 pub fn block(alloc: Global, draft: &mut Draft, wires: &[u32]) -> Result<Vec<u32>, AllocError>
-    requires row { (level : ℕ) × (1 ≤ level) × IsRow level wires.now × (draft.old.balancers + block_balancers level ≤ MOST_BALANCERS) }
+    requires row { (level : ℕ) × (1 ≤ level) × IsRow level wires.now
+        × (draft.old.balancers + block_balancers level ≤ MOST_BALANCERS) }
     requires loose { AllLoose draft.old wires.now }
-    ensures { IfOk result (λ y. (level : ℕ) → IsRow level wires.now → BuildsBlock draft.old draft.new wires.now y.items level) }
+    ensures built { IfOk result (λ y. (level : ℕ) → IsRow level wires.now
+        → BuildsBlock draft.old draft.new wires.now y.items level) }
+    ensures order { IfOk result (λ y. (level : ℕ) → IsRow level wires.now
+        → block_made level draft.old wires.now ≡ (draft.new, y.items)) }
 {
     let a = a_cochain(alloc, wires)?;
     let b = b_cochain(alloc, wires)?;

@@ -4,11 +4,8 @@
 #![tactic(auto)]
 
 mod blocks;
-mod building;
+mod periodic_network;
 
 pub use blocks::block;
-pub use building::periodic;
 pub use cn_wiring::BuildFault;
-
-#[cfg(test)]
-mod tests;
+pub use periodic_network::periodic;

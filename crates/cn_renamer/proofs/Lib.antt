@@ -1,4 +1,1 @@
-pub mod PlainCommands
-pub mod Readings
-pub mod Replies
 pub mod OneText

@@ -1,5 +1,4 @@
-pub mod CommandLine
-pub mod Net
+pub mod Outputs
+pub mod Performing
 pub mod Replay
 pub mod Show
-pub mod Words

@@ -1,18 +1,20 @@
--- What a replay has written, by what it answers.
-use Rattle.std.specs.Prelude.{ℕ, ◌≡◌, ◌≢◌, ◌≤◌, All, List, [], Option, Result, Ok, Err, length, take}
-use Rattle.std.specs.Io.KnownBytes.{Appends}
+-- The text of a replay, and what is told where it is not written.
+use Rattle.std.specs.Prelude.{ℕ, ◌≡◌, ◌≢◌, All, IfSome, List, [], Option}
 use Rattle.cn_wiring.specs.Network.{Network}
 use Rattle.cn_core.specs.History.{enters_of, inside_of}
 use Rattle.cn_epoch.specs.declared.answer.Answer.{Answer}
 use Rattle.cn_epoch.specs.declared.command.Command.{Command}
 use Rattle.cn_epoch.specs.Turns.{HadMemory, MayAnswerAll, grown_by, turns_by}
-use Rattle.cn_report.specs.Records.{records_of}
-use Rattle.cn_report.specs.ReplayText.{replay_text}
-use Rattle.cn_report.specs.Schedule.{IsSchedule, IsScheduleFault}
-use Rattle.cn_report.specs.declared.schedule_fault.ScheduleCause.{ScheduleCause}
-use Rattle.cn_report.specs.declared.schedule_fault.ScheduleCause.TheVariants as cause
-use Rattle.cn_report.specs.declared.schedule_fault.ScheduleFault.{ScheduleFault}
-use Rattle.cn_renamer.specs.Net.{Description, IsNetworkOf}
+use Rattle.cn_report.specs.Reading.Records.{records_of}
+use Rattle.cn_report.specs.Writing.Replay.{replay_text}
+use Rattle.cn_report.specs.Reading.Schedule.{IsSchedule, IsScheduleFault}
+use Rattle.cn_report.specs.declared.reading.schedule_fault.ScheduleCause.{ScheduleCause}
+use Rattle.cn_report.specs.declared.reading.schedule_fault.ScheduleCause.TheVariants as cause
+use Rattle.cn_report.specs.declared.reading.schedule_fault.ScheduleFault.{ScheduleFault}
+use Rattle.cn_report.specs.Writing.Written.{Written, First, Nothing}
+use Rattle.cn_words.specs.Net.{Description, IsNetworkOf}
+use Rattle.cn_renamer.specs.declared.output_fault.OutputFault.{OutputFault}
+use Rattle.cn_renamer.specs.declared.output_fault.OutputFault.TheVariants as output
 use Rattle.cn_renamer.specs.declared.replaying.ReplayFault.{ReplayFault}
 use Rattle.cn_renamer.specs.declared.replaying.ReplayFault.TheVariants.{Schedule, Memory, Write}
 
@@ -25,47 +27,53 @@ pub record IsReplayText (network : Network) (commands : List Command) (text : Li
   -- the end line tells the epochs that ended, and the enters of the open one and who is inside
   pub replayed : text ≡ replay_text network commands answers (turns_by 0 answers) (enters_of (grown_by [] commands answers)) (inside_of network.table (grown_by [] commands answers))
 
--- the bytes that were read are a schedule, and this is the text of its replay on a network of this kind and width
-pub record IsReplayOf (net : Description) (bytes text : List ℕ) : Type 0 where
-  pub commands : List Command
+-- this text is that of a replay of the commands on a network of this kind and width
+pub record IsReplayOfCommands (net : Description) (commands : List Command) (text : List ℕ) : Type 0 where
   pub network : Network
-  pub schedule : IsSchedule (records_of bytes) commands
   pub built : IsNetworkOf net network
   pub replayed : IsReplayText network commands text
 
--- by its answer, a replay has written the whole text, its first bytes, or nothing: what the writer holds before and after
-abbrev pub HasReplayed : {U : Type 0} → Description → List ℕ → Option (List ℕ) → Option (List ℕ) → Result U ReplayFault → Type 0
-HasReplayed net bytes old new (Ok done) = (text : List ℕ) × IsReplayOf net bytes text × Appends old new text
-HasReplayed net bytes old new (Err (Schedule fault)) = IsScheduleFault (records_of bytes) fault × (new ≡ old)
-HasReplayed net bytes old new (Err Memory) = new ≡ old
-HasReplayed net bytes old new (Err (Write written)) =
-    (text : List ℕ) × IsReplayOf net bytes text × (written ≤ length text) × Appends old new (take written text)
+-- the bytes that were read are a schedule, and this is the text of the replay of its commands
+pub record IsReplayOf (net : Description) (bytes text : List ℕ) : Type 0 where
+  pub commands : List Command
+  pub schedule : IsSchedule (records_of bytes) commands
+  pub replayed : IsReplayOfCommands net commands text
+
+-- the same, where the bytes that a reader has left are known
+abbrev pub IsReplayOfKnown : Description → Option (List ℕ) → List ℕ → Type 0
+IsReplayOfKnown net known text = IfSome known (λ bytes. IsReplayOf net bytes text)
+
+-- how much of its text a replay has written that met a fault
+abbrev pub until_replay : ReplayFault → Written
+until_replay (Schedule fault) = Nothing
+until_replay Memory = Nothing
+until_replay (Write written) = First written
+
+-- a schedule that is refused is told by its own fault, which is never want of memory
+abbrev pub IsReplayFault : Option (List ℕ) → ReplayFault → Type 0
+IsReplayFault known (Schedule fault) =
+    (fault.cause ≢ cause.Memory) × IfSome known (λ bytes. IsScheduleFault (records_of bytes) fault)
+IsReplayFault known Memory = Unit {0}
+IsReplayFault known (Write written) = Unit {0}
 
 -- what a replay tells of a fault of the schedule: want of memory apart
-abbrev pub replay_fault_by : ScheduleFault → ScheduleCause → ReplayFault
-replay_fault_by fault cause.Memory = Memory
-replay_fault_by fault cause.Read = Schedule fault
-replay_fault_by fault cause.Header = Schedule fault
-replay_fault_by fault cause.FieldCount = Schedule fault
-replay_fault_by fault cause.Op = Schedule fault
-replay_fault_by fault cause.ClientNumber = Schedule fault
-replay_fault_by fault cause.WireNumber = Schedule fault
-replay_fault_by fault cause.ScheduleFull = Schedule fault
+abbrev pub fault_of_cause : ScheduleFault → ScheduleCause → ReplayFault
+fault_of_cause fault cause.Memory = Memory
+fault_of_cause fault cause.Read = Schedule fault
+fault_of_cause fault cause.Header = Schedule fault
+fault_of_cause fault cause.FieldCount = Schedule fault
+fault_of_cause fault cause.Op = Schedule fault
+fault_of_cause fault cause.ClientNumber = Schedule fault
+fault_of_cause fault cause.WireNumber = Schedule fault
+fault_of_cause fault cause.ScheduleFull = Schedule fault
 
-abbrev pub replay_fault_of : ScheduleFault → ReplayFault
-replay_fault_of fault = replay_fault_by fault fault.cause
+abbrev pub fault_of_schedule : ScheduleFault → ReplayFault
+fault_of_schedule fault = fault_of_cause fault fault.cause
 
--- a fault of the schedule is never want of memory
-abbrev pub IsMemoryApart : ReplayFault → Type 0
-IsMemoryApart (Schedule fault) = fault.cause ≢ cause.Memory
-IsMemoryApart Memory = Unit {0}
-IsMemoryApart (Write written) = Unit {0}
-
--- nothing was written, unless a write failed
-abbrev pub IsUntouched : {W : Type 0} → W → W → ReplayFault → Type 0
-IsUntouched old new (Schedule fault) = new ≡ old
-IsUntouched old new Memory = new ≡ old
-IsUntouched old new (Write written) = Unit {0}
+-- and of a text that was not written whole
+abbrev pub fault_of_output : OutputFault → ReplayFault
+fault_of_output output.Memory = Memory
+fault_of_output (output.Write written) = Write written
 
 -- the status that a fault ends the program with
 abbrev pub status_of_replay : ReplayFault → ℕ

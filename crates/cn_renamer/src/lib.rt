@@ -1,18 +1,20 @@
-//! The calls of the program: its command line, and what each of its jobs writes.
+//! The calls of the program: what each of its jobs writes.
 #![tactic(auto)]
 
-mod building;
-mod command_line;
+mod fault;
 pub mod laws;
-mod net;
+mod output_fault;
+mod performing;
 mod replaying;
 mod runtime;
 mod showing;
-mod words;
+mod writing;
 
 pub use cn_report::{ScheduleCause, ScheduleFault};
-pub use net::{Net, NetFault};
+pub use cn_words::{Job, Net, NetFault, WordsFault, parse_words};
+pub use fault::{Fault, end};
+pub use output_fault::OutputFault;
+pub use performing::{perform, run};
 pub use replaying::{ReplayFault, replay};
 pub use runtime::RuntimeFault;
 pub use showing::{ShowFault, show};
-pub use words::{Job, WordsFault, parse_words};

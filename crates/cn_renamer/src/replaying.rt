@@ -1,17 +1,20 @@
 //! A schedule, replayed.
 
-ghost use Rattle.std.specs.Prelude.{◌≡◌, ◌↔◌, IfErr, IfOk, IfSome, IsTrue};
+ghost use Rattle.std.specs.Prelude.{◌≡◌, ◌↔◌, IfErr, IfOk, IsTrue};
 ghost use Rattle.std.specs.List.{All};
 ghost use Rattle.cn_epoch.specs.Turns.{HadMemory};
-ghost use Rattle.cn_renamer.specs.Replay.{HasReplayed, IsMemoryApart, IsReplayText, IsUntouched};
+ghost use Rattle.cn_report.specs.Writing.Written.{HasWritten, written_by};
+ghost use Rattle.cn_renamer.specs.Outputs.{until_output};
+ghost use Rattle.cn_renamer.specs.Replay.{IsReplayFault, IsReplayOfCommands, IsReplayOfKnown, IsReplayText, fault_of_output, fault_of_schedule, status_of_replay, until_replay};
 
-use crate::building::build;
-use crate::net::Net;
+use crate::output_fault::OutputFault;
+use crate::writing::write_text;
 use cn_core::{EnterFault, Reply};
 use cn_epoch::{Answer, Command, Epochs, TurnFault};
-use cn_report::{EmitFault, ScheduleCause, ScheduleFault, emit, read_schedule, render_replay};
-use cn_wiring::{BuildFault, Counting};
-use std::alloc::{AllocError, Global};
+use cn_report::{ScheduleCause, ScheduleFault, read_schedule, render_replay};
+use cn_wiring::Counting;
+use cn_words::Net;
+use std::alloc::Global;
 use std::hash::RandomState;
 use std::io::{Read, Write};
 use thiserror::Error;
@@ -31,8 +34,6 @@ pub enum ReplayFault {
 }
 
 impl ReplayFault {
-    ghost use Rattle.cn_renamer.specs.Replay.{status_of_replay};
-
     /// The status with which the program ends: 1 for a schedule that is refused, 3 for want of memory and for a write that
     /// failed.
     pub fn status(&self) -> u8
@@ -45,34 +46,8 @@ impl ReplayFault {
     }
 }
 
-impl From<AllocError> for ReplayFault {
-    ghost use Rattle.std.specs.Prelude.{◌≡◌};
-    ghost use Rattle.cn_renamer.specs.declared.replaying.ReplayFault.TheVariants.{Memory};
-
-    ghost from_gives = { λ _ fault. fault ≡ Memory };
-
-    fn from(_error: AllocError) -> Self {
-        ReplayFault::Memory
-    }
-}
-
-/// A network that is built fails to be built for want of memory alone.
-impl From<BuildFault> for ReplayFault {
-    ghost use Rattle.std.specs.Prelude.{◌≡◌};
-    ghost use Rattle.cn_renamer.specs.declared.replaying.ReplayFault.TheVariants.{Memory};
-
-    ghost from_gives = { λ _ fault. fault ≡ Memory };
-
-    fn from(_fault: BuildFault) -> Self {
-        ReplayFault::Memory
-    }
-}
-
 impl From<ScheduleFault> for ReplayFault {
-    ghost use Rattle.cn_renamer.specs.Replay.{replay_fault_of};
-    ghost use Rattle.std.specs.Prelude.{◌≡◌};
-
-    ghost from_gives = { λ fault told. told ≡ replay_fault_of fault };
+    ghost from_gives = { λ fault told. told ≡ fault_of_schedule fault };
 
     fn from(fault: ScheduleFault) -> Self {
         match fault.cause {
@@ -82,15 +57,13 @@ impl From<ScheduleFault> for ReplayFault {
     }
 }
 
-impl From<EmitFault> for ReplayFault {
-    ghost use Rattle.std.specs.Prelude.{◌≡◌};
-    ghost use Rattle.cn_renamer.specs.declared.replaying.ReplayFault.TheVariants.{Write};
+impl From<OutputFault> for ReplayFault {
+    ghost from_gives = { λ fault told. told ≡ fault_of_output fault };
 
-    ghost from_gives = { λ fault told. told ≡ Write fault.written };
-
-    fn from(fault: EmitFault) -> Self {
-        ReplayFault::Write {
-            written: fault.written,
+    fn from(fault: OutputFault) -> Self {
+        match fault {
+            OutputFault::Memory => ReplayFault::Memory,
+            OutputFault::Write { written } => ReplayFault::Write { written },
         }
     }
 }
@@ -119,14 +92,14 @@ fn replayed(
     network: &Counting,
     commands: &[Command],
     state: RandomState,
-) -> Result<Vec<u8>, ReplayFault>
+) -> Result<Vec<u8>, OutputFault>
     ensures text { IfOk result (λ text. IsReplayText network.now commands.now text.items) }
-    ensures memory { IfErr result (λ fault. fault ≡ ReplayFault.Memory) }
+    ensures memory { IfErr result (λ fault. fault ≡ OutputFault.Memory) }
 {
     let mut epochs = Epochs::new(alloc, network, state)?;
     let answers = epochs.run(commands)?;
     if !all_had_memory(&answers) {
-        return Err(ReplayFault::Memory);
+        return Err(OutputFault::Memory);
     }
     let text = render_replay(
         alloc,
@@ -138,6 +111,21 @@ fn replayed(
         epochs.inside(),
     )?;
     Ok(text)
+}
+
+/// Writes the text of the replay of commands.
+fn replay_commands<W: Write>(
+    alloc: Global,
+    writer: &mut W,
+    net: &Net,
+    commands: &[Command],
+    state: RandomState,
+) -> Result<(), OutputFault>
+    ensures { HasWritten W.contents (IsReplayOfCommands net.now commands.now) (written_by until_output result) writer.old writer.new }
+{
+    let network = net.build(alloc)?;
+    let text = replayed(alloc, &network, commands, state)?;
+    write_text(writer, &text)
 }
 
 /// Reads a schedule, applies its commands to epochs of the network, and writes the text of the replay: the network, each
@@ -157,13 +145,11 @@ pub fn replay<R: Read + Drop, W: Write>(
     net: &Net,
     state: RandomState,
 ) -> Result<(), ReplayFault>
-    ensures replayed { IfSome (R.remaining reader) (λ bytes. HasReplayed net.now bytes (W.contents writer.old) (W.contents writer.new) result) }
-    ensures untouched { IfErr result (IsUntouched writer.old writer.new) }
-    ensures memory { IfErr result IsMemoryApart }
+    ensures written { let Is = IsReplayOfKnown net.now (R.remaining reader) in
+        HasWritten W.contents Is (written_by until_replay result) writer.old writer.new }
+    ensures refused { IfErr result (IsReplayFault (R.remaining reader)) }
 {
     let commands = read_schedule(alloc, reader)?;
-    let network = build(alloc, net)?;
-    let text = replayed(alloc, &network, &commands, state)?;
-    emit(writer, &text)?;
+    replay_commands(alloc, writer, net, &commands, state)?;
     Ok(())
 }

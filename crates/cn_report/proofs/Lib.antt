@@ -1,6 +1,3 @@
-pub mod Appending
-pub mod Digits
-pub mod Lines
-pub mod RecordFields
-pub mod RecordLists
-pub mod ScheduleRecords
+pub mod CallerLemmas
+pub mod ReadingLemmas
+pub mod WritingLemmas

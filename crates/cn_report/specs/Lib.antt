@@ -1,7 +1,2 @@
-pub mod Command
-pub mod Number
-pub mod Records
-pub mod ReplayText
-pub mod Schedule
-pub mod Text
-pub mod WiringText
+pub mod Reading
+pub mod Writing

@@ -3,16 +3,12 @@
 #![tactic(auto)]
 
 #[cfg(test)]
-mod core_calls;
-#[cfg(test)]
-mod epoch_calls;
+mod emitting;
 #[cfg(test)]
 mod narrow;
 #[cfg(test)]
 mod replaying;
 #[cfg(test)]
+mod schedules;
+#[cfg(test)]
 mod showing;
-#[cfg(test)]
-mod walking;
-#[cfg(test)]
-mod wiring_tables;

@@ -4,11 +4,8 @@
 pub use Rattle.cn_spec.proofs.Halves.{half-mono, half-sum}
 pub use Rattle.cn_spec.proofs.Sums.{total_where-agree, total_where-le, total_where-map, total_where-mono, total_where-more}
 pub use Rattle.cn_spec.proofs.Sums.{total_where-none, total_where-one, total_where-push, total_where-set, total_where-shift}
-pub use Rattle.cn_spec.proofs.Sums.{total_where-tests, total_where-zero}
-pub use Rattle.cn_spec.proofs.Sums.{sum_below-change, sum_below-front, sum_below-le, sum_below-none, sum_below-one, sum_below-part}
-pub use Rattle.cn_spec.proofs.Sums.{sum_below-parts, sum_below-pick, sum_below-plus, sum_below-same, sum_below-shift}
-pub use Rattle.cn_spec.proofs.Sums.{one_more_at, sum_below-total, sum_below-zero, sum_by-same}
-pub use Rattle.cn_spec.proofs.Times.{times-append, times-below, times-cons, times-inside, times-map, times-member, times-nil, times-outside}
+pub use Rattle.cn_spec.proofs.Sums.{total_where-tests, total_where-zero, sum_below-change, sum_below-cut, sum_below-front, sum_below-le, sum_below-none, sum_below-one, sum_below-part, sum_below-parts, sum_below-pick, sum_below-plus, sum_below-same, sum_below-shift, sum_below-total, sum_below-zero, one_more_at, sum_by-same, total_where-part, total_where-parts}
+pub use Rattle.cn_spec.proofs.Times.{times-append, times-below, times-cons, times-inside, times-member, times-nil, times-outside, times-map}
 pub use Rattle.cn_spec.proofs.Times.{times-parts, times-place, times-two}
 -- ranges, shares and names
 pub use Rattle.cn_spec.proofs.EachBelow.{each_below, once-next}

@@ -1,6 +1,6 @@
 -- Sums over the places of a list, and over ranges.
-use Rattle.std.proofs.Common.{◌≡◌, ◌≢◌, ℕ, zero, suc, ◌+◌, ◌<◌, ◌≤◌, Bool, true, false, cond, List, [], ◌∷◌, ◌++◌, length, map, get_or, set, sum_by, slice_index, nat_eq, get_or-set_same, get_or-set_other, refl, sym, ◌∙◌, inl, inr, arith, eqb, ltb, zero-add}
-use Rattle.std.proofs.lemmas.Bool.{cases_eq, eq-eqb, false_from_ne_true, ne_eqb}
+use Rattle.std.proofs.Common.{◌≡◌, ◌≢◌, ℕ, zero, suc, ◌+◌, ◌<◌, ◌≤◌, Bool, true, false, cond, List, [], ◌∷◌, ◌++◌, length, map, get_or, set, sum_by, refl, sym, ◌∙◌, inl, inr, arith, eqb, ltb, zero-add, slice_index, nat_eq, get_or-set_same, get_or-set_other, ap}
+use Rattle.std.proofs.lemmas.Bool.{cases_eq, eq-eqb, false_from_ne_true, le-ltb, lt-ltb, ne_eqb}
 use Rattle.std.proofs.lemmas.Bool.Decides.{nat_tests}
 use Rattle.std.proofs.lemmas.List.Sums.{sum_by-cons}
 use Rattle.cn_spec.specs.Sums.{when, one_more, total_where, sum_below}
@@ -49,6 +49,25 @@ pub total_where-zero : {A : Type 0} → (p : A → Bool) (xs : List A) → total
 unfolding total_where
 total_where-zero p [] = refl
 total_where-zero p (x ∷ xs) = rw (total_where-zero p xs) (elim (p x) as (λ t. when t 0 + 0 ≡ 0) [ true ↦ refl | false ↦ refl ])
+
+-- a term is at most the sum
+pub total_where-part : {A : Type 0} → (p : A → Bool) (xs : List A) (d : A) (f : ℕ → ℕ) (u : ℕ) → u < length xs → p (get_or xs u d) ≡ true → f u ≤ total_where p xs f
+unfolding total_where
+total_where-part p [] d f u h e = absurd (omega arith)
+total_where-part p (x ∷ xs) d f zero h e = rw e (omega arith)
+total_where-part p (x ∷ xs) d f (suc u) h e = let rest = total_where-part p xs d (λ v. f (suc v)) u (omega arith) e in omega arith
+
+-- and two terms together are
+pub total_where-parts : {A : Type 0} → (p : A → Bool) (xs : List A) (d : A) (f : ℕ → ℕ) (u v : ℕ) → u < length xs → v < length xs → u ≢ v
+    → p (get_or xs u d) ≡ true → p (get_or xs v d) ≡ true → f u + f v ≤ total_where p xs f
+unfolding total_where
+total_where-parts p [] d f u v h k n a b = absurd (omega arith)
+total_where-parts p (x ∷ xs) d f zero zero h k n a b = absurd (n refl)
+total_where-parts p (x ∷ xs) d f zero (suc v) h k n a b = let rest = total_where-part p xs d (λ w. f (suc w)) v (omega arith) b in rw a (omega arith)
+total_where-parts p (x ∷ xs) d f (suc u) zero h k n a b = let rest = total_where-part p xs d (λ w. f (suc w)) u (omega arith) a in rw b (omega arith)
+total_where-parts p (x ∷ xs) d f (suc u) (suc v) h k n a b =
+    let rest = total_where-parts p xs d (λ w. f (suc w)) u v (omega arith) (omega arith) (λ e. n (ap suc e)) a b in
+    omega arith
 
 -- a sum of which one term rises by x
 pub sum_below-change : (n w x : ℕ) (f g : ℕ → ℕ) → ((u : ℕ) → g u ≡ f u + cond (eqb u w) x 0) → sum_below n g ≡ sum_below n f + cond (ltb w n) x 0
@@ -174,6 +193,15 @@ sum_below-parts (suc n) a b f h k d = elim (cases_eq a n) [
     | inl e ↦ rw e (omega (arith, sum_below-part n a f (omega arith)))
     | inr db ↦ omega (arith, sum_below-parts n a b f (omega arith) (omega arith) d)
   ]
+]
+
+-- a sum of which the terms from m on are left out
+pub sum_below-cut : (n m : ℕ) (f : ℕ → ℕ) → m ≤ n → sum_below n (λ u. when (ltb u m) (f u)) ≡ sum_below m f
+unfolding sum_below
+sum_below-cut zero m f h = let e : m ≡ 0 = omega arith in rw e refl
+sum_below-cut (suc n) m f h = elim (cases_eq m (suc n)) [
+  | inl e ↦ rw e (sum_below-same (suc n) (λ u. when (ltb u (suc n)) (f u)) f (λ u l. rw (lt-ltb u (suc n) l) refl))
+  | inr d ↦ rw (le-ltb n m (omega arith)) (omega (arith, sum_below-cut n m f (omega arith)))
 ]
 
 module _ {X : Type 0} where

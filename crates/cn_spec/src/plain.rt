@@ -222,6 +222,3 @@ pub fn tree(alloc: Global, count: u64, level: u32) -> Result<Vec<u64>, AllocErro
     let odd = tree(alloc, half(count, 1), level - 1)?;
     interleave(alloc, &even, &odd)
 }
-
-#[cfg(test)]
-mod tests;

@@ -1,14 +1,13 @@
 -- A tree from its root and the two trees on the root's outputs.
-use Rattle.std.proofs.Common.{◌≡◌, ℕ, ◌+◌, ◌-◌, ◌^◌, ◌<◌, ◌≤◌, List, [], ◌∷◌, length, map, sym, ap, ap₂, ◌∙◌, arith}
+use Rattle.std.proofs.Common.{◌≡◌, ℕ, zero, suc, ◌+◌, ◌-◌, ◌^◌, ◌<◌, ◌≤◌, List, [], ◌∷◌, length, map, refl, sym, ap, ap₂, ◌∙◌, arith}
 use Rattle.std.proofs.lemmas.Nat.{pow_pos}
 use Rattle.cn_spec.specs.Networks.{IsRow, interleave, tree}
 use Rattle.cn_spec.specs.Step.{half}
 use Rattle.cn_spec.specs.declared.limits.TheConstants.{MOST_BALANCERS}
 use Rattle.cn_spec.proofs.CallerLemmas.{length_interleave, map_interleave, power_below, times-append, times_interleave, tree_turn}
-use Rattle.cn_wiring.specs.Plan.{Plan, AllLoose, Builds, IsFlow}
-use Rattle.cn_wiring.proofs.Builds.{Builds-beside, Builds-giving, Builds-loose, Builds-loose_with, Builds-sized, Builds-then}
-
--- ---- interleaved rows
+use Rattle.cn_wiring.specs.Plan.{Plan, AllLoose, Builds, IsFlow, next_wire, output, with_balancer}
+use Rattle.cn_tree.specs.Order.{tree_made}
+use Rattle.cn_wiring.proofs.CallerLemmas.{Builds-beside, Builds-giving, Builds-loose, Builds-loose_with, Builds-sized, Builds-then}
 
 -- ---- sizes
 
@@ -51,6 +50,31 @@ module _ {d e : Plan} {wire first second level : ℕ} (more : 0 < level) (there 
           map_interleave f even odd
           ∙ ap₂ interleave (evens f (two.flow f flow) ∙ ap (tree (level - 1)) split.0) (odds f flow ∙ ap (tree (level - 1)) split.1)
           ∙ sym (tree_turn level (f wire) more)
+
+-- ---- the order
+
+pub made_none : (d : Plan) (wire : ℕ) → tree_made 0 d wire ≡ (d, wire ∷ [])
+unfolding tree_made
+made_none d wire = refl
+
+made_suc : (d : Plan) (wire level : ℕ) {e g h : Plan} {first second : ℕ} {even odd : List ℕ} → e ≡ with_balancer d (wire ∷ [])
+    → first ≡ output d d.balancers 0 → second ≡ output d d.balancers 1
+    → tree_made level e first ≡ (g, even) → tree_made level g second ≡ (h, odd) → tree_made (suc level) d wire ≡ (h, interleave even odd)
+unfolding tree_made
+made_suc d wire level root f s one two =
+    let one' = rw (root, f) at one in
+    let two' = rw s at two in
+    rw (one', two') refl
+
+pub made_more : (d : Plan) (wire level : ℕ) {e g h : Plan} {first second : ℕ} {even odd : List ℕ} → 0 < level → e ≡ with_balancer d (wire ∷ [])
+    → (first ≡ next_wire d) × (second ≡ first + 1)
+    → tree_made (level - 1) e first ≡ (g, even) → tree_made (level - 1) g second ≡ (h, odd) → tree_made level d wire ≡ (h, interleave even odd)
+made_more d wire zero more root wires one two = absurd (omega arith)
+made_more d wire (suc level) more root wires one two =
+    let less : suc level - 1 ≡ level = omega arith in
+    made_suc d wire level root (omega arith) (omega arith) (rw less at one) (rw less at two)
+
+-- ---- rows
 
 pub tree_row : (level : ℕ) (even odd : List ℕ) → 0 < level → IsRow (level - 1) even → IsRow (level - 1) odd → IsRow level (interleave even odd)
 tree_row level even odd more p q = omega (arith, length_interleave even odd (omega arith), power_below level more)

@@ -4,10 +4,7 @@
 //! builds the whole tree of a width.
 #![tactic(auto)]
 
-mod building;
+mod counting_tree;
 
-pub use building::tree;
 pub use cn_wiring::BuildFault;
-
-#[cfg(test)]
-mod tests;
+pub use counting_tree::tree;

@@ -24,7 +24,7 @@ count-twice t (Exit j ∷ xs) f h =
     omega (arith, sum_below-front (length xs) f)
 
 -- the wires are the entries and the outputs
-wires-sum : (t : Table) (f : ℕ → ℕ) → IsFullFlow t f → (n : ℕ) → n ≤ t.balancers
+pub wires-sum : (t : Table) (f : ℕ → ℕ) → IsFullFlow t f → (n : ℕ) → n ≤ t.balancers
     → sum_below (t.entries + 2 * n) f ≡ sum_below t.entries f + sum_below n (λ b. sum_at t (Balancer b) f)
 unfolding sum_below
 wires-sum t f p zero k = let z : t.entries + 2 * 0 ≡ t.entries = omega arith in rw z (omega arith)

@@ -1,11 +1,13 @@
--- A full flow of a table exists and is the only one, since it is a flow of the table's plan.
-use Rattle.std.proofs.Common.{◌≡◌, ℕ, ◌+◌, ◌*◌, ◌<◌, true, length, get_or, arith}
+-- The full flows of a table are the flows of its plan. So one exists for all inputs, and is the only one.
+use Rattle.std.proofs.Common.{◌≡◌, ℕ, ◌+◌, ◌*◌, ◌<◌, ◌↔◌, List, true, length, get_or, arith}
+use Rattle.std.proofs.lemmas.List.{length-map}
 use Rattle.std.proofs.lemmas.Bool.{eqb-true}
 use Rattle.cn_wiring.specs.declared.end.End.TheVariants.{Balancer, Exit}
 use Rattle.cn_spec.specs.Sums.{Agree}
-use Rattle.cn_wiring.specs.Table.{Table, is_end, LeadsOn, IsWellFormed, IsFullFlow, plan_of_table}
+use Rattle.cn_wiring.specs.Plan.{IsFlow, IsPath}
+use Rattle.cn_wiring.specs.Table.{Table, balancer_of, is_end, LeadsOn, IsWellFormed, IsFullFlow, plan_of_table}
 use Rattle.cn_wiring.proofs.Close.{flow-plan}
-use Rattle.cn_wiring.proofs.PlanFlow.{flow-exists, flow-unique}
+use Rattle.cn_wiring.proofs.PlanFlow.{flow-exists, flow-unique, paths}
 use Rattle.cn_wiring.proofs.Tables.{orderly-table, plan-flow}
 
 -- a wire that ends at b is older than the outputs of b
@@ -22,3 +24,9 @@ pub full_flow-exists : (t : Table) → IsWellFormed t → (x : ℕ → ℕ) → 
 full_flow-exists t w x =
     let (f, flows, inputs) = flow-exists (plan_of_table t) (orderly-table t w) x in
     (f, plan-flow t f flows, inputs)
+
+pub full_flow-draft : (t : Table) (f : ℕ → ℕ) → IsFullFlow t f ↔ IsFlow (plan_of_table t) f
+full_flow-draft t f = (flow-plan t f, plan-flow t f)
+
+pub full_flow-paths : (t : Table) → IsWellFormed t → (u : ℕ) → u < length t.ends → (us : List ℕ) × IsPath (plan_of_table t) u us
+full_flow-paths t w u h = paths (plan_of_table t) (orderly-table t w) u (omega (arith, length-map t.ends balancer_of))

@@ -1,12 +1,12 @@
 -- What a balancer over loose wires does to a plan.
-use Rattle.std.proofs.Common.{◌≡◌, ◌≢◌, ℕ, ◌+◌, ◌*◌, ◌<◌, ◌≤◌, ◌⊎◌, inl, inr, true, false, List, [], ◌∷◌, ◌++◌, length, get_or, set, refl, sym, ◌∙◌, arith, eqb, Option, Some, None, length-set, length-append, get_or-set_same, get_or-set_other, sum_by, add-zero, zero-add}
+use Rattle.std.proofs.Common.{◌≡◌, ◌≢◌, ℕ, ◌+◌, ◌<◌, ◌≤◌, ◌⊎◌, inl, inr, true, false, List, [], ◌∷◌, ◌++◌, length, get_or, set, refl, sym, ◌∙◌, arith, eqb, Option, Some, None, length-set, length-append, get_or-set_same, get_or-set_other, sum_by, add-zero, zero-add}
 use Rattle.std.specs.Option.{is_none}
 use Rattle.std.proofs.lemmas.Bool.{cases_eq, cases_lt, cases_order, eq-eqb, ne_eqb}
 use Rattle.std.proofs.lemmas.List.Sums.{sum_by-cons}
 use Rattle.std.proofs.lemmas.List.{get_or_past, get_or_append_left, get_or_push}
 use Rattle.cn_spec.specs.Step.{half}
 use Rattle.cn_spec.specs.Sums.{when, total_where, times}
-use Rattle.cn_wiring.specs.Plan.{Plan, ends_at, passages, IsFlow, loose, AllLoose, IsPath, HasLevel, Each, Builds}
+use Rattle.cn_wiring.specs.Plan.{Plan, ends_at, passages, IsFlow, loose, AllLoose, IsPath, HasLevel, Each, Builds, next_wire}
 use Rattle.cn_wiring.specs.InsideDraft.{IsOrderly}
 use Rattle.cn_spec.specs.declared.limits.TheConstants.{MOST_BALANCERS}
 use Rattle.cn_spec.proofs.CallerLemmas.{total_where-none, total_where-push, total_where-set}
@@ -22,10 +22,6 @@ loose_in es w = when (is_none (get_or es w (Some 0))) 1
 abbrev pub mark : List (Option ℕ) → List ℕ → ℕ → List (Option ℕ)
 mark es [] b = es
 mark es (w ∷ ws) b = mark (set es w (Some b)) ws b
-
--- the first wire that the plan does not have yet
-abbrev pub next_wire : Plan → ℕ
-next_wire d = d.entries + 2 * d.balancers
 
 -- the plan with one more balancer, at which ws end
 abbrev pub grown : Plan → List ℕ → Plan

@@ -1,23 +1,37 @@
 -- Balancers beside each other, one for each pair of wires.
-use Rattle.std.proofs.Common.{◌≡◌, ℕ, zero, suc, ◌+◌, ◌*◌, ◌<◌, ◌≤◌, List, [], ◌∷◌, ◌++◌, length, get_or, map, take, drop, refl, ap, sym, arith}
+use Rattle.std.proofs.Common.{◌≡◌, ℕ, zero, suc, ◌+◌, ◌*◌, ◌<◌, ◌≤◌, List, [], ◌∷◌, ◌++◌, length, get_or, map, take, drop, refl, ap, sym, ◌∙◌, arith}
 use Rattle.std.specs.List.{range_with_len}
-use Rattle.std.proofs.lemmas.List.{take_more, take-append-drop, map-append, map_more, length-map, length-take-le, take_all}
+use Rattle.std.proofs.lemmas.List.{drop_all, drop_more, take_more, take-append-drop, map-append, map_more, length-map, length-take-le, take_all}
 use Rattle.cn_spec.specs.Step.{half}
 use Rattle.cn_spec.specs.Sums.{times}
 use Rattle.cn_spec.specs.Networks.{layer}
 use Rattle.cn_spec.proofs.CallerLemmas.{layer_push, times-append}
-use Rattle.cn_wiring.specs.Plan.{Plan, IsFlow, AllLoose, Builds}
+use Rattle.cn_wiring.specs.Made.{with_layer}
+use Rattle.cn_wiring.specs.Plan.{Plan, IsFlow, AllLoose, Builds, next_wire, with_balancer}
 use Rattle.cn_wiring.proofs.Builds.{Builds-none, Builds-like, Builds-beside, Builds-loose}
-use Rattle.cn_wiring.proofs.Join.{next_wire}
 
 -- the first i of xs and of ys have been joined pairwise
 pub record Layer (old new : Plan) (xs ys outs : List ℕ) (i : ℕ) : Type 0 where
   pub built : Builds old new (take i xs ++ take i ys) outs 1 i
   pub wires : outs ≡ range_with_len (next_wire old) (2 * i)
   pub flow : (f : ℕ → ℕ) → IsFlow new f → map f outs ≡ layer (map f (take i xs)) (map f (take i ys))
+  -- and the others are yet to be
+  pub rest : with_layer new (drop i xs) (drop i ys) ≡ with_layer old xs ys
 
 pub layer_none : (d : Plan) (xs ys : List ℕ) → Layer d d xs ys [] 0
-layer_none d xs ys = record { built = Builds-none d 1; wires = refl; flow = λ f g. refl }
+layer_none d xs ys = record { built = Builds-none d 1; wires = refl; flow = λ f g. refl; rest = refl }
+
+rest_none : (d : Plan) → with_layer d [] [] ≡ d
+unfolding with_layer
+rest_none d = refl
+
+rest_pair : (d : Plan) (x y : ℕ) (xs ys : List ℕ) → with_layer d (x ∷ xs) (y ∷ ys) ≡ with_layer (with_balancer d (x ∷ y ∷ [])) xs ys
+unfolding with_layer
+rest_pair d x y xs ys = refl
+
+rest_more : (d : Plan) (xs ys : List ℕ) (i : ℕ) → i < length xs → i < length ys
+    → with_layer d (drop i xs) (drop i ys) ≡ with_layer (with_balancer d (get_or xs i 0 ∷ get_or ys i 0 ∷ [])) (drop (i + 1) xs) (drop (i + 1) ys)
+rest_more d xs ys i h k = rw (drop_more xs i 0 h, drop_more ys i 0 k) (rest_pair d _ _ _ _)
 
 -- two numbers more
 range_two_more : (a n b : ℕ) → b ≡ a + n → range_with_len a (n + 2) ≡ range_with_len a n ++ b ∷ (b + 1) ∷ []
@@ -67,9 +81,10 @@ layer_next {old} {new} {xs} {ys} {outs} {i} h k there b = Builds-loose _ (pairs_
 pub layer_more : {old mid new : Plan} {xs ys outs : List ℕ} {i r s : ℕ} → i < length xs → i < length ys → AllLoose old (xs ++ ys) → Layer old mid xs ys outs i
     → Builds mid new (get_or xs i 0 ∷ get_or ys i 0 ∷ []) (r ∷ s ∷ []) 1 1
     → (r ≡ next_wire mid) × (s ≡ r + 1)
+    → new ≡ with_balancer mid (get_or xs i 0 ∷ get_or ys i 0 ∷ [])
     → ((f : ℕ → ℕ) → IsFlow new f → (f r ≡ half (f (get_or xs i 0) + f (get_or ys i 0)) 0) × (f s ≡ half (f (get_or xs i 0) + f (get_or ys i 0)) 1))
     → Layer old new xs ys (outs ++ r ∷ s ∷ []) (i + 1)
-layer_more {old} {mid} {new} {xs} {ys} {outs} {i} {r} {s} h k there l b at g = record {
+layer_more {old} {mid} {new} {xs} {ys} {outs} {i} {r} {s} h k there l b at plan g = record {
   built = Builds-like _ (λ w. times-pairs w xs ys i h k) (Builds-beside (pairs_loose old xs ys i h k there) l.built b);
   wires =
       let first = l.built.entries in
@@ -81,11 +96,18 @@ layer_more {old} {mid} {new} {xs} {ys} {outs} {i} {r} {s} h k there l b at g = r
       let rest = l.flow f (b.flow f q) in
       let lengths : length (map f (take i xs)) ≡ length (map f (take i ys)) = omega (arith, length-map (take i xs) f, length-map (take i ys) f, length-take-le i xs, length-take-le i ys) in
       rw (map-append f outs (r ∷ s ∷ []), map_more f xs i 0 h, map_more f ys i 0 k, layer_push (map f (take i xs)) (map f (take i ys)) (f (get_or xs i 0)) (f (get_or ys i 0)) lengths, rest, here.0, here.1);
+  rest = rw plan (sym (rest_more mid xs ys i h k)) ∙ l.rest;
 }
 
 pub layer_all : {old new : Plan} {xs ys outs : List ℕ} {i : ℕ} → i ≡ length xs → length xs ≡ length ys → Layer old new xs ys outs i
-    → Builds old new (xs ++ ys) outs 1 (length xs) × (outs ≡ range_with_len (next_wire old) (2 * length xs)) × ((f : ℕ → ℕ) → IsFlow new f → map f outs ≡ layer (map f xs) (map f ys))
+    → Builds old new (xs ++ ys) outs 1 (length xs)
+    × (outs ≡ range_with_len (next_wire old) (2 * length xs))
+    × ((f : ℕ → ℕ) → IsFlow new f → map f outs ≡ layer (map f xs) (map f ys))
+    × (new ≡ with_layer old xs ys)
 layer_all {old} {new} {xs} {ys} {outs} {i} e s l =
     let x : take i xs ≡ xs = take_all i xs (omega arith) in
     let y : take i ys ≡ ys = take_all i ys (omega arith) in
-    (rw (x, y, e) at l.built, rw e at l.wires, rw (x, y) at l.flow)
+    let x' : drop i xs ≡ [] = drop_all i xs (omega arith) in
+    let y' : drop i ys ≡ [] = drop_all i ys (omega arith) in
+    let none : new ≡ with_layer new (drop i xs) (drop i ys) = rw (x', y') (sym (rest_none new)) in
+    (rw (x, y, e) at l.built, rw e at l.wires, rw (x, y) at l.flow, none ∙ l.rest)

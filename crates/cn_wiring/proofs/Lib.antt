@@ -1,5 +1,6 @@
 pub mod Flow
 pub mod Conserve
+pub mod Few
 pub mod Entries
 pub mod Join
 pub mod Builds
@@ -8,6 +9,9 @@ pub mod PlanFlow
 pub mod Close
 pub mod Tables
 pub mod Arrivals
+pub mod Unique
 pub mod Levels
+pub mod WidthLemmas
 pub mod Finished
 pub mod Rows
+pub mod CallerLemmas

@@ -9,7 +9,7 @@ use Rattle.cn_wiring.specs.Table.{Table, IsWellFormed, IsFullFlow, Stands, Leads
 use Rattle.cn_wiring.specs.InsideDraft.{IsOrderly}
 use Rattle.cn_wiring.proofs.Close.{into-passages}
 
-from_balancer : (e : End) (b : ℕ) → balancer_of e ≡ Some b → e ≡ Balancer b
+pub from_balancer : (e : End) (b : ℕ) → balancer_of e ≡ Some b → e ≡ Balancer b
 from_balancer (Balancer c) b e = let s : c ≡ b = cc in ap Balancer s
 from_balancer (Exit i) b e = absurd (cc)
 

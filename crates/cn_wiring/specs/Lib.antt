@@ -1,5 +1,7 @@
 pub mod Plan
+pub mod Kinds
 pub mod Table
+pub mod Made
 pub mod Network
 pub mod InsideWiring
 pub mod InsideDraft

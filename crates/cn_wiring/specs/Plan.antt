@@ -1,5 +1,5 @@
 -- Networks in the making.
-use Rattle.std.specs.Prelude.{◌≡◌, ℕ, ◌+◌, ◌*◌, ◌<◌, ◌≤◌, ◌==◌, ◌⊎◌, Bool, false, List, [], ◌∷◌, length, Option, Some, None, is_none, slice_index_or, slice_set, ◌++◌}
+use Rattle.std.specs.Prelude.{◌≡◌, ℕ, ◌+◌, ◌*◌, ◌<◌, ◌≤◌, ◌==◌, ◌⊎◌, Bool, false, List, [], ◌∷◌, length, Option, Some, None, is_none, slice_index_or, slice_set, replicate, ◌++◌}
 use Rattle.cn_spec.specs.Step.{half}
 use Rattle.cn_spec.specs.Sums.{total_where, times, when}
 
@@ -13,6 +13,14 @@ pub record Plan : Type 0 where
 -- output p of balancer b
 abbrev pub output : Plan → ℕ → ℕ → ℕ
 output d b p = d.entries + 2 * b + p
+
+-- the first wire that the plan does not have yet
+abbrev pub next_wire : Plan → ℕ
+next_wire d = d.entries + 2 * d.balancers
+
+-- a plan of so many entries, all loose, and no balancer
+abbrev pub entries_alone : ℕ → Plan
+entries_alone n = record { entries = n; balancers = 0; ends = replicate n None }
 
 -- does a wire with this end stand at balancer b?
 abbrev pub ends_at : ℕ → Option ℕ → Bool

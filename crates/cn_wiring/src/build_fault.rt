@@ -3,6 +3,7 @@
 ghost use Rattle.std.specs.Prelude.{◌≡◌};
 ghost use Rattle.cn_wiring.specs.declared.build_fault.BuildFault.TheVariants.{Memory};
 
+use crate::draft::Draft;
 use std::alloc::AllocError;
 
 /// Why a counting network could not be built.
@@ -19,5 +20,13 @@ impl From<AllocError> for BuildFault {
 
     fn from(_e: AllocError) -> BuildFault {
         BuildFault::Memory
+    }
+}
+
+impl From<(Draft, AllocError)> for BuildFault {
+    ghost from_gives = { λ _ fault. fault ≡ Memory };
+
+    fn from(refused: (Draft, AllocError)) -> BuildFault {
+        refused.1.into()
     }
 }

@@ -1,9 +1,11 @@
 //! Counting networks.
 
-ghost use Rattle.std.specs.Prelude.{◌≡◌, ℕ, ◌+◌, ◌*◌, ◌<◌, slice_get, Some};
+ghost use Rattle.std.specs.Prelude.{◌≡◌, ℕ, ◌+◌, ◌*◌, ◌<◌, ◌≤◌, ◌↔◌, List, length, slice_get, Some};
 ghost use Rattle.cn_spec.specs.Sums.{Agree, sum_below};
 ghost use Rattle.cn_wiring.specs.Network.{Counts, IsNetwork};
-ghost use Rattle.cn_wiring.specs.Table.{HasDepth, IsFullFlow, Stands, end_of, sum_at};
+ghost use Rattle.cn_wiring.specs.Plan.{IsFlow, IsPath};
+ghost use Rattle.cn_wiring.specs.Table.{HasDepth, IsFullFlow, Stands, end_of, plan_of_table, sum_at};
+ghost use Rattle.cn_wiring.specs.declared.end.End.{End};
 ghost use Rattle.cn_wiring.specs.declared.end.End.TheVariants.{Exit};
 
 use crate::end::End;
@@ -98,13 +100,21 @@ impl Counting {
         self.wiring.end(wire)
     }
 
-    /// A full flow exists for all inputs, is the only one, and keeps the sum.
+    /// The full flows of the table: one exists for all inputs, and only one. They are the flows of the table's draft. A full
+    /// flow keeps the sum, and brings each balancer and each exit at most what entered. Each wire has a path from an entry.
     ///
     /// It does nothing: its contract is the law.
     pub fn full_flow_laws(&self)
         ensures exists { (x : ℕ → ℕ) → (f : ℕ → ℕ) × IsFullFlow self.now.table f × Agree self.now.table.entries f x }
-        ensures unique { (f g : ℕ → ℕ) → IsFullFlow self.now.table f → IsFullFlow self.now.table g → Agree self.now.table.entries f g → Agree (self.now.table.entries + 2 * self.now.table.balancers) f g }
-        ensures sum { (f : ℕ → ℕ) → IsFullFlow self.now.table f → sum_below self.now.table.width (λ i. sum_at self.now.table (Exit i) f) ≡ sum_below self.now.table.entries f }
+        ensures unique { (f g : ℕ → ℕ) → IsFullFlow self.now.table f → IsFullFlow self.now.table g
+            → Agree self.now.table.entries f g → Agree (self.now.table.entries + 2 * self.now.table.balancers) f g }
+        ensures draft { (f : ℕ → ℕ) → IsFullFlow self.now.table f ↔ IsFlow (plan_of_table self.now.table) f }
+        ensures sum { (f : ℕ → ℕ) → IsFullFlow self.now.table f
+            → sum_below self.now.table.width (λ i. sum_at self.now.table (Exit i) f) ≡ sum_below self.now.table.entries f }
+        ensures few { (f : ℕ → ℕ) → IsFullFlow self.now.table f → (end : End) → Stands self.now.table end
+            → sum_at self.now.table end f ≤ sum_below self.now.table.entries f }
+        ensures paths { (u : ℕ) → u < length self.now.table.ends
+            → (us : List ℕ) × IsPath (plan_of_table self.now.table) u us }
     {
         self.wiring.full_flow_laws();
     }

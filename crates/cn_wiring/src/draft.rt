@@ -3,14 +3,19 @@
 ghost use Rattle.std.specs.Prelude.{◌≡◌, ℕ, ◌+◌, ◌*◌, ◌<◌, ◌≤◌, ◌↔◌, List, [], ◌∷◌, ◌++◌, map, IfOk, IfErr, OnErr, OnOk, IsTrue, length, replicate, None, is_none, slice_index, slice_index_or};
 ghost use Rattle.std.specs.List.{range_with_len};
 ghost use Rattle.cn_spec.specs.Networks.{layer};
-ghost use Rattle.cn_spec.specs.Step.{half};
+ghost use Rattle.cn_spec.specs.Step.{IsStep, half};
 ghost use Rattle.cn_spec.specs.Sums.{Agree, times, when};
-ghost use Rattle.cn_wiring.specs.Plan.{AllLoose, Builds, Each, HasLevel, IsFlow, IsPath, loose, with_balancer};
-ghost use Rattle.cn_wiring.specs.Table.{EndsInOrder, HasDepth, IsWellFormed, balancer_of, plan_of_table, sum_at};
+ghost use Rattle.cn_wiring.specs.Built.{exit_flows};
+ghost use Rattle.cn_wiring.specs.Made.{IsTableOf, with_layer};
+ghost use Rattle.cn_wiring.specs.Network.{IsNetwork};
+ghost use Rattle.cn_wiring.specs.Plan.{AllLoose, Builds, Each, HasLevel, IsFlow, IsPath, entries_alone, loose, next_wire, with_balancer};
+ghost use Rattle.cn_wiring.specs.Table.{HasDepth, IsFullFlow, IsWellFormed, balancer_of, sum_at};
 ghost use Rattle.cn_wiring.specs.declared.end.End.{End};
 ghost use Rattle.cn_wiring.specs.declared.end.End.TheVariants.{Balancer, Exit};
 
+use crate::counting::Counting;
 use crate::end::End;
+use crate::kind::Kind;
 use crate::wiring::Wiring;
 use cn_spec::limits::{MOST_BALANCERS, MOST_ENDS};
 use std::alloc::{AllocError, Global};
@@ -48,7 +53,7 @@ impl Draft {
     pub fn new(alloc: Global, entries: u32) -> Result<Draft, AllocError>
         requires some { 1 ≤ entries }
         requires limit { entries ≤ MOST_ENDS }
-        ensures plan { IfOk result (λ d. d ≡ record { entries = entries; balancers = 0; ends = replicate entries None }) }
+        ensures plan { IfOk result (λ d. d ≡ entries_alone entries) }
         ensures loose { IfOk result (λ d. (w : ℕ) → loose d w ≡ times w (range_with_len 0 entries)) }
         ensures level { IfOk result (λ d. Each (HasLevel d 0) (range_with_len 0 entries)) }
     {
@@ -58,6 +63,21 @@ impl Draft {
             balancers: 0,
             ends: vec![in alloc; None; entries as usize]?,
         })
+    }
+
+    /// How many entries there are. They are wires 0 to `entries - 1`.
+    pub fn entries(&self) -> u32
+        ensures { result ≡ self.now.entries }
+    {
+        self.entries
+    }
+
+    /// How many balancers have been made.
+    pub fn balancers(&self) -> u32
+        ensures value { result ≡ self.now.balancers }
+        ensures limit { self.now.balancers ≤ MOST_BALANCERS }
+    {
+        self.balancers
     }
 
     /// A flow exists for all inputs and is the only one, and there is a path to each wire.
@@ -98,7 +118,7 @@ impl Draft {
     pub fn join(&mut self, u: u32, v: u32) -> Result<(u32, u32), AllocError>
         requires room { self.old.balancers < MOST_BALANCERS }
         requires both { AllLoose self.old (u ∷ v ∷ []) }
-        ensures wires { IfOk result (λ r. (r.0 ≡ self.old.entries + 2 * self.old.balancers) × (r.1 ≡ r.0 + 1)) }
+        ensures wires { IfOk result (λ r. (r.0 ≡ next_wire self.old) × (r.1 ≡ r.0 + 1)) }
         ensures plan { OnOk result (self.new ≡ with_balancer self.old (u ∷ v ∷ [])) }
         ensures built { IfOk result (λ r. Builds self.old self.new (u ∷ v ∷ []) (r.0 ∷ r.1 ∷ []) 1 1) }
         ensures halves { IfOk result (λ r. (f : ℕ → ℕ) → IsFlow self.new f → (f r.0 ≡ half (f u + f v) 0) × (f r.1 ≡ half (f u + f v) 1)) }
@@ -123,7 +143,7 @@ impl Draft {
     pub fn fork(&mut self, wire: u32) -> Result<(u32, u32), AllocError>
         requires room { self.old.balancers < MOST_BALANCERS }
         requires one { AllLoose self.old (wire ∷ []) }
-        ensures wires { IfOk result (λ r. (r.0 ≡ self.old.entries + 2 * self.old.balancers) × (r.1 ≡ r.0 + 1)) }
+        ensures wires { IfOk result (λ r. (r.0 ≡ next_wire self.old) × (r.1 ≡ r.0 + 1)) }
         ensures plan { OnOk result (self.new ≡ with_balancer self.old (wire ∷ [])) }
         ensures built { IfOk result (λ r. Builds self.old self.new (wire ∷ []) (r.0 ∷ r.1 ∷ []) 1 1) }
         ensures halves { IfOk result (λ r. (f : ℕ → ℕ) → IsFlow self.new f → (f r.0 ≡ half (f wire) 0) × (f r.1 ≡ half (f wire) 1)) }
@@ -150,7 +170,8 @@ impl Draft {
         requires same { length xs.now ≡ length ys.now }
         requires room { self.old.balancers + length xs.now ≤ MOST_BALANCERS }
         requires loose { AllLoose self.old (xs.now ++ ys.now) }
-        ensures wires { IfOk result (λ outs. outs.items ≡ range_with_len (self.old.entries + 2 * self.old.balancers) (2 * length xs.now)) }
+        ensures wires { IfOk result (λ outs. outs.items ≡ range_with_len (next_wire self.old) (2 * length xs.now)) }
+        ensures plan { OnOk result (self.new ≡ with_layer self.old xs.now ys.now) }
         ensures built { IfOk result (λ outs. Builds self.old self.new (xs.now ++ ys.now) outs.items 1 (length xs.now)) }
         ensures flow { IfOk result (λ outs. (f : ℕ → ℕ) → IsFlow self.new f → map f outs.items ≡ layer (map f xs.now) (map f ys.now)) }
     {
@@ -171,9 +192,8 @@ impl Draft {
     pub fn finish(self, exits: &[u32]) -> Result<Wiring, (Draft, AllocError)>
         requires count { (1 ≤ length exits.now) × (length exits.now ≤ MOST_ENDS) }
         requires each { (w : ℕ) → times w exits.now ≡ loose self w }
-        ensures table { IfOk result (λ t. (plan_of_table t ≡ self) × (t.width ≡ length exits.now)) }
+        ensures table { IfOk result (λ t. IsTableOf t (self, exits.now)) }
         ensures formed { IfOk result IsWellFormed }
-        ensures exits { IfOk result (λ t. EndsInOrder t exits.now) }
         ensures flow { IfOk result (λ t. (i : ℕ) (f : ℕ → ℕ) → i < length exits.now → sum_at t (Exit i) f ≡ f (slice_index exits.now i)) }
         ensures depth { IfOk result (λ t. (n : ℕ) → Each (HasLevel self n) exits.now → HasDepth t n) }
         ensures refused { IfErr result (λ e. e.0 ≡ self) }
@@ -183,6 +203,33 @@ impl Draft {
             Ok(ends) => Ok(Wiring::of_parts(self.entries, width, self.balancers, ends)),
             Err(error) => Err((self, error)),
         }
+    }
+
+    /// The finished counting network, in which wire `exits[i]` ends at exit `i`, and every path from an entry to an exit
+    /// passes `depth` balancers. There are 1 to [`MOST_ENDS`] exits, which name each loose wire once. In each flow of the
+    /// draft their counts have the step property (Aspnes, Herlihy, Shavit 1994, section 2.2).
+    ///
+    /// # Errors
+    /// `AllocError` where the list of ends gets no memory. The draft is handed back.
+    pub fn finish_counting(
+        self,
+        exits: &[u32],
+        kind: Kind,
+        depth: u32,
+    ) -> Result<Counting, (Draft, AllocError)>
+        requires count { (1 ≤ length exits.now) × (length exits.now ≤ MOST_ENDS) }
+        requires each { (w : ℕ) → times w exits.now ≡ loose self w }
+        requires counts { (f : ℕ → ℕ) → IsFlow self f → IsStep (map f exits.now) }
+        requires deep { Each (HasLevel self depth) exits.now }
+        ensures table { IfOk result (λ n. IsTableOf n.table (self, exits.now)) }
+        ensures named { IfOk result (λ n. (n.kind ≡ kind) × (n.depth ≡ depth)) }
+        ensures counts { IfOk result IsNetwork }
+        ensures draft { IfOk result (λ n. (f : ℕ → ℕ) → IsFullFlow n.table f → IsFlow self f) }
+        ensures exits { IfOk result (λ n. (f : ℕ → ℕ) → exit_flows n.table f ≡ map f exits.now) }
+        ensures refused { IfErr result (λ e. e.0 ≡ self) }
+    {
+        let wiring = self.finish(exits)?;
+        Ok(Counting::of(wiring, kind, depth))
     }
 }
 

@@ -1,5 +1,8 @@
 //! The kinds of counting network.
 
+ghost use Rattle.std.specs.Prelude.{◌≡◌};
+ghost use Rattle.cn_wiring.specs.Kinds.{kind_word};
+
 /// Which counting network it is.
 #[derive(Clone, Copy, Debug, PartialEq, Eq)]
 pub enum Kind {
@@ -9,4 +12,17 @@ pub enum Kind {
     Periodic,
     /// The counting tree of Shavit and Zemach (1996, section 2).
     Tree,
+}
+
+impl Kind {
+    /// The word for it, on the command line and in texts.
+    pub fn word(self) -> &'static str
+        ensures { result.now ≡ kind_word self }
+    {
+        match self {
+            Kind::Bitonic => "bitonic",
+            Kind::Periodic => "periodic",
+            Kind::Tree => "tree",
+        }
+    }
 }

@@ -22,8 +22,5 @@ pub use end::End;
 pub use fault::WiringFault;
 pub use kind::Kind;
 pub use row::wires_below;
-pub use width::is_width;
+pub use width::{is_width, level_of, width_of};
 pub use wiring::Wiring;
-
-#[cfg(test)]
-mod tests;

@@ -1,10 +1,12 @@
 //! The table of wire ends of a network.
 
-ghost use Rattle.std.specs.Prelude.{◌≡◌, ℕ, ◌+◌, ◌*◌, ◌<◌, slice_get, Some, Err, IfErr, IfOk};
+ghost use Rattle.std.specs.Prelude.{◌≡◌, ℕ, ◌+◌, ◌*◌, ◌<◌, ◌≤◌, ◌↔◌, List, length, slice_get, Some, Err, IfErr, IfOk};
 ghost use Rattle.cn_wiring.specs.declared.end.End.TheVariants.{Exit};
 ghost use Rattle.cn_spec.specs.Sums.{Agree, sum_below};
 ghost use Rattle.cn_wiring.specs.Faults.{IsFault};
-ghost use Rattle.cn_wiring.specs.Table.{IsFullFlow, IsWellFormed, Stands, Table, end_of, sum_at};
+ghost use Rattle.cn_wiring.specs.Plan.{IsFlow, IsPath};
+ghost use Rattle.cn_wiring.specs.Table.{IsFullFlow, IsWellFormed, Stands, Table, end_of, plan_of_table, sum_at};
+ghost use Rattle.cn_wiring.specs.declared.end.End.{End};
 
 use crate::end::End;
 use crate::fault::{WiringFault, check_ends};
@@ -108,13 +110,21 @@ impl Wiring {
         self.ends[wire as usize]
     }
 
-    /// A full flow exists for all inputs, is the only one, and keeps the sum.
+    /// The full flows of the table: one exists for all inputs, and only one. They are the flows of the table's draft. A full
+    /// flow keeps the sum, and brings each balancer and each exit at most what entered. Each wire has a path from an entry.
     ///
     /// It does nothing: its contract is the law.
     pub fn full_flow_laws(&self)
         ensures exists { (x : ℕ → ℕ) → (f : ℕ → ℕ) × IsFullFlow self.now f × Agree self.now.entries f x }
-        ensures unique { (f g : ℕ → ℕ) → IsFullFlow self.now f → IsFullFlow self.now g → Agree self.now.entries f g → Agree (self.now.entries + 2 * self.now.balancers) f g }
-        ensures sum { (f : ℕ → ℕ) → IsFullFlow self.now f → sum_below self.now.width (λ i. sum_at self.now (Exit i) f) ≡ sum_below self.now.entries f }
+        ensures unique { (f g : ℕ → ℕ) → IsFullFlow self.now f → IsFullFlow self.now g
+            → Agree self.now.entries f g → Agree (self.now.entries + 2 * self.now.balancers) f g }
+        ensures draft { (f : ℕ → ℕ) → IsFullFlow self.now f ↔ IsFlow (plan_of_table self.now) f }
+        ensures sum { (f : ℕ → ℕ) → IsFullFlow self.now f
+            → sum_below self.now.width (λ i. sum_at self.now (Exit i) f) ≡ sum_below self.now.entries f }
+        ensures few { (f : ℕ → ℕ) → IsFullFlow self.now f → (end : End) → Stands self.now end
+            → sum_at self.now end f ≤ sum_below self.now.entries f }
+        ensures paths { (u : ℕ) → u < length self.now.ends
+            → (us : List ℕ) × IsPath (plan_of_table self.now) u us }
     {
         let _ = &self.entries;
     }

@@ -9,11 +9,12 @@ use Rattle.std.proofs.lemmas.List.{length-append}
 use Rattle.cn_spec.specs.Sums.{once_below, times}
 use Rattle.cn_spec.specs.declared.limits.TheConstants.{MOST_TOKENS}
 use Rattle.cn_spec.proofs.CallerLemmas.{range_more, times-append, times-cons, times-nil}
-use Rattle.cn_yard.specs.declared.standing.Standing.{Standing}
+use Rattle.cn_yard.specs.declared.live.LiveRecord.{LiveRecord}
 use Rattle.cn_yard.specs.declared.yard.Yard.TheInside.{Inside}
-use Rattle.cn_yard.specs.Lists.{Admits, Moves, Releases, after, first_of, on, standing}
+use Rattle.cn_yard.specs.Lists.{Admits, IsThere, Moves, Releases, after, first_of, on, standing, times_in}
 use Rattle.cn_yard.specs.InsideYard.{IsYard, on_wire, place, yard_of}
-use Rattle.cn_yard.proofs.Moved.{All-push, All-remove, admits, length-push, length-remove, moves, releases, times-push, times-remove}
+use Rattle.cn_yard.proofs.Moved.{All-push, All-remove, admits, length-push, length-remove, moves, releases, times-push, times-remove, times-seen}
+use Rattle.cn_yard.proofs.There.{there}
 use Rattle.cn_yard.proofs.OnWires.{on_wire-after, place-out, times_of, token-at}
 use Rattle.cn_yard.proofs.Standings.{on-seen, place-standing, seen, standing-in}
 
@@ -29,11 +30,11 @@ pub once : (y : Inside) → IsYard y → (token : ℕ) → times_of token y.live
 once y is token = let n = is.numbers token in omega (arith, n, once-most (length y.live.items + length y.free.items) token)
 
 -- a token that stands in a yard has a place in its list
-pub placed : (y : Inside) → IsYard y → (token : ℕ) → IsSome (standing (yard_of y) token) → place token y.live.items < length y.live.items
-placed y is token stands = place-standing y.wires y.live.items (length y.free.items) token stands
+pub placed : (y : Inside) → IsYard y → (token : ℕ) → IsSome (standing (yard_of y).lists token) → place token y.live.items < length y.live.items
+placed y is token stands = place-standing y.wires y.live.items token stands
 
 -- its number is below that of all records
-pub number-below : (y : Inside) → IsYard y → (token : ℕ) → IsSome (standing (yard_of y) token) → token < length y.live.items + length y.free.items
+pub number-below : (y : Inside) → IsYard y → (token : ℕ) → IsSome (standing (yard_of y).lists token) → token < length y.live.items + length y.free.items
 number-below y is token stands =
     let all = length y.live.items + length y.free.items in
     elim (cases_lt token all) [
@@ -47,23 +48,34 @@ number-below y is token stands =
     ]
 
 -- and it stands where its place says
-pub stands_at : (y : Inside) → IsYard y → (token : ℕ) (s : Standing) → place token y.live.items < length y.live.items → s ≡ get_or y.live.items (place token y.live.items) s
-    → standing (yard_of y) token ≡ Some (s.wire, s.client)
+pub stands_at : (y : Inside) → IsYard y → (token : ℕ) (s : LiveRecord) → place token y.live.items < length y.live.items → s ≡ get_or y.live.items (place token y.live.items) s
+    → standing (yard_of y).lists token ≡ Some (s.wire, s.client)
 stands_at y is token s there at =
-    standing-in y.wires y.live.items (length y.free.items) token s is.on_wires (once y is token) there
-    ∙ ap (λ (x : Standing). Some (x.wire, x.client)) (sym at)
+    standing-in y.wires y.live.items token s is.on_wires (once y is token) there
+    ∙ ap (λ (x : LiveRecord). Some (x.wire, x.client)) (sym at)
 
-pub live-seen : (y : Inside) → IsYard y → (token : ℕ) → IsTrue (ltb (place token y.live.items) (length y.live.items)) ↔ IsSome (standing (yard_of y) token)
+-- and there it is, once and on no other wire
+pub once-seen : (y : Inside) → IsYard y → (token : ℕ) → times_in (yard_of y).lists token ≤ 1
+once-seen y is token = rw (times-seen y.wires y.live.items token is.on_wires) (once y is token)
+
+pub there-seen : (y : Inside) → IsYard y → (token client wire : ℕ) → standing (yard_of y).lists token ≡ Some (wire, client) → IsThere (yard_of y).lists token client wire
+there-seen y is token client wire stands = there (yard_of y).lists token client wire (once-seen y is token) stands
+
+pub there-at : (y : Inside) → IsYard y → (token : ℕ) (s : LiveRecord) → place token y.live.items < length y.live.items → s ≡ get_or y.live.items (place token y.live.items) s
+    → IsThere (yard_of y).lists token s.client s.wire
+there-at y is token s within at = there-seen y is token s.client s.wire (stands_at y is token s within at)
+
+pub live-seen : (y : Inside) → IsYard y → (token : ℕ) → IsTrue (ltb (place token y.live.items) (length y.live.items)) ↔ IsSome (standing (yard_of y).lists token)
 live-seen y is token = (there y.live.items refl, λ stands. let within = placed y is token stands in grind (arith, nat_tests))
   where
     some : {o : Option (ℕ × ℕ)} {x : ℕ × ℕ} → o ≡ Some x → IsSome o
     some e = rw e refl
 
-    there : (items : List Standing) → y.live.items ≡ items → IsTrue (ltb (place token y.live.items) (length y.live.items)) → IsSome (standing (yard_of y) token)
+    there : (items : List LiveRecord) → y.live.items ≡ items → IsTrue (ltb (place token y.live.items) (length y.live.items)) → IsSome (standing (yard_of y).lists token)
     there [] e h = absurd (let none : IsTrue (ltb (place token []) 0) = rw e at h in grind (arith, nat_tests))
     there (s ∷ items) e h =
         let within : place token y.live.items < length y.live.items = grind (arith, nat_tests) in
-        some (standing-in y.wires y.live.items (length y.free.items) token s is.on_wires (once y is token) within)
+        some (standing-in y.wires y.live.items token s is.on_wires (once y is token) within)
 
 -- ---- a token comes
 
@@ -119,7 +131,7 @@ number-made y z n is wires live none none' number few room_live room_free = reco
     next k m n e {c} h = grind (arith, nat_tests)
 
 -- then a token with this number can stand on each wire
-pub admitted : (z w : Inside) (n : ℕ) (s : Standing) → HasNumber z n → s.token ≡ n → s.wire < z.wires → w.wires ≡ z.wires → w.live.items ≡ z.live.items ++ s ∷ [] → vec_capacity w.live ≡ vec_capacity z.live → w.free ≡ z.free → IsYard w
+pub admitted : (z w : Inside) (n : ℕ) (s : LiveRecord) → HasNumber z n → s.token ≡ n → s.wire < z.wires → w.wires ≡ z.wires → w.live.items ≡ z.live.items ++ s ∷ [] → vec_capacity w.live ≡ vec_capacity z.live → w.free ≡ z.free → IsYard w
 admitted z w n s has token within wires live capacity free =
     let more : length w.live.items ≡ length z.live.items + 1 = ap length live ∙ length-push z.live.items s in
     record {
@@ -143,7 +155,7 @@ not_there z n has =
 
 -- ---- a token moves or goes
 
-pub moved : (y w : Inside) (token : ℕ) (s : Standing) → IsYard y → place token y.live.items < length y.live.items → s.token ≡ token → s.wire < y.wires
+pub moved : (y w : Inside) (token : ℕ) (s : LiveRecord) → IsYard y → place token y.live.items < length y.live.items → s.token ≡ token → s.wire < y.wires
     → w.wires ≡ y.wires → w.live.items ≡ remove y.live.items (place token y.live.items) ++ s ∷ [] → vec_capacity w.live ≡ vec_capacity y.live → w.free ≡ y.free → IsYard w
 moved y w token s is there its within wires live capacity free =
     let left = remove y.live.items (place token y.live.items) in
@@ -162,7 +174,7 @@ moved y w token s is there its within wires live capacity free =
       room_free = let room = is.room_free in rw (many, free) room;
     }
 
-pub released : (y w : Inside) (token : ℕ) (d : Standing) → IsYard y → place token y.live.items < length y.live.items
+pub released : (y w : Inside) (token : ℕ) (d : LiveRecord) → IsYard y → place token y.live.items < length y.live.items
     → w.wires ≡ y.wires → w.live.items ≡ remove y.live.items (place token y.live.items) → vec_capacity w.live ≡ vec_capacity y.live → w.free.items ≡ y.free.items ++ token ∷ [] → vec_capacity w.free ≡ vec_capacity y.free → IsYard w
 released y w token d is there wires live capacity free capacity' =
     let left = remove y.live.items (place token y.live.items) in
@@ -216,16 +228,16 @@ reserved y w n is wires live free few room_live room_free =
 
 -- ---- what the changes are, as callers see them
 
-pub admits-of : (y z w : Inside) (n : ℕ) (s : Standing) → HasNumber z n → s.token ≡ n → s.wire < z.wires → y.wires ≡ z.wires → y.live.items ≡ z.live.items
+pub admits-of : (y z w : Inside) (n : ℕ) (s : LiveRecord) → HasNumber z n → s.token ≡ n → s.wire < z.wires → y.wires ≡ z.wires → y.live.items ≡ z.live.items
     → w.wires ≡ z.wires → w.live.items ≡ z.live.items ++ s ∷ [] → length w.free.items ≡ length y.free.items - 1
     → Admits (yard_of y) (yard_of w) s.token s.client s.wire
 admits-of y z w n s has token within wires live wires' live' spare =
     rw (wires, live, wires', live') (admits z.wires z.live.items (length y.free.items) (length w.free.items) s has.on_wires within (rw token (not_there z n has)) spare)
 
-pub moves-of : (y w : Inside) (token : ℕ) (s d : Standing) → IsYard y → place token y.live.items < length y.live.items → s.token ≡ token → s.wire < y.wires
+pub moves-of : (y w : Inside) (token : ℕ) (s d : LiveRecord) → IsYard y → place token y.live.items < length y.live.items → s.token ≡ token → s.wire < y.wires
     → s.client ≡ (get_or y.live.items (place token y.live.items) d).client
     → w.wires ≡ y.wires → w.live.items ≡ remove y.live.items (place token y.live.items) ++ s ∷ [] → w.free ≡ y.free
-    → (from client : ℕ) → standing (yard_of y) token ≡ Some (from, client) → Moves (yard_of y) (yard_of w) token client s.wire
+    → (from client : ℕ) → standing (yard_of y).lists token ≡ Some (from, client) → Moves (yard_of y) (yard_of w) token client s.wire
 moves-of y w token s d is there its within who wires live free from client stands =
     let k = length y.free.items in
     let all =
@@ -240,16 +252,16 @@ releases-of y w token is there wires live free =
     rw (wires, live) (releases y.wires y.live.items (length y.free.items) (length w.free.items) token is.on_wires (once y is token) there (ap length free ∙ length-last token y.free.items))
 
 -- the token after a token that stands at its place
-pub after-seen : (y : Inside) → IsYard y → (token : ℕ) (s : Standing) (wire client : ℕ) → place token y.live.items < length y.live.items → s ≡ get_or y.live.items (place token y.live.items) s
-    → standing (yard_of y) token ≡ Some (wire, client) → first_of (on_wire s.wire (drop (place token y.live.items + 1) y.live.items)) ≡ after token (on (yard_of y) wire)
+pub after-seen : (y : Inside) → IsYard y → (token : ℕ) (s : LiveRecord) (wire client : ℕ) → place token y.live.items < length y.live.items → s ≡ get_or y.live.items (place token y.live.items) s
+    → standing (yard_of y).lists token ≡ Some (wire, client) → first_of (on_wire s.wire (drop (place token y.live.items + 1) y.live.items)) ≡ after token (on (yard_of y).lists wire)
 after-seen y is token s wire client there at stands =
     let items = y.live.items in
     let known = stands_at y is token s there at in
     let same : wire ≡ s.wire = first-of-pair (sym stands ∙ known) in
     let within : s.wire < y.wires = let w = is.on_wires (place token items) s there in rw (← at) at w in
     let next : place token items + 1 ≡ suc (place token items) = omega arith in
-    rw (same, on-seen y.wires items (length y.free.items) s.wire within, next)
-    (subst (λ (x : Standing). first_of (on_wire x.wire (drop (suc (place token items)) items)) ≡ after token (on_wire x.wire items)) (sym at) (on_wire-after token items s there))
+    rw (same, on-seen y.wires items s.wire within, next)
+    (subst (λ (x : LiveRecord). first_of (on_wire x.wire (drop (suc (place token items)) items)) ≡ after token (on_wire x.wire items)) (sym at) (on_wire-after token items s there))
   where
     first-of-pair : {a b : ℕ × ℕ} → Some a ≡ Some b → a.0 ≡ b.0
     first-of-pair h = cc

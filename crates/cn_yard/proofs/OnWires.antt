@@ -8,29 +8,29 @@ use Rattle.std.proofs.lemmas.Bool.Decides.{nat_tests}
 use Rattle.std.proofs.lemmas.List.Sums.{sum_by-cons}
 use Rattle.cn_spec.specs.Sums.{sum_below}
 use Rattle.cn_spec.proofs.CallerLemmas.{sum_below-change, sum_below-zero}
-use Rattle.cn_yard.specs.declared.standing.Standing.{Standing}
+use Rattle.cn_yard.specs.declared.live.LiveRecord.{LiveRecord}
 use Rattle.cn_yard.specs.Lists.{after, first_of, last_on, without}
 use Rattle.cn_yard.specs.InsideYard.{on_wire, place}
 
 -- how often a token stands in a list
-abbrev pub times_of : ℕ → List Standing → ℕ
+abbrev pub times_of : ℕ → List LiveRecord → ℕ
 times_of token items = count_by (λ s. nat_eq token s.token) items
 
-pub times_of-cons : (token : ℕ) (s : Standing) (items : List Standing) → times_of token (s ∷ items) ≡ cond (nat_eq token s.token) 1 0 + times_of token items
+pub times_of-cons : (token : ℕ) (s : LiveRecord) (items : List LiveRecord) → times_of token (s ∷ items) ≡ cond (nat_eq token s.token) 1 0 + times_of token items
 times_of-cons token s items = sum_by-cons (λ x. cond (nat_eq token x.token) 1 0) s items
 
 -- a token that stands there has a place, and it stands at its place
-pub place-in : (token : ℕ) (items : List Standing) → 1 ≤ times_of token items → place token items < length items
+pub place-in : (token : ℕ) (items : List LiveRecord) → 1 ≤ times_of token items → place token items < length items
 unfolding place
 place-in token [] h = absurd (omega arith)
 place-in token (s ∷ items) h = grind (arith, nat_tests, place-in token items, times_of-cons token s items)
 
-pub place-out : (token : ℕ) (items : List Standing) → times_of token items ≡ 0 → place token items ≡ length items
+pub place-out : (token : ℕ) (items : List LiveRecord) → times_of token items ≡ 0 → place token items ≡ length items
 unfolding place
 place-out token [] h = refl
 place-out token (s ∷ items) h = grind (arith, nat_tests, place-out token items, times_of-cons token s items)
 
-pub token-at : (token : ℕ) (items : List Standing) (d : Standing) → place token items < length items → (get_or items (place token items) d).token ≡ token
+pub token-at : (token : ℕ) (items : List LiveRecord) (d : LiveRecord) → place token items < length items → (get_or items (place token items) d).token ≡ token
 unfolding place
 token-at token [] d h = absurd (omega arith)
 token-at token (s ∷ items) d h = by (nat_eq token s.token) refl h (token-at token items d)
@@ -43,7 +43,7 @@ token-at token (s ∷ items) d h = by (nat_eq token s.token) refl h (token-at to
 
 -- ---- a wire's tokens
 
-pub on_wire-push : (u : ℕ) (items : List Standing) (s : Standing) → on_wire u (items ++ s ∷ []) ≡ on_wire u items ++ last_on s.token s.client s.wire u
+pub on_wire-push : (u : ℕ) (items : List LiveRecord) (s : LiveRecord) → on_wire u (items ++ s ∷ []) ≡ on_wire u items ++ last_on s.token s.client s.wire u
 unfolding on_wire
 on_wire-push u [] s = by (eqb s.wire u)
   where
@@ -58,18 +58,18 @@ on_wire-push u (x ∷ items) s = by (eqb x.wire u) (on_wire-push u items s)
     by false rest = rest
 
 -- a token that does not stand there is on no wire
-pub lookup-out : (token u : ℕ) (items : List Standing) → times_of token items ≡ 0 → lookup (nat_eq token) (on_wire u items) ≡ None
+pub lookup-out : (token u : ℕ) (items : List LiveRecord) → times_of token items ≡ 0 → lookup (nat_eq token) (on_wire u items) ≡ None
 unfolding on_wire
 lookup-out token u [] h = refl
 lookup-out token u (s ∷ items) h = grind (arith, nat_tests, lookup-out token u items, times_of-cons token s items)
 
-pub without-out : (token u : ℕ) (items : List Standing) → times_of token items ≡ 0 → without token (on_wire u items) ≡ on_wire u items
+pub without-out : (token u : ℕ) (items : List LiveRecord) → times_of token items ≡ 0 → without token (on_wire u items) ≡ on_wire u items
 unfolding on_wire
 without-out token u [] h = refl
 without-out token u (s ∷ items) h = grind (arith, nat_tests, without-out token u items, times_of-cons token s items)
 
 -- a token that stands there is on its wire, with its client, and on no other
-pub lookup-here : (token : ℕ) (items : List Standing) (d : Standing) → times_of token items ≤ 1 → place token items < length items
+pub lookup-here : (token : ℕ) (items : List LiveRecord) (d : LiveRecord) → times_of token items ≤ 1 → place token items < length items
     → lookup (nat_eq token) (on_wire (get_or items (place token items) d).wire items) ≡ Some (get_or items (place token items) d).client
 unfolding on_wire place
 lookup-here token [] d one h = absurd (omega arith)
@@ -83,7 +83,7 @@ lookup-here token (s ∷ items) d one h = by (nat_eq token s.token) refl h (look
         let there = rest (omega (arith, one, times_of-cons token s items)) (omega arith) in
         grind (arith, nat_tests)
 
-pub lookup-elsewhere : (token u : ℕ) (items : List Standing) (d : Standing) → times_of token items ≤ 1 → place token items < length items
+pub lookup-elsewhere : (token u : ℕ) (items : List LiveRecord) (d : LiveRecord) → times_of token items ≤ 1 → place token items < length items
     → u ≢ (get_or items (place token items) d).wire → lookup (nat_eq token) (on_wire u items) ≡ None
 unfolding on_wire place
 lookup-elsewhere token u [] d one h n = absurd (omega arith)
@@ -101,7 +101,7 @@ lookup-elsewhere token u (s ∷ items) d one h n = by (nat_eq token s.token) ref
         grind (arith, nat_tests)
 
 -- taking a token out of its place takes it off its wire
-pub on_wire-remove : (token u : ℕ) (items : List Standing) → times_of token items ≤ 1 → on_wire u (remove items (place token items)) ≡ without token (on_wire u items)
+pub on_wire-remove : (token u : ℕ) (items : List LiveRecord) → times_of token items ≤ 1 → on_wire u (remove items (place token items)) ≡ without token (on_wire u items)
 unfolding on_wire place
 on_wire-remove token u [] one = refl
 on_wire-remove token u (s ∷ items) one = by (nat_eq token s.token) refl (on_wire-remove token u items)
@@ -116,7 +116,7 @@ on_wire-remove token u (s ∷ items) one = by (nat_eq token s.token) refl (on_wi
         grind (arith, nat_tests)
 
 -- the tokens after a token, of its wire
-pub on_wire-after : (token : ℕ) (items : List Standing) (d : Standing) → place token items < length items
+pub on_wire-after : (token : ℕ) (items : List LiveRecord) (d : LiveRecord) → place token items < length items
     → first_of (on_wire (get_or items (place token items) d).wire (drop (suc (place token items)) items)) ≡ after token (on_wire (get_or items (place token items) d).wire items)
 unfolding on_wire place after
 on_wire-after token [] d h = absurd (omega arith)
@@ -132,13 +132,13 @@ on_wire-after token (s ∷ items) d h = by (nat_eq token s.token) refl h (on_wir
         grind (arith, nat_tests)
 
 -- how many tokens stand on a wire
-pub length-on_wire : (u : ℕ) (items : List Standing) → length (on_wire u items) ≡ count_by (λ s. eqb s.wire u) items
+pub length-on_wire : (u : ℕ) (items : List LiveRecord) → length (on_wire u items) ≡ count_by (λ s. eqb s.wire u) items
 unfolding on_wire
 length-on_wire u [] = refl
 length-on_wire u (s ∷ items) = grind (arith, nat_tests, length-on_wire u items, sum_by-cons (λ x. cond (eqb x.wire u) 1 0) s items)
 
 -- below the least wire there is nobody
-pub on_wire-below : (wire u : ℕ) (items : List Standing) → All (λ s. wire ≤ s.wire) items → u < wire → on_wire u items ≡ []
+pub on_wire-below : (wire u : ℕ) (items : List LiveRecord) → All (λ s. wire ≤ s.wire) items → u < wire → on_wire u items ≡ []
 unfolding on_wire
 on_wire-below wire u [] all h = refl
 on_wire-below wire u (s ∷ items) all h =
@@ -146,7 +146,7 @@ on_wire-below wire u (s ∷ items) all h =
     let rest = on_wire-below wire u items (λ k d l. all (suc k) d (omega arith)) h in
     grind (arith, nat_tests)
 
-pub on_wire-some : (wire : ℕ) (items : List Standing) (i : ℕ) (d : Standing) → i < length items → (get_or items i d).wire ≡ wire → 1 ≤ length (on_wire wire items)
+pub on_wire-some : (wire : ℕ) (items : List LiveRecord) (i : ℕ) (d : LiveRecord) → i < length items → (get_or items i d).wire ≡ wire → 1 ≤ length (on_wire wire items)
 unfolding on_wire
 on_wire-some wire [] i d h e = absurd (omega arith)
 on_wire-some wire (s ∷ items) zero d h e = grind (arith, nat_tests)
@@ -156,7 +156,7 @@ on_wire-some wire (s ∷ items) (suc i) d h e = let rest = on_wire-some wire ite
 
 -- a measure of lists that adds up over their members, over the lists of all wires
 pub sum_wires : (wires : ℕ) (F : List (ℕ × ℕ) → ℕ) (f : ℕ × ℕ → ℕ) → F [] ≡ 0 → ((e : ℕ × ℕ) (es : List (ℕ × ℕ)) → F (e ∷ es) ≡ f e + F es)
-    → (items : List Standing) → All (λ s. s.wire < wires) items → sum_below wires (λ u. F (on_wire u items)) ≡ sum_by (λ s. f (s.token, s.client)) items
+    → (items : List LiveRecord) → All (λ s. s.wire < wires) items → sum_below wires (λ u. F (on_wire u items)) ≡ sum_by (λ s. f (s.token, s.client)) items
 unfolding on_wire
 sum_wires wires F f none more [] on = sum_below-zero wires (λ u. F []) (λ u. none)
 sum_wires wires F f none more (s ∷ items) on =
@@ -169,12 +169,12 @@ sum_wires wires F f none more (s ∷ items) on =
     one u = let here = more (s.token, s.client) (on_wire u items) in grind (arith, nat_tests)
 
 -- the place, as a search for it tells
-pub place-le : (token : ℕ) (items : List Standing) → place token items ≤ length items
+pub place-le : (token : ℕ) (items : List LiveRecord) → place token items ≤ length items
 unfolding place
 place-le token [] = omega arith
 place-le token (s ∷ items) = grind (arith, nat_tests, place-le token items)
 
-pub place-position : (token : ℕ) (items : List Standing) → unwrap_or (position (λ s. nat_eq token s.token) items) (length items) ≡ place token items
+pub place-position : (token : ℕ) (items : List LiveRecord) → unwrap_or (position (λ s. nat_eq token s.token) items) (length items) ≡ place token items
 unfolding place
 place-position token items =
     let same = is_position_or_len (place token) (λ s. nat_eq token s.token) refl (λ s rest. cons (nat_eq token s.token) (place token rest)) items in

@@ -3,22 +3,22 @@ use Rattle.std.specs.Prelude.{◌≡◌, ℕ, suc, ◌+◌, ◌<◌, ◌≤◌, 
 use Rattle.std.specs.List.{range_with_len}
 use Rattle.cn_spec.specs.Sums.{times, once_below}
 use Rattle.cn_spec.specs.declared.limits.TheConstants.{MOST_TOKENS}
-use Rattle.cn_yard.specs.declared.standing.Standing.{Standing}
+use Rattle.cn_yard.specs.declared.live.LiveRecord.{LiveRecord}
 use Rattle.cn_yard.specs.declared.yard.Yard.TheInside.{Inside}
 use Rattle.cn_yard.specs.Lists.{Yard}
 
 -- the tokens of a list that stand on a wire, in order, each with its client
-unfoldable pub on_wire : ℕ → List Standing → List (ℕ × ℕ)
+unfoldable pub on_wire : ℕ → List LiveRecord → List (ℕ × ℕ)
 on_wire wire [] = []
 on_wire wire (s ∷ rest) = if s.wire == wire then (s.token, s.client) ∷ on_wire wire rest else on_wire wire rest
 
 -- the place of a token in a list, or the list's length
-unfoldable pub place : ℕ → List Standing → ℕ
+unfoldable pub place : ℕ → List LiveRecord → ℕ
 place token [] = 0
 place token (s ∷ rest) = if nat_eq token s.token then 0 else suc (place token rest)
 
 -- the lists of all wires
-abbrev pub lists_of : ℕ → List Standing → List (List (ℕ × ℕ))
+abbrev pub lists_of : ℕ → List LiveRecord → List (List (ℕ × ℕ))
 lists_of wires list = map (λ wire. on_wire wire list) (range_with_len 0 wires)
 
 abbrev pub yard_of : Inside → Yard

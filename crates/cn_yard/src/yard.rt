@@ -2,9 +2,9 @@
 
 ghost use Rattle.std.specs.Prelude.{◌≡◌, ℕ, ◌+◌, ◌<◌, ◌≤◌, ◌↔◌, max, None, Some, length, IfOk, OnOk, OnErr, IsOk, IfSome, IsSome, IsTrue, []};
 ghost use Rattle.cn_spec.specs.declared.limits.TheConstants.{MOST_TOKENS};
-ghost use Rattle.cn_yard.specs.Lists.{Admits, IsLowest, Moves, Releases, after, empty, first_of, on, standing, times_in, tokens_in};
+ghost use Rattle.cn_yard.specs.Lists.{Admits, IsLowest, IsThere, Moves, Releases, after, empty, first_of, on, standing, times_in, tokens_in};
 
-use crate::standing::{Standing, count_on, first_on, least_wire, place_of, push_numbers};
+use crate::live::{LiveRecord, count_on, first_on, least_wire, place_of, push_numbers};
 use crate::token::Token;
 use cn_spec::limits::MOST_TOKENS;
 use std::alloc::{AllocError, Global};
@@ -18,7 +18,7 @@ use std::marker::Model;
 #[derive(Drop)]
 pub struct Yard {
     wires: u32,
-    live: Vec<Standing>,
+    live: Vec<LiveRecord>,
     free: Vec<u32>,
 }
 
@@ -40,7 +40,7 @@ impl Yard {
     /// `AllocError` where the wires get no memory.
     pub fn new(alloc: Global, wires: u32) -> Result<Self, AllocError>
         ensures yard { IfOk result (λ yard. yard ≡ empty wires) }
-        ensures nobody { IfOk result (λ yard. tokens_in yard ≡ 0) }
+        ensures nobody { IfOk result (λ yard. tokens_in yard.lists ≡ 0) }
     {
         Ok(Yard {
             wires,
@@ -55,9 +55,9 @@ impl Yard {
     /// # Errors
     /// `AllocError` where there are fewer and the others get no memory. Then nothing has changed.
     pub fn reserve(&mut self, records: u32) -> Result<(), AllocError>
-        requires { tokens_in self.old + records ≤ MOST_TOKENS }
+        requires { tokens_in self.old.lists + records ≤ MOST_TOKENS }
         ensures lists { self.new.lists ≡ self.old.lists }
-        ensures tokens { tokens_in self.new ≡ tokens_in self.old }
+        ensures tokens { tokens_in self.new.lists ≡ tokens_in self.old.lists }
         ensures ok { OnOk result (self.new.spare ≡ max records self.old.spare) }
         ensures err { OnErr result (self.new ≡ self.old) }
         ensures enough { records ≤ self.old.spare → IsOk result }
@@ -73,6 +73,21 @@ impl Yard {
         Ok(())
     }
 
+    /// What holds of each yard: a token stands there at most once, and one that stands there is on one wire alone, for one
+    /// client. Each token is the number of a record; the records, live and free, are numbered from 0 and at most
+    /// [`MOST_TOKENS`].
+    ///
+    /// It does nothing: its contract is the law.
+    pub fn yard_laws(&self)
+        ensures once { (token : ℕ) → times_in self.now.lists token ≤ 1 }
+        ensures there { (token client wire : ℕ) → standing self.now.lists token ≡ Some (wire, client) → IsThere self.now.lists token client wire }
+        ensures numbers { (token : ℕ) → IsSome (standing self.now.lists token) → token < tokens_in self.now.lists + self.now.spare }
+        ensures few { tokens_in self.now.lists + self.now.spare ≤ MOST_TOKENS }
+    {
+        // Reads the yard: what it keeps is known of a yard that is read.
+        let _wires = self.wires;
+    }
+
     /// A token for a client, last on `wire`, which is below [`Yard::wires`]. It takes a free record where there is one,
     /// and then no memory. [`Yard::len`] is below [`MOST_TOKENS`] before.
     ///
@@ -80,7 +95,7 @@ impl Yard {
     /// `AllocError` where there is no free record and a new one gets no memory. Then nothing has changed.
     pub fn admit(&mut self, client: u64, wire: u32) -> Result<Token, AllocError>
         requires wire { wire < length self.old.lists }
-        requires room { tokens_in self.old < MOST_TOKENS }
+        requires room { tokens_in self.old.lists < MOST_TOKENS }
         ensures ok { IfOk result (λ token. Admits self.old self.new token client wire) }
         ensures err { OnErr result (self.new ≡ self.old) }
         ensures reserved { 0 < self.old.spare → IsOk result }
@@ -94,7 +109,7 @@ impl Yard {
             }
         };
         let token = Token::of(number);
-        self.live.push_reserved(Standing {
+        self.live.push_reserved(LiveRecord {
             token,
             client,
             wire,
@@ -105,20 +120,20 @@ impl Yard {
     /// Takes a token that stands in the yard ([`Yard::is_live`]) out of its place and puts it last on `wire`, which is
     /// below [`Yard::wires`] and may be the one on which it stands.
     pub fn move_to(&mut self, token: Token, wire: u32)
-        requires live { IsSome (standing self.old token) }
+        requires live { IsSome (standing self.old.lists token) }
         requires wire { wire < length self.old.lists }
-        ensures { (from client : ℕ) → standing self.old token ≡ Some (from, client) → Moves self.old self.new token client wire }
+        ensures { (from client : ℕ) → standing self.old.lists token ≡ Some (from, client) → Moves self.old self.new token client wire }
     {
         let place = place_of(&self.live, token);
         let moved = self.live.remove(place);
-        self.live.push_reserved(Standing { wire, ..moved });
+        self.live.push_reserved(LiveRecord { wire, ..moved });
     }
 
     /// Takes a token that stands in the yard ([`Yard::is_live`]) off its wire, and gives its client. Its record is free
     /// afterwards.
     pub fn release(&mut self, token: Token) -> u64
-        requires { IsSome (standing self.old token) }
-        ensures client { (wire : ℕ) × (standing self.old token ≡ Some (wire, result)) }
+        requires { IsSome (standing self.old.lists token) }
+        ensures client { (wire : ℕ) × IsThere self.old.lists token result wire }
         ensures released { Releases self.old self.new token }
     {
         let place = place_of(&self.live, token);
@@ -130,15 +145,15 @@ impl Yard {
     /// The first token on `wire`, which is below [`Yard::wires`], if one stands there.
     pub fn first(&self, wire: u32) -> Option<Token>
         requires { wire < length self.now.lists }
-        ensures { result ≡ first_of (on self.now wire) }
+        ensures { result ≡ first_of (on self.now.lists wire) }
     {
         first_on(&self.live, wire)
     }
 
     /// The token after `token`, which stands in the yard, on its wire, if it is not the last there.
     pub fn next(&self, token: Token) -> Option<Token>
-        requires { IsSome (standing self.now token) }
-        ensures { (wire client : ℕ) → standing self.now token ≡ Some (wire, client) → result ≡ after token (on self.now wire) }
+        requires { IsSome (standing self.now.lists token) }
+        ensures { (wire client : ℕ) → standing self.now.lists token ≡ Some (wire, client) → result ≡ after token (on self.now.lists wire) }
     {
         let place = place_of(&self.live, token);
         let wire = self.live[place].wire;
@@ -148,8 +163,8 @@ impl Yard {
 
     /// The least wire on which a token stands, if one does.
     pub fn lowest(&self) -> Option<u32>
-        ensures some { IfSome result (λ wire. IsLowest self.now wire) }
-        ensures none { result ≡ None → (wire : ℕ) → on self.now wire ≡ [] }
+        ensures some { IfSome result (λ wire. IsLowest self.now.lists wire) }
+        ensures none { result ≡ None → (wire : ℕ) → on self.now.lists wire ≡ [] }
     {
         least_wire(&self.live)
     }
@@ -157,25 +172,21 @@ impl Yard {
     /// How many tokens stand on `wire`, which is below [`Yard::wires`].
     pub fn count(&self, wire: u32) -> u32
         requires { wire < length self.now.lists }
-        ensures { result ≡ length (on self.now wire) }
+        ensures { result ≡ length (on self.now.lists wire) }
     {
         count_on(&self.live, wire) as u32
     }
 
-    /// How many tokens stand in the yard. None stands there twice, and each is the number of a record: the records, live
-    /// and free, are numbered from 0 and at most [`MOST_TOKENS`].
+    /// How many tokens stand in the yard.
     pub fn len(&self) -> u32
-        ensures value { result ≡ tokens_in self.now }
-        ensures few { tokens_in self.now + self.now.spare ≤ MOST_TOKENS }
-        ensures once { (token : ℕ) → times_in self.now token ≤ 1 }
-        ensures numbers { (token : ℕ) → IsSome (standing self.now token) → token < tokens_in self.now + self.now.spare }
+        ensures { result ≡ tokens_in self.now.lists }
     {
         self.live.len() as u32
     }
 
     /// Whether no token stands in the yard.
     pub fn is_empty(&self) -> bool
-        ensures { IsTrue result ↔ (tokens_in self.now ≡ 0) }
+        ensures { IsTrue result ↔ (tokens_in self.now.lists ≡ 0) }
     {
         self.live.is_empty()
     }
@@ -196,28 +207,24 @@ impl Yard {
 
     /// The wire of a token that stands in the yard.
     pub fn wire_of(&self, token: Token) -> u32
-        requires { IsSome (standing self.now token) }
-        ensures there { (client : ℕ) × (standing self.now token ≡ Some (result, client)) }
-        ensures within { result < length self.now.lists }
+        requires { IsSome (standing self.now.lists token) }
+        ensures { (client : ℕ) × IsThere self.now.lists token client result }
     {
         self.live[place_of(&self.live, token)].wire
     }
 
     /// The client of a token that stands in the yard.
     pub fn client_of(&self, token: Token) -> u64
-        requires { IsSome (standing self.now token) }
-        ensures { (wire : ℕ) × (standing self.now token ≡ Some (wire, result)) }
+        requires { IsSome (standing self.now.lists token) }
+        ensures { (wire : ℕ) × IsThere self.now.lists token result wire }
     {
         self.live[place_of(&self.live, token)].client
     }
 
     /// Whether a token stands in the yard.
     pub fn is_live(&self, token: Token) -> bool
-        ensures { IsTrue result ↔ IsSome (standing self.now token) }
+        ensures { IsTrue result ↔ IsSome (standing self.now.lists token) }
     {
         place_of(&self.live, token) < self.live.len()
     }
 }
-
-#[cfg(test)]
-mod tests;

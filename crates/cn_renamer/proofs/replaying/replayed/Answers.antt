@@ -4,8 +4,8 @@ use Rattle.cn_wiring.specs.Network.{Network}
 use Rattle.cn_core.specs.declared.event.Event.{Event}
 use Rattle.cn_core.specs.History.{enters_of, inside_of}
 use Rattle.cn_epoch.specs.Turns.{HadMemory, grown_by, turns_by}
-use Rattle.cn_report.specs.ReplayText.{IsWhole}
-use Rattle.cn_renamer.proofs.Replies.{fits_all, whole_all}
+use Rattle.cn_report.specs.Writing.Replay.{IsWhole}
+use Rattle.cn_report.proofs.CallerLemmas.{fits_all, whole_all}
 use Rattle.cn_renamer.proofs.replaying.replayed.Goals as goal
 
 pub render_replay-requires-clause-fit : goal.render_replay-requires-clause-fit

@@ -18,5 +18,5 @@ returns-clause-walked c client found =
 pub returns-clause-wires : goal.returns-clause-wires
 returns-clause-wires c =
     let (client, found) = rw (← c.self.view_is) at c.requires.walking in
-    let (from, stands) = stands-for c.self.inside.yard c.self.inside.names client c.args.token c.self.invariant.stand found in
+    let (from, stands) = stands-for c.self.inside.yard.lists c.self.inside.names client c.args.token c.self.invariant.stand found in
     rw (← c.self.view_is) (c.move_to.ensures from client stands).wires

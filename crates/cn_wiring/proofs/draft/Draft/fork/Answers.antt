@@ -1,4 +1,5 @@
 use Rattle.std.proofs.Common.{◌≡◌, ◌<◌, [], ◌∷◌, ◌++◌, length, set, Some, None, arith, rules, sym, ap}
+use Rattle.cn_spec.specs.declared.limits.TheConstants.{MOST_BALANCERS}
 use Rattle.cn_wiring.specs.Plan.{AllLoose}
 use Rattle.cn_wiring.specs.InsideDraft.{plan_of}
 use Rattle.cn_wiring.proofs.Join.{one_stands, builds-grown, orderly-grown, halves-forked, flow-unforked}
@@ -15,7 +16,7 @@ pub invariant_of-self-2 : goal.invariant_of-self-2
 invariant_of-self-2 c =
     let items : c.push-2.new.self.items ≡ (set c.self.inside.ends.items c.args.wire (Some c.self.inside.balancers) ++ None ∷ []) ++ None ∷ [] = search rules in
     let both : AllLoose (plan_of c.self.inside) (c.args.wire ∷ []) = rw (← c.self.view_is) at c.requires.one in
-    let room : c.self.inside.balancers < 65536 = rw (← c.self.view_is) at c.requires.room in
+    let room : c.self.inside.balancers < MOST_BALANCERS = rw (← c.self.view_is) at c.requires.room in
     rw items (orderly-grown (plan_of c.self.inside) (c.args.wire ∷ []) c.self.invariant both room (omega arith, omega arith))
 
 pub returns-clause-built : goal.returns-clause-built

@@ -21,7 +21,7 @@ numbered c =
       | in-None+in_ok-reserve-in-None+in_ok-reserve-in-None-2 w ↦
           let none : y.free.items ≡ [] = nil y.free.items (let e = w.in-None.ensures.cases.0 in omega arith) in
           let popped : c.pop.new.self.items ≡ [] = nil c.pop.new.self.items (let e = ap length (sym w.in-None.ensures.items) in let f = ap length none in omega arith) in
-          let few = rw (← c.self.view_is, tokens-seen y.wires y.live.items (length y.free.items) c.self.invariant.on_wires) at c.requires.room in
+          let few = rw (← c.self.view_is, tokens-seen y.wires y.live.items c.self.invariant.on_wires) at c.requires.room in
           let same = w.reserve.ensures.len in
           let number : w.len-in-None.result ≡ length y.live.items = w.len-in-None.ensures ∙ same ∙ counted in
           let room = w.in_ok-reserve-in-None.ensures.ok in

@@ -1,5 +1,5 @@
 use Rattle.std.proofs.Common.{◌≡◌, length, rules, vec_len}
-use Rattle.cn_yard.proofs.Kept.{placed, stands_at}
+use Rattle.cn_yard.proofs.Kept.{placed, there-at}
 use Rattle.cn_yard.proofs.yard.Yard.client_of.Goals as goal
 
 pub index-requires : goal.index-requires
@@ -11,4 +11,4 @@ pub returns : goal.returns
 returns c =
     let there = placed c.self.inside c.self.invariant c.args.token (rw (← c.self.view_is) at c.requires) in
     let s = c.index.result.now in
-    (s.wire, rw (← c.self.view_is) (stands_at c.self.inside c.self.invariant c.args.token s there (rw (c.place_of.ensures, c.deref.ensures.value) at c.index.ensures)))
+    (s.wire, rw (← c.self.view_is) (there-at c.self.inside c.self.invariant c.args.token s there (rw (c.place_of.ensures, c.deref.ensures.value) at c.index.ensures)))

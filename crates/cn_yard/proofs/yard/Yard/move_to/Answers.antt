@@ -1,6 +1,6 @@
 use Rattle.std.proofs.Common.{◌≡◌, ◌∙◌, ◌<◌, length, refl, ap, rules, vec_len}
 use Rattle.cn_yard.proofs.Kept.{moved, moves-of, placed}
-use Rattle.cn_yard.specs.declared.standing.Standing.{Standing}
+use Rattle.cn_yard.specs.declared.live.LiveRecord.{LiveRecord}
 use Rattle.cn_yard.specs.InsideYard.{place}
 use Rattle.cn_yard.proofs.OnWires.{token-at}
 use Rattle.cn_yard.proofs.Standings.{wires-seen}
@@ -18,7 +18,7 @@ its_token c =
     let there = placed y c.self.invariant c.args.token (rw (← c.self.view_is) at c.requires.live) in
     let at : c.place_of-place.result ≡ place c.args.token y.live.items = rw c.deref.ensures.value at c.place_of-place.ensures in
     let value = rw at at c.remove-moved.ensures.value in
-    (ap (λ (s : Standing). s.token) value ∙ token-at c.args.token y.live.items c.remove-moved.result there, rw (← c.self.view_is, wires-seen y.wires y.live.items) at c.requires.wire)
+    (ap (λ (s : LiveRecord). s.token) value ∙ token-at c.args.token y.live.items c.remove-moved.result there, rw (← c.self.view_is, wires-seen y.wires y.live.items) at c.requires.wire)
 
 pub invariant_of-self : goal.invariant_of-self
 invariant_of-self c =
@@ -40,4 +40,4 @@ returns c from client stands =
     let value = rw at at c.remove-moved.ensures.value in
     rw (← c.self.view_is)
     (moves-of y (record { wires = y.wires; live = c.push_reserved.new.self; free = y.free }) c.args.token (record { token = s.token; client = s.client; wire = c.args.wire }) s c.self.invariant
-    there its.0 its.1 (ap (λ (x : Standing). x.client) value) refl (rw (c.remove-moved.ensures.items, at) at c.push_reserved.ensures.items) refl from client (rw (← c.self.view_is) at stands))
+    there its.0 its.1 (ap (λ (x : LiveRecord). x.client) value) refl (rw (c.remove-moved.ensures.items, at) at c.push_reserved.ensures.items) refl from client (rw (← c.self.view_is) at stands))

@@ -19,4 +19,4 @@ pub returns-clause-yard : goal.returns-clause-yard
 returns-clause-yard c = rw (c.new.ensures.items, c.new-2.ensures.items) (empty-seen c.args.wires)
 
 pub returns-clause-nobody : goal.returns-clause-nobody
-returns-clause-nobody c = rw c.new.ensures.items (tokens-seen c.args.wires [] 0 (λ k d h. absurd (omega arith)))
+returns-clause-nobody c = rw c.new.ensures.items (tokens-seen c.args.wires [] (λ k d h. absurd (omega arith)))

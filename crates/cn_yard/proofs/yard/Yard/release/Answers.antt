@@ -1,5 +1,5 @@
 use Rattle.std.proofs.Common.{◌≡◌, length, refl, rules, vec_len}
-use Rattle.cn_yard.proofs.Kept.{placed, released, releases-of, stands_at}
+use Rattle.cn_yard.proofs.Kept.{placed, released, releases-of, there-at}
 use Rattle.cn_yard.specs.InsideYard.{place}
 use Rattle.cn_yard.proofs.yard.Yard.release.Goals as goal
 
@@ -21,7 +21,7 @@ returns-clause-client c =
     let y = c.self.inside in
     let s = c.remove-released.result in
     let at : c.place_of-place.result ≡ place c.args.token y.live.items = rw c.deref.ensures.value at c.place_of-place.ensures in
-    (s.wire, rw (← c.self.view_is) (stands_at y c.self.invariant c.args.token s (placed y c.self.invariant c.args.token (rw (← c.self.view_is) at c.requires)) (rw at at c.remove-released.ensures.value)))
+    (s.wire, rw (← c.self.view_is) (there-at y c.self.invariant c.args.token s (placed y c.self.invariant c.args.token (rw (← c.self.view_is) at c.requires)) (rw at at c.remove-released.ensures.value)))
 
 pub returns-clause-released : goal.returns-clause-released
 returns-clause-released c =

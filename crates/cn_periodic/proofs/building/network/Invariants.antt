@@ -1,5 +1,0 @@
-use Rattle.cn_periodic.proofs.Series.{Series}
-use Rattle.cn_periodic.proofs.building.network.Given as goal
-
-abbrev pub invariant-loop-done : goal.invariant-loop-done
-invariant-loop-done l = Series l.fn.draft l.draft l.wires l.outputs.items l.level l._done

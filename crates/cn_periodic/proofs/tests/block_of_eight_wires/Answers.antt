@@ -1,5 +1,0 @@
-use Rattle.std.proofs.Common.{ap, arith, lit≤, refl}
-use Rattle.cn_periodic.proofs.tests.block_of_eight_wires.Goals as goal
-
-pub block-requires-clause-row : goal.block-requires-clause-row
-block-requires-clause-row g c = (3, lit≤ tt, refl, let none = ap (λ p. p.balancers) c.in_ok-draft.ensures.plan in omega arith)

@@ -1,0 +1,78 @@
+-- What the program writes, and what it ends with.
+use Rattle.std.specs.Prelude.{ℕ, ◌≡◌, List, MatchResult, IfErr, Option, Result, Ok, Err, string_bytes}
+use Rattle.clap.specs.Words.{Text}
+use Rattle.cn_report.specs.Writing.Written.{HasWritten, Written, Nothing, written_by}
+use Rattle.cn_words.specs.Words.{IsFaultOf, IsJobOf}
+use Rattle.cn_words.specs.declared.words.Job.{Job}
+use Rattle.cn_words.specs.declared.words.Job.TheVariants as job
+use Rattle.cn_words.specs.declared.words.WordsFault.{WordsFault}
+use Rattle.cn_words.specs.declared.words.WordsFault.TheVariants as words
+use Rattle.cn_renamer.specs.declared.fault.Fault.{Fault}
+use Rattle.cn_renamer.specs.declared.fault.Fault.TheVariants.{Refused, Runtime, Replay, Output}
+use Rattle.cn_renamer.specs.declared.output_fault.OutputFault.TheVariants as output
+use Rattle.cn_renamer.specs.Outputs.{until_output}
+use Rattle.cn_renamer.specs.Replay.{IsReplayFault, IsReplayOfKnown, status_of_replay, until_replay}
+use Rattle.cn_renamer.specs.Show.{IsWiringOf}
+
+-- the text of a job, by the bytes that its reader has left, where they are known
+abbrev pub IsTextOf : Job → Option (List ℕ) → List ℕ → Type 0
+IsTextOf (job.Replay net) known text = IsReplayOfKnown net known text
+IsTextOf (job.Show net) known text = IsWiringOf net text
+
+-- how much of its text a job has written that met a fault
+abbrev pub until : Fault → Written
+until (Refused text) = Nothing
+until (Runtime fault) = Nothing
+until (Replay fault) = until_replay fault
+until (Output fault) = until_output fault
+
+-- the runtime refused arguments or random words, or the memory for them
+abbrev pub IsOfRuntime : Fault → Type 0
+IsOfRuntime (Refused text) = ⊥
+IsOfRuntime (Runtime fault) = Unit {0}
+IsOfRuntime (Replay fault) = ⊥
+IsOfRuntime (Output fault) = fault ≡ output.Memory
+
+-- the faults that a job may end with: a replay its own, or that of the source of its random words; showing a wiring its own
+abbrev pub MayEnd : Job → Option (List ℕ) → Fault → Type 0
+MayEnd (job.Replay net) known (Replay fault) = IsReplayFault known fault
+MayEnd (job.Replay net) known (Refused text) = ⊥
+MayEnd (job.Replay net) known (Runtime fault) = Unit {0}
+MayEnd (job.Replay net) known (Output fault) = fault ≡ output.Memory
+MayEnd (job.Show net) known (Output fault) = Unit {0}
+MayEnd (job.Show net) known (Refused text) = ⊥
+MayEnd (job.Show net) known (Runtime fault) = ⊥
+MayEnd (job.Show net) known (Replay fault) = ⊥
+
+-- the text that answers words, by what is read of them
+abbrev pub IsTextAsked : Result Job WordsFault → Option (List ℕ) → List ℕ → Type 0
+IsTextAsked (Ok job) known text = IsTextOf job known text
+IsTextAsked (Err (words.Help help)) known text = text ≡ string_bytes help
+IsTextAsked (Err (words.Refused why)) known text = ⊥
+IsTextAsked (Err words.Memory) known text = ⊥
+
+-- the fault that answers words, by what is read of them
+abbrev pub MayEndAsked : Result Job WordsFault → Option (List ℕ) → Fault → Type 0
+MayEndAsked (Ok job) known fault = MayEnd job known fault
+MayEndAsked (Err (words.Help help)) known fault = (why : _) × (fault ≡ Output why)
+MayEndAsked (Err (words.Refused why)) known fault = fault ≡ Refused why
+MayEndAsked (Err words.Memory) known fault = fault ≡ Output output.Memory
+
+-- the words were read, and what they ask for was done, or is told in its fault
+pub record HasRun {U W : Type 0} (texts : List Text) (known : Option (List ℕ)) (contents : W → Option (List ℕ)) (old new : W) (answer : Result U Fault) : Type 0 where
+  pub asked : Result Job WordsFault
+  pub read : MatchResult asked (IsJobOf texts) (IsFaultOf texts)
+  pub written : HasWritten contents (IsTextAsked asked known) (written_by until answer) old new
+  pub ends : IfErr answer (MayEndAsked asked known)
+
+-- the status that a fault ends the program with: input that is refused 1, words that are refused 2, what could not be done 3
+abbrev pub status_of : Fault → ℕ
+status_of (Refused text) = 2
+status_of (Runtime fault) = 3
+status_of (Replay fault) = status_of_replay fault
+status_of (Output fault) = 3
+
+-- the status of the program by its answer: 0 where all is done
+abbrev pub status_by : {U : Type 0} → Result U Fault → ℕ
+status_by (Ok done) = 0
+status_by (Err fault) = status_of fault

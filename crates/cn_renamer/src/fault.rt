@@ -1,0 +1,106 @@
+//! What ends the program before its job is done, and the program's end.
+
+ghost use Rattle.std.specs.Prelude.{◌≡◌, ◌↔◌, true};
+ghost use Rattle.std.specs.Result.{is_ok};
+ghost use Rattle.cn_renamer.specs.Performing.{IsOfRuntime, status_by, status_of};
+ghost use Rattle.cn_renamer.specs.declared.fault.Fault.TheVariants.{Output, Replay};
+ghost use Rattle.cn_renamer.specs.declared.output_fault.OutputFault.TheVariants.{Memory};
+
+use crate::output_fault::OutputFault;
+use crate::replaying::ReplayFault;
+use crate::runtime::RuntimeFault;
+use std::alloc::AllocError;
+use std::io::{self, Write};
+use thiserror::Error;
+
+/// The first fault that the program met. Its text is what the program prints.
+#[derive(Debug, Drop, Error)]
+pub enum Fault {
+    /// The words ask for no job, as the text says.
+    #[error("{0}")]
+    Refused(String),
+    /// The runtime refuses what the program needs.
+    #[error(transparent)]
+    Runtime(RuntimeFault),
+    /// The schedule was refused, or the replay was not written whole.
+    #[error(transparent)]
+    Replay(ReplayFault),
+    /// The wiring or the help was not written whole, or there was not the memory to read the words.
+    #[error(transparent)]
+    Output(OutputFault),
+}
+
+impl Fault {
+    /// The status with which the program ends: 1 for input that is refused, 2 for words that are refused, 3 for want of
+    /// memory, a runtime that refuses what the program needs, and a write that failed. It is never 0.
+    pub fn status(&self) -> u8
+        ensures { result ≡ status_of self.now }
+    {
+        match self {
+            Fault::Refused(_) => 2,
+            Fault::Runtime(fault) => fault.status(),
+            Fault::Replay(fault) => fault.status(),
+            Fault::Output(fault) => fault.status(),
+        }
+    }
+}
+
+impl From<ReplayFault> for Fault {
+    ghost from_gives = { λ fault told. told ≡ Replay fault };
+
+    fn from(fault: ReplayFault) -> Fault {
+        Fault::Replay(fault)
+    }
+}
+
+impl From<OutputFault> for Fault {
+    ghost from_gives = { λ fault told. told ≡ Output fault };
+
+    fn from(fault: OutputFault) -> Fault {
+        Fault::Output(fault)
+    }
+}
+
+impl From<AllocError> for Fault {
+    ghost from_gives = { λ _ told. told ≡ Output Memory };
+
+    fn from(_error: AllocError) -> Fault {
+        Fault::Output(OutputFault::Memory)
+    }
+}
+
+/// What the runtime answers where it is asked for arguments or random words.
+impl From<io::Error> for Fault {
+    ghost from_gives = { λ _ told. IsOfRuntime told };
+
+    fn from(error: io::Error) -> Fault {
+        match error.kind() {
+            io::ErrorKind::OutOfMemory => Fault::Output(OutputFault::Memory),
+            _ => Fault::Runtime(RuntimeFault),
+        }
+    }
+}
+
+/// Writes what is printed of a fault: its text and a line feed. A refusal's text ends its own lines.
+fn tell<E: Write>(errors: &mut E, fault: &Fault) -> io::Result<()> {
+    match fault {
+        Fault::Refused(text) => errors.write_all(text.as_bytes()),
+        _ => writeln!(errors, "{fault}"),
+    }
+}
+
+/// Ends the program: writes what is printed of its fault, if it met one, to standard error, and answers its status, which
+/// is 0 exactly where all is done. A write to standard error that fails leaves the status as it is.
+pub fn end<E: Write>(done: &Result<(), Fault>, errors: &mut E) -> u8
+    ensures status { result ≡ status_by done.now }
+    ensures zero { (result ≡ 0) ↔ (is_ok done.now ≡ true) }
+    ensures quiet { is_ok done.now ≡ true → errors.new ≡ errors.old }
+{
+    match done {
+        Ok(()) => 0,
+        Err(fault) => {
+            let _ = tell(errors, fault);
+            fault.status()
+        }
+    }
+}

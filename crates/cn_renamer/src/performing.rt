@@ -1,0 +1,62 @@
+//! The job that the words ask for, done.
+
+ghost use Rattle.std.specs.Prelude.{IfErr, map, string_bytes};
+ghost use Rattle.cn_report.specs.Writing.Written.{HasWritten, written_by};
+ghost use Rattle.cn_renamer.specs.Performing.{HasRun, IsTextOf, MayEnd, until};
+
+use crate::fault::Fault;
+use crate::output_fault::OutputFault;
+use crate::replaying::replay;
+use crate::showing::show;
+use crate::writing::write_text;
+use cn_words::{Job, WordsFault, parse_words};
+use std::alloc::Global;
+use std::hash::RandomState;
+use std::io::{Read, Write};
+use std::random::RandomSource;
+
+/// Does a job: reads what it reads, and writes its text. Random words are asked for only by a job that keeps clients.
+///
+/// # Errors
+/// That of the job's own call; or that of the source of random words, and then nothing was written.
+pub fn perform<R: Read + Drop, W: Write, S: RandomSource>(
+    alloc: Global,
+    job: Job,
+    reader: R,
+    writer: &mut W,
+    source: &S,
+) -> Result<(), Fault>
+    ensures written { let Is = IsTextOf job (R.remaining reader) in
+        HasWritten W.contents Is (written_by until result) writer.old writer.new }
+    ensures ends { IfErr result (MayEnd job (R.remaining reader)) }
+{
+    match job {
+        Job::Replay(net) => {
+            let state = RandomState::new(source)?;
+            Ok(replay(alloc, reader, writer, &net, state)?)
+        }
+        Job::Show(net) => Ok(show(alloc, writer, &net)?),
+    }
+}
+
+/// Does what the words of a command line ask for: a job, or to write the help. The first word is the program's name.
+///
+/// # Errors
+/// `Refused` where the words ask for no job, and then nothing was written; else that of the job, or of writing the help.
+pub fn run<R: Read + Drop, W: Write, S: RandomSource>(
+    alloc: Global,
+    words: Vec<String>,
+    reader: R,
+    writer: &mut W,
+    source: &S,
+) -> Result<(), Fault>
+    ensures { let texts = map string_bytes words.items in
+        HasRun texts (R.remaining reader) W.contents writer.old writer.new result }
+{
+    match parse_words(alloc, words) {
+        Ok(job) => perform(alloc, job, reader, writer, source),
+        Err(WordsFault::Help(help)) => Ok(write_text(writer, help.as_bytes())?),
+        Err(WordsFault::Refused(text)) => Err(Fault::Refused(text)),
+        Err(WordsFault::Memory) => Err(Fault::Output(OutputFault::Memory)),
+    }
+}

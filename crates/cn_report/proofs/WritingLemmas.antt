@@ -1,0 +1,6 @@
+-- Lemmas on what is written.
+pub mod Appending
+pub mod Lines
+pub mod Replies
+pub mod SameLines
+pub mod Writings

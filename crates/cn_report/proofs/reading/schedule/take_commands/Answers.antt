@@ -1,0 +1,59 @@
+use Rattle.std.proofs.Common.{◌≡◌, ◌∷◌, ◌++◌, [], refl, arith, length-append, inl, inr, rules}
+use Rattle.std.proofs.Common.{true}
+use Rattle.std.specs.Result.{is_ok}
+use Rattle.cn_report.specs.Reading.Records.{records_of}
+use Rattle.cn_report.specs.declared.reading.schedule_fault.ScheduleCause.TheVariants.{Memory}
+use Rattle.cn_report.specs.Reading.Schedule.{IsOfReading, header_cause, record_cause}
+use Rattle.cn_report.proofs.ReadingLemmas.FirstFaults.{stop_at, stop_before}
+use Rattle.cn_report.proofs.ReadingLemmas.ScheduleRecords.{taken_all, taken_header, taken_next}
+use Rattle.cn_report.proofs.reading.schedule.take_commands.Goals as goal
+
+pub loop-at-init : goal.loop-at-init
+loop-at-init g c = record {
+  counted = omega (arith, c.new-commands.ensures.len);
+  few = omega (arith, c.new-commands.ensures.len);
+  plain = c.in_default.ensures.plain;
+  taken = λ text read.
+      let (fields, now, e) = c.in_default.ensures.ok text read in
+      (fields ∷ [], now, refl, rw c.new-commands.ensures.items (taken_header fields e));
+}
+
+pub returns-in-Err-take_command : goal.returns-in-Err-take_command
+returns-in-Err-take_command g c = λ text read.
+    let (before, now, size, t) = c.loop-at.invariant.taken text read in
+    elim (c.in-Err-take_command.ensures.refused text before now) [
+      | inl w ↦
+          let (fields, next, e) = w in
+          rw (← size) (stop_at header_cause record_cause IsOfReading g.R.Read.remaining c.take_command.new.rows text before fields c.in-Err-take_command.cause t.clean next (rw (← size) at e))
+      | inr w ↦ rw (← size) (stop_before header_cause record_cause IsOfReading g.R.Read.remaining c.loop-at.rows text before c.in-Err-take_command.cause t.clean now w)
+    ]
+
+pub returns-in_default-taken : goal.returns-in_default-taken
+returns-in_default-taken g c = λ text read.
+    let (before, now, size, t) = c.loop-at.invariant.taken text read in
+    taken_all (records_of text) before c.loop-at.commands.items t (rw c.in_default-taken.is at (c.in-Ok.ensures.found text before now))
+
+pub returns-then-is_err : goal.returns-then-is_err
+returns-then-is_err g c = λ text read.
+    let (before, now, size, t) = c.loop-at.invariant.taken text read in
+    rw (← size) (stop_before header_cause record_cause IsOfReading g.R.Read.remaining c.loop-at.rows text before Memory t.clean now (inr refl))
+
+pub loop-at-preserved : goal.loop-at-preserved
+loop-at-preserved g c =
+    let good : is_ok c.push.result ≡ true = search rules in
+    let items = rw good at c.push.ensures.items in
+    let len = rw good at c.push.ensures.len in
+    let below = rw c.in-Some.is at c.in-Ok.ensures.few in
+    record {
+      counted = omega (arith, len, c.loop-at.invariant.counted);
+      few = omega (arith, len, c.loop-at.invariant.counted, below);
+      plain = c.in-Ok.ensures.plain;
+      taken = λ text read.
+          let (before, now, size, t) = c.loop-at.invariant.taken text read in
+          let (fields, next, none, is) = rw c.in-Some.is at (c.in-Ok.ensures.found text before now) in (
+            before ++ fields ∷ [],
+            next,
+            omega (arith, size, length-append before (fields ∷ [])),
+            rw items (taken_next before c.loop-at.commands.items fields c.in-Some.command c.loop-at.at size t none is),
+          );
+    }

@@ -1,0 +1,14 @@
+use Rattle.std.proofs.Common.{◌≡◌, ◌≤◌, ◌+◌, ℕ, List, [], vec_len, length}
+use Rattle.cn_spec.specs.declared.limits.TheConstants.{MOST_RECORDS}
+use Rattle.cn_report.specs.Reading.Records.{HasRead, IsPlain, Record}
+use Rattle.cn_report.proofs.ReadingLemmas.ScheduleRecords.{AreTaken}
+use Rattle.cn_report.proofs.reading.schedule.take_commands.Given as goal
+
+abbrev pub invariant-loop-at : goal.invariant-loop-at
+invariant-loop-at g l = record {
+  counted : vec_len l.commands + 1 ≡ l.at;
+  few : vec_len l.commands ≤ MOST_RECORDS;
+  plain : IsPlain l.rows;
+  taken : (text : List ℕ) → HasRead g.R.Read.remaining l.fn.rows text []
+      → (before : List Record) × HasRead g.R.Read.remaining l.rows text before × (length before ≡ l.at) × AreTaken before l.commands.items;
+}

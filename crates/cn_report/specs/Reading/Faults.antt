@@ -1,0 +1,25 @@
+-- The first record of a text with a cause, and its first cause.
+use Rattle.std.specs.Prelude.{ℕ, ◌≡◌, ◌<◌, ◌≤◌, ◌⊎◌, ◌==◌, [], List, length, slice_index_or, take, nat_lt, Option, Some, None, if◌then◌else◌}
+use Rattle.cn_report.specs.Reading.Records.{Record}
+
+-- the cause of the record with this number, if it has one: record 0 is asked whether it is the header, where it is missing
+-- too, and each later record is judged after those before it
+unfoldable pub cause_by : {C : Type 0} → (Record → Option C) → (List Record → Record → Option C) → List Record → ℕ → Option C
+cause_by header later rows at =
+    if at == 0 then header (slice_index_or rows 0 [])
+    else if nat_lt at (length rows) then later (take at rows) (slice_index_or rows at [])
+    else None
+
+-- no record before this one has a cause
+abbrev pub IsCleanBefore : {C : Type 0} → (List Record → ℕ → Option C) → List Record → ℕ → Type 0
+IsCleanBefore cause rows end = (at : ℕ) → at < end → cause rows at ≡ None
+
+-- no record has a cause
+abbrev pub IsClean : {C : Type 0} → (List Record → ℕ → Option C) → List Record → Type 0
+IsClean cause rows = (at : ℕ) → cause rows at ≡ None
+
+-- the first record with a cause, and its first cause; what is no record's fault is told at the record that was being read
+pub record IsFirstFault {C : Type 0} (cause : List Record → ℕ → Option C) (IsOther : C → Type 0) (rows : List Record) (at : ℕ) (why : C) : Type 0 where
+  pub within : at ≤ length rows
+  pub clean : IsCleanBefore cause rows at
+  pub told : (cause rows at ≡ Some why) ⊎ IsOther why

@@ -1,0 +1,76 @@
+//! The records of a text, one after the other.
+
+ghost use Rattle.std.specs.Prelude.{◌≡◌, ◌↔◌, ◌<◌, ◌∷◌, ◌++◌, [], ℕ, List, IfSome, IfOk, OnOk, length, slice_index_or};
+ghost use Rattle.std.specs.Bool.{MatchBool};
+ghost use Rattle.std.specs.Cmp.Lexicographic.{pointwise};
+ghost use Rattle.std.specs.Str.{bytes_eq};
+ghost use Rattle.csv.specs.Reading.{error_kind};
+ghost use Rattle.csv.specs.Records.{fields_of};
+ghost use Rattle.cn_report.specs.Reading.Records.{HasRead, IsOfReader, IsPlain, Record, records_of};
+
+use csv::{ByteRecord, Error, ErrorKind, Reader, ReaderBuilder};
+use std::alloc::Global;
+use std::io::Read;
+
+/// Why no record came.
+#[derive(Clone, Copy, Debug, PartialEq, Eq)]
+pub(crate) enum RowFault {
+    /// The reader failed.
+    Read,
+    /// A growth was refused.
+    Memory,
+}
+
+fn fault_of(error: Error) -> RowFault
+    requires { IsOfReader (error_kind error) }
+    ensures { (result ≡ RowFault.Memory) ↔ (error_kind error ≡ ErrorKind.OutOfMemory) }
+{
+    match error.into_kind() {
+        ErrorKind::Io(_) => RowFault::Read,
+        ErrorKind::OutOfMemory => RowFault::Memory,
+        _ => unreachable!(),
+    }
+}
+
+/// A reader of records of any length, with no header taken apart.
+pub(crate) fn open_rows<R: Read>(alloc: Global, reader: R) -> Reader<R>
+    ensures plain { IsPlain result }
+    ensures opened { IfSome (R.remaining reader) (λ text. HasRead R.remaining result text []) }
+{
+    ReaderBuilder::new()
+        .has_headers(false)
+        .flexible(true)
+        .from_reader(alloc, reader)
+}
+
+/// Reads the next record into `row`, and tells whether there was one.
+pub(crate) fn next_row<R: Read>(
+    rows: &mut Reader<R>,
+    row: &mut ByteRecord,
+) -> Result<bool, RowFault>
+    requires { IsPlain rows.old }
+    ensures plain { OnOk result (IsPlain rows.new) }
+    ensures reads { IfOk result (λ found. (text : List ℕ) (before : List Record) → HasRead R.remaining rows.old text before
+        → MatchBool found (HasRead R.remaining rows.new text (before ++ fields_of row.new ∷ [])) (records_of text ≡ before)) }
+{
+    match rows.read_byte_record(row) {
+        Ok(found) => Ok(found),
+        Err(error) => Err(fault_of(error)),
+    }
+}
+
+/// The field at this place of a record.
+#[tactic(auto, using(crate::proofs::ReadingLemmas::RecordFields::field_within))]
+pub(crate) fn field(row: &ByteRecord, place: usize) -> &[u8]
+    requires { place < length (fields_of row.now) }
+    ensures { result.now ≡ slice_index_or (fields_of row.now) place [] }
+{
+    row.get(place).unwrap()
+}
+
+/// Whether the record has these three fields.
+pub(crate) fn is_header(row: &ByteRecord, first: &[u8], second: &[u8], third: &[u8]) -> bool
+    ensures { result ≡ pointwise bytes_eq (fields_of row.now) (first.now ∷ second.now ∷ third.now ∷ []) }
+{
+    row.len() == 3 && field(row, 0) == first && field(row, 1) == second && field(row, 2) == third
+}

@@ -1,0 +1,67 @@
+//! What can be wrong with a schedule.
+
+ghost use Rattle.std.specs.Prelude.{◌≡◌, Some};
+ghost use Rattle.cn_report.specs.Reading.Schedule.{cause_name, cause_of_row};
+
+use crate::reading::rows::RowFault;
+use std::fmt;
+
+/// What is wrong with a record of a schedule. Of several causes the first in this order is told, but for `Memory`, which
+/// stands in place of any other.
+#[derive(Clone, Copy, Debug, PartialEq, Eq)]
+pub enum ScheduleCause {
+    /// The reader failed.
+    Read,
+    /// Record 0 is missing, or is not `op,client,wire`.
+    Header,
+    /// The record has not three fields.
+    FieldCount,
+    /// The first field names no operation.
+    Op,
+    /// The second field is no number of 1 to 20 digits below 2 ^ 64, or is not empty for a turn.
+    ClientNumber,
+    /// The third field is no such number, or is not empty for a step or a turn.
+    WireNumber,
+    /// There are more than 1,048,576 records after the header.
+    ScheduleFull,
+    /// A growth was refused.
+    Memory,
+}
+
+impl fmt::Display for ScheduleCause {
+    ghost output = { λ cause. Some (cause_name cause) };
+
+    fn fmt<W: fmt::Write>(&self, f: &mut fmt::Formatter<W>) -> fmt::Result {
+        let name = match self {
+            ScheduleCause::Read => "Read",
+            ScheduleCause::Header => "Header",
+            ScheduleCause::FieldCount => "FieldCount",
+            ScheduleCause::Op => "Op",
+            ScheduleCause::ClientNumber => "ClientNumber",
+            ScheduleCause::WireNumber => "WireNumber",
+            ScheduleCause::ScheduleFull => "ScheduleFull",
+            ScheduleCause::Memory => "Memory",
+        };
+        f.write_str(name)
+    }
+}
+
+impl From<RowFault> for ScheduleCause {
+    ghost from_gives = { λ fault cause. cause ≡ cause_of_row fault };
+
+    fn from(fault: RowFault) -> Self {
+        match fault {
+            RowFault::Read => ScheduleCause::Read,
+            RowFault::Memory => ScheduleCause::Memory,
+        }
+    }
+}
+
+/// The first record of a schedule with a cause, and its first cause.
+#[derive(Clone, Copy, Debug, PartialEq, Eq)]
+pub struct ScheduleFault {
+    /// The number of the record; the header is record 0.
+    pub at: u64,
+    /// What is wrong with it.
+    pub cause: ScheduleCause,
+}

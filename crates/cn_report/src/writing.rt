@@ -1,0 +1,11 @@
+//! What is written: the text of each job, and the loop that writes it.
+
+mod emitting;
+mod heading;
+mod outcome;
+mod replay;
+mod wiring;
+
+pub use emitting::{EmitFault, emit};
+pub use replay::render_replay;
+pub use wiring::render_wiring;

@@ -1,0 +1,16 @@
+//! Tests of the core and of epochs: worked rows by single calls and by runs, lists of some thousand clients, an epoch at
+//! its limit, and whole batches against the plain shares. They show what no clause can name.
+#![tactic(auto)]
+
+#[cfg(test)]
+mod calls;
+#[cfg(test)]
+mod epoch_calls;
+#[cfg(test)]
+mod many_clients;
+#[cfg(test)]
+mod overtaking;
+#[cfg(test)]
+mod two_wide;
+#[cfg(test)]
+mod walking;

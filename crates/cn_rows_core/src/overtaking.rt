@@ -1,0 +1,250 @@
+//! The core and epochs on the counting tree of width 4, where a client overtakes two others; and a core that is full.
+
+use crate::calls::{Calls, answers_to, replies_to};
+use crate::two_wide::holders_of;
+use cn_core::{Core, EnterFault, Event, Moved, Reply};
+use cn_epoch::{Answer, Command, EpochRecord, Epochs};
+use cn_tree::tree;
+use std::alloc::{AllocError, Global};
+use std::hash::RandomState;
+use std::test::Fail;
+
+/// What each of three clients that enter a tree of width 4 together meets, in the order of their steps.
+const OVERTAKING: [(u64, Moved); 9] = [
+    (
+        10,
+        Moved::On {
+            balancer: 0,
+            number: 0,
+            wire: 1,
+        },
+    ),
+    (
+        20,
+        Moved::On {
+            balancer: 0,
+            number: 1,
+            wire: 2,
+        },
+    ),
+    (
+        30,
+        Moved::On {
+            balancer: 0,
+            number: 2,
+            wire: 1,
+        },
+    ),
+    (
+        30,
+        Moved::On {
+            balancer: 1,
+            number: 0,
+            wire: 3,
+        },
+    ),
+    (
+        30,
+        Moved::Out {
+            exit: 0,
+            visit: 0,
+            name: 0,
+        },
+    ),
+    (
+        10,
+        Moved::On {
+            balancer: 1,
+            number: 1,
+            wire: 4,
+        },
+    ),
+    (
+        10,
+        Moved::Out {
+            exit: 2,
+            visit: 0,
+            name: 2,
+        },
+    ),
+    (
+        20,
+        Moved::On {
+            balancer: 2,
+            number: 0,
+            wire: 5,
+        },
+    ),
+    (
+        20,
+        Moved::Out {
+            exit: 1,
+            visit: 0,
+            name: 1,
+        },
+    ),
+];
+
+/// What a core replied, and how it stands after it.
+#[derive(Debug, Drop, PartialEq, Eq)]
+struct Outcome {
+    replies: Vec<Reply>,
+    entered: u64,
+    inside: u64,
+    /// The names of the clients 10, 20, 30 and 40.
+    names: [Option<u64>; 4],
+    holders: Vec<u64>,
+}
+
+/// The clients enter one after another, and walk.
+fn events(alloc: Global) -> Result<Vec<Event>, AllocError> {
+    let mut events = Vec::new(alloc);
+    for client in [10, 20, 30] {
+        events.push(Event::Enter { client, entry: 0 })?;
+    }
+    for (client, _) in OVERTAKING {
+        events.push(Event::Step { client })?;
+    }
+    Ok(events)
+}
+
+fn tree_overtaking(alloc: Global) -> Result<Outcome, AllocError> {
+    let mut replies = Vec::new(alloc);
+    for _ in 0..3 {
+        replies.push(Reply::Entered)?;
+    }
+    for (_, moved) in OVERTAKING {
+        replies.push(Reply::Stepped(moved))?;
+    }
+    Ok(Outcome {
+        replies,
+        entered: 3,
+        inside: 0,
+        names: [Some(2), Some(1), Some(0), None],
+        holders: vec![in alloc; 30, 20, 10]?,
+    })
+}
+
+fn outcome_of(
+    alloc: Global,
+    state: RandomState,
+    events: &[Event],
+    calls: Calls,
+) -> Result<Outcome, Fail> {
+    let network = tree(alloc, 4)?;
+    let mut core = Core::new(alloc, &network, state)?;
+    let replies = replies_to(&mut core, alloc, events, calls)?;
+    Ok(Outcome {
+        replies,
+        entered: core.entered(),
+        inside: core.inside(),
+        names: [core.name(10), core.name(20), core.name(30), core.name(40)],
+        holders: holders_of(&core)?,
+    })
+}
+
+#[test]
+fn tree_overtaking_of_a_core(rt: HostRuntime) -> Result<(), Fail> {
+    for calls in [Calls::Single, Calls::Run] {
+        let events = events(rt.alloc())?;
+        let outcome = outcome_of(rt.alloc(), RandomState::new(&rt)?, &events, calls)?;
+        assert_eq!(rt; outcome, tree_overtaking(rt.alloc())?, "{calls:?}");
+    }
+    Ok(())
+}
+
+/// The clients enter and walk as above, and the epoch is turned; and all of this once more.
+fn commands(alloc: Global) -> Result<Vec<Command>, AllocError> {
+    let mut commands = Vec::new(alloc);
+    for _ in 0..2 {
+        for client in [10, 20, 30] {
+            commands.push(Command::Enter { client, entry: 0 })?;
+        }
+        for (client, _) in OVERTAKING {
+            commands.push(Command::Step { client })?;
+        }
+        commands.push(Command::Turn)?;
+    }
+    Ok(commands)
+}
+
+/// The record of the epoch with this number.
+fn ended(alloc: Global, number: u64) -> Result<EpochRecord, AllocError> {
+    Ok(EpochRecord {
+        number,
+        clients: 3,
+        counts: vec![in alloc; 1, 1, 1, 0]?,
+        holders: vec![in alloc; 30, 20, 10]?,
+    })
+}
+
+fn wanted_answers(alloc: Global) -> Result<Vec<Answer>, AllocError> {
+    let mut answers = Vec::new(alloc);
+    for number in 0..2 {
+        for _ in 0..3 {
+            answers.push(Answer::Replied(Reply::Entered))?;
+        }
+        for (_, moved) in OVERTAKING {
+            answers.push(Answer::Replied(Reply::Stepped(moved)))?;
+        }
+        answers.push(Answer::Turned(ended(alloc, number)?))?;
+    }
+    Ok(answers)
+}
+
+/// The answers, and how many epochs ended, and how many clients entered and are inside.
+type Turned = (Vec<Answer>, [u64; 3]);
+
+fn turned(
+    alloc: Global,
+    state: RandomState,
+    commands: &[Command],
+    calls: Calls,
+) -> Result<Turned, Fail> {
+    let network = tree(alloc, 4)?;
+    let mut epochs = Epochs::new(alloc, &network, state)?;
+    let answers = answers_to(&mut epochs, alloc, commands, calls)?;
+    Ok((
+        answers,
+        [epochs.number(), epochs.entered(), epochs.inside()],
+    ))
+}
+
+#[test]
+fn tree_overtaking_then_turn(rt: HostRuntime) -> Result<(), Fail> {
+    for calls in [Calls::Single, Calls::Run] {
+        let commands = commands(rt.alloc())?;
+        let (answers, stand) = turned(rt.alloc(), RandomState::new(&rt)?, &commands, calls)?;
+        assert_eq!(rt; answers, wanted_answers(rt.alloc())?, "{calls:?}");
+        assert_eq!(rt; stand, [2, 0, 0], "{calls:?}");
+    }
+    Ok(())
+}
+
+/// What three more clients are told by a core that is full: at an entry, at none, and where one has entered.
+fn refused_by_the_full(alloc: Global, state: RandomState) -> Result<[Option<EnterFault>; 3], Fail> {
+    let network = tree(alloc, 64)?;
+    let mut core = Core::new(alloc, &network, state)?;
+    for client in 0..65_536 {
+        core.enter(client, 0)?;
+    }
+    Ok([
+        core.enter(65_536, 0).err(),
+        core.enter(65_536, 1).err(),
+        core.enter(0, 0).err(),
+    ])
+}
+
+#[test]
+fn core_at_its_limit(rt: HostRuntime) -> Result<(), Fail> {
+    let faults = [
+        EnterFault::EpochFull,
+        EnterFault::NoSuchEntry,
+        EnterFault::AlreadyIn,
+    ];
+    assert_eq!(rt;
+        refused_by_the_full(rt.alloc(), RandomState::new(&rt)?)?,
+        faults.map(Some)
+    );
+    Ok(())
+}

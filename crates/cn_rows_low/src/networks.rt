@@ -1,0 +1,295 @@
+//! The tables of the networks, and their sizes.
+
+use cn_bitonic::bitonic;
+use cn_periodic::periodic;
+use cn_tree::tree;
+use cn_wiring::End::{self, Balancer, Exit};
+use cn_wiring::Kind::{self, Bitonic, Periodic, Tree};
+use cn_wiring::{BuildFault, Counting, is_width};
+use std::alloc::{AllocError, Global};
+use std::test::Fail;
+
+const KINDS: [Kind; 3] = [Bitonic, Periodic, Tree];
+
+/// The network of a kind and a width.
+fn built(alloc: Global, kind: Kind, width: u32) -> Result<Counting, BuildFault> {
+    match kind {
+        Bitonic => bitonic(alloc, width),
+        Periodic => periodic(alloc, width),
+        Tree => tree(alloc, width),
+    }
+}
+
+/// Where each wire of a network ends, from wire 0 up.
+fn ends_of(alloc: Global, network: &Counting) -> Result<Vec<End>, AllocError> {
+    (0..network.entries() + 2 * network.balancers())
+        .map(|wire| network.end(wire))
+        .collect(alloc)
+}
+
+/// The table of the network of a kind and a width.
+pub(crate) fn table(alloc: Global, kind: Kind, width: u32) -> Result<Vec<End>, Fail> {
+    let network = built(alloc, kind, width)?;
+    Ok(ends_of(alloc, &network)?)
+}
+
+const JOINED_TWO: [End; 4] = [Balancer(0), Balancer(0), Exit(0), Exit(1)];
+
+const BITONIC_FOUR: [End; 16] = [
+    Balancer(0),
+    Balancer(0),
+    Balancer(1),
+    Balancer(1),
+    Balancer(2),
+    Balancer(3),
+    Balancer(3),
+    Balancer(2),
+    Balancer(4),
+    Balancer(5),
+    Balancer(4),
+    Balancer(5),
+    Exit(0),
+    Exit(1),
+    Exit(2),
+    Exit(3),
+];
+
+const PERIODIC_FOUR: [End; 20] = [
+    Balancer(0),
+    Balancer(1),
+    Balancer(1),
+    Balancer(0),
+    Balancer(2),
+    Balancer(3),
+    Balancer(2),
+    Balancer(3),
+    Balancer(4),
+    Balancer(5),
+    Balancer(5),
+    Balancer(4),
+    Balancer(6),
+    Balancer(7),
+    Balancer(6),
+    Balancer(7),
+    Exit(0),
+    Exit(1),
+    Exit(2),
+    Exit(3),
+];
+
+const TREE_FOUR: [End; 7] = [
+    Balancer(0),
+    Balancer(1),
+    Balancer(2),
+    Exit(0),
+    Exit(2),
+    Exit(1),
+    Exit(3),
+];
+
+/// Balancers 1 to 3 are the tree on output 0 of the root, and balancers 4 to 6 the tree on its output 1.
+const TREE_EIGHT: [End; 15] = [
+    Balancer(0),
+    Balancer(1),
+    Balancer(4),
+    Balancer(2),
+    Balancer(3),
+    Exit(0),
+    Exit(4),
+    Exit(2),
+    Exit(6),
+    Balancer(5),
+    Balancer(6),
+    Exit(1),
+    Exit(5),
+    Exit(3),
+    Exit(7),
+];
+
+const TABLES: [(Kind, u32, &[End]); 7] = [
+    (Bitonic, 2, &JOINED_TWO),
+    (Periodic, 2, &JOINED_TWO),
+    (Tree, 2, &[Balancer(0), Exit(0), Exit(1)]),
+    (Bitonic, 4, &BITONIC_FOUR),
+    (Periodic, 4, &PERIODIC_FOUR),
+    (Tree, 4, &TREE_FOUR),
+    (Tree, 8, &TREE_EIGHT),
+];
+
+#[test]
+fn tables_wire_by_wire(rt: HostRuntime) -> Result<(), Fail> {
+    for (kind, width, wanted) in TABLES {
+        let ends = table(rt.alloc(), kind, width)?;
+        assert_eq!(rt; ends.as_slice(), wanted, "{kind:?} {width}");
+    }
+    Ok(())
+}
+
+/// The first of these balancers that does not join its two wires.
+fn astray(ends: &[End], joins: &[(u32, usize, usize)]) -> Option<u32> {
+    let (balancer, ..) = joins.iter().find(|(balancer, first, second)| {
+        let wanted = Some(&Balancer(*balancer));
+        ends.get(*first) != wanted || ends.get(*second) != wanted
+    })?;
+    Some(*balancer)
+}
+
+const EIGHT_EXITS: [End; 8] = [
+    Exit(0),
+    Exit(1),
+    Exit(2),
+    Exit(3),
+    Exit(4),
+    Exit(5),
+    Exit(6),
+    Exit(7),
+];
+
+/// Balancers 0 to 5 are the network over entries 0 to 3, with the outputs 16 to 19; balancers 6 to 11 are that over
+/// entries 4 to 7, with the outputs 28 to 31.
+const MERGER_OF_EIGHT: [(u32, usize, usize); 12] = [
+    (12, 16, 31),
+    (13, 18, 29),
+    (14, 32, 34),
+    (15, 33, 35),
+    (16, 17, 30),
+    (17, 19, 28),
+    (18, 40, 42),
+    (19, 41, 43),
+    (20, 36, 44),
+    (21, 37, 45),
+    (22, 38, 46),
+    (23, 39, 47),
+];
+
+#[test]
+fn merger_of_width_eight(rt: HostRuntime) -> Result<(), Fail> {
+    let ends = table(rt.alloc(), Bitonic, 8)?;
+    assert_eq!(rt; astray(&ends, &MERGER_OF_EIGHT), None);
+    assert_eq!(rt; ends.get(48..), Some(EIGHT_EXITS.as_slice()));
+    Ok(())
+}
+
+/// Balancers 0 to 11 are the first block, with the outputs 24 to 31, over which the second block begins. The last layer of
+/// the third gives the exits.
+const BLOCK_OF_EIGHT: [(u32, usize, usize); 16] = [
+    (0, 0, 7),
+    (1, 3, 4),
+    (2, 8, 10),
+    (3, 9, 11),
+    (4, 1, 6),
+    (5, 2, 5),
+    (6, 16, 18),
+    (7, 17, 19),
+    (8, 12, 20),
+    (9, 13, 21),
+    (10, 14, 22),
+    (11, 15, 23),
+    (12, 24, 31),
+    (13, 27, 28),
+    (16, 25, 30),
+    (17, 26, 29),
+];
+
+#[test]
+fn first_block_of_width_eight(rt: HostRuntime) -> Result<(), Fail> {
+    let ends = table(rt.alloc(), Periodic, 8)?;
+    assert_eq!(rt; astray(&ends, &BLOCK_OF_EIGHT), None);
+    assert_eq!(rt; ends.get(72..), Some(EIGHT_EXITS.as_slice()));
+    Ok(())
+}
+
+/// The kind of a network, its entries, exits and balancers, and its depth.
+type Sizes = (Kind, [u32; 3], u32);
+
+fn sizes(alloc: Global, kind: Kind, width: u32) -> Result<Sizes, BuildFault> {
+    let network = built(alloc, kind, width)?;
+    Ok((
+        network.kind(),
+        [network.entries(), network.width(), network.balancers()],
+        network.depth(),
+    ))
+}
+
+/// Per width the sizes of the networks, and their depths.
+const SIX_WIDTHS: [(u32, [Sizes; 3]); 6] = [
+    (
+        2,
+        [
+            (Bitonic, [2, 2, 1], 1),
+            (Periodic, [2, 2, 1], 1),
+            (Tree, [1, 2, 1], 1),
+        ],
+    ),
+    (
+        4,
+        [
+            (Bitonic, [4, 4, 6], 3),
+            (Periodic, [4, 4, 8], 4),
+            (Tree, [1, 4, 3], 2),
+        ],
+    ),
+    (
+        8,
+        [
+            (Bitonic, [8, 8, 24], 6),
+            (Periodic, [8, 8, 36], 9),
+            (Tree, [1, 8, 7], 3),
+        ],
+    ),
+    (
+        16,
+        [
+            (Bitonic, [16, 16, 80], 10),
+            (Periodic, [16, 16, 128], 16),
+            (Tree, [1, 16, 15], 4),
+        ],
+    ),
+    (
+        32,
+        [
+            (Bitonic, [32, 32, 240], 15),
+            (Periodic, [32, 32, 400], 25),
+            (Tree, [1, 32, 31], 5),
+        ],
+    ),
+    (
+        64,
+        [
+            (Bitonic, [64, 64, 672], 21),
+            (Periodic, [64, 64, 1_152], 36),
+            (Tree, [1, 64, 63], 6),
+        ],
+    ),
+];
+
+#[test]
+fn six_widths(rt: HostRuntime) {
+    for (width, wanted) in SIX_WIDTHS {
+        for (kind, wires, depth) in wanted {
+            let told = sizes(rt.alloc(), kind, width);
+            assert_eq!(rt; told, Ok((kind, wires, depth)), "{kind:?} {width}");
+        }
+    }
+}
+
+#[test]
+fn other_widths(rt: HostRuntime) {
+    for kind in KINDS {
+        for width in [0, 1, 3, 63, 65, 128, 256, u32::MAX] {
+            assert_eq!(rt;
+                sizes(rt.alloc(), kind, width),
+                Err(BuildFault::Width),
+                "at width {width}"
+            );
+        }
+    }
+}
+
+#[test]
+fn widths(rt: HostRuntime) {
+    for width in 0..300 {
+        assert_eq!(rt; is_width(width), [2, 4, 8, 16, 32, 64].contains(&width));
+    }
+    assert!(rt; !is_width(u32::MAX));
+}

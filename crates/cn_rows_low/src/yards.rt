@@ -1,0 +1,194 @@
+//! The yard.
+
+use cn_spec::limits::MOST_TOKENS;
+use cn_yard::{Token, Yard};
+use std::alloc::Global;
+use std::test::Fail;
+
+/// A yard whose calls answer an error where they may not be made.
+#[derive(Drop)]
+struct Guarded {
+    yard: Yard,
+}
+
+impl Guarded {
+    fn reserve(&mut self, records: u32) -> Result<(), Fail> {
+        if self.yard.len() <= 1_000_000 && records <= 1_000_000 {
+            Ok(self.yard.reserve(records)?)
+        } else {
+            Err(Fail::from("too many"))
+        }
+    }
+
+    fn admit(&mut self, client: u64, wire: u32) -> Result<Token, Fail> {
+        if wire < self.yard.wires() && self.yard.len() < MOST_TOKENS {
+            Ok(self.yard.admit(client, wire)?)
+        } else {
+            Err(Fail::from("no such wire"))
+        }
+    }
+
+    fn move_to(&mut self, token: Token, wire: u32) -> Result<(), Fail> {
+        if wire < self.yard.wires() && self.yard.is_live(token) {
+            self.yard.move_to(token, wire);
+            Ok(())
+        } else {
+            Err(Fail::from("no such wire or token"))
+        }
+    }
+
+    fn release(&mut self, token: Token) -> Option<u64> {
+        if self.yard.is_live(token) {
+            Some(self.yard.release(token))
+        } else {
+            None
+        }
+    }
+
+    fn first(&self, wire: u32) -> Option<Token> {
+        if wire < self.yard.wires() {
+            self.yard.first(wire)
+        } else {
+            None
+        }
+    }
+
+    fn next(&self, token: Token) -> Option<Token> {
+        if self.yard.is_live(token) {
+            self.yard.next(token)
+        } else {
+            None
+        }
+    }
+
+    fn count(&self, wire: u32) -> Option<u32> {
+        if wire < self.yard.wires() {
+            Some(self.yard.count(wire))
+        } else {
+            None
+        }
+    }
+
+    fn place(&self, token: Token) -> Option<(u32, u64)> {
+        if self.yard.is_live(token) {
+            Some((self.yard.wire_of(token), self.yard.client_of(token)))
+        } else {
+            None
+        }
+    }
+
+    fn client(&self, token: Option<Token>) -> Option<u64> {
+        let (_, client) = self.place(token?)?;
+        Some(client)
+    }
+
+    /// The first two clients on a wire.
+    fn row(&self, wire: u32) -> [Option<u64>; 2] {
+        let first = self.first(wire);
+        let second = match first {
+            Some(token) => self.next(token),
+            None => None,
+        };
+        [self.client(first), self.client(second)]
+    }
+
+    /// The rows of the three wires, and the numbers of tokens and of free records.
+    fn stand(&self) -> Stand {
+        (
+            [self.row(0), self.row(1), self.row(2)],
+            self.yard.lowest(),
+            (self.yard.len(), self.yard.spare(), self.yard.is_empty()),
+        )
+    }
+}
+
+type Stand = ([[Option<u64>; 2]; 3], Option<u32>, (u32, u32, bool));
+
+fn yard_of(alloc: Global, wires: u32) -> Result<Guarded, Fail> {
+    Ok(Guarded {
+        yard: Yard::new(alloc, wires)?,
+    })
+}
+
+/// The yard after each move of the row.
+fn stands(alloc: Global) -> Result<[Stand; 6], Fail> {
+    let mut yard = yard_of(alloc, 3)?;
+    yard.reserve(2)?;
+    let empty = yard.stand();
+    let t = yard.admit(7, 0)?;
+    let u = yard.admit(8, 0)?;
+    let both = yard.stand();
+    yard.move_to(t, 0)?;
+    let turned = yard.stand();
+    yard.move_to(u, 2)?;
+    let apart = yard.stand();
+    yard.release(t);
+    let left = yard.stand();
+    yard.admit(9, 1)?;
+    yard.admit(10, 1)?;
+    Ok([empty, both, turned, apart, left, yard.stand()])
+}
+
+const NOBODY: [Option<u64>; 2] = [None, None];
+
+#[test]
+fn yard_moves(rt: HostRuntime) -> Result<(), Fail> {
+    let eight = [Some(8), None];
+    assert_eq!(rt;
+        stands(rt.alloc())?,
+        [
+            ([NOBODY, NOBODY, NOBODY], None, (0, 2, true)),
+            ([[Some(7), Some(8)], NOBODY, NOBODY], Some(0), (2, 0, false)),
+            ([[Some(8), Some(7)], NOBODY, NOBODY], Some(0), (2, 0, false)),
+            ([[Some(7), None], NOBODY, eight], Some(0), (2, 0, false)),
+            ([NOBODY, NOBODY, eight], Some(2), (1, 1, false)),
+            ([NOBODY, [Some(9), Some(10)], eight], Some(1), (3, 0, false)),
+        ]
+    );
+    Ok(())
+}
+
+/// The places of two tokens on one wire, how many stand there, who is released, and whether it stands there still.
+type Looks = ([Option<(u32, u64)>; 2], [Option<u32>; 2], Option<u64>, bool);
+
+fn looks(alloc: Global) -> Result<Looks, Fail> {
+    let mut yard = yard_of(alloc, 3)?;
+    let t = yard.admit(7, 0)?;
+    let u = yard.admit(8, 0)?;
+    let counts = [yard.count(0), yard.count(1)];
+    yard.move_to(u, 2)?;
+    let places = [yard.place(t), yard.place(u)];
+    let released = yard.release(t);
+    Ok((places, counts, released, yard.yard.is_live(t)))
+}
+
+#[test]
+fn looks_at_tokens_and_wires(rt: HostRuntime) -> Result<(), Fail> {
+    assert_eq!(rt;
+        looks(rt.alloc())?,
+        (
+            [Some((0, 7)), Some((2, 8))],
+            [Some(2), Some(0)],
+            Some(7),
+            false
+        )
+    );
+    Ok(())
+}
+
+/// The wires and the free records after a reserve of so many, and the tokens and free records once so many came in.
+fn full(alloc: Global, records: u32) -> Result<[(u32, u32); 2], Fail> {
+    let mut yard = yard_of(alloc, 3)?;
+    yard.reserve(records)?;
+    let reserved = (yard.yard.wires(), yard.yard.spare());
+    for client in 0..records {
+        yard.admit(u64::from(client), client % 3)?;
+    }
+    Ok([reserved, (yard.yard.len(), yard.yard.spare())])
+}
+
+#[test]
+fn room_for_all_clients_of_an_epoch(rt: HostRuntime) -> Result<(), Fail> {
+    assert_eq!(rt; full(rt.alloc(), 65_536)?, [(3, 65_536), (65_536, 0)]);
+    Ok(())
+}

@@ -1,0 +1,12 @@
+-- What proofs of other crates cite of this one. They cite nothing else of proofs/.
+
+-- full flows of tables
+pub use Rattle.cn_wiring.proofs.Conserve.{full_flow-sum}
+pub use Rattle.cn_wiring.proofs.Few.{full_flow-few}
+pub use Rattle.cn_wiring.proofs.Flow.{full_flow-draft, full_flow-exists, full_flow-paths, full_flow-unique, older}
+-- parts of networks, and networks that are finished
+pub use Rattle.cn_wiring.proofs.Builds.{Builds-beside, Builds-giving, Builds-like, Builds-loose, Builds-loose_with, Builds-same}
+pub use Rattle.cn_wiring.proofs.Builds.{Builds-sized, Builds-then}
+pub use Rattle.cn_wiring.proofs.Finished.{Drawn, drawn, drawn_built, drawn_counts}
+pub use Rattle.cn_wiring.proofs.Rows.{all_ok, entries_row, flows_row, half_pow, outputs_count, shorter}
+pub use Rattle.cn_wiring.proofs.WidthLemmas.{same_level}

@@ -1,0 +1,40 @@
+-- Levels and widths.
+use Rattle.std.proofs.Common.{◌≡◌, ℕ, suc, ◌*◌, ◌^◌, ◌<◌, ◌≤◌, inl, inr, arith, lit≤}
+use Rattle.std.proofs.lemmas.Bool.{cases_order}
+use Rattle.std.proofs.lemmas.Nat.{pow_below}
+use Rattle.std.proofs.Math.Nat.{pow-succ'}
+use Rattle.std.proofs.Math.Pow.{pow_mono}
+use Rattle.cn_spec.specs.declared.limits.TheConstants.{MOST_ENDS, MOST_LEVEL}
+use Rattle.cn_wiring.specs.Widths.{IsWidth}
+
+-- a number has one logarithm
+pub same_level : (n m level : ℕ) → n ≡ 2 ^ m → n ≡ 2 ^ level → level ≡ m
+same_level n m level p q =
+    elim (cases_order level m) [
+      | inl e ↦ e
+      | inr o ↦ elim o [ inl l ↦ absurd (omega (arith, pow_below level m l)) | inr l ↦ absurd (omega (arith, pow_below m level l)) ]
+    ]
+
+-- the level of a number that is a power of two, by the greatest power of two that is not above it
+pub level_is_log : (n log level : ℕ) → 2 ^ log ≤ n → n < 2 * 2 ^ log → n ≡ 2 ^ level → level ≡ log
+level_is_log n log level low high e =
+    elim (cases_order level log) [
+      | inl same ↦ same
+      | inr o ↦ elim o [
+        | inl l ↦ absurd (omega (arith, pow_below level log l))
+        | inr more ↦
+            let least : 2 ^ suc log ≤ 2 ^ level = pow_mono (omega arith) in
+            let twice : 2 ^ suc log ≡ 2 * 2 ^ log = pow-succ' 2 log in
+            absurd (omega arith)
+      ]
+    ]
+
+-- a width is at least 2, and there may be as many ends
+pub width_some : (width : ℕ) → IsWidth width → 2 ≤ width
+width_some width (level, w) = let least : 2 ^ 1 ≤ 2 ^ level = pow_mono w.some in omega (arith, w.wide)
+
+pub width_few : (level : ℕ) → level ≤ MOST_LEVEL → 2 ^ level ≤ MOST_ENDS
+width_few level small =
+    let most : 2 ^ level ≤ 2 ^ MOST_LEVEL = pow_mono small in
+    let all : 2 ^ MOST_LEVEL ≤ MOST_ENDS = lit≤ tt in
+    omega arith

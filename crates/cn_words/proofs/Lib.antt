@@ -1,0 +1,3 @@
+pub mod PlainCommands
+pub mod Readings
+pub mod WordWidths

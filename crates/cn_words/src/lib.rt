@@ -1,0 +1,9 @@
+//! What the program is asked for: networks by kind and width, and the command line.
+#![tactic(auto)]
+
+mod command_line;
+mod net;
+mod words;
+
+pub use net::{Net, NetFault};
+pub use words::{Job, WordsFault, parse_words};
