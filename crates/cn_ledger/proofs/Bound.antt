@@ -11,8 +11,7 @@ use Rattle.cn_wiring.specs.declared.end.End.TheVariants.{Balancer, Exit}
 use Rattle.cn_spec.specs.Sums.{when, sum_below, Agree, once_below}
 use Rattle.cn_wiring.specs.Table.{Table, is_end, sum_at, Stands, IsWellFormed, IsFullFlow}
 use Rattle.cn_wiring.specs.Network.{Counts}
-use Rattle.cn_wiring.proofs.Flow.{older, full_flow-unique, full_flow-exists}
-use Rattle.cn_wiring.proofs.Conserve.{full_flow-sum}
+use Rattle.cn_wiring.proofs.CallerLemmas.{full_flow-exists, full_flow-sum, full_flow-unique, older}
 use Rattle.cn_ledger.specs.Ledger.{Ledger, put, IsSound, all_entered, IsQuiet, IsBounded, IsTight, times_given}
 
 pub put-entry : (t : Table) (l : Ledger) (u : ℕ) → u < t.entries → put t l u ≡ l.entered u

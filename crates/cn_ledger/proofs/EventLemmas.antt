@@ -8,7 +8,7 @@ use Rattle.cn_wiring.specs.declared.end.End.TheVariants.{Balancer, Exit}
 use Rattle.cn_spec.specs.Sums.{sum_below, when, total_where, once_below}
 use Rattle.cn_wiring.specs.Table.{Table, IsWellFormed, Stands, is_end, sum_at, end_of, output_wire}
 use Rattle.cn_spec.proofs.CallerLemmas.{once-next, sum_below-pick, sum_below-same, total_where-agree, total_where-shift, total_where-zero}
-use Rattle.cn_wiring.proofs.Flow.{older}
+use Rattle.cn_wiring.proofs.CallerLemmas.{older}
 use Rattle.cn_ledger.specs.Ledger.{Ledger, IsSound, AddsUpTo, put}
 use Rattle.cn_ledger.specs.Events.{Enters, Goes, Passes, Leaves, one_at}
 

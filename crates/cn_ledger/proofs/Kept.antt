@@ -6,17 +6,15 @@ use Rattle.cn_spec.proofs.CallerLemmas.{half-sum, sum_below-plus, sum_below-same
 use Rattle.cn_wiring.specs.declared.end.End.{End}
 use Rattle.cn_wiring.specs.declared.end.End.TheVariants.{Balancer, Exit}
 use Rattle.cn_wiring.specs.Table.{Table, IsWellFormed, Stands, sum_at}
-use Rattle.cn_wiring.proofs.Conserve.{count-twice}
-use Rattle.cn_wiring.proofs.Flow.{full_flow-exists}
+use Rattle.cn_wiring.proofs.CallerLemmas.{count-twice, full_flow-exists, full_flow-few}
 use Rattle.cn_ledger.specs.Ledger.{Ledger, IsSound, all_entered, put}
 use Rattle.cn_ledger.proofs.Bound.{count-at_most, put-entry, put-output}
-use Rattle.cn_ledger.proofs.Few.{flow_few}
 
 pub counts-few : (t : Table) → IsWellFormed t → (l : Ledger) → IsSound t l → (end : End) → Stands t end → l.count end ≤ all_entered t l
 counts-few t w l sound end h =
     let (f, flow, inputs) = full_flow-exists t w l.entered in
     let same : sum_below t.entries f ≡ all_entered t l = sum_below-same t.entries f l.entered inputs in
-    omega (arith, count-at_most t w l sound f flow inputs end h, flow_few t w f flow end h)
+    omega (arith, count-at_most t w l sound f flow inputs end h, full_flow-few t w f flow end h)
 
 -- what has been put on the wires is what came in and what passed the balancers
 put-sum : (t : Table) (l : Ledger) (n : ℕ) → n ≤ t.balancers

@@ -2,7 +2,6 @@ pub mod Bound
 pub mod EventLemmas
 pub mod EmptyLedger
 pub mod Happening
-pub mod Few
 pub mod Kept
 pub mod Listed
 pub mod Worked

@@ -1,7 +1,7 @@
 -- What proofs of other crates cite of this one. They cite nothing else of proofs/.
 
 -- full flows of tables
-pub use Rattle.cn_wiring.proofs.Conserve.{full_flow-sum}
+pub use Rattle.cn_wiring.proofs.Conserve.{count-twice, full_flow-sum}
 pub use Rattle.cn_wiring.proofs.Few.{full_flow-few}
 pub use Rattle.cn_wiring.proofs.Flow.{full_flow-draft, full_flow-exists, full_flow-paths, full_flow-unique, older}
 -- parts of networks, and networks that are finished
