@@ -125,6 +125,10 @@ fn tree_overtaking(alloc: Global) -> Result<Outcome, AllocError> {
     })
 }
 
+fn names_of(core: &Core<'_>) -> [Option<u64>; 4] {
+    [10, 20, 30, 40].map(|client| core.name(client))
+}
+
 fn outcome_of(
     alloc: Global,
     state: RandomState,
@@ -134,12 +138,14 @@ fn outcome_of(
     let network = tree(alloc, 4)?;
     let mut core = Core::new(alloc, &network, state)?;
     let replies = replies_to(&mut core, alloc, events, calls)?;
+    let holders = holders_of(&core)?;
+    let names = names_of(&core);
     Ok(Outcome {
         replies,
         entered: core.entered(),
         inside: core.inside(),
-        names: [core.name(10), core.name(20), core.name(30), core.name(40)],
-        holders: holders_of(&core)?,
+        names,
+        holders,
     })
 }
 
@@ -195,7 +201,11 @@ fn wanted_answers(alloc: Global) -> Result<Vec<Answer>, AllocError> {
 /// The answers, and how many epochs ended, and how many clients entered and are inside.
 type Turned = (Vec<Answer>, [u64; 3]);
 
-fn turned(
+fn stand_of(epochs: &Epochs<'_>) -> [u64; 3] {
+    [epochs.number(), epochs.entered(), epochs.inside()]
+}
+
+fn answered(
     alloc: Global,
     state: RandomState,
     commands: &[Command],
@@ -204,35 +214,41 @@ fn turned(
     let network = tree(alloc, 4)?;
     let mut epochs = Epochs::new(alloc, &network, state)?;
     let answers = answers_to(&mut epochs, alloc, commands, calls)?;
-    Ok((
-        answers,
-        [epochs.number(), epochs.entered(), epochs.inside()],
-    ))
+    Ok((answers, stand_of(&epochs)))
 }
 
 #[test]
 fn tree_overtaking_then_turn(rt: HostRuntime) -> Result<(), Fail> {
     for calls in [Calls::Single, Calls::Run] {
         let commands = commands(rt.alloc())?;
-        let (answers, stand) = turned(rt.alloc(), RandomState::new(&rt)?, &commands, calls)?;
+        let (answers, stand) = answered(rt.alloc(), RandomState::new(&rt)?, &commands, calls)?;
         assert_eq!(rt; answers, wanted_answers(rt.alloc())?, "{calls:?}");
         assert_eq!(rt; stand, [2, 0, 0], "{calls:?}");
     }
     Ok(())
 }
 
-/// What three more clients are told by a core that is full: at an entry, at none, and where one has entered.
-fn refused_by_the_full(alloc: Global, state: RandomState) -> Result<[Option<EnterFault>; 3], Fail> {
-    let network = tree(alloc, 64)?;
-    let mut core = Core::new(alloc, &network, state)?;
+/// As many clients enter as can.
+fn fill(core: &mut Core<'_>) -> Result<(), Fail> {
     for client in 0..65_536 {
         core.enter(client, 0)?;
     }
-    Ok([
-        core.enter(65_536, 0).err(),
-        core.enter(65_536, 1).err(),
-        core.enter(0, 0).err(),
-    ])
+    Ok(())
+}
+
+/// What is told to another client at an entry and at none, and to one that has entered.
+fn refusals_of(core: &mut Core<'_>) -> [Option<EnterFault>; 3] {
+    let full = core.enter(65_536, 0).err();
+    let nowhere = core.enter(65_536, 1).err();
+    let again = core.enter(0, 0).err();
+    [full, nowhere, again]
+}
+
+fn refused_by_the_full(alloc: Global, state: RandomState) -> Result<[Option<EnterFault>; 3], Fail> {
+    let network = tree(alloc, 64)?;
+    let mut core = Core::new(alloc, &network, state)?;
+    fill(&mut core)?;
+    Ok(refusals_of(&mut core))
 }
 
 #[test]

@@ -10,19 +10,36 @@ use std::alloc::Global;
 use std::hash::RandomState;
 use std::test::Fail;
 
-/// Steps the clients in an order that changes from round to round until each has left, and counts who left by each exit.
-fn walked(alloc: Global, core: &mut Core, clients: u32, exits: usize) -> Result<Vec<u64>, Fail> {
-    let mut counts = vec![in alloc; 0u64; exits]?;
-    for round in 0..64u64 {
-        for turn in 0..u64::from(clients) {
-            let client = (5 * turn + round) % u64::from(clients);
-            if let Ok(Moved::Out { exit, .. }) = core.step(client) {
-                let count = counts
-                    .get_mut(exit as usize)
-                    .ok_or("an exit of the network")?;
+/// The exit by which a client leaves with its next step, if it does.
+fn left_by(core: &mut Core<'_>, client: u64) -> Option<usize> {
+    match core.step(client) {
+        Ok(Moved::Out { exit, .. }) => Some(exit as usize),
+        _ => None,
+    }
+}
+
+/// Steps each client once, in an order that changes from round to round, and counts who leaves by each exit.
+fn walk_round(core: &mut Core<'_>, clients: u32, round: u8, counts: &mut [u64]) {
+    for turn in 0..u64::from(clients) {
+        let client = (5 * turn + u64::from(round)) % u64::from(clients);
+        if let Some(exit) = left_by(core, client) {
+            if let Some(count) = counts.get_mut(exit) {
                 *count = count.saturating_add(1);
             }
         }
+    }
+}
+
+/// Who left by each exit after so many rounds that all have left.
+fn walked(
+    alloc: Global,
+    core: &mut Core<'_>,
+    clients: u32,
+    exits: usize,
+) -> Result<Vec<u64>, Fail> {
+    let mut counts = vec![in alloc; 0u64; exits]?;
+    for round in 0..64_u8 {
+        walk_round(core, clients, round, &mut counts);
     }
     Ok(counts)
 }
