@@ -9,7 +9,7 @@ mod emitting;
 #[cfg(test)]
 mod epoch_calls;
 #[cfg(test)]
-mod narrow;
+mod performing;
 #[cfg(test)]
 mod replaying;
 #[cfg(test)]
@@ -20,3 +20,7 @@ mod showing;
 mod walking;
 #[cfg(test)]
 mod wiring_tables;
+#[cfg(test)]
+mod words;
+#[cfg(test)]
+mod writers;
