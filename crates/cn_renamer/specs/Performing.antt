@@ -20,11 +20,11 @@ IsTextOf (job.Replay net) known text = IsReplayOfKnown net known text
 IsTextOf (job.Show net) known text = IsWiringOf net text
 
 -- how much of its text a job has written that met a fault
-abbrev pub until : Fault → Written
-until (Refused text) = Nothing
-until (Runtime fault) = Nothing
-until (Replay fault) = until_replay fault
-until (Output fault) = until_output fault
+abbrev pub until_fault : Fault → Written
+until_fault (Refused text) = Nothing
+until_fault (Runtime fault) = Nothing
+until_fault (Replay fault) = until_replay fault
+until_fault (Output fault) = until_output fault
 
 -- the runtime refused arguments or random words, or the memory for them
 abbrev pub IsOfRuntime : Fault → Type 0
@@ -62,7 +62,7 @@ MayEndAsked (Err words.Memory) known fault = fault ≡ Output output.Memory
 pub record HasRun {U W : Type 0} (texts : List Text) (known : Option (List ℕ)) (contents : W → Option (List ℕ)) (old new : W) (answer : Result U Fault) : Type 0 where
   pub asked : Result Job WordsFault
   pub read : MatchResult asked (IsJobOf texts) (IsFaultOf texts)
-  pub written : HasWritten contents (IsTextAsked asked known) (written_by until answer) old new
+  pub written : HasWritten contents (IsTextAsked asked known) (written_by until_fault answer) old new
   pub ends : IfErr answer (MayEndAsked asked known)
 
 -- the status that a fault ends the program with: input that is refused 1, words that are refused 2, what could not be done 3

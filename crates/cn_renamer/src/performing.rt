@@ -2,7 +2,7 @@
 
 ghost use Rattle.std.specs.Prelude.{IfErr, map, string_bytes};
 ghost use Rattle.cn_report.specs.Writing.Written.{HasWritten, written_by};
-ghost use Rattle.cn_renamer.specs.Performing.{HasRun, IsTextOf, MayEnd, until};
+ghost use Rattle.cn_renamer.specs.Performing.{HasRun, IsTextOf, MayEnd, until_fault};
 
 use crate::fault::Fault;
 use crate::output_fault::OutputFault;
@@ -27,7 +27,7 @@ pub fn perform<R: Read + Drop, W: Write, S: RandomSource>(
     source: &S,
 ) -> Result<(), Fault>
     ensures written { let Is = IsTextOf job (R.remaining reader) in
-        HasWritten W.contents Is (written_by until result) writer.old writer.new }
+        HasWritten W.contents Is (written_by until_fault result) writer.old writer.new }
     ensures ends { IfErr result (MayEnd job (R.remaining reader)) }
 {
     match job {

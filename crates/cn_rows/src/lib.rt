@@ -5,10 +5,14 @@
 #[cfg(test)]
 mod emitting;
 #[cfg(test)]
-mod narrow;
+mod performing;
 #[cfg(test)]
 mod replaying;
 #[cfg(test)]
 mod schedules;
 #[cfg(test)]
 mod showing;
+#[cfg(test)]
+mod words;
+#[cfg(test)]
+mod writers;

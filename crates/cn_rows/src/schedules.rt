@@ -1,13 +1,18 @@
 //! Schedules, read.
 
+use crate::writers::Broken;
 use cn_epoch::Command;
 use cn_report::{ScheduleCause, ScheduleFault, read_schedule};
 use std::alloc::Global;
-use std::io;
 use std::test::Fail;
 
-const TWO_CLIENTS: &[u8] =
-    b"op,client,wire\nenter,7,0\nenter,9,1\nstep,9,\nstep,7,\nstep,9,\nstep,7,\n";
+const TWO_CLIENTS: &[u8] = b"op,client,wire\n\
+      enter,7,0\n\
+      enter,9,1\n\
+      step,9,\n\
+      step,7,\n\
+      step,9,\n\
+      step,7,\n";
 
 const TWO_CLIENTS_COMMANDS: [Command; 6] = [
     Command::Enter {
@@ -49,7 +54,12 @@ fn only_a_header_is_a_schedule_of_no_commands(rt: HostRuntime) -> Result<(), Fai
 
 #[test]
 fn a_turn_is_a_record_of_its_own(rt: HostRuntime) -> Result<(), Fail> {
-    let text = b"op,client,wire\nenter,7,0\nturn,,\nstep,7,\nstep,7,\nturn,,\n";
+    let text = b"op,client,wire\n\
+      enter,7,0\n\
+      turn,,\n\
+      step,7,\n\
+      step,7,\n\
+      turn,,\n";
     let wanted = [
         Command::Enter {
             client: 7,
@@ -79,7 +89,9 @@ fn records_are_those_of_csv(rt: HostRuntime) -> Result<(), Fail> {
         b"op,client,wire\nenter,7,1\nstep,7,",
         b"\n\nop,client,wire\n\nenter,7,1\n\r\n\nstep,7,\n\n",
         b"\xef\xbb\xbfop,client,wire\nenter,7,1\nstep,7,\n",
-        b"\"op\",\"client\",\"wire\"\n\"enter\",\"7\",\"1\"\n\"step\",7,\"\"\n",
+        b"\"op\",\"client\",\"wire\"\n\
+      \"enter\",\"7\",\"1\"\n\
+      \"step\",7,\"\"\n",
         b"op,client,wire\nenter,\"00\"7,01\nstep,\"7\",\"",
     ];
     for (place, text) in texts.iter().enumerate() {
@@ -190,24 +202,6 @@ fn the_first_record_with_a_cause_is_told(rt: HostRuntime) {
     assert_eq!(rt; fault, Some(ScheduleFault { at: 3, cause }));
 }
 
-// Gives a text, and then fails.
-#[derive(Drop)]
-struct Failing<'a> {
-    text: &'a [u8],
-}
-
-impl<'a> io::Read for Failing<'a> {
-    fn read(&mut self, buffer: &mut [u8]) -> io::Result<usize> {
-        if self.text.is_empty() {
-            return Err(io::Error::from(io::ErrorKind::BrokenPipe));
-        }
-        let count = self.text.len().min(buffer.len());
-        buffer[..count].copy_from_slice(&self.text[..count]);
-        self.text = &self.text[count..];
-        Ok(count)
-    }
-}
-
 #[test]
 fn read_cut_anywhere(rt: HostRuntime) {
     let mut lines = 0u64;
@@ -217,7 +211,7 @@ fn read_cut_anywhere(rt: HostRuntime) {
             lines = lines.saturating_add(1);
         }
         let cause = ScheduleCause::Read;
-        let fault = read_schedule(rt.alloc(), Failing { text }).err();
+        let fault = read_schedule(rt.alloc(), Broken { left: text }).err();
         assert_eq!(rt; fault, Some(ScheduleFault { at: lines, cause }), "at {end}");
     }
     assert_eq!(rt; lines, 7);

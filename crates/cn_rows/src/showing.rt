@@ -1,12 +1,19 @@
 //! Wirings, shown end to end by the library.
 
-use crate::narrow::Narrow;
+use crate::writers::{Narrow, Then};
 use cn_renamer::{Net, ShowFault, show};
 use cn_wiring::Kind;
 use std::test::Fail;
 
-const TREE_FOUR: &[u8] =
-    b"network tree width 4 balancers 3 depth 2\nwire 0 balancer 0\nwire 1 balancer 1\nwire 2 balancer 2\nwire 3 exit 0\nwire 4 exit 2\nwire 5 exit 1\nwire 6 exit 3\nend wires 7\n";
+const TREE_FOUR: &[u8] = b"network tree width 4 balancers 3 depth 2\n\
+      wire 0 balancer 0\n\
+      wire 1 balancer 1\n\
+      wire 2 balancer 2\n\
+      wire 3 exit 0\n\
+      wire 4 exit 2\n\
+      wire 5 exit 1\n\
+      wire 6 exit 3\n\
+      end wires 7\n";
 
 #[test]
 fn show_tree(rt: HostRuntime) -> Result<(), Fail> {
@@ -25,7 +32,10 @@ fn the_widest_bitonic_network_is_shown(rt: HostRuntime) -> Result<(), Fail> {
     let mut written = Vec::new(alloc);
     show(alloc, &mut written, &net)?;
     assert!(rt;
-        written.starts_with(b"network bitonic width 64 balancers 672 depth 21\nwire 0 balancer 0\n")
+        written.starts_with(
+            b"network bitonic width 64 balancers 672 depth 21\n\
+      wire 0 balancer 0\n"
+        )
     );
     assert!(rt; written.ends_with(b"\nend wires 1408\n"));
     assert_eq!(rt;
@@ -35,28 +45,31 @@ fn the_widest_bitonic_network_is_shown(rt: HostRuntime) -> Result<(), Fail> {
     Ok(())
 }
 
+/// The fault of showing the tree of width 4 to a writer, and what the writer has taken.
+fn cut(rt: &HostRuntime, mut writer: Narrow) -> Result<(Option<ShowFault>, Vec<u8>), Fail> {
+    let net = Net::new(Kind::Tree, 4)?;
+    let fault = show(rt.alloc(), &mut writer, &net).err();
+    Ok((fault, writer.taken))
+}
+
 #[test]
 fn write_cut_anywhere(rt: HostRuntime) -> Result<(), Fail> {
-    let alloc = rt.alloc();
-    let net = Net::new(Kind::Tree, 4)?;
-    for room in 0..TREE_FOUR.len() {
-        let taken = Vec::new(alloc);
-        let mut writer = Narrow { taken, room };
-        let fault = show(alloc, &mut writer, &net).err();
-        let written = room as u64;
-        assert_eq!(rt; fault, Some(ShowFault::Write { written }));
-        assert_eq!(rt; writer.taken.as_slice(), &TREE_FOUR[..room]);
+    for then in [Then::TakesNothing, Then::FailsOnce] {
+        for room in 0..TREE_FOUR.len() {
+            let (fault, taken) = cut(&rt, Narrow::new(rt.alloc(), room, then))?;
+            let written = room as u64;
+            assert_eq!(rt; fault, Some(ShowFault::Write { written }));
+            assert_eq!(rt; taken.as_slice(), &TREE_FOUR[..room]);
+        }
     }
-    let fault = ShowFault::Write { written: 10 };
-    assert_eq!(rt;
-        fault.to_string(alloc)?.as_str(),
-        "renamer: write after 10 bytes"
-    );
-    assert_eq!(rt; fault.status(), 3);
-    assert_eq!(rt;
-        ShowFault::Memory.to_string(alloc)?.as_str(),
-        "renamer: memory"
-    );
-    assert_eq!(rt; ShowFault::Memory.status(), 3);
+    Ok(())
+}
+
+#[test]
+fn a_failed_flush_is_a_failed_write(rt: HostRuntime) -> Result<(), Fail> {
+    let (fault, taken) = cut(&rt, Narrow::unflushed(rt.alloc()))?;
+    let written = TREE_FOUR.len() as u64;
+    assert_eq!(rt; fault, Some(ShowFault::Write { written }));
+    assert_eq!(rt; taken.as_slice(), TREE_FOUR);
     Ok(())
 }

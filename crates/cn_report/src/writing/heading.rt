@@ -1,7 +1,7 @@
 //! The line that tells a network, at the head of a text.
 
-ghost use Rattle.std.specs.Prelude.{◌≡◌, ◌++◌, OnOk, string_bytes};
-ghost use Rattle.cn_report.specs.Writing.Text.{heading};
+ghost use Rattle.std.specs.Prelude.{OnOk};
+ghost use Rattle.cn_report.specs.Writing.Text.{Grows, heading};
 
 use cn_wiring::Counting;
 use std::alloc::AllocError;
@@ -9,7 +9,7 @@ use std::alloc::AllocError;
 /// Appends the heading of a network.
 #[tactic(auto, unfolding(crate::specs::Writing::Text::heading))]
 pub(crate) fn put_heading(text: &mut String, network: &Counting) -> Result<(), AllocError>
-    ensures { OnOk result (string_bytes text.new ≡ string_bytes text.old ++ heading network.now) }
+    ensures { OnOk result (Grows text.old text.new (heading network.now)) }
 {
     let kind = network.kind().word();
     let width = network.width();

@@ -1,8 +1,9 @@
 //! The text of a replay.
 
-ghost use Rattle.std.specs.Prelude.{◌≡◌, ◌++◌, OnOk, IfOk, string_bytes};
+ghost use Rattle.std.specs.Prelude.{◌≡◌, OnOk, IfOk};
 ghost use Rattle.std.specs.List.{All};
 ghost use Rattle.cn_epoch.specs.Turns.{HadMemory};
+ghost use Rattle.cn_report.specs.Writing.Text.{Grows};
 ghost use Rattle.cn_report.specs.Writing.Outcome.{IsWholeRecord};
 ghost use Rattle.cn_report.specs.Writing.Replay.{AreAnswers, Fits, IsEnterReply, IsStepReply, IsWhole, answer_line, answer_lines, end_line, enter_line, moved_line, not_quiet_line, record_lines, replay_text, step_line, turn_line};
 
@@ -15,7 +16,7 @@ use std::alloc::{AllocError, Global};
 
 #[tactic(auto, unfolding(crate::specs::Writing::Replay::moved_line))]
 fn put_moved(text: &mut String, client: u64, moved: Moved) -> Result<(), AllocError>
-    ensures { OnOk result (string_bytes text.new ≡ string_bytes text.old ++ moved_line client moved) }
+    ensures { OnOk result (Grows text.old text.new (moved_line client moved)) }
 {
     match moved {
         Moved::On {
@@ -40,7 +41,7 @@ fn put_enter_fault(
     fault: EnterFault,
 ) -> Result<(), AllocError>
     requires { HadMemory (Answer.Replied (Reply.EnterRefused fault)) }
-    ensures { OnOk result (string_bytes text.new ≡ string_bytes text.old ++ enter_line client entry (Reply.EnterRefused fault)) }
+    ensures { OnOk result (Grows text.old text.new (enter_line client entry (Reply.EnterRefused fault))) }
 {
     match fault {
         EnterFault::NoSuchEntry => writeln!(text, "refused enter {client} NoSuchEntry"),
@@ -54,7 +55,7 @@ fn put_enter_fault(
 fn put_enter(text: &mut String, client: u64, entry: u64, reply: Reply) -> Result<(), AllocError>
     requires fits { IsEnterReply reply }
     requires memory { HadMemory (Answer.Replied reply) }
-    ensures { OnOk result (string_bytes text.new ≡ string_bytes text.old ++ enter_line client entry reply) }
+    ensures { OnOk result (Grows text.old text.new (enter_line client entry reply)) }
 {
     match reply {
         Reply::Entered => writeln!(text, "enter {client} wire {entry}"),
@@ -66,7 +67,7 @@ fn put_enter(text: &mut String, client: u64, entry: u64, reply: Reply) -> Result
 #[tactic(auto, unfolding(crate::specs::Writing::Replay::step_line))]
 fn put_step(text: &mut String, client: u64, reply: Reply) -> Result<(), AllocError>
     requires { IsStepReply reply }
-    ensures { OnOk result (string_bytes text.new ≡ string_bytes text.old ++ step_line client reply) }
+    ensures { OnOk result (Grows text.old text.new (step_line client reply)) }
 {
     match reply {
         Reply::Stepped(moved) => put_moved(text, client, moved),
@@ -82,14 +83,14 @@ fn put_step(text: &mut String, client: u64, reply: Reply) -> Result<(), AllocErr
 
 #[tactic(auto, unfolding(crate::specs::Writing::Replay::turn_line))]
 fn put_turn(text: &mut String, number: u64, clients: u64) -> Result<(), AllocError>
-    ensures { OnOk result (string_bytes text.new ≡ string_bytes text.old ++ turn_line number clients) }
+    ensures { OnOk result (Grows text.old text.new (turn_line number clients)) }
 {
     writeln!(text, "turn epoch {number} clients {clients}")
 }
 
 fn put_record(text: &mut String, width: u32, epoch: &EpochRecord) -> Result<(), AllocError>
     requires { IsWholeRecord width epoch.now }
-    ensures { OnOk result (string_bytes text.new ≡ string_bytes text.old ++ record_lines width epoch.now) }
+    ensures { OnOk result (Grows text.old text.new (record_lines width epoch.now)) }
 {
     put_turn(text, epoch.number, epoch.clients)?;
     put_outcome(text, width, epoch)
@@ -97,7 +98,7 @@ fn put_record(text: &mut String, width: u32, epoch: &EpochRecord) -> Result<(), 
 
 #[tactic(auto, unfolding(crate::specs::Writing::Replay::not_quiet_line))]
 fn put_not_quiet(text: &mut String, inside: u64) -> Result<(), AllocError>
-    ensures { OnOk result (string_bytes text.new ≡ string_bytes text.old ++ not_quiet_line inside) }
+    ensures { OnOk result (Grows text.old text.new (not_quiet_line inside)) }
 {
     writeln!(text, "refused turn NotQuiet {inside}")
 }
@@ -112,7 +113,7 @@ fn put_answer(
     requires fits { Fits command answer.now }
     requires memory { HadMemory answer.now }
     requires whole { IsWhole width answer.now }
-    ensures { OnOk result (string_bytes text.new ≡ string_bytes text.old ++ answer_line width command answer.now) }
+    ensures { OnOk result (Grows text.old text.new (answer_line width command answer.now)) }
 {
     match (command, answer) {
         (Command::Enter { client, entry }, Answer::Replied(reply)) => {
@@ -136,7 +137,7 @@ fn put_answers(
     requires fit { AreAnswers commands.now answers.now }
     requires memory { All HadMemory answers.now }
     requires whole { All (IsWhole width) answers.now }
-    ensures { OnOk result (string_bytes text.new ≡ string_bytes text.old ++ answer_lines width commands.now answers.now) }
+    ensures { OnOk result (Grows text.old text.new (answer_lines width commands.now answers.now)) }
 {
     for (position, answer) in answers.iter().enumerate() {
         put_answer(text, width, commands[position], answer)?;
@@ -146,7 +147,7 @@ fn put_answers(
 
 #[tactic(auto, unfolding(crate::specs::Writing::Replay::end_line))]
 fn put_end(text: &mut String, number: u64, entered: u64, inside: u64) -> Result<(), AllocError>
-    ensures { OnOk result (string_bytes text.new ≡ string_bytes text.old ++ end_line number entered inside) }
+    ensures { OnOk result (Grows text.old text.new (end_line number entered inside)) }
 {
     writeln!(text, "end epoch {number} entered {entered} inside {inside}")
 }

@@ -1,6 +1,7 @@
 //! The text of a wiring.
 
-ghost use Rattle.std.specs.Prelude.{◌≡◌, ◌++◌, OnOk, IfOk, string_bytes};
+ghost use Rattle.std.specs.Prelude.{◌≡◌, OnOk, IfOk};
+ghost use Rattle.cn_report.specs.Writing.Text.{Grows};
 ghost use Rattle.cn_report.specs.Writing.Wiring.{wire_line, wire_lines, wires_line, wiring_text};
 
 use crate::writing::heading::put_heading;
@@ -9,7 +10,7 @@ use std::alloc::{AllocError, Global};
 
 #[tactic(auto, unfolding(crate::specs::Writing::Wiring::wire_line))]
 fn put_wire(text: &mut String, wire: u32, end: End) -> Result<(), AllocError>
-    ensures { OnOk result (string_bytes text.new ≡ string_bytes text.old ++ wire_line (wire, end)) }
+    ensures { OnOk result (Grows text.old text.new (wire_line (wire, end))) }
 {
     match end {
         End::Balancer(balancer) => writeln!(text, "wire {wire} balancer {balancer}"),
@@ -18,7 +19,7 @@ fn put_wire(text: &mut String, wire: u32, end: End) -> Result<(), AllocError>
 }
 
 fn put_wires(text: &mut String, network: &Counting) -> Result<(), AllocError>
-    ensures { OnOk result (string_bytes text.new ≡ string_bytes text.old ++ wire_lines network.now.table.ends) }
+    ensures { OnOk result (Grows text.old text.new (wire_lines network.now.table.ends)) }
 {
     let wires = network.entries() + 2 * network.balancers();
     for wire in 0..wires {
@@ -29,7 +30,7 @@ fn put_wires(text: &mut String, network: &Counting) -> Result<(), AllocError>
 
 #[tactic(auto, unfolding(crate::specs::Writing::Wiring::wires_line))]
 fn put_end(text: &mut String, wires: u32) -> Result<(), AllocError>
-    ensures { OnOk result (string_bytes text.new ≡ string_bytes text.old ++ wires_line wires) }
+    ensures { OnOk result (Grows text.old text.new (wires_line wires)) }
 {
     writeln!(text, "end wires {wires}")
 }
