@@ -1,4 +1,5 @@
--- What the parts of the bitonic network do to a plan.
+-- What the parts of the bitonic network do to a plan (Aspnes, Herlihy, Shavit, Counting Networks, JACM 1994,
+-- section 3).
 use Rattle.std.specs.Prelude.{◌≡◌, ℕ, ◌+◌, ◌*◌, ◌^◌, List, ◌++◌, map}
 use Rattle.std.specs.List.{range_with_len}
 use Rattle.cn_spec.specs.Networks.{IsRow, bitonic, merge}

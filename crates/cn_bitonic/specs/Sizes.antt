@@ -1,4 +1,5 @@
--- How large the bitonic network over 2 ^ level wires is.
+-- How large the bitonic network over 2 ^ level wires is (Aspnes, Herlihy, Shavit, Counting Networks, JACM 1994,
+-- section 3).
 use Rattle.std.specs.Prelude.{ℕ, ◌+◌, ◌*◌, ◌/◌, ◌^◌}
 
 -- its depth: 1 + 2 + .. + level
