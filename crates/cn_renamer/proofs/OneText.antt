@@ -1,5 +1,5 @@
--- A replay of commands on a network has one text.
-use Rattle.std.proofs.Common.{◌≡◌, ℕ, List, [], ◌∷◌, ◌++◌, refl, sym, ap, ◌∙◌}
+-- What jobs write has one text.
+use Rattle.std.proofs.Common.{◌≡◌, ℕ, List, [], ◌∷◌, ◌++◌, refl, sym, ap, subst, ◌∙◌}
 use Rattle.std.specs.List.{AllZip}
 use Rattle.cn_wiring.specs.Network.{Network, IsNetwork}
 use Rattle.cn_core.specs.declared.event.Event.{Event}
@@ -11,7 +11,12 @@ use Rattle.cn_epoch.proofs.CallerLemmas.{history-same, one-list, turns-same}
 use Rattle.cn_report.specs.Writing.Replay.{end_line}
 use Rattle.cn_report.proofs.CallerLemmas.{lines-same}
 use Rattle.cn_report.specs.Writing.Text.{heading}
-use Rattle.cn_renamer.specs.Replay.{IsReplayText}
+use Rattle.cn_report.proofs.CallerLemmas.{one-schedule}
+use Rattle.cn_report.specs.Writing.Wiring.{wiring_text}
+use Rattle.cn_words.specs.Net.{Description}
+use Rattle.cn_words.proofs.CallerLemmas.{one-network}
+use Rattle.cn_renamer.specs.Replay.{IsReplayOf, IsReplayOfCommands, IsReplayText}
+use Rattle.cn_renamer.specs.Show.{IsWiringOf}
 
 module _ (network : Network) (is : IsNetwork network) where
   turns_by-same : (turns : ℕ) (answers others : List Answer) → AllZip IsSameAnswer answers others → turns_by turns answers ≡ turns_by turns others
@@ -37,3 +42,18 @@ module _ (network : Network) (is : IsNetwork network) where
       (ap (λ (lines : List ℕ). heading network ++ lines ++ end_line (turns_by 0 another.answers) (enters_of (grown_by [] commands another.answers)) (inside_of network.table (grown_by [] commands another.answers)))
       (lines-same network.table.width commands one.answers another.answers same))
       ∙ sym another.replayed
+
+-- ---- on the network of a kind and a width
+
+pub one-text-of : (net : Description) (commands : List Command) (text other : List ℕ) → IsReplayOfCommands net commands text → IsReplayOfCommands net commands other → text ≡ other
+one-text-of net commands text other one another =
+    let same = one-network net another.network one.network another.built one.built in
+    one-text one.network one.built.2.counts commands text other one.replayed (subst (λ n. IsReplayText n commands other) same another.replayed)
+
+pub one-text-of-bytes : (net : Description) (bytes text other : List ℕ) → IsReplayOf net bytes text → IsReplayOf net bytes other → text ≡ other
+one-text-of-bytes net bytes text other one another =
+    let same = one-schedule another.commands one.commands another.schedule one.schedule in
+    one-text-of net one.commands text other one.replayed (subst (λ commands. IsReplayOfCommands net commands other) same another.replayed)
+
+pub one-wiring : (net : Description) (text other : List ℕ) → IsWiringOf net text → IsWiringOf net other → text ≡ other
+one-wiring net text other one another = one.2 ∙ ap wiring_text (one-network net one.0 another.0 one.1 another.1) ∙ sym another.2

@@ -6,5 +6,7 @@ pub use Rattle.cn_report.proofs.WritingLemmas.Replies.{fits_all, whole_all}
 pub use Rattle.cn_report.proofs.WritingLemmas.SameLines.{lines-same}
 -- what follows of bytes that are known
 pub use Rattle.cn_report.proofs.ReadingLemmas.FirstFaults.{known_map}
+-- records spell one list of commands
+pub use Rattle.cn_report.proofs.ReadingLemmas.OneSchedule.{one-schedule}
 -- what was written of a text
 pub use Rattle.cn_report.proofs.WritingLemmas.Writings.{written_map}

@@ -9,4 +9,5 @@ pub use Rattle.cn_wiring.proofs.Builds.{Builds-beside, Builds-giving, Builds-lik
 pub use Rattle.cn_wiring.proofs.Builds.{Builds-sized, Builds-then}
 pub use Rattle.cn_wiring.proofs.Finished.{Drawn, drawn, drawn_built, drawn_counts}
 pub use Rattle.cn_wiring.proofs.Rows.{all_ok, entries_row, flows_row, half_pow, outputs_count, shorter}
+pub use Rattle.cn_wiring.proofs.Unique.{same_table}
 pub use Rattle.cn_wiring.proofs.WidthLemmas.{same_level}

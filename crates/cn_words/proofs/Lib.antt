@@ -1,3 +1,5 @@
 pub mod PlainCommands
 pub mod Readings
 pub mod WordWidths
+pub mod OneNetwork
+pub mod CallerLemmas

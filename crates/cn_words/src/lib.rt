@@ -2,6 +2,7 @@
 #![tactic(auto)]
 
 mod command_line;
+pub mod laws;
 mod net;
 mod words;
 
