@@ -3,3 +3,4 @@ pub mod Appending
 pub mod Lines
 pub mod Replies
 pub mod SameLines
+pub mod Words

@@ -11,3 +11,4 @@ pub mod Number
 pub mod Numbers
 pub mod Records
 pub mod Schedule
+pub mod Told

@@ -10,9 +10,10 @@ use Rattle.std.proofs.lemmas.Bool.{lt-ltb, le-ltb, le-leb, lt-leb, ne_eqb, eq-eq
 use Rattle.std.proofs.lemmas.Bool.Decides.{leb_tells}
 use Rattle.std.proofs.Math.Dec.{leb}
 use Rattle.cn_spec.specs.declared.limits.TheConstants.{MOST_RECORDS}
-use Rattle.cn_report.specs.Reading.Checked.{AreTold, Holds, IsChecked, IsGapBelow, Tells, joining_cause, latest_number, latest_told, plain_tight}
+use Rattle.cn_report.specs.Reading.Checked.{AreTold, Holds, IsChecked, IsGapBelow, Tells, joining_cause, latest_number, latest_told}
+use Rattle.cn_report.specs.Reading.Told.{epoch_numbers, plain_tight, shared_epoch, with_number}
 use Rattle.cn_report.specs.Reading.Granted.{form_cause, first_of, has_client, has_name, last_epoch, of_epoch, twice_cause}
-use Rattle.cn_report.specs.Reading.Grants.{IsGap, Lacks, epoch_numbers, shared_epoch, with_number}
+use Rattle.cn_report.specs.Reading.Grants.{IsGap, Lacks}
 use Rattle.cn_report.specs.Reading.Numbers.{has}
 use Rattle.cn_report.specs.declared.reading.grant.Granted.{Granted}
 use Rattle.cn_report.specs.declared.reading.grant.GrantCause.TheVariants.{Form}

@@ -5,7 +5,7 @@ use Rattle.cn_report.specs.Reading.Granted.{granted_in, grants_in, of_epoch, spe
 use Rattle.cn_report.specs.Reading.Grants.{header_cause, record_cause}
 use Rattle.std.specs.Prelude.{IfOk, MatchResult, Ok, Err, Result, map}
 use Rattle.cn_spec.specs.Step.{counts_of, shares}
-use Rattle.cn_report.specs.Reading.Checked.{IsTold, plain_tight}
+use Rattle.cn_report.specs.Reading.Told.{IsTold, epoch_numbers, plain_tight, shared_epoch, told_epoch}
 use Rattle.cn_report.specs.declared.reading.granting.Tight.{Tight}
 use Rattle.cn_spec.proofs.CallerLemmas.{counts_shares}
 use Rattle.cn_report.specs.declared.reading.grant.GrantCause.TheVariants as cause
@@ -15,7 +15,7 @@ use Rattle.cn_report.specs.declared.reading.grant.GrantCause.{GrantCause}
 use Rattle.cn_spec.proofs.CallerLemmas.{times-nil}
 use Rattle.cn_report.proofs.ReadingLemmas.FirstFaults.{AreClean, clean_all, clean_header, clean_more}
 use Rattle.cn_report.proofs.ReadingLemmas.TightFacts.{AreOnce, list_tight, once_next}
-use Rattle.cn_report.specs.Reading.Grants.{IsFirst, IsFlaw, IsEndFlaw, flaw_of, IsTightEpoch, IsTightList, Lacks, epoch_numbers, shared_epoch, told_epoch}
+use Rattle.cn_report.specs.Reading.Grants.{IsFirst, IsFlaw, IsEndFlaw, flaw_of, IsTightEpoch, IsTightList, Lacks}
 use Rattle.cn_report.specs.declared.reading.grant.Flaw.{Flaw}
 use Rattle.cn_report.specs.declared.reading.grant.Flaw.TheVariants.{Read, Form, DuplicateClient, DuplicateName, Gap, Memory}
 

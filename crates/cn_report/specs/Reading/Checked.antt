@@ -1,17 +1,16 @@
 -- What was seen of a grant list so far.
-use Rattle.std.specs.Prelude.{ℕ, ◌≡◌, ◌<◌, ◌≤◌, ◌++◌, ◌∷◌, [], List, drop, length, map, nat_lt, Option, Some, None, if◌then◌else◌}
+use Rattle.std.specs.Prelude.{ℕ, ◌≡◌, ◌<◌, ◌≤◌, ◌++◌, ◌∷◌, [], List, length, map, nat_lt, Option, Some, None, if◌then◌else◌}
 use Rattle.cn_spec.specs.Step.{shares}
 use Rattle.std.specs.List.{AllByRecursion}
-use Rattle.cn_report.specs.Reading.Granted.{grants_in, has_client, has_name, last_epoch, of_epoch}
-use Rattle.cn_report.specs.Reading.Grants.{Lacks, epoch_numbers, shared_epoch, told_epoch}
-use Rattle.cn_report.specs.Reading.Records.{Record}
+use Rattle.cn_report.specs.Reading.Granted.{has_client, has_name, last_epoch, of_epoch}
+use Rattle.cn_report.specs.Reading.Grants.{Lacks}
+use Rattle.cn_report.specs.Reading.Told.{epoch_numbers, plain_tight, shared_epoch}
 use Rattle.cn_report.specs.Reading.Numbers.{has}
 use Rattle.cn_report.specs.declared.reading.grant.Granted.{Granted}
 use Rattle.cn_report.specs.declared.reading.grant.GrantCause.{GrantCause}
 use Rattle.cn_report.specs.declared.reading.grant.GrantCause.TheVariants.{DuplicateClient, DuplicateName}
 use Rattle.cn_report.specs.declared.reading.granting.Gap.{Gap}
 use Rattle.cn_report.specs.declared.reading.granting.Granting.{Granting}
-use Rattle.cn_report.specs.declared.reading.granting.TightEpoch.{TightEpoch}
 
 -- the least epoch below this one that lacks a name, and the least name that it lacks
 pub record IsLeastGap (end : ℕ) (grants : List Granted) (gap : Gap) : Type 0 where
@@ -32,10 +31,6 @@ pub record Holds (g : Granting) (grants : List Granted) : Type 0 where
   pub clients : (n : ℕ) → has g.clients n ≡ has_client n (of_epoch g.latest grants)
   pub names : (n : ℕ) → has g.names n ≡ has_name n (of_epoch g.latest grants)
   pub gap : IsGapBelow g.latest grants g.gap
-
--- an epoch that is over, as it is told
-abbrev pub plain_tight : TightEpoch → ℕ × ℕ × List ℕ
-plain_tight epoch = (epoch.number, epoch.clients, epoch.counts.items)
 
 -- the latest epoch, where it has grants
 abbrev pub latest_number : ℕ → ℕ → List ℕ
@@ -63,7 +58,3 @@ pub record IsChecked (width : ℕ) (g : Granting) (grants : List Granted) : Type
 -- the cause of a grant of the latest epoch
 abbrev pub joining_cause : Granting → Granted → Option GrantCause
 joining_cause g grant = if has g.clients grant.client then Some DuplicateClient else if has g.names grant.name then Some DuplicateName else None
-
--- the epochs of these records, as they are told
-abbrev pub IsTold : ℕ → List Record → List TightEpoch → Type 0
-IsTold width rows epochs = map plain_tight epochs ≡ map (told_epoch width (grants_in (drop 1 rows))) (epoch_numbers (grants_in (drop 1 rows)))

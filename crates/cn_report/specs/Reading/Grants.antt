@@ -1,9 +1,8 @@
 -- Which records are a tight grant list, and what is wrong with those that are none.
-use Rattle.std.specs.Prelude.{ℕ, ◌≡◌, ◌<◌, ◌≤◌, ◌⊎◌, ◌∷◌, [], Bool, false, true, List, drop, length, map, ◌++◌, nat_eq, Option, Some, None, MatchOption, codes, if◌then◌else◌, ⊤}
-use Rattle.std.specs.List.{fold, list_any}
+use Rattle.std.specs.Prelude.{ℕ, ◌≡◌, ◌<◌, ◌≤◌, ◌⊎◌, ◌∷◌, [], Bool, false, true, List, drop, length, map, Option, Some, None, MatchOption, codes, if◌then◌else◌, ⊤}
 use Rattle.std.specs.Cmp.Lexicographic.{pointwise}
 use Rattle.std.specs.Str.{bytes_eq}
-use Rattle.cn_spec.specs.Step.{IsEachBelow, counts_of, shares}
+use Rattle.cn_spec.specs.Step.{IsEachBelow}
 use Rattle.cn_spec.specs.Sums.{times}
 use Rattle.cn_report.specs.Reading.Faults.{IsClean, IsFirstFault, cause_by}
 use Rattle.cn_report.specs.Reading.Granted.{granted_in, grants_in, has_name, of_epoch, spelled_cause, spelled_form}
@@ -20,6 +19,15 @@ use Rattle.cn_report.specs.declared.reading.rows.RowFault.TheVariants as row
 abbrev pub grant_cause_of_row : RowFault → GrantCause
 grant_cause_of_row row.Read = cause.Read
 grant_cause_of_row row.Memory = cause.Memory
+
+-- the name that a flaw prints
+abbrev pub flaw_name : Flaw → List ℕ
+flaw_name (Read at) = codes "Read"
+flaw_name (Form at) = codes "Form"
+flaw_name (DuplicateClient at) = codes "DuplicateClient"
+flaw_name (DuplicateName at) = codes "DuplicateName"
+flaw_name (Gap epoch name) = codes "Gap"
+flaw_name Memory = codes "Memory"
 
 -- the flaw of a record with this cause
 abbrev pub flaw_of : ℕ → GrantCause → Flaw
@@ -110,18 +118,3 @@ pub record IsTightList (rows : List Record) : Type 0 where
 abbrev pub IsLeastMissing : (ℕ → Bool) → ℕ → Option ℕ → Type 0
 IsLeastMissing has count missing = MatchOption missing ((n : ℕ) → n < count → has n ≡ true)
     (λ name. (name < count) × (has name ≡ false) × ((n : ℕ) → n < name → has n ≡ true))
-
--- the epochs' numbers, each once, in their order
-abbrev pub with_number : List ℕ → ℕ → List ℕ
-with_number numbers n = if list_any (nat_eq n) numbers then numbers else numbers ++ n ∷ []
-
-abbrev pub epoch_numbers : List Granted → List ℕ
-epoch_numbers grants = fold (λ numbers g. with_number numbers g.epoch) [] grants
-
--- an epoch: its number, how many clients it has, and the share of each remainder in so many names
-abbrev pub shared_epoch : ℕ → List Granted → ℕ → ℕ × ℕ × List ℕ
-shared_epoch width grants e = (e, length (of_epoch e grants), shares (length (of_epoch e grants)) width)
-
--- an epoch: its number, how many clients it has, and how many of its names are i modulo the width
-abbrev pub told_epoch : ℕ → List Granted → ℕ → ℕ × ℕ × List ℕ
-told_epoch width grants e = (e, length (of_epoch e grants), counts_of width (map (λ g. g.name) (of_epoch e grants)))

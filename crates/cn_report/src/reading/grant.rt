@@ -1,14 +1,15 @@
 //! One record of a grant list, and what can be wrong with a list.
 
-ghost use Rattle.std.specs.Prelude.{◌≡◌};
+ghost use Rattle.std.specs.Prelude.{◌≡◌, Some};
 ghost use Rattle.csv.specs.Records.{fields_of};
 ghost use Rattle.cn_report.specs.Reading.Number.{number_in};
 ghost use Rattle.cn_report.specs.Reading.Granted.{granted_in, granting};
-ghost use Rattle.cn_report.specs.Reading.Grants.{flaw_of, grant_cause_of_row};
+ghost use Rattle.cn_report.specs.Reading.Grants.{flaw_name, flaw_of, grant_cause_of_row};
 
 use crate::reading::number::number_of;
 use crate::reading::rows::{RowFault, field};
 use csv::ByteRecord;
+use std::fmt;
 
 /// A client that got a name in an epoch.
 #[derive(Clone, Copy, Debug, PartialEq, Eq)]
@@ -50,6 +51,22 @@ pub enum Flaw {
     },
     /// A growth was refused.
     Memory,
+}
+
+impl fmt::Display for Flaw {
+    ghost output = { λ flaw. Some (flaw_name flaw) };
+
+    fn fmt<W: fmt::Write>(&self, f: &mut fmt::Formatter<W>) -> fmt::Result {
+        let name = match self {
+            Flaw::Read(_) => "Read",
+            Flaw::Form(_) => "Form",
+            Flaw::DuplicateClient(_) => "DuplicateClient",
+            Flaw::DuplicateName(_) => "DuplicateName",
+            Flaw::Gap { .. } => "Gap",
+            Flaw::Memory => "Memory",
+        };
+        f.write_str(name)
+    }
 }
 
 impl From<RowFault> for GrantCause {

@@ -3,8 +3,9 @@
 ghost use Rattle.std.specs.Prelude.{◌≡◌, ◌==◌, ◌||◌, ◌<◌, ◌≤◌, ◌+◌, ◌⊎◌, ◌∷◌, ◌++◌, ℕ, [], List, None, Some, OnOk, IfErr, IfOk, MatchResult, length, map};
 ghost use Rattle.cn_report.specs.declared.reading.grant.Granted.{Granted};
 ghost use Rattle.cn_report.specs.Reading.Granted.{spelled_cause};
-ghost use Rattle.cn_report.specs.Reading.Checked.{Holds, IsGapBelow, IsChecked, Tells, joining_cause, latest_told, plain_tight};
-ghost use Rattle.cn_report.specs.Reading.Grants.{IsEndFlaw, Lacks, epoch_numbers, shared_epoch};
+ghost use Rattle.cn_report.specs.Reading.Checked.{Holds, IsGapBelow, IsChecked, Tells, joining_cause, latest_told};
+ghost use Rattle.cn_report.specs.Reading.Told.{epoch_numbers, plain_tight, shared_epoch};
+ghost use Rattle.cn_report.specs.Reading.Grants.{IsEndFlaw, Lacks};
 ghost use Rattle.cn_report.specs.Reading.Numbers.{has};
 ghost use Rattle.cn_spec.specs.Step.{shares};
 ghost use Rattle.cn_wiring.specs.Widths.{IsWidth};

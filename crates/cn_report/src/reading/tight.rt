@@ -7,7 +7,8 @@ ghost use Rattle.cn_wiring.specs.Widths.{IsWidth};
 ghost use Rattle.cn_report.specs.declared.reading.grant.Granted.{Granted};
 ghost use Rattle.cn_report.specs.Reading.Granted.{granted_in, spelled_cause};
 ghost use Rattle.cn_report.specs.Reading.Grants.{IsFirst, IsFlaw, IsOutside, IsTightList, header_cause};
-ghost use Rattle.cn_report.specs.Reading.Checked.{IsChecked, IsTold};
+ghost use Rattle.cn_report.specs.Reading.Checked.{IsChecked};
+ghost use Rattle.cn_report.specs.Reading.Told.{IsTold};
 ghost use Rattle.cn_report.specs.Reading.Records.{HasRead, IsPlain, Record, records_of};
 
 use crate::reading::grant::{Flaw, GrantCause, flaw_at, granted_of};

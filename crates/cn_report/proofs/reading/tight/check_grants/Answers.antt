@@ -1,6 +1,6 @@
 use Rattle.std.proofs.Common.{[]}
 use Rattle.std.specs.Prelude.{IfErr, MatchResult}
-use Rattle.cn_report.specs.Reading.Checked.{IsTold}
+use Rattle.cn_report.specs.Reading.Told.{IsTold}
 use Rattle.cn_report.specs.Reading.Records.{HasRead, records_of}
 use Rattle.cn_report.specs.Reading.Grants.{IsFlaw, IsOutside, IsTightList}
 use Rattle.cn_report.proofs.ReadingLemmas.FirstFaults.{known_map}
