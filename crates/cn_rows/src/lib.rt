@@ -3,15 +3,21 @@
 #![tactic(auto)]
 
 #[cfg(test)]
+mod batches;
+#[cfg(test)]
 mod core_calls;
 #[cfg(test)]
 mod emitting;
 #[cfg(test)]
 mod epoch_calls;
 #[cfg(test)]
+mod grants;
+#[cfg(test)]
 mod narrow;
 #[cfg(test)]
 mod replaying;
+#[cfg(test)]
+mod reports;
 #[cfg(test)]
 mod schedules;
 #[cfg(test)]
