@@ -1,7 +1,8 @@
 //! Schedules, read.
 
+use cn_report::read_schedule;
+use cn_report::{ScheduleCause, ScheduleFault};
 use cn_epoch::Command;
-use cn_report::{ScheduleCause, ScheduleFault, read_schedule};
 use std::alloc::Global;
 use std::io;
 use std::test::Fail;

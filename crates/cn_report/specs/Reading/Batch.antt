@@ -1,5 +1,5 @@
 -- Which records are a batch, and what is wrong with those that are none.
-use Rattle.std.specs.Prelude.{ℕ, ◌≡◌, ◌<◌, ◌⊎◌, ◌∷◌, [], Bool, List, drop, length, map, Option, Some, None, codes, if◌then◌else◌, ⊤}
+use Rattle.std.specs.Prelude.{ℕ, ◌≡◌, ◌<◌, ◌⊎◌, ◌∷◌, [], Bool, List, drop, length, map, Option, Some, None, Result, MatchResult, codes, if◌then◌else◌, ⊤}
 use Rattle.std.specs.List.{AllByRecursion, flat_map}
 use Rattle.std.specs.Cmp.Lexicographic.{pointwise}
 use Rattle.std.specs.Str.{bytes_eq}
@@ -13,6 +13,7 @@ use Rattle.cn_report.specs.declared.reading.rows.RowFault.TheVariants as row
 use Rattle.cn_report.specs.declared.reading.batch_fault.BatchCause.{BatchCause}
 use Rattle.cn_report.specs.declared.reading.batch_fault.BatchCause.TheVariants.{Read, Header, FieldCount, EpochNumber, ClientNumber, EntryNumber, EpochBackwards, EntryRange, Duplicate, EpochFull, BatchFull, Memory}
 use Rattle.cn_report.specs.declared.reading.batch_fault.BatchFault.{BatchFault}
+use Rattle.cn_report.specs.declared.reading.batch.Batch.{Batch}
 use Rattle.cn_report.specs.declared.reading.gathering.BatchEpoch.{BatchEpoch}
 
 -- the name that a cause prints
@@ -64,7 +65,8 @@ unfoldable pub AreRising : List BatchEpoch → Type 0
 AreRising [] = ⊤
 AreRising (epoch ∷ later) = AllByRecursion (λ e. epoch.number < e.number) later × AreRising later
 
--- these epochs spell these arrivals: the numbers rise, each epoch has some client, and the clients are the arrivals in their order
+-- these epochs spell these arrivals: the numbers rise, each epoch has some client, and the clients are the arrivals in
+-- their order
 pub record AreEpochs (epochs : List BatchEpoch) (arrivals : List Arrival) : Type 0 where
   pub rising : AreRising epochs
   pub some : AllByRecursion (λ e. 0 < length e.clients.items) epochs
@@ -78,6 +80,10 @@ pub record IsBatch (entries : ℕ) (rows : List Record) (epochs : List BatchEpoc
 -- the fault tells the first record with a cause, and its first cause
 abbrev pub IsBatchFault : ℕ → List Record → BatchFault → Type 0
 IsBatchFault entries rows fault = IsFirstFault (batch_cause entries) IsOfReading rows fault.at fault.cause
+
+-- what these records answer: the epochs that they are a batch of, or their fault
+abbrev pub AnswersBatch : ℕ → List Record → Result Batch BatchFault → Type 0
+AnswersBatch entries rows result = MatchResult result (λ batch. IsBatch entries rows batch.epochs.items) (IsBatchFault entries rows)
 
 -- what an epoch is: its number and its clients
 abbrev pub plain_epoch : BatchEpoch → ℕ × List Client

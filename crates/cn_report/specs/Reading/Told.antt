@@ -1,10 +1,13 @@
 -- What a tight list tells of its epochs.
-use Rattle.std.specs.Prelude.{ℕ, ◌≡◌, ◌∷◌, [], List, drop, length, map, ◌++◌, nat_eq, if◌then◌else◌}
+use Rattle.std.specs.Prelude.{ℕ, ◌≡◌, ◌∷◌, [], List, drop, length, map, ◌++◌, nat_eq, Result, MatchResult, if◌then◌else◌}
 use Rattle.std.specs.List.{fold, list_any}
 use Rattle.cn_spec.specs.Step.{counts_of, shares}
 use Rattle.cn_report.specs.Reading.Granted.{grants_in, of_epoch}
+use Rattle.cn_report.specs.Reading.Grants.{IsFlaw, IsTightList}
 use Rattle.cn_report.specs.Reading.Records.{Record}
 use Rattle.cn_report.specs.declared.reading.grant.Granted.{Granted}
+use Rattle.cn_report.specs.declared.reading.grant.Flaw.{Flaw}
+use Rattle.cn_report.specs.declared.reading.granting.Tight.{Tight}
 use Rattle.cn_report.specs.declared.reading.granting.TightEpoch.{TightEpoch}
 
 -- the epochs' numbers, each once, in their order
@@ -30,3 +33,8 @@ plain_tight epoch = (epoch.number, epoch.clients, epoch.counts.items)
 abbrev pub IsTold : ℕ → List Record → List TightEpoch → Type 0
 IsTold width rows epochs =
     map plain_tight epochs ≡ map (told_epoch width (grants_in (drop 1 rows))) (epoch_numbers (grants_in (drop 1 rows)))
+
+-- what these records answer: what a tight list tells of them, or their flaw
+abbrev pub AnswersTight : ℕ → List Record → Result Tight Flaw → Type 0
+AnswersTight width rows result =
+    MatchResult result (λ tight. IsTightList rows × IsTold width rows tight.epochs.items) (IsFlaw rows)

@@ -1,11 +1,11 @@
 //! Batches: a header, and an arrival a record.
 
-ghost use Rattle.std.specs.Prelude.{◌≡◌, ◌≤◌, ◌+◌, ◌⊎◌, ◌∷◌, ◌++◌, [], ℕ, List, IfErr, IfOk, IfSome, MatchResult, OnOk, Ok, None, Some, length, true};
+ghost use Rattle.std.specs.Prelude.{◌≡◌, ◌≤◌, ◌+◌, ◌⊎◌, ◌∷◌, ◌++◌, [], ℕ, List, IfErr, IfOk, IfSome, OnOk, Ok, None, Some, length, true};
 ghost use Rattle.std.specs.Bool.{MatchBool};
 ghost use Rattle.cn_spec.specs.declared.limits.TheConstants.{MOST_RECORDS};
 ghost use Rattle.cn_report.specs.declared.reading.arrival.Arrival.{Arrival};
 ghost use Rattle.cn_report.specs.Reading.Arrival.{arrival_cause, arrival_in, spelled_cause};
-ghost use Rattle.cn_report.specs.Reading.Batch.{IsBatch, IsBatchFault, header_cause};
+ghost use Rattle.cn_report.specs.Reading.Batch.{AnswersBatch, IsBatchFault, header_cause};
 ghost use Rattle.cn_report.specs.Reading.Gathered.{IsGathered};
 ghost use Rattle.cn_report.specs.Reading.Records.{HasRead, IsPlain, Record, records_of};
 
@@ -84,7 +84,7 @@ fn take_arrivals<R: Read>(
 ) -> Result<Batch, BatchFault>
     requires { IsPlain rows.old }
     ensures { (text : List ℕ) → HasRead R.remaining rows.old text []
-        → MatchResult result (λ batch. IsBatch entries (records_of text) batch.epochs.items) (IsBatchFault entries (records_of text)) }
+        → AnswersBatch entries (records_of text) result }
 {
     let mut gathering = Gathering::new(alloc, state);
     if let Err(cause) = take_header(rows, row) {
@@ -122,8 +122,7 @@ pub fn read_batch<R: Read + Drop>(
     entries: u32,
     state: RandomState,
 ) -> Result<Batch, BatchFault>
-    ensures { IfSome (R.remaining reader) (λ text.
-        MatchResult result (λ batch. IsBatch entries (records_of text) batch.epochs.items) (IsBatchFault entries (records_of text))) }
+    ensures { IfSome (R.remaining reader) (λ text. AnswersBatch entries (records_of text) result) }
 {
     let mut rows = open_rows(alloc, reader);
     let mut row = ByteRecord::new(alloc);

@@ -1,14 +1,14 @@
 //! Grant lists: a header, and a grant a record.
 
-ghost use Rattle.std.specs.Prelude.{◌≡◌, ◌<◌, ◌≤◌, ◌+◌, ◌⊎◌, ◌∷◌, ◌++◌, [], ℕ, List, IfErr, IfOk, IfSome, MatchResult, OnOk, None, Some, length, true};
+ghost use Rattle.std.specs.Prelude.{◌≡◌, ◌<◌, ◌≤◌, ◌+◌, ◌⊎◌, ◌∷◌, ◌++◌, [], ℕ, List, IfErr, IfOk, IfSome, OnOk, None, Some, length, true};
 ghost use Rattle.std.specs.Bool.{MatchBool};
 ghost use Rattle.cn_spec.specs.declared.limits.TheConstants.{MOST_RECORDS};
 ghost use Rattle.cn_wiring.specs.Widths.{IsWidth};
 ghost use Rattle.cn_report.specs.declared.reading.grant.Granted.{Granted};
 ghost use Rattle.cn_report.specs.Reading.Granted.{granted_in, spelled_cause};
-ghost use Rattle.cn_report.specs.Reading.Grants.{IsFirst, IsFlaw, IsOutside, IsTightList, header_cause};
+ghost use Rattle.cn_report.specs.Reading.Grants.{IsFirst, IsOutside, IsTightList, header_cause};
 ghost use Rattle.cn_report.specs.Reading.Checked.{IsChecked};
-ghost use Rattle.cn_report.specs.Reading.Told.{IsTold};
+ghost use Rattle.cn_report.specs.Reading.Told.{AnswersTight};
 ghost use Rattle.cn_report.specs.Reading.Records.{HasRead, IsPlain, Record, records_of};
 
 use crate::reading::grant::{Flaw, GrantCause, flaw_at, granted_of};
@@ -81,7 +81,7 @@ fn take_grants<R: Read>(
     requires plain { IsPlain rows.old }
     requires width { IsWidth width }
     ensures answer { (text : List ℕ) → HasRead R.remaining rows.old text []
-        → MatchResult result (λ tight. IsTightList (records_of text) × IsTold width (records_of text) tight.epochs.items) (IsFlaw (records_of text)) }
+        → AnswersTight width (records_of text) result }
 {
     let mut granting = Granting::new(alloc);
     if let Err(cause) = take_header(rows, row) {
@@ -108,10 +108,8 @@ fn take_grants<R: Read>(
 /// failed read is told at the record that was being read.
 pub fn check_grants<R: Read + Drop>(alloc: Global, reader: R, width: u32) -> Result<Tight, Flaw>
     requires { IsWidth width }
-    ensures answer { IfSome (R.remaining reader) (λ text.
-        MatchResult result (λ tight. IsTightList (records_of text) × IsTold width (records_of text) tight.epochs.items) (IsFlaw (records_of text))) }
-    ensures exact { IfSome (R.remaining reader) (λ text.
-        IfErr result (λ flaw. IsTightList (records_of text) → IsOutside flaw)) }
+    ensures answer { IfSome (R.remaining reader) (λ text. AnswersTight width (records_of text) result) }
+    ensures exact { IfSome (R.remaining reader) (λ text. IfErr result (λ flaw. IsTightList (records_of text) → IsOutside flaw)) }
 {
     let mut rows = open_rows(alloc, reader);
     let mut row = ByteRecord::new(alloc);
