@@ -3,4 +3,5 @@ pub mod Appending
 pub mod Lines
 pub mod Replies
 pub mod SameLines
+pub mod Words
 pub mod Writings

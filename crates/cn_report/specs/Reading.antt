@@ -1,6 +1,14 @@
 -- What is read: the records of a text, their numbers, and the schedule that they spell.
+pub mod Arrival
+pub mod Batch
+pub mod Checked
 pub mod Command
 pub mod Faults
+pub mod Gathered
+pub mod Granted
+pub mod Grants
 pub mod Number
+pub mod Numbers
 pub mod Records
 pub mod Schedule
+pub mod Told

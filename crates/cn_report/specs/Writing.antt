@@ -1,6 +1,8 @@
 -- What is written: the lines of each text.
 pub mod Outcome
 pub mod Replay
+pub mod Report
 pub mod Text
+pub mod Tight
 pub mod Written
 pub mod Wiring

@@ -1,10 +1,24 @@
-//! What is read: the records of a text, their numbers, and the schedule that they spell.
+//! What is read: the records of a text, their numbers, and the schedule, the batch or the grant list that they spell.
 
+mod arrival;
+mod batch;
+mod batch_fault;
 mod command;
+mod gathering;
+mod grant;
+mod granting;
 mod number;
+mod numbers;
 mod rows;
 mod schedule;
 mod schedule_fault;
+mod tight;
 
+pub use batch::{Batch, read_batch};
+pub use batch_fault::{BatchCause, BatchFault};
+pub use gathering::BatchEpoch;
+pub use grant::Flaw;
+pub use granting::{Tight, TightEpoch};
 pub use schedule::read_schedule;
 pub use schedule_fault::{ScheduleCause, ScheduleFault};
+pub use tight::check_grants;

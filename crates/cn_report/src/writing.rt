@@ -4,8 +4,12 @@ mod emitting;
 mod heading;
 mod outcome;
 mod replay;
+mod report;
+mod tight;
 mod wiring;
 
 pub use emitting::{EmitFault, emit};
 pub use replay::render_replay;
+pub use report::render_report;
+pub use tight::render_tight;
 pub use wiring::render_wiring;

@@ -3,11 +3,17 @@
 #![tactic(auto)]
 
 #[cfg(test)]
+mod batches;
+#[cfg(test)]
 mod emitting;
+#[cfg(test)]
+mod grants;
 #[cfg(test)]
 mod performing;
 #[cfg(test)]
 mod replaying;
+#[cfg(test)]
+mod reports;
 #[cfg(test)]
 mod schedules;
 #[cfg(test)]

@@ -14,6 +14,15 @@ use Rattle.cn_spec.proofs.Names.{range_more}
 pub once-next : (m n : ℕ) → once_below (suc m) n ≡ once_below m n + cond (eqb m n) 1 0
 once-next m n = grind (arith, nat_tests)
 
+-- the greatest number put in anywhere
+pub each_more : (m : ℕ) (xs front back : List ℕ) → xs ≡ front ++ m ∷ back → IsEachBelow m (front ++ back) → IsEachBelow (suc m) xs
+each_more m xs front back e rest =
+    let last : range_with_len 0 (suc m) ≡ range_with_len 0 m ++ m ∷ [] = range_more 0 m ∙ ap (λ k. range_with_len 0 m ++ k ∷ []) (omega arith) in
+    let a : IsPermutation (range_with_len 0 m ++ m ∷ []) ((front ++ back) ++ m ∷ []) = IsPermutation-append_left (m ∷ []) (range_with_len 0 m) (front ++ back) rest in
+    let b : IsPermutation (front ++ (back ++ m ∷ [])) (front ++ m ∷ back) = IsPermutation-append_right front (back ++ m ∷ []) (m ∷ back) (IsPermutation-append_comm back (m ∷ [])) in
+    let c : IsPermutation ((front ++ back) ++ m ∷ []) (front ++ m ∷ back) = subst (λ ys. IsPermutation ys (front ++ m ∷ back)) (sym (append_assoc front back (m ∷ []))) b in
+    subst₂ IsPermutation (sym last) (sym e) (IsPermutation-trans _ _ _ a c)
+
 pub each_below : (m : ℕ) (xs : List ℕ) → IsOnceBelow m xs → IsEachBelow m xs
 each_below zero [] once = IsPermutation-refl []
 each_below zero (x ∷ xs) once =
@@ -26,8 +35,4 @@ each_below (suc m) xs once =
     let rest = each_below m (front ++ back) (λ n.
     let whole : times n xs ≡ times n (front ++ m ∷ back) = ap (times n) e in
     omega (arith, once n, once-next m n, times-append n front (m ∷ back), times-cons n m back, times-append n front back)) in
-    let last : range_with_len 0 (suc m) ≡ range_with_len 0 m ++ m ∷ [] = range_more 0 m ∙ ap (λ k. range_with_len 0 m ++ k ∷ []) (omega arith) in
-    let a : IsPermutation (range_with_len 0 m ++ m ∷ []) ((front ++ back) ++ m ∷ []) = IsPermutation-append_left (m ∷ []) (range_with_len 0 m) (front ++ back) rest in
-    let b : IsPermutation (front ++ (back ++ m ∷ [])) (front ++ m ∷ back) = IsPermutation-append_right front (back ++ m ∷ []) (m ∷ back) (IsPermutation-append_comm back (m ∷ [])) in
-    let c : IsPermutation ((front ++ back) ++ m ∷ []) (front ++ m ∷ back) = subst (λ ys. IsPermutation ys (front ++ m ∷ back)) (sym (append_assoc front back (m ∷ []))) b in
-    subst₂ IsPermutation (sym last) (sym e) (IsPermutation-trans _ _ _ a c)
+    each_more m xs front back e rest

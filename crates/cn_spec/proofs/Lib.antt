@@ -4,6 +4,8 @@ pub mod Halves
 pub mod Shares
 pub mod Names
 pub mod EachBelow
+pub mod Pigeonhole
+pub mod CountShares
 pub mod Interleave
 pub mod Tree
 pub mod Pairs

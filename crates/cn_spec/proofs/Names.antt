@@ -38,12 +38,12 @@ range_more a zero = ap (λ k. k ∷ []) (omega arith)
 range_more a (suc n) = ap (λ r. a ∷ r) (range_more (a + 1) n ∙ ap (λ k. range_with_len (a + 1) n ++ k ∷ []) (omega arith))
 
 -- the share of the exit m mod w grows by one, and no other
-share_next : (m w i : ℕ) → i < w → i ≡ m % w → (share m w i ≡ m / w) × (share (suc m) w i ≡ m / w + 1)
+pub share_next : (m w i : ℕ) → i < w → i ≡ m % w → (share m w i ≡ m / w) × (share (suc m) w i ≡ m / w + 1)
 share_next m w i h e =
     let k : m / w * w + m % w ≡ m = div-add-mod' m w in
     (share_is m w i (m / w) h (omega arith) (omega arith), share_is (suc m) w i (m / w + 1) h (omega arith) (omega arith))
 
-share_stays : (m w i : ℕ) → i < w → i ≢ m % w → share (suc m) w i ≡ share m w i
+pub share_stays : (m w i : ℕ) → i < w → i ≢ m % w → share (suc m) w i ≡ share m w i
 share_stays m w i h e = elim (below_or_above i (m % w) e) [ inl l ↦ low l | inr l ↦ high l ]
   where
     below_or_above : (a b : ℕ) → a ≢ b → (a < b) ⊎ (b < a)

@@ -1,11 +1,11 @@
 //! The laws of counts, names and networks. Each function does nothing: its contract is the law, and a caller opens it
 //! by a call.
 
-ghost use Rattle.std.specs.Prelude.{◌≡◌, ◌+◌, ◌%◌, ◌/◌, ◌^◌, ◌<◌, ◌↔◌, ℕ, suc, List, [], ◌∷◌, length};
+ghost use Rattle.std.specs.Prelude.{◌≡◌, ◌+◌, ◌%◌, ◌/◌, ◌^◌, ◌<◌, ◌≤◌, ◌↔◌, ℕ, suc, List, [], ◌∷◌, length};
 ghost use Rattle.std.specs.List.{sum};
-ghost use Rattle.cn_spec.specs.Step.{IsEachBelow, IsStep, half, name_of, names, share, shares};
+ghost use Rattle.cn_spec.specs.Step.{IsEachBelow, IsStep, counts_of, half, name_of, names, share, shares};
 ghost use Rattle.cn_spec.specs.Networks.{HasStepChains, IsRow, a_cochain, b_cochain, bitonic, block, merge, periodic, tree};
-ghost use Rattle.cn_spec.specs.Sums.{IsOnceBelow};
+ghost use Rattle.cn_spec.specs.Sums.{IsOnceBelow, times};
 ghost use Rattle.cn_spec.specs.declared.limits.TheConstants.{MOST_ARRIVALS, MOST_BALANCERS, MOST_CARRIED, MOST_CLIENTS, MOST_DIGITS, MOST_ENDS, MOST_HAND, MOST_LEVEL, MOST_RECORDS, MOST_ROOM, MOST_TOKENS, MOST_WORKERS};
 
 /// What each limit is, in numbers. Clauses and code cite the limits by name; only here are they told.
@@ -43,6 +43,18 @@ pub fn names_are_tight()
 /// A list in which each number below m stands once, and no other number, is an order of those numbers.
 pub fn once_below_is_each_below()
     ensures { (m : ℕ) (xs : List ℕ) → IsOnceBelow m xs → IsEachBelow m xs }
+{}
+
+/// A list of m numbers in which each number below m stands is an order of those numbers; and in an order of them each
+/// stands once, and no other number does.
+pub fn all_below_is_each_below()
+    ensures all_stand { (m : ℕ) (xs : List ℕ) → length xs ≡ m → ((n : ℕ) → n < m → 1 ≤ times n xs) → IsEachBelow m xs }
+    ensures each_once { (m : ℕ) (xs : List ℕ) → IsEachBelow m xs → IsOnceBelow m xs }
+{}
+
+/// Of the names below k, in any order, as many are those of an exit as its share of k.
+pub fn tight_names_are_shared()
+    ensures { (w k : ℕ) (names : List ℕ) → IsEachBelow k names → counts_of w names ≡ shares k w }
 {}
 
 /// The merger of two rows with the step property has it (Aspnes, Herlihy, Shavit 1994, section 3), and no token is

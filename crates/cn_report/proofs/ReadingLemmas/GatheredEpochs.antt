@@ -1,0 +1,190 @@
+-- The epochs that were gathered, as arrivals.
+use Rattle.std.proofs.Common.{◌≡◌, ◌<◌, ◌≤◌, ◌+◌, ℕ, List, [], ◌∷◌, ◌++◌, true, false, Some, length, map, refl, arith, sym, ap, ◌∙◌, inl, inr, append_assoc, subst}
+use Rattle.std.specs.Prelude.{◌==◌, nat_eq, nat_le, nat_lt, ◌⊎◌}
+use Rattle.std.specs.List.{AllByRecursion, flat_map, list_any}
+use Rattle.std.proofs.lemmas.List.{map-append, length-map, append-nil}
+use Rattle.std.proofs.lemmas.List.Elements.{filter-append}
+use Rattle.std.proofs.lemmas.List.Sums.{fold-append}
+use Rattle.std.proofs.lemmas.Grind.{flat_map-append}
+use Rattle.std.proofs.lemmas.Bool.{lt-ltb, le-ltb, le-leb, lt-leb, ne_eqb, eq-eqb}
+use Rattle.std.proofs.lemmas.Bool.Decides.{leb_tells}
+use Rattle.std.proofs.Math.Dec.{eqb, leb}
+use Rattle.cn_core.specs.declared.client.Client.{Client}
+use Rattle.cn_spec.specs.declared.limits.TheConstants.{MOST_RECORDS}
+use Rattle.cn_report.specs.declared.reading.batch_fault.BatchCause.TheVariants.{EpochBackwards, EntryRange}
+use Rattle.cn_report.specs.declared.reading.arrival.Arrival.{Arrival}
+use Rattle.cn_report.specs.declared.reading.gathering.BatchEpoch.{BatchEpoch}
+use Rattle.cn_report.specs.declared.reading.gathering.Gathering.{Gathering}
+use Rattle.cn_report.specs.Reading.Arrival.{arrival_cause, last_epoch, of_epoch}
+use Rattle.cn_report.specs.Reading.Batch.{AreEpochs, AreRising, arrivals_of}
+use Rattle.cn_report.specs.Reading.Gathered.{Holds, IsGathered, joining_cause, over_after}
+
+-- an arrival of this client
+abbrev pub arrival_at : ℕ → Client → Arrival
+arrival_at n c = record { epoch = n; client = c.id; entry = c.entry }
+
+-- an epoch's arrivals are of that epoch
+pub same_epoch : (n : ℕ) (cs : List Client) → of_epoch n (map (arrival_at n) cs) ≡ map (arrival_at n) cs
+same_epoch n [] = refl
+same_epoch n (c ∷ cs) = rw (eq-eqb n n refl, same_epoch n cs) refl
+
+-- and of no other
+pub other_epoch : (m n : ℕ) (cs : List Client) → (m == n) ≡ false → of_epoch n (map (arrival_at m) cs) ≡ []
+other_epoch m n [] e = refl
+other_epoch m n (c ∷ cs) e = rw (e, other_epoch m n cs e) refl
+
+-- none of the epochs below a number has its arrivals
+below_epoch : (k n : ℕ) (epochs : List BatchEpoch) → k ≤ n → AllByRecursion (λ e. e.number < k) epochs → of_epoch n (flat_map arrivals_of epochs) ≡ []
+below_epoch k n [] h all = refl
+below_epoch k n (e ∷ epochs) h all =
+    filter-append (λ (a : Arrival). a.epoch == n) (arrivals_of e) (flat_map arrivals_of epochs)
+    ∙ (λ i. other_epoch e.number n e.clients.items (ne_eqb e.number n (λ x. omega (arith, x, h, all.0))) i ++ below_epoch k n epochs h all.1 i)
+
+-- whether a client stands among these
+same_clients : (n x : ℕ) (cs : List Client) → list_any (λ (b : Arrival). x == b.client) (map (arrival_at n) cs) ≡ list_any (nat_eq x) (map (λ (c : Client). c.id) cs)
+same_clients n x [] = refl
+same_clients n x (c ∷ cs) = rw (same_clients n x cs) refl
+
+-- an arrival of an epoch below the last goes backwards
+pub backwards : (entries : ℕ) (before : List Arrival) (a : Arrival) → a.epoch < last_epoch before → arrival_cause entries before a ≡ Some EpochBackwards
+unfolding arrival_cause
+backwards entries before a h = rw (lt-ltb a.epoch (last_epoch before) h) refl
+
+-- the entry of another is out of range
+pub out_of_range : (entries : ℕ) (before : List Arrival) (a : Arrival) → last_epoch before ≤ a.epoch → entries ≤ a.entry → arrival_cause entries before a ≡ Some EntryRange
+unfolding arrival_cause
+out_of_range entries before a h out = rw (le-ltb a.epoch (last_epoch before) h, le-leb entries a.entry out) refl
+
+module _ (g : Gathering) (before : List Arrival) (held : Holds g before) where
+  -- the arrivals of the latest epoch
+  latest_only : of_epoch g.latest.number before ≡ arrivals_of g.latest
+  latest_only =
+      ap (of_epoch g.latest.number) (sym held.spells)
+      ∙ filter-append (λ (a : Arrival). a.epoch == g.latest.number) (flat_map arrivals_of g.over.items) (arrivals_of g.latest)
+      ∙ ap (λ (l : List Arrival). l ++ of_epoch g.latest.number (arrivals_of g.latest)) (below_epoch g.latest.number g.latest.number g.over.items (omega arith) held.below)
+      ∙ same_epoch g.latest.number g.latest.clients.items
+
+  -- the cause that is told of a client of the latest epoch is that of the arrival
+  pub told : (entries at : ℕ) (c : Client) → last_epoch before ≤ g.latest.number → c.entry < entries → length before + 1 ≡ at
+      → joining_cause at g c ≡ arrival_cause entries before (arrival_at g.latest.number c)
+  unfolding arrival_cause
+  told entries at c last within size =
+      rw (
+        le-ltb g.latest.number (last_epoch before) last,
+        lt-leb entries c.entry within,
+        latest_only,
+        held.standing,
+        same_clients g.latest.number c.id g.latest.clients.items,
+        length-map g.latest.clients.items (arrival_at g.latest.number),
+        ← size,
+      ) (rw full refl)
+    where
+      full : nat_lt MOST_RECORDS (length before + 1) ≡ nat_le MOST_RECORDS (length before)
+      full = each (leb_tells MOST_RECORDS (length before))
+        where
+          each : ((leb MOST_RECORDS (length before) ≡ true) × (MOST_RECORDS ≤ length before)) ⊎ ((leb MOST_RECORDS (length before) ≡ false) × (length before < MOST_RECORDS))
+              → nat_lt MOST_RECORDS (length before + 1) ≡ nat_le MOST_RECORDS (length before)
+          each (inl w) = lt-ltb MOST_RECORDS (length before + 1) (omega (arith, w.1)) ∙ sym w.0
+          each (inr w) = le-ltb MOST_RECORDS (length before + 1) (omega (arith, w.1)) ∙ sym w.0
+
+all_more : (P : BatchEpoch → Type 0) (es : List BatchEpoch) (e : BatchEpoch) → AllByRecursion P es → P e → AllByRecursion P (es ++ e ∷ [])
+all_more P [] e all last = (last, tt)
+all_more P (x ∷ es) e all last = (all.0, all_more P es e all.1 last)
+
+rising_more : (es : List BatchEpoch) (e : BatchEpoch) → AreRising es → AllByRecursion (λ x. x.number < e.number) es → AreRising (es ++ e ∷ [])
+unfolding AreRising
+rising_more [] e rising below = (tt, tt)
+rising_more (x ∷ es) e rising below = (all_more (λ y. x.number < y.number) es e rising.0 below.0, rising_more es e rising.1 below.1)
+
+below_more : (k n : ℕ) (es : List BatchEpoch) → k < n → AllByRecursion (λ x. x.number < k) es → AllByRecursion (λ x. x.number < n) es
+below_more k n [] h all = tt
+below_more k n (x ∷ es) h all = (omega (arith, h, all.0), below_more k n es h all.1)
+
+-- the epochs are those of the arrivals once the latest is over
+pub over_epochs : (g : Gathering) (arrivals : List Arrival) → Holds g arrivals → AreEpochs (over_after g) arrivals
+over_epochs g arrivals held = by g.latest.clients.items refl
+  where
+    by : (cs : List Client) → g.latest.clients.items ≡ cs → AreEpochs (over_after g) arrivals
+    by [] e = rw (le-ltb 0 (length g.latest.clients.items) (omega (arith, ap length e))) (record {
+      rising = held.rising;
+      some = held.some;
+      spells = sym (append-nil (flat_map arrivals_of g.over.items)) ∙ (λ i. flat_map arrivals_of g.over.items ++ map (arrival_at g.latest.number) (sym e i)) ∙ held.spells;
+    })
+    by (c ∷ cs) e = rw (lt-ltb 0 (length g.latest.clients.items) (omega (arith, ap length e))) (record {
+      rising = rising_more g.over.items g.latest held.rising held.below;
+      some = all_more (λ x. 0 < length x.clients.items) g.over.items g.latest held.some (omega (arith, ap length e));
+      spells = flat_map-append arrivals_of g.over.items (g.latest ∷ []) ∙ ap (λ (l : List Arrival). flat_map arrivals_of g.over.items ++ l) (append-nil (arrivals_of g.latest)) ∙ held.spells;
+    })
+
+-- all of them are below a greater number
+over_below : (g : Gathering) (n : ℕ) → g.latest.number < n → AllByRecursion (λ x. x.number < g.latest.number) g.over.items → AllByRecursion (λ x. x.number < n) (over_after g)
+over_below g n h below = by (leb_tells 1 (length g.latest.clients.items))
+  where
+    by : ((leb 1 (length g.latest.clients.items) ≡ true) × (1 ≤ length g.latest.clients.items)) ⊎ ((leb 1 (length g.latest.clients.items) ≡ false) × (length g.latest.clients.items < 1))
+        → AllByRecursion (λ x. x.number < n) (over_after g)
+    by (inl w) = rw w.0 (all_more (λ x. x.number < n) g.over.items g.latest (below_more g.latest.number n g.over.items h below) h)
+    by (inr w) = rw w.0 (below_more g.latest.number n g.over.items h below)
+
+-- a gathering that has come to a later epoch holds the same arrivals
+pub turned : (old new : Gathering) (n : ℕ) (before : List Arrival) → old.latest.number < n → new.over.items ≡ over_after old → new.latest.number ≡ n
+    → new.latest.clients.items ≡ [] → new.standing.keys ≡ [] → Holds old before → Holds new before
+turned old new n before h over number clients keys held =
+    let epochs = over_epochs old before held in record {
+      spells = (λ i. flat_map arrivals_of (over i) ++ map (arrival_at new.latest.number) (clients i)) ∙ append-nil (flat_map arrivals_of (over_after old)) ∙ epochs.spells;
+      rising = rw over epochs.rising;
+      some = rw over epochs.some;
+      below = rw (over, number) (over_below old n h held.below);
+      standing = keys ∙ ap (map (λ (c : Client). c.id)) (sym clients);
+    }
+
+-- a client more of the latest epoch
+pub joined : (old new : Gathering) (before : List Arrival) (c : Client) → Holds old before → new.over ≡ old.over → new.latest.number ≡ old.latest.number
+    → new.latest.clients.items ≡ old.latest.clients.items ++ c ∷ [] → new.standing.keys ≡ old.standing.keys ++ c.id ∷ []
+    → IsGathered new (before ++ arrival_at old.latest.number c ∷ [])
+joined old new before c held over number clients keys = record {
+  holds = record {
+    spells =
+        (λ i. flat_map arrivals_of (over i).items ++ map (arrival_at (number i)) (clients i))
+        ∙ ap (λ (l : List Arrival). flat_map arrivals_of old.over.items ++ l) (map-append (arrival_at old.latest.number) old.latest.clients.items (c ∷ []))
+        ∙ sym (append_assoc (flat_map arrivals_of old.over.items) (arrivals_of old.latest) (arrival_at old.latest.number c ∷ []))
+        ∙ ap (λ (l : List Arrival). l ++ arrival_at old.latest.number c ∷ []) held.spells;
+    rising = rw over held.rising;
+    some = rw over held.some;
+    below = rw (over, number) held.below;
+    standing = keys ∙ ap (λ (l : List ℕ). l ++ c.id ∷ []) held.standing ∙ sym (map-append (λ (c : Client). c.id) old.latest.clients.items (c ∷ [])) ∙ ap (map (λ (c : Client). c.id)) (sym clients);
+  };
+  last = fold-append (λ (epoch : ℕ) (a : Arrival). a.epoch) 0 before (arrival_at old.latest.number c ∷ []) ∙ sym number;
+}
+
+-- at the start there is none
+pub none_gathered : (g : Gathering) → g.over.items ≡ [] → g.latest.clients.items ≡ [] → g.latest.number ≡ 0 → g.standing.keys ≡ [] → IsGathered g []
+unfolding AreRising
+none_gathered g over clients number keys = record {
+  holds = record {
+    spells = rw (over, clients) refl;
+    rising = rw over tt;
+    some = rw over tt;
+    below = rw over tt;
+    standing = rw (keys, clients) refl;
+  };
+  last = sym number;
+}
+
+-- the client of an arrival
+abbrev pub client_of : Arrival → Client
+client_of a = record { id = a.client; entry = a.entry }
+
+as_arrival : (n : ℕ) (a : Arrival) → n ≡ a.epoch → arrival_at n (client_of a) ≡ a
+as_arrival n a e = λ i. record { epoch = e i; client = a.client; entry = a.entry }
+
+-- the cause of an arrival in whose epoch the gathering has come
+pub told_of : (g : Gathering) (before : List Arrival) (entries at : ℕ) (a : Arrival) → Holds g before → g.latest.number ≡ a.epoch → last_epoch before ≤ a.epoch → a.entry < entries
+    → length before + 1 ≡ at → joining_cause at g (client_of a) ≡ arrival_cause entries before a
+told_of g before entries at a held number last within size =
+    told g before held entries at (client_of a) (omega (arith, number, last)) within size ∙ ap (arrival_cause entries before) (as_arrival g.latest.number a number)
+
+-- that arrival more
+pub taken_of : (old new : Gathering) (before : List Arrival) (a : Arrival) → Holds old before → old.latest.number ≡ a.epoch → new.over ≡ old.over → new.latest.number ≡ old.latest.number
+    → new.latest.clients.items ≡ old.latest.clients.items ++ client_of a ∷ [] → new.standing.keys ≡ old.standing.keys ++ a.client ∷ [] → IsGathered new (before ++ a ∷ [])
+taken_of old new before a held here over number clients keys =
+    subst (λ (x : Arrival). IsGathered new (before ++ x ∷ [])) (as_arrival old.latest.number a here) (joined old new before (client_of a) held over number clients keys)

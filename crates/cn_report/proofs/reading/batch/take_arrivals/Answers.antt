@@ -1,0 +1,54 @@
+use Rattle.std.proofs.Common.{◌∷◌, ◌++◌, [], refl, arith, length-append, inl, inr}
+use Rattle.cn_report.specs.Reading.Batch.{IsOfReading, header_cause, record_cause}
+use Rattle.cn_report.specs.Reading.Records.{records_of}
+use Rattle.cn_report.specs.declared.reading.batch_fault.BatchCause.TheVariants.{Memory}
+use Rattle.cn_report.proofs.ReadingLemmas.BatchRecords.{at_arrivals, taken_all, taken_header, taken_next}
+use Rattle.cn_report.proofs.ReadingLemmas.FirstFaults.{stop_at, stop_before}
+use Rattle.cn_report.proofs.reading.batch.take_arrivals.Goals as goal
+
+pub loop-at-init : goal.loop-at-init
+loop-at-init g c = record {
+  few = omega arith;
+  plain = c.in_default.ensures.plain;
+  taken = λ text read.
+      let (fields, now, e) = c.in_default.ensures.ok text read in
+      (fields ∷ [], [], now, refl, taken_header c.args.entries fields e, c.new-gathering.ensures);
+}
+
+pub returns-in-Ok : goal.returns-in-Ok
+returns-in-Ok g c = λ text read.
+    let (before, arrivals, now, size, t, gathered) = c.loop-at.invariant.taken text read in
+    let (all, ended) = rw c.in-Ok-false.field-0-test at (c.in-Ok-false.ensures.found text before arrivals now gathered (omega (arith, t.counted, size))) in
+    taken_all c.args.entries (records_of text) before arrivals c.in-Ok.epochs.items t all (c.in-Ok.ensures arrivals ended)
+
+pub returns-in-Err-finish : goal.returns-in-Err-finish
+returns-in-Err-finish g c = λ text read.
+    let (before, arrivals, now, size, t, gathered) = c.loop-at.invariant.taken text read in
+    rw (← size) (stop_before header_cause (record_cause c.args.entries) IsOfReading g.R.Read.remaining c.loop-at.rows text before Memory t.clean now (inr refl))
+
+pub returns-in-Err-take_arrival : goal.returns-in-Err-take_arrival
+returns-in-Err-take_arrival g c = λ text read.
+    let (before, arrivals, now, size, t, gathered) = c.loop-at.invariant.taken text read in
+    elim (c.in-Err-take_arrival.ensures.refused text before arrivals now gathered (omega (arith, t.counted, size))) [
+      | inl w ↦
+          let (fields, next, e) = w in
+          rw (← size) (stop_at header_cause (record_cause c.args.entries) IsOfReading g.R.Read.remaining c.take_arrival.new.rows text before fields c.in-Err-take_arrival.cause t.clean next
+          (at_arrivals c.args.entries before arrivals fields t c.in-Err-take_arrival.cause e))
+      | inr w ↦ rw (← size) (stop_before header_cause (record_cause c.args.entries) IsOfReading g.R.Read.remaining c.loop-at.rows text before c.in-Err-take_arrival.cause t.clean now w)
+    ]
+
+pub loop-at-preserved : goal.loop-at-preserved
+loop-at-preserved g c = record {
+  few = omega (arith, c.in-Ok-true.ensures.few c.in-Ok-true.field-0-test);
+  plain = c.in-Ok-true.ensures.plain;
+  taken = λ text read.
+      let (before, arrivals, now, size, t, gathered) = c.loop-at.invariant.taken text read in
+      let (fields, arrival, next, is, none, more) = rw c.in-Ok-true.field-0-test at (c.in-Ok-true.ensures.found text before arrivals now gathered (omega (arith, t.counted, size))) in (
+        before ++ fields ∷ [],
+        arrivals ++ arrival ∷ [],
+        next,
+        omega (arith, size, length-append before (fields ∷ [])),
+        taken_next c.args.entries before arrivals fields arrival t is none,
+        more,
+      );
+}

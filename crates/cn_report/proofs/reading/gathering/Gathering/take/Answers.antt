@@ -1,0 +1,34 @@
+use Rattle.std.proofs.Common.{◌≡◌, ◌∙◌, true, sym, inl, inr, arith, rules}
+use Rattle.std.specs.Result.{is_ok}
+use Rattle.cn_report.proofs.ReadingLemmas.GatheredEpochs.{backwards, out_of_range, taken_of, told_of}
+use Rattle.cn_report.proofs.ReadingLemmas.Results.{if_err_map, on_ok, on_ok_map}
+use Rattle.cn_report.proofs.reading.gathering.Gathering.take.Goals as goal
+
+pub returns-then-arrival-self-clause-err : goal.returns-then-arrival-self-clause-err
+returns-then-arrival-self-clause-err c = λ before gathered size. inl (backwards c.args.entries before c.args.arrival (omega (arith, gathered.last, c.if-arrival-self.true)))
+
+pub returns-then-arrival-from-clause-err : goal.returns-then-arrival-from-clause-err
+returns-then-arrival-from-clause-err c = λ before gathered size.
+    inl (out_of_range c.args.entries before c.args.arrival (omega (arith, gathered.last, c.if-arrival-self.false)) (omega (arith, c.from.ensures, c.if-arrival-from.true)))
+
+pub returns-clause-ok : goal.returns-clause-ok
+returns-clause-ok c =
+    let good : is_ok c.reach.result ≡ true = search rules in
+    let (here, keeps) = on_ok c.reach.result good c.reach.ensures in
+    on_ok_map c.join.result c.join.ensures.ok (λ j before gathered size.
+    let (none, over, number, clients, keys) = j in
+    let held = keeps before gathered.holds in (
+      sym (told_of c.reach.new.self before c.args.entries c.args.at c.args.arrival held here (omega (arith, gathered.last, c.if-arrival-self.false)) (omega (arith, c.from.ensures, c.if-arrival-from.false)) size) ∙ none,
+      taken_of c.reach.new.self c.join.new.self before c.args.arrival held here over number clients keys,
+    ))
+
+pub returns-clause-err : goal.returns-clause-err
+returns-clause-err c =
+    let good : is_ok c.reach.result ≡ true = search rules in
+    let (here, keeps) = on_ok c.reach.result good c.reach.ensures in
+    if_err_map c.join.result c.join.ensures.err (λ cause told before gathered size.
+    elim told [
+      | inl e ↦
+          inl (sym (told_of c.reach.new.self before c.args.entries c.args.at c.args.arrival (keeps before gathered.holds) here (omega (arith, gathered.last, c.if-arrival-self.false)) (omega (arith, c.from.ensures, c.if-arrival-from.false)) size) ∙ e)
+      | inr e ↦ inr e
+    ])

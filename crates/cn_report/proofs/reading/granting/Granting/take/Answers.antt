@@ -1,0 +1,34 @@
+use Rattle.std.proofs.Common.{◌∙◌, sym, ap, inl, inr, arith}
+use Rattle.cn_report.proofs.ReadingLemmas.CheckedGrants.{form_back, form_full, joined, told}
+use Rattle.cn_report.proofs.ReadingLemmas.Results.{if_err_map, on_ok_map}
+use Rattle.cn_report.specs.Reading.Granted.{first_of, twice_cause}
+use Rattle.cn_report.proofs.reading.granting.Granting.take.Goals as goal
+use Rattle.cn_report.proofs.reading.granting.Granting.take.Goals.{then-grant-self-via-then-grant-self, then-grant-self-via-else-grant-self+then-at-gt-MOST_RECORDS}
+
+pub returns-then-grant-self-clause-err : goal.returns-then-grant-self-clause-err
+returns-then-grant-self-clause-err c = λ before checked size.
+    elim c.then-grant-self.branch [
+      | then-grant-self-via-then-grant-self w ↦
+          inl (ap (λ form. first_of form (twice_cause before c.args.grant)) (form_back before c.args.grant (omega (arith, checked.last, w.if-grant-self.true))))
+      | then-grant-self-via-else-grant-self+then-at-gt-MOST_RECORDS w ↦
+          inl (ap (λ form. first_of form (twice_cause before c.args.grant)) (form_full before c.args.grant (omega (arith, size, w.if-at-gt-MOST_RECORDS.true))))
+    ]
+
+pub returns-clause-ok : goal.returns-clause-ok
+returns-clause-ok c =
+    on_ok_map c.join.result c.join.ensures.ok (λ j before checked size.
+    let (none, over, gap, latest, count, clients, names) = j in
+    let held = c.in-Ok.ensures.holds before checked.holds in (
+      sym (told c.reach.new.self before c.args.grant held c.in-Ok.ensures.here (omega (arith, checked.last, c.if-grant-self.false)) (omega (arith, size, c.if-at-gt-MOST_RECORDS.false))) ∙ none,
+      joined c.args.width c.reach.new.self c.join.new.self before c.args.grant held (c.in-Ok.ensures.tells before checked.holds checked.tells) c.in-Ok.ensures.here over gap latest count clients names,
+    ))
+
+pub returns-clause-err : goal.returns-clause-err
+returns-clause-err c =
+    if_err_map c.join.result c.join.ensures.err (λ cause e before checked size.
+    let held = c.in-Ok.ensures.holds before checked.holds in
+    elim e [
+      | inl is ↦
+          inl (sym (told c.reach.new.self before c.args.grant held c.in-Ok.ensures.here (omega (arith, checked.last, c.if-grant-self.false)) (omega (arith, size, c.if-at-gt-MOST_RECORDS.false))) ∙ is)
+      | inr is ↦ inr is
+    ])

@@ -1,0 +1,17 @@
+use Rattle.std.proofs.Common.{refl, inl, inr}
+use Rattle.csv.specs.Records.{fields_of}
+use Rattle.cn_report.proofs.reading.tight.take_grant.Goals as goal
+
+pub returns-then-not-branch-clause-found : goal.returns-then-not-branch-clause-found
+returns-then-not-branch-clause-found g c = λ text before grants read checked size. (rw c.if-not-branch.true at (c.in_ok-next_row.ensures.reads text before read), checked)
+
+pub returns-in_default-clause-refused : goal.returns-in_default-clause-refused
+returns-in_default-clause-refused g c = λ text before grants read checked size.
+    inl (fields_of c.next_row.new.row, rw c.if-not-branch.false at (c.in_ok-next_row.ensures.reads text before read), rw (← c.granted_of.ensures, c.in_default.is) refl)
+
+pub returns-in-Err-clause-refused : goal.returns-in-Err-clause-refused
+returns-in-Err-clause-refused g c = λ text before grants read checked size.
+    elim (c.in-Err.ensures.err grants checked size) [
+      | inl e ↦ inl (fields_of c.next_row.new.row, rw c.if-not-branch.false at (c.in_ok-next_row.ensures.reads text before read), rw (← c.in-Some.ensures) e)
+      | inr e ↦ inr (inr e)
+    ]

@@ -1,0 +1,49 @@
+-- What the records of a batch say, one by one.
+use Rattle.std.specs.Prelude.{ℕ, ◌==◌, ◌∷◌, [], List, length, nat_lt, nat_le, Option, Some, None, Result, Ok, Err, if◌then◌else◌}
+use Rattle.std.specs.List.{filter, filter_map, fold, list_any}
+use Rattle.std.specs.Result.{result_ok}
+use Rattle.cn_spec.specs.declared.limits.TheConstants.{MOST_CLIENTS, MOST_RECORDS}
+use Rattle.cn_report.specs.Reading.Number.{number_in}
+use Rattle.cn_report.specs.Reading.Records.{Record}
+use Rattle.cn_report.specs.declared.reading.arrival.Arrival.{Arrival}
+use Rattle.cn_report.specs.declared.reading.batch_fault.BatchCause.{BatchCause}
+use Rattle.cn_report.specs.declared.reading.batch_fault.BatchCause.TheVariants.{FieldCount, EpochNumber, ClientNumber, EntryNumber, EpochBackwards, EntryRange, Duplicate, EpochFull, BatchFull}
+
+-- the arrival that these three numbers make
+abbrev pub arriving : Option ℕ → Option ℕ → Option ℕ → Result Arrival BatchCause
+arriving None client entry = Err EpochNumber
+arriving (Some epoch) None entry = Err ClientNumber
+arriving (Some epoch) (Some client) None = Err EntryNumber
+arriving (Some epoch) (Some client) (Some entry) = Ok (record { epoch = epoch; client = client; entry = entry })
+
+-- the arrival that a record spells, or what is wrong with it
+unfoldable pub arrival_in : Record → Result Arrival BatchCause
+arrival_in (epoch ∷ client ∷ entry ∷ []) = arriving (number_in epoch) (number_in client) (number_in entry)
+arrival_in fields = Err FieldCount
+
+-- the arrivals of these records
+abbrev pub arrivals_in : List Record → List Arrival
+arrivals_in rows = filter_map (λ row. result_ok (arrival_in row)) rows
+
+-- those of them that come in this epoch
+abbrev pub of_epoch : ℕ → List Arrival → List Arrival
+of_epoch epoch arrivals = filter (λ a. a.epoch == epoch) arrivals
+
+-- the epoch of the last of them, and 0 where there is none
+abbrev pub last_epoch : List Arrival → ℕ
+last_epoch arrivals = fold (λ epoch a. a.epoch) 0 arrivals
+
+-- the cause of an arrival after those before it
+unfoldable pub arrival_cause : ℕ → List Arrival → Arrival → Option BatchCause
+arrival_cause entries before a =
+    if nat_lt a.epoch (last_epoch before) then Some EpochBackwards
+    else if nat_le entries a.entry then Some EntryRange
+    else if list_any (λ b. a.client == b.client) (of_epoch a.epoch before) then Some Duplicate
+    else if nat_le MOST_CLIENTS (length (of_epoch a.epoch before)) then Some EpochFull
+    else if nat_le MOST_RECORDS (length before) then Some BatchFull
+    else None
+
+-- the cause of what a record spells, after the arrivals before it
+abbrev pub spelled_cause : ℕ → List Arrival → Result Arrival BatchCause → Option BatchCause
+spelled_cause entries before (Err cause) = Some cause
+spelled_cause entries before (Ok arrival) = arrival_cause entries before arrival

@@ -1,0 +1,90 @@
+-- Which records are a batch, and what is wrong with those that are none.
+use Rattle.std.specs.Prelude.{ℕ, ◌≡◌, ◌<◌, ◌⊎◌, ◌∷◌, [], Bool, List, drop, length, map, Option, Some, None, Result, MatchResult, codes, if◌then◌else◌, ⊤}
+use Rattle.std.specs.List.{AllByRecursion, flat_map}
+use Rattle.std.specs.Cmp.Lexicographic.{pointwise}
+use Rattle.std.specs.Str.{bytes_eq}
+use Rattle.cn_core.specs.declared.client.Client.{Client}
+use Rattle.cn_report.specs.Reading.Arrival.{arrival_in, arrivals_in, spelled_cause}
+use Rattle.cn_report.specs.Reading.Faults.{IsClean, IsFirstFault, cause_by}
+use Rattle.cn_report.specs.Reading.Records.{Record}
+use Rattle.cn_report.specs.declared.reading.arrival.Arrival.{Arrival}
+use Rattle.cn_report.specs.declared.reading.rows.RowFault.{RowFault}
+use Rattle.cn_report.specs.declared.reading.rows.RowFault.TheVariants as row
+use Rattle.cn_report.specs.declared.reading.batch_fault.BatchCause.{BatchCause}
+use Rattle.cn_report.specs.declared.reading.batch_fault.BatchCause.TheVariants.{Read, Header, FieldCount, EpochNumber, ClientNumber, EntryNumber, EpochBackwards, EntryRange, Duplicate, EpochFull, BatchFull, Memory}
+use Rattle.cn_report.specs.declared.reading.batch_fault.BatchFault.{BatchFault}
+use Rattle.cn_report.specs.declared.reading.batch.Batch.{Batch}
+use Rattle.cn_report.specs.declared.reading.gathering.BatchEpoch.{BatchEpoch}
+
+-- the name that a cause prints
+abbrev pub batch_cause_name : BatchCause → List ℕ
+batch_cause_name Read = codes "Read"
+batch_cause_name Header = codes "Header"
+batch_cause_name FieldCount = codes "FieldCount"
+batch_cause_name EpochNumber = codes "EpochNumber"
+batch_cause_name ClientNumber = codes "ClientNumber"
+batch_cause_name EntryNumber = codes "EntryNumber"
+batch_cause_name EpochBackwards = codes "EpochBackwards"
+batch_cause_name EntryRange = codes "EntryRange"
+batch_cause_name Duplicate = codes "Duplicate"
+batch_cause_name EpochFull = codes "EpochFull"
+batch_cause_name BatchFull = codes "BatchFull"
+batch_cause_name Memory = codes "Memory"
+
+-- the cause that tells why no record came
+abbrev pub batch_cause_of_row : RowFault → BatchCause
+batch_cause_of_row row.Read = Read
+batch_cause_of_row row.Memory = Memory
+
+-- the fields of the header of a batch
+abbrev pub is_batch_header : Record → Bool
+is_batch_header fields = pointwise bytes_eq fields (codes "epoch" ∷ codes "client" ∷ codes "entry" ∷ [])
+
+-- the cause of record 0
+abbrev pub header_cause : Record → Option BatchCause
+header_cause fields = if is_batch_header fields then None else Some Header
+
+-- the cause of a record after those before it, the header first
+abbrev pub record_cause : ℕ → List Record → Record → Option BatchCause
+record_cause entries before fields = spelled_cause entries (arrivals_in (drop 1 before)) (arrival_in fields)
+
+-- the first cause of the record with this number, if it has one
+abbrev pub batch_cause : ℕ → List Record → ℕ → Option BatchCause
+batch_cause entries = cause_by header_cause (record_cause entries)
+
+-- no record's fault: the reader failed, or a growth was refused
+abbrev pub IsOfReading : BatchCause → Type 0
+IsOfReading cause = (cause ≡ Read) ⊎ (cause ≡ Memory)
+
+-- the arrivals of an epoch's clients
+abbrev pub arrivals_of : BatchEpoch → List Arrival
+arrivals_of epoch = map (λ c. record { epoch = epoch.number; client = c.id; entry = c.entry }) epoch.clients.items
+
+-- each epoch's number is below those of the epochs after it
+unfoldable pub AreRising : List BatchEpoch → Type 0
+AreRising [] = ⊤
+AreRising (epoch ∷ later) = AllByRecursion (λ e. epoch.number < e.number) later × AreRising later
+
+-- these epochs spell these arrivals: the numbers rise, each epoch has some client, and the clients are the arrivals in
+-- their order
+pub record AreEpochs (epochs : List BatchEpoch) (arrivals : List Arrival) : Type 0 where
+  pub rising : AreRising epochs
+  pub some : AllByRecursion (λ e. 0 < length e.clients.items) epochs
+  pub spells : flat_map arrivals_of epochs ≡ arrivals
+
+-- the records are a batch of these epochs: none has a cause, and the epochs spell those after the header
+pub record IsBatch (entries : ℕ) (rows : List Record) (epochs : List BatchEpoch) : Type 0 where
+  pub clean : IsClean (batch_cause entries) rows
+  pub holds : AreEpochs epochs (arrivals_in (drop 1 rows))
+
+-- the fault tells the first record with a cause, and its first cause
+abbrev pub IsBatchFault : ℕ → List Record → BatchFault → Type 0
+IsBatchFault entries rows fault = IsFirstFault (batch_cause entries) IsOfReading rows fault.at fault.cause
+
+-- what these records answer: the epochs that they are a batch of, or their fault
+abbrev pub AnswersBatch : ℕ → List Record → Result Batch BatchFault → Type 0
+AnswersBatch entries rows result = MatchResult result (λ batch. IsBatch entries rows batch.epochs.items) (IsBatchFault entries rows)
+
+-- what an epoch is: its number and its clients
+abbrev pub plain_epoch : BatchEpoch → ℕ × List Client
+plain_epoch epoch = (epoch.number, epoch.clients.items)

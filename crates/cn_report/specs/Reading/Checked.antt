@@ -1,0 +1,60 @@
+-- What was seen of a grant list so far.
+use Rattle.std.specs.Prelude.{ℕ, ◌≡◌, ◌<◌, ◌≤◌, ◌++◌, ◌∷◌, [], List, length, map, nat_lt, Option, Some, None, if◌then◌else◌}
+use Rattle.cn_spec.specs.Step.{shares}
+use Rattle.std.specs.List.{AllByRecursion}
+use Rattle.cn_report.specs.Reading.Granted.{has_client, has_name, last_epoch, of_epoch}
+use Rattle.cn_report.specs.Reading.Grants.{Lacks}
+use Rattle.cn_report.specs.Reading.Told.{epoch_numbers, plain_tight, shared_epoch}
+use Rattle.cn_report.specs.Reading.Numbers.{has}
+use Rattle.cn_report.specs.declared.reading.grant.Granted.{Granted}
+use Rattle.cn_report.specs.declared.reading.grant.GrantCause.{GrantCause}
+use Rattle.cn_report.specs.declared.reading.grant.GrantCause.TheVariants.{DuplicateClient, DuplicateName}
+use Rattle.cn_report.specs.declared.reading.granting.Gap.{Gap}
+use Rattle.cn_report.specs.declared.reading.granting.Granting.{Granting}
+
+-- the least epoch below this one that lacks a name, and the least name that it lacks
+pub record IsLeastGap (end : ℕ) (grants : List Granted) (gap : Gap) : Type 0 where
+  pub below : gap.epoch < end
+  pub lacks : Lacks grants gap.epoch gap.name
+  pub first : (e n : ℕ) → e < end → Lacks grants e n → gap.epoch ≤ e
+  pub least : (n : ℕ) → Lacks grants gap.epoch n → gap.name ≤ n
+
+-- the first gap of the epochs below this one, if they have one
+abbrev pub IsGapBelow : ℕ → List Granted → Option Gap → Type 0
+IsGapBelow end grants None = (e n : ℕ) → e < end → Lacks grants e n → ⊥
+IsGapBelow end grants (Some gap) = IsLeastGap end grants gap
+
+-- no grant is of a later epoch, the sets hold the latest epoch's clients and names, and the gap is the first before it
+pub record Holds (g : Granting) (grants : List Granted) : Type 0 where
+  pub below : AllByRecursion (λ x. x.epoch ≤ g.latest) grants
+  pub count : g.count ≡ length (of_epoch g.latest grants)
+  pub clients : (n : ℕ) → has g.clients n ≡ has_client n (of_epoch g.latest grants)
+  pub names : (n : ℕ) → has g.names n ≡ has_name n (of_epoch g.latest grants)
+  pub gap : IsGapBelow g.latest grants g.gap
+
+-- the latest epoch, where it has grants
+abbrev pub latest_number : ℕ → ℕ → List ℕ
+latest_number latest count = if nat_lt 0 count then latest ∷ [] else []
+
+abbrev pub latest_told : ℕ → ℕ → ℕ → List (ℕ × ℕ × List ℕ)
+latest_told width latest count = if nat_lt 0 count then (latest, count, shares count width) ∷ [] else []
+
+-- these are told of the epochs before the latest
+pub record AreTold (width : ℕ) (over : List (ℕ × ℕ × List ℕ)) (latest count : ℕ) (grants : List Granted) : Type 0 where
+  pub numbers : epoch_numbers grants ≡ map (λ p. p.0) over ++ latest_number latest count
+  pub told : over ≡ map (shared_epoch width grants) (map (λ p. p.0) over)
+  pub below : AllByRecursion (λ p. p.0 < latest) over
+
+-- they are, where no gap was found
+abbrev pub Tells : ℕ → Granting → List Granted → Type 0
+Tells width g grants = g.gap ≡ None → AreTold width (map plain_tight g.over.items) g.latest g.count grants
+
+-- and the latest epoch is that of the last grant
+pub record IsChecked (width : ℕ) (g : Granting) (grants : List Granted) : Type 0 where
+  pub holds : Holds g grants
+  pub last : last_epoch grants ≡ g.latest
+  pub tells : Tells width g grants
+
+-- the cause of a grant of the latest epoch
+abbrev pub joining_cause : Granting → Granted → Option GrantCause
+joining_cause g grant = if has g.clients grant.client then Some DuplicateClient else if has g.names grant.name then Some DuplicateName else None

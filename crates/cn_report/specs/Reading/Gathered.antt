@@ -1,0 +1,37 @@
+-- What was gathered of a batch so far.
+use Rattle.std.specs.Prelude.{ℕ, ◌≡◌, ◌<◌, ◌++◌, ◌∷◌, [], List, length, map, nat_eq, nat_lt, nat_le, Option, Some, None, if◌then◌else◌}
+use Rattle.std.specs.List.{AllByRecursion, flat_map, list_any}
+use Rattle.cn_core.specs.declared.client.Client.{Client}
+use Rattle.cn_spec.specs.declared.limits.TheConstants.{MOST_CLIENTS, MOST_RECORDS}
+use Rattle.cn_report.specs.Reading.Arrival.{last_epoch}
+use Rattle.cn_report.specs.Reading.Batch.{AreRising, arrivals_of}
+use Rattle.cn_report.specs.declared.reading.arrival.Arrival.{Arrival}
+use Rattle.cn_report.specs.declared.reading.batch_fault.BatchCause.{BatchCause}
+use Rattle.cn_report.specs.declared.reading.batch_fault.BatchCause.TheVariants.{Duplicate, EpochFull, BatchFull}
+use Rattle.cn_report.specs.declared.reading.gathering.BatchEpoch.{BatchEpoch}
+use Rattle.cn_report.specs.declared.reading.gathering.Gathering.{Gathering}
+
+-- the gathering holds these arrivals: those of the epochs that are over, and then those of the latest
+pub record Holds (g : Gathering) (arrivals : List Arrival) : Type 0 where
+  pub spells : flat_map arrivals_of g.over.items ++ arrivals_of g.latest ≡ arrivals
+  pub rising : AreRising g.over.items
+  pub some : AllByRecursion (λ e. 0 < length e.clients.items) g.over.items
+  pub below : AllByRecursion (λ e. e.number < g.latest.number) g.over.items
+  pub standing : g.standing.keys ≡ map (λ c. c.id) g.latest.clients.items
+
+-- and the latest epoch is that of the last arrival
+pub record IsGathered (g : Gathering) (arrivals : List Arrival) : Type 0 where
+  pub holds : Holds g arrivals
+  pub last : last_epoch arrivals ≡ g.latest.number
+
+-- the epochs that are over once the latest is
+abbrev pub over_after : Gathering → List BatchEpoch
+over_after g = if nat_lt 0 (length g.latest.clients.items) then g.over.items ++ g.latest ∷ [] else g.over.items
+
+-- the cause of a client of the latest epoch that is record `at`
+abbrev pub joining_cause : ℕ → Gathering → Client → Option BatchCause
+joining_cause at g c =
+    if list_any (nat_eq c.id) g.standing.keys then Some Duplicate
+    else if nat_le MOST_CLIENTS (length g.latest.clients.items) then Some EpochFull
+    else if nat_lt MOST_RECORDS at then Some BatchFull
+    else None

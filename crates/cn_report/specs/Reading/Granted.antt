@@ -1,0 +1,66 @@
+-- What the records of a grant list say, one by one.
+use Rattle.std.specs.Prelude.{ℕ, ◌==◌, ◌∷◌, [], Bool, List, length, nat_lt, nat_le, Option, Some, None, if◌then◌else◌}
+use Rattle.std.specs.List.{filter, filter_map, fold, list_any}
+use Rattle.cn_spec.specs.declared.limits.TheConstants.{MOST_RECORDS}
+use Rattle.cn_report.specs.Reading.Number.{number_in}
+use Rattle.cn_report.specs.Reading.Records.{Record}
+use Rattle.cn_report.specs.declared.reading.grant.Granted.{Granted}
+use Rattle.cn_report.specs.declared.reading.grant.GrantCause.{GrantCause}
+use Rattle.cn_report.specs.declared.reading.grant.GrantCause.TheVariants.{Form, DuplicateClient, DuplicateName}
+
+-- the grant that these three numbers make
+abbrev pub granting : Option ℕ → Option ℕ → Option ℕ → Option Granted
+granting None client name = None
+granting (Some epoch) None name = None
+granting (Some epoch) (Some client) None = None
+granting (Some epoch) (Some client) (Some name) = Some (record { epoch = epoch; client = client; name = name })
+
+-- the grant that a record spells
+unfoldable pub granted_in : Record → Option Granted
+granted_in (epoch ∷ client ∷ name ∷ []) = granting (number_in epoch) (number_in client) (number_in name)
+granted_in fields = None
+
+-- the grants of these records
+abbrev pub grants_in : List Record → List Granted
+grants_in rows = filter_map granted_in rows
+
+-- those of them that are of this epoch
+abbrev pub of_epoch : ℕ → List Granted → List Granted
+of_epoch epoch grants = filter (λ g. g.epoch == epoch) grants
+
+-- the epoch of the last of them, and 0 where there is none
+abbrev pub last_epoch : List Granted → ℕ
+last_epoch grants = fold (λ epoch g. g.epoch) 0 grants
+
+-- what is wrong with the form of a grant after those before it
+unfoldable pub form_cause : List Granted → Granted → Option GrantCause
+form_cause before g = if nat_lt g.epoch (last_epoch before) then Some Form else if nat_le MOST_RECORDS (length before) then Some Form else None
+
+-- whether the client, or the name, stands among these
+abbrev pub has_client : ℕ → List Granted → Bool
+has_client client grants = list_any (λ g. client == g.client) grants
+
+abbrev pub has_name : ℕ → List Granted → Bool
+has_name name grants = list_any (λ g. name == g.name) grants
+
+-- what else is wrong with it
+unfoldable pub twice_cause : List Granted → Granted → Option GrantCause
+twice_cause before g =
+    if has_client g.client (of_epoch g.epoch before) then Some DuplicateClient
+    else if has_name g.name (of_epoch g.epoch before) then Some DuplicateName
+    else None
+
+-- the first of two causes
+abbrev pub first_of : Option GrantCause → Option GrantCause → Option GrantCause
+first_of (Some cause) other = Some cause
+first_of None other = other
+
+-- the form's cause of what a record spells, after the grants before it
+abbrev pub spelled_form : List Granted → Option Granted → Option GrantCause
+spelled_form before None = Some Form
+spelled_form before (Some g) = form_cause before g
+
+-- its first cause
+abbrev pub spelled_cause : List Granted → Option Granted → Option GrantCause
+spelled_cause before None = Some Form
+spelled_cause before (Some g) = first_of (form_cause before g) (twice_cause before g)

@@ -1,0 +1,40 @@
+-- What a tight list tells of its epochs.
+use Rattle.std.specs.Prelude.{ℕ, ◌≡◌, ◌∷◌, [], List, drop, length, map, ◌++◌, nat_eq, Result, MatchResult, if◌then◌else◌}
+use Rattle.std.specs.List.{fold, list_any}
+use Rattle.cn_spec.specs.Step.{counts_of, shares}
+use Rattle.cn_report.specs.Reading.Granted.{grants_in, of_epoch}
+use Rattle.cn_report.specs.Reading.Grants.{IsFlaw, IsTightList}
+use Rattle.cn_report.specs.Reading.Records.{Record}
+use Rattle.cn_report.specs.declared.reading.grant.Granted.{Granted}
+use Rattle.cn_report.specs.declared.reading.grant.Flaw.{Flaw}
+use Rattle.cn_report.specs.declared.reading.granting.Tight.{Tight}
+use Rattle.cn_report.specs.declared.reading.granting.TightEpoch.{TightEpoch}
+
+-- the epochs' numbers, each once, in their order
+abbrev pub with_number : List ℕ → ℕ → List ℕ
+with_number numbers n = if list_any (nat_eq n) numbers then numbers else numbers ++ n ∷ []
+
+abbrev pub epoch_numbers : List Granted → List ℕ
+epoch_numbers grants = fold (λ numbers g. with_number numbers g.epoch) [] grants
+
+-- an epoch: its number, how many clients it has, and the share of each remainder in so many names
+abbrev pub shared_epoch : ℕ → List Granted → ℕ → ℕ × ℕ × List ℕ
+shared_epoch width grants e = (e, length (of_epoch e grants), shares (length (of_epoch e grants)) width)
+
+-- an epoch: its number, how many clients it has, and how many of its names are i modulo the width
+abbrev pub told_epoch : ℕ → List Granted → ℕ → ℕ × ℕ × List ℕ
+told_epoch width grants e = (e, length (of_epoch e grants), counts_of width (map (λ g. g.name) (of_epoch e grants)))
+
+-- an epoch, as a tight list has it
+abbrev pub plain_tight : TightEpoch → ℕ × ℕ × List ℕ
+plain_tight epoch = (epoch.number, epoch.clients, epoch.counts.items)
+
+-- these are the epochs of the records
+abbrev pub IsTold : ℕ → List Record → List TightEpoch → Type 0
+IsTold width rows epochs =
+    map plain_tight epochs ≡ map (told_epoch width (grants_in (drop 1 rows))) (epoch_numbers (grants_in (drop 1 rows)))
+
+-- what these records answer: what a tight list tells of them, or their flaw
+abbrev pub AnswersTight : ℕ → List Record → Result Tight Flaw → Type 0
+AnswersTight width rows result =
+    MatchResult result (λ tight. IsTightList rows × IsTold width rows tight.epochs.items) (IsFlaw rows)

@@ -1,0 +1,12 @@
+//! Laws of the texts that are read. Each function does nothing: its contract is the law.
+
+ghost use Rattle.std.specs.Prelude.{◌≡◌, ℕ, List, map};
+ghost use Rattle.cn_report.specs.declared.reading.gathering.BatchEpoch.{BatchEpoch};
+ghost use Rattle.cn_report.specs.Reading.Batch.{IsBatch, plain_epoch};
+ghost use Rattle.cn_report.specs.Reading.Records.{Record};
+
+/// The records of a text tell its batch: two batches that they are have the same epochs.
+pub fn batch_is_one()
+    ensures { (entries : ℕ) (rows : List Record) (one other : List BatchEpoch) → IsBatch entries rows one → IsBatch entries rows other
+        → map plain_epoch one ≡ map plain_epoch other }
+{}

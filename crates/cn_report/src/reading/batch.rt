@@ -1,0 +1,130 @@
+//! Batches: a header, and an arrival a record.
+
+ghost use Rattle.std.specs.Prelude.{◌≡◌, ◌≤◌, ◌+◌, ◌⊎◌, ◌∷◌, ◌++◌, [], ℕ, List, IfErr, IfOk, IfSome, OnOk, Ok, None, Some, length, true};
+ghost use Rattle.std.specs.Bool.{MatchBool};
+ghost use Rattle.cn_spec.specs.declared.limits.TheConstants.{MOST_RECORDS};
+ghost use Rattle.cn_report.specs.declared.reading.arrival.Arrival.{Arrival};
+ghost use Rattle.cn_report.specs.Reading.Arrival.{arrival_cause, arrival_in, spelled_cause};
+ghost use Rattle.cn_report.specs.Reading.Batch.{AnswersBatch, IsBatchFault, header_cause};
+ghost use Rattle.cn_report.specs.Reading.Gathered.{IsGathered};
+ghost use Rattle.cn_report.specs.Reading.Records.{HasRead, IsPlain, Record, records_of};
+
+use crate::reading::arrival::arrival_of;
+use crate::reading::batch_fault::{BatchCause, BatchFault};
+use crate::reading::gathering::{BatchEpoch, Gathering};
+use crate::reading::rows::{is_header, next_row, open_rows};
+use cn_spec::limits::MOST_RECORDS;
+use csv::{ByteRecord, Reader};
+use std::alloc::Global;
+use std::hash::RandomState;
+use std::io::Read;
+
+/// The epochs of a batch.
+#[derive(Debug, Drop)]
+pub struct Batch {
+    /// The epochs, by rising numbers.
+    pub epochs: Vec<BatchEpoch>,
+}
+
+/// Takes the header.
+fn take_header<R: Read>(rows: &mut Reader<R>, row: &mut ByteRecord) -> Result<(), BatchCause>
+    requires { IsPlain rows.old }
+    ensures plain { OnOk result (IsPlain rows.new) }
+    ensures ok { IfOk result (λ _. (text : List ℕ) → HasRead R.remaining rows.old text []
+        → (fields : Record) × HasRead R.remaining rows.new text (fields ∷ []) × (header_cause fields ≡ None)) }
+    ensures err { IfErr result (λ cause. (entries : ℕ) (text : List ℕ) → HasRead R.remaining rows.old text []
+        → IsBatchFault entries (records_of text) (record { at = 0; cause = cause })) }
+{
+    if next_row(rows, row)? && is_header(row, b"epoch", b"client", b"entry") {
+        Ok(())
+    } else {
+        Err(BatchCause::Header)
+    }
+}
+
+/// Takes the arrival of record `at`, and tells whether there was one.
+fn take_arrival<R: Read>(
+    alloc: Global,
+    rows: &mut Reader<R>,
+    row: &mut ByteRecord,
+    entries: u32,
+    at: u64,
+    gathering: &mut Gathering,
+) -> Result<bool, BatchCause>
+    requires { IsPlain rows.old }
+    ensures plain { OnOk result (IsPlain rows.new) }
+    ensures found { IfOk result (λ found. (text : List ℕ) (before : List Record) (arrivals : List Arrival) → HasRead R.remaining rows.old text before
+        → IsGathered gathering.old arrivals → length arrivals + 1 ≡ at
+        → MatchBool found ((fields : Record) × (arrival : Arrival) × HasRead R.remaining rows.new text (before ++ fields ∷ [])
+        × (arrival_in fields ≡ Ok arrival) × (arrival_cause entries arrivals arrival ≡ None) × IsGathered gathering.new (arrivals ++ arrival ∷ []))
+        ((records_of text ≡ before) × IsGathered gathering.new arrivals)) }
+    ensures refused { IfErr result (λ cause. (text : List ℕ) (before : List Record) (arrivals : List Arrival) → HasRead R.remaining rows.old text before
+        → IsGathered gathering.old arrivals → length arrivals + 1 ≡ at
+        → ((fields : Record) × HasRead R.remaining rows.new text (before ++ fields ∷ []) × (spelled_cause entries arrivals (arrival_in fields) ≡ Some cause))
+        ⊎ (cause ≡ BatchCause.Read) ⊎ (cause ≡ BatchCause.Memory)) }
+    ensures few { IfOk result (λ found. found ≡ true → at ≤ MOST_RECORDS) }
+{
+    if !next_row(rows, row)? {
+        return Ok(false);
+    }
+    let arrival = arrival_of(row)?;
+    match gathering.take(alloc, entries, at, arrival) {
+        Ok(()) => Ok(true),
+        Err(cause) => Err(cause),
+    }
+}
+
+/// Takes the header and the arrivals.
+fn take_arrivals<R: Read>(
+    alloc: Global,
+    rows: &mut Reader<R>,
+    row: &mut ByteRecord,
+    entries: u32,
+    state: RandomState,
+) -> Result<Batch, BatchFault>
+    requires { IsPlain rows.old }
+    ensures { (text : List ℕ) → HasRead R.remaining rows.old text []
+        → AnswersBatch entries (records_of text) result }
+{
+    let mut gathering = Gathering::new(alloc, state);
+    if let Err(cause) = take_header(rows, row) {
+        return Err(BatchFault { at: 0, cause });
+    }
+    for at in 1..MOST_RECORDS + 2 {
+        match take_arrival(alloc, rows, row, entries, at, &mut gathering) {
+            Ok(true) => {}
+            Ok(false) => {
+                return match gathering.finish(alloc) {
+                    Ok(epochs) => Ok(Batch { epochs }),
+                    Err(_) => Err(BatchFault {
+                        at,
+                        cause: BatchCause::Memory,
+                    }),
+                };
+            }
+            Err(cause) => return Err(BatchFault { at, cause }),
+        }
+    }
+    // Record MOST_RECORDS + 1 is the last that is read.
+    unreachable!()
+}
+
+/// The epochs of a batch: a header `epoch,client,entry`, and then a record of three numbers for each client, as `csv`
+/// reads them. An epoch is a run of records of one number, and the numbers rise.
+///
+/// # Errors
+///
+/// The first record that has a cause, with its first cause. A failed read and want of memory are told at the record that
+/// was being read.
+pub fn read_batch<R: Read + Drop>(
+    alloc: Global,
+    reader: R,
+    entries: u32,
+    state: RandomState,
+) -> Result<Batch, BatchFault>
+    ensures { IfSome (R.remaining reader) (λ text. AnswersBatch entries (records_of text) result) }
+{
+    let mut rows = open_rows(alloc, reader);
+    let mut row = ByteRecord::new(alloc);
+    take_arrivals(alloc, &mut rows, &mut row, entries, state)
+}

@@ -1,0 +1,79 @@
+//! What can be wrong with a batch.
+
+ghost use Rattle.std.specs.Prelude.{◌≡◌, Some};
+ghost use Rattle.cn_report.specs.Reading.Batch.{batch_cause_name, batch_cause_of_row};
+
+use crate::reading::rows::RowFault;
+use std::fmt;
+
+/// What is wrong with a record of a batch. Of several causes the first in this order is told, but for `Memory`, which
+/// stands in place of any other.
+#[derive(Clone, Copy, Debug, PartialEq, Eq)]
+pub enum BatchCause {
+    /// The reader failed.
+    Read,
+    /// Record 0 is missing, or is not `epoch,client,entry`.
+    Header,
+    /// The record has not three fields.
+    FieldCount,
+    /// The first field is no number of 1 to 20 digits below 2 ^ 64.
+    EpochNumber,
+    /// The second field is no such number.
+    ClientNumber,
+    /// The third field is no such number.
+    EntryNumber,
+    /// The epoch's number is below that of the record before.
+    EpochBackwards,
+    /// The network has no such entry.
+    EntryRange,
+    /// The client stands in this epoch already.
+    Duplicate,
+    /// The epoch has 65,536 clients already.
+    EpochFull,
+    /// There are more than 1,048,576 records after the header.
+    BatchFull,
+    /// A growth was refused.
+    Memory,
+}
+
+impl fmt::Display for BatchCause {
+    ghost output = { λ cause. Some (batch_cause_name cause) };
+
+    fn fmt<W: fmt::Write>(&self, f: &mut fmt::Formatter<W>) -> fmt::Result {
+        let name = match self {
+            BatchCause::Read => "Read",
+            BatchCause::Header => "Header",
+            BatchCause::FieldCount => "FieldCount",
+            BatchCause::EpochNumber => "EpochNumber",
+            BatchCause::ClientNumber => "ClientNumber",
+            BatchCause::EntryNumber => "EntryNumber",
+            BatchCause::EpochBackwards => "EpochBackwards",
+            BatchCause::EntryRange => "EntryRange",
+            BatchCause::Duplicate => "Duplicate",
+            BatchCause::EpochFull => "EpochFull",
+            BatchCause::BatchFull => "BatchFull",
+            BatchCause::Memory => "Memory",
+        };
+        f.write_str(name)
+    }
+}
+
+impl From<RowFault> for BatchCause {
+    ghost from_gives = { λ fault cause. cause ≡ batch_cause_of_row fault };
+
+    fn from(fault: RowFault) -> Self {
+        match fault {
+            RowFault::Read => BatchCause::Read,
+            RowFault::Memory => BatchCause::Memory,
+        }
+    }
+}
+
+/// The first record of a batch with a cause, and its first cause.
+#[derive(Clone, Copy, Debug, PartialEq, Eq)]
+pub struct BatchFault {
+    /// The number of the record; the header is record 0.
+    pub at: u64,
+    /// What is wrong with it.
+    pub cause: BatchCause,
+}

@@ -1,0 +1,146 @@
+//! The epochs of a batch, as its records come.
+
+ghost use Rattle.std.specs.Prelude.{◌≡◌, ◌≤◌, ◌+◌, ◌⊎◌, ◌∷◌, ◌++◌, [], List, None, Some, OnOk, IfErr, IfOk, length};
+ghost use Rattle.cn_report.specs.declared.reading.arrival.Arrival.{Arrival};
+ghost use Rattle.cn_report.specs.Reading.Arrival.{arrival_cause};
+ghost use Rattle.cn_report.specs.Reading.Batch.{AreEpochs};
+ghost use Rattle.cn_report.specs.Reading.Gathered.{Holds, IsGathered, joining_cause, over_after};
+
+use crate::reading::arrival::Arrival;
+use crate::reading::batch_fault::BatchCause;
+use cn_core::Client;
+use cn_spec::limits::{MOST_CLIENTS, MOST_RECORDS};
+use indexmap::IndexSet;
+use std::alloc::{AllocError, Global};
+use std::hash::RandomState;
+use std::mem;
+
+/// The clients of one epoch of a batch, in the order of their records.
+#[derive(Debug, Drop)]
+pub struct BatchEpoch {
+    /// The epoch's number.
+    pub number: u64,
+    /// Its clients.
+    pub clients: Vec<Client>,
+}
+
+/// The epochs that are over, and the latest, with its clients as a set.
+#[derive(Drop)]
+pub(crate) struct Gathering {
+    over: Vec<BatchEpoch>,
+    latest: BatchEpoch,
+    standing: IndexSet<u64, RandomState>,
+}
+
+impl Gathering {
+    pub(crate) fn new(alloc: Global, state: RandomState) -> Self
+        ensures { IsGathered result [] }
+    {
+        Gathering {
+            over: Vec::new(alloc),
+            latest: BatchEpoch {
+                number: 0,
+                clients: Vec::new(alloc),
+            },
+            standing: IndexSet::with_hasher(alloc, state),
+        }
+    }
+
+    // Ends the latest epoch, if it has clients, and opens another.
+    fn turn(&mut self, alloc: Global, number: u64) -> Result<(), AllocError>
+        ensures { OnOk result ((self.new.over.items ≡ over_after self.old) × (self.new.latest.number ≡ number)
+            × (self.new.latest.clients.items ≡ []) × (self.new.standing.keys ≡ [])) }
+    {
+        let next = BatchEpoch {
+            number,
+            clients: Vec::new(alloc),
+        };
+        let ended = mem::replace(&mut self.latest, next);
+        self.standing.clear();
+        if ended.clients.is_empty() {
+            return Ok(());
+        }
+        self.over.push(ended)?;
+        Ok(())
+    }
+
+    // Comes to this epoch.
+    fn reach(&mut self, alloc: Global, epoch: u64) -> Result<(), AllocError>
+        requires { self.old.latest.number ≤ epoch }
+        ensures { OnOk result ((self.new.latest.number ≡ epoch) × ((before : List Arrival) → Holds self.old before → Holds self.new before)) }
+    {
+        if self.latest.number == epoch {
+            return Ok(());
+        }
+        match self.turn(alloc, epoch) {
+            Ok(()) => Ok(()),
+            Err(error) => Err(error),
+        }
+    }
+
+    // Takes a client of the latest epoch, which is record `at`, where it has no cause. One look-up finds whether it stands
+    // there and puts it in.
+    fn join(&mut self, at: u64, client: Client) -> Result<(), BatchCause>
+        ensures ok { OnOk result ((joining_cause at self.old client ≡ None) × (self.new.over ≡ self.old.over)
+            × (self.new.latest.number ≡ self.old.latest.number) × (self.new.latest.clients.items ≡ self.old.latest.clients.items ++ client ∷ [])
+            × (self.new.standing.keys ≡ self.old.standing.keys ++ client.id ∷ [])) }
+        ensures err { IfErr result (λ cause. (joining_cause at self.old client ≡ Some cause) ⊎ (cause ≡ BatchCause.Memory)) }
+    {
+        match self.standing.insert(client.id) {
+            Ok(true) => {}
+            Ok(false) => return Err(BatchCause::Duplicate),
+            Err(_) => return Err(BatchCause::Memory),
+        }
+        if self.latest.clients.len() as u64 >= MOST_CLIENTS {
+            return Err(BatchCause::EpochFull);
+        }
+        if at > MOST_RECORDS {
+            return Err(BatchCause::BatchFull);
+        }
+        if self.latest.clients.push(client).is_err() {
+            return Err(BatchCause::Memory);
+        }
+        Ok(())
+    }
+
+    /// Takes an arrival, which is record `at`, where it has no cause.
+    pub(crate) fn take(
+        &mut self,
+        alloc: Global,
+        entries: u32,
+        at: u64,
+        arrival: Arrival,
+    ) -> Result<(), BatchCause>
+        ensures ok { OnOk result ((before : List Arrival) → IsGathered self.old before → length before + 1 ≡ at
+            → (arrival_cause entries before arrival ≡ None) × IsGathered self.new (before ++ arrival ∷ [])) }
+        ensures few { OnOk result (at ≤ MOST_RECORDS) }
+        ensures err { IfErr result (λ cause. (before : List Arrival) → IsGathered self.old before → length before + 1 ≡ at
+            → (arrival_cause entries before arrival ≡ Some cause) ⊎ (cause ≡ BatchCause.Memory)) }
+    {
+        if arrival.epoch < self.latest.number {
+            return Err(BatchCause::EpochBackwards);
+        }
+        if arrival.entry >= u64::from(entries) {
+            return Err(BatchCause::EntryRange);
+        }
+        if self.reach(alloc, arrival.epoch).is_err() {
+            return Err(BatchCause::Memory);
+        }
+        let client = Client {
+            id: arrival.client,
+            entry: arrival.entry,
+        };
+        self.join(at, client)
+    }
+
+    /// The epochs.
+    pub(crate) fn finish(self, alloc: Global) -> Result<Vec<BatchEpoch>, AllocError>
+        ensures { IfOk result (λ epochs. (arrivals : List Arrival) → IsGathered self arrivals → AreEpochs epochs.items arrivals) }
+    {
+        let mut gathering = self;
+        match gathering.turn(alloc, 0) {
+            Ok(()) => Ok(gathering.over),
+            Err(error) => Err(error),
+        }
+    }
+}

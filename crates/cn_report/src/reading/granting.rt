@@ -1,0 +1,218 @@
+//! The epochs of a grant list, as its records come.
+
+ghost use Rattle.std.specs.Prelude.{◌≡◌, ◌==◌, ◌||◌, ◌<◌, ◌≤◌, ◌+◌, ◌⊎◌, ◌∷◌, ◌++◌, ℕ, [], List, None, Some, OnOk, IfErr, IfOk, MatchResult, length, map};
+ghost use Rattle.cn_report.specs.declared.reading.grant.Granted.{Granted};
+ghost use Rattle.cn_report.specs.Reading.Granted.{spelled_cause};
+ghost use Rattle.cn_report.specs.Reading.Checked.{Holds, IsGapBelow, IsChecked, Tells, joining_cause, latest_told};
+ghost use Rattle.cn_report.specs.Reading.Told.{epoch_numbers, plain_tight, shared_epoch};
+ghost use Rattle.cn_report.specs.Reading.Grants.{IsEndFlaw, Lacks};
+ghost use Rattle.cn_report.specs.Reading.Numbers.{has};
+ghost use Rattle.cn_spec.specs.Step.{shares};
+ghost use Rattle.cn_wiring.specs.Widths.{IsWidth};
+ghost use Rattle.cn_spec.specs.declared.limits.TheConstants.{MOST_RECORDS};
+
+use crate::reading::grant::{Flaw, GrantCause, Granted};
+use crate::reading::numbers::Numbers;
+use cn_exit::expected;
+use cn_spec::limits::MOST_RECORDS;
+use std::alloc::{AllocError, Global};
+
+/// A name that an epoch lacks.
+#[derive(Clone, Copy, Debug, PartialEq, Eq)]
+pub(crate) struct Gap {
+    pub(crate) epoch: u64,
+    pub(crate) name: u64,
+}
+
+/// What a grant list says of an epoch.
+#[derive(Debug, Drop)]
+pub struct TightEpoch {
+    /// The epoch's number.
+    pub number: u64,
+    /// How many clients got a name.
+    pub clients: u64,
+    /// How many of the names are `i` modulo the width, for each `i` below it.
+    pub counts: Vec<u64>,
+}
+
+/// The epochs that are over, the first gap among them, and the latest epoch's clients and names.
+#[derive(Drop)]
+pub(crate) struct Granting {
+    over: Vec<TightEpoch>,
+    gap: Option<Gap>,
+    latest: u64,
+    count: u64,
+    clients: Numbers,
+    names: Numbers,
+}
+
+impl Granting {
+    pub(crate) fn new(alloc: Global) -> Self
+        ensures checked { (width : ℕ) → IsChecked width result [] }
+        ensures count { result.count ≡ 0 }
+    {
+        Granting {
+            over: Vec::new(alloc),
+            gap: None,
+            latest: 0,
+            count: 0,
+            clients: Numbers::new(alloc),
+            names: Numbers::new(alloc),
+        }
+    }
+
+    /// The first gap of the epochs so far, where the latest is over.
+    pub(crate) fn first_gap(&self) -> Option<Gap>
+        ensures gap { (grants : List Granted) → Holds self.now grants → IsGapBelow (self.now.latest + 1) grants result }
+        ensures none { result ≡ None → self.now.gap ≡ None }
+    {
+        if let Some(gap) = self.gap {
+            return Some(gap);
+        }
+        match self.names.least_missing(self.count) {
+            Some(name) => Some(Gap {
+                epoch: self.latest,
+                name,
+            }),
+            None => None,
+        }
+    }
+
+    // Ends the latest epoch, and tells it where it has grants and no gap was found.
+    fn end(&mut self, alloc: Global, width: u32) -> Result<(), AllocError>
+        requires width { IsWidth width }
+        requires few { self.old.count ≤ MOST_RECORDS }
+        ensures same { OnOk result ((self.new.latest ≡ self.old.latest) × (self.new.count ≡ self.old.count)) }
+        ensures gap { OnOk result ((grants : List Granted) → Holds self.old grants → IsGapBelow (self.old.latest + 1) grants self.new.gap) }
+        ensures over { OnOk result (self.new.gap ≡ None → (self.old.gap ≡ None)
+            × (map plain_tight self.new.over.items ≡ map plain_tight self.old.over.items ++ latest_told width self.old.latest self.old.count)) }
+    {
+        self.gap = self.first_gap();
+        if self.gap.is_none() && self.count > 0 {
+            let counts = shares(alloc, width, self.count)?;
+            self.over.push(TightEpoch {
+                number: self.latest,
+                clients: self.count,
+                counts,
+            })?;
+        }
+        Ok(())
+    }
+
+    // Comes to this epoch.
+    fn reach(&mut self, alloc: Global, width: u32, epoch: u64) -> Result<(), AllocError>
+        requires width { IsWidth width }
+        requires few { self.old.count ≤ MOST_RECORDS }
+        requires later { self.old.latest ≤ epoch }
+        ensures here { OnOk result (self.new.latest ≡ epoch) }
+        ensures holds { OnOk result ((grants : List Granted) → Holds self.old grants → Holds self.new grants) }
+        ensures tells { OnOk result ((grants : List Granted) → Holds self.old grants → Tells width self.old grants → Tells width self.new grants) }
+        ensures count { OnOk result (self.new.count ≤ self.old.count) }
+    {
+        if self.latest == epoch {
+            return Ok(());
+        }
+        match self.end(alloc, width) {
+            Ok(()) => {}
+            Err(error) => return Err(error),
+        }
+        self.latest = epoch;
+        self.count = 0;
+        self.clients.clear();
+        self.names.clear();
+        Ok(())
+    }
+
+    // Takes a grant of the latest epoch, where it has no cause.
+    fn join(&mut self, grant: Granted) -> Result<(), GrantCause>
+        requires { self.old.count < MOST_RECORDS }
+        ensures ok { OnOk result ((joining_cause self.old grant ≡ None) × (self.new.over ≡ self.old.over) × (self.new.gap ≡ self.old.gap) × (self.new.latest ≡ self.old.latest)
+            × (self.new.count ≡ self.old.count + 1) × ((n : ℕ) → has self.new.clients n ≡ ((n == grant.client) || has self.old.clients n))
+            × ((n : ℕ) → has self.new.names n ≡ ((n == grant.name) || has self.old.names n))) }
+        ensures err { IfErr result (λ cause. (joining_cause self.old grant ≡ Some cause) ⊎ (cause ≡ GrantCause.Memory)) }
+    {
+        match self.clients.add(grant.client) {
+            Ok(true) => {}
+            Ok(false) => return Err(GrantCause::DuplicateClient),
+            Err(_) => return Err(GrantCause::Memory),
+        }
+        match self.names.add(grant.name) {
+            Ok(true) => {}
+            Ok(false) => return Err(GrantCause::DuplicateName),
+            Err(_) => return Err(GrantCause::Memory),
+        }
+        self.count += 1;
+        Ok(())
+    }
+
+    /// Takes a grant, which is record `at`, where it has no cause.
+    pub(crate) fn take(
+        &mut self,
+        alloc: Global,
+        width: u32,
+        at: u64,
+        grant: Granted,
+    ) -> Result<(), GrantCause>
+        requires width { IsWidth width }
+        requires count { self.old.count < at }
+        ensures ok { OnOk result ((before : List Granted) → IsChecked width self.old before → length before + 1 ≡ at
+            → (spelled_cause before (Some grant) ≡ None) × IsChecked width self.new (before ++ grant ∷ [])) }
+        ensures few { OnOk result (at ≤ MOST_RECORDS) }
+        ensures count { OnOk result (self.new.count ≤ at) }
+        ensures err { IfErr result (λ cause. (before : List Granted) → IsChecked width self.old before → length before + 1 ≡ at
+            → (spelled_cause before (Some grant) ≡ Some cause) ⊎ (cause ≡ GrantCause.Memory)) }
+    {
+        if grant.epoch < self.latest || at > MOST_RECORDS {
+            return Err(GrantCause::Form);
+        }
+        match self.reach(alloc, width, grant.epoch) {
+            Ok(()) => {}
+            Err(_) => return Err(GrantCause::Memory),
+        }
+        self.join(grant)
+    }
+
+    /// The epochs, where none lacks a name.
+    pub(crate) fn finish(self, alloc: Global, width: u32) -> Result<Tight, Flaw>
+        requires width { IsWidth width }
+        requires few { self.count ≤ MOST_RECORDS }
+        ensures answer { (grants : List Granted) → Holds self grants → MatchResult result (λ _. (e n : ℕ) → Lacks grants e n → ⊥) (IsEndFlaw grants) }
+        ensures told { IfOk result (λ tight. (grants : List Granted) → Holds self grants → Tells width self grants
+            → map plain_tight tight.epochs.items ≡ map (shared_epoch width grants) (epoch_numbers grants)) }
+    {
+        let mut granting = self;
+        match granting.end(alloc, width) {
+            Ok(()) => {}
+            Err(_) => return Err(Flaw::Memory),
+        }
+        match granting.gap {
+            Some(gap) => Err(Flaw::Gap {
+                epoch: gap.epoch,
+                name: gap.name,
+            }),
+            None => Ok(Tight {
+                epochs: granting.over,
+            }),
+        }
+    }
+}
+
+/// The shares of all exits in this many clients.
+fn shares(alloc: Global, width: u32, clients: u64) -> Result<Vec<u64>, AllocError>
+    requires width { IsWidth width }
+    requires few { clients ≤ MOST_RECORDS }
+    ensures { IfOk result (λ counts. counts.items ≡ shares clients width) }
+{
+    let mut counts = Vec::with_capacity(alloc, width as usize)?;
+    for exit in 0..width {
+        counts.push(expected(width, clients, exit))?;
+    }
+    Ok(counts)
+}
+
+/// A grant list in which each epoch's names are the numbers below its number of clients, each once.
+#[derive(Debug, Drop)]
+pub struct Tight {
+    /// The epochs, by rising numbers.
+    pub epochs: Vec<TightEpoch>,
+}

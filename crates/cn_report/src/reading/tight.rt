@@ -1,0 +1,117 @@
+//! Grant lists: a header, and a grant a record.
+
+ghost use Rattle.std.specs.Prelude.{◌≡◌, ◌<◌, ◌≤◌, ◌+◌, ◌⊎◌, ◌∷◌, ◌++◌, [], ℕ, List, IfErr, IfOk, IfSome, OnOk, None, Some, length, true};
+ghost use Rattle.std.specs.Bool.{MatchBool};
+ghost use Rattle.cn_spec.specs.declared.limits.TheConstants.{MOST_RECORDS};
+ghost use Rattle.cn_wiring.specs.Widths.{IsWidth};
+ghost use Rattle.cn_report.specs.declared.reading.grant.Granted.{Granted};
+ghost use Rattle.cn_report.specs.Reading.Granted.{granted_in, spelled_cause};
+ghost use Rattle.cn_report.specs.Reading.Grants.{IsFirst, IsOutside, IsTightList, header_cause};
+ghost use Rattle.cn_report.specs.Reading.Checked.{IsChecked};
+ghost use Rattle.cn_report.specs.Reading.Told.{AnswersTight};
+ghost use Rattle.cn_report.specs.Reading.Records.{HasRead, IsPlain, Record, records_of};
+
+use crate::reading::grant::{Flaw, GrantCause, flaw_at, granted_of};
+use crate::reading::granting::{Granting, Tight};
+use crate::reading::rows::{is_header, next_row, open_rows};
+use cn_spec::limits::MOST_RECORDS;
+use csv::{ByteRecord, Reader};
+use std::alloc::Global;
+use std::io::Read;
+
+/// Takes the header.
+fn take_header<R: Read>(rows: &mut Reader<R>, row: &mut ByteRecord) -> Result<(), GrantCause>
+    requires { IsPlain rows.old }
+    ensures plain { OnOk result (IsPlain rows.new) }
+    ensures ok { IfOk result (λ _. (text : List ℕ) → HasRead R.remaining rows.old text []
+        → (fields : Record) × HasRead R.remaining rows.new text (fields ∷ []) × (header_cause fields ≡ None)) }
+    ensures err { IfErr result (λ cause. (text : List ℕ) → HasRead R.remaining rows.old text [] → IsFirst (records_of text) 0 cause) }
+{
+    if next_row(rows, row)? && is_header(row, b"epoch", b"client", b"name") {
+        Ok(())
+    } else {
+        Err(GrantCause::Form)
+    }
+}
+
+/// Takes the grant of record `at`, and tells whether there was one.
+fn take_grant<R: Read>(
+    alloc: Global,
+    rows: &mut Reader<R>,
+    row: &mut ByteRecord,
+    width: u32,
+    at: u64,
+    granting: &mut Granting,
+) -> Result<bool, GrantCause>
+    requires plain { IsPlain rows.old }
+    requires width { IsWidth width }
+    requires count { granting.old.count < at }
+    ensures plain { OnOk result (IsPlain rows.new) }
+    ensures found { IfOk result (λ found. (text : List ℕ) (before : List Record) (grants : List Granted) → HasRead R.remaining rows.old text before
+        → IsChecked width granting.old grants → length grants + 1 ≡ at
+        → MatchBool found ((fields : Record) × (grant : Granted) × HasRead R.remaining rows.new text (before ++ fields ∷ [])
+        × (granted_in fields ≡ Some grant) × (spelled_cause grants (Some grant) ≡ None) × IsChecked width granting.new (grants ++ grant ∷ []))
+        ((records_of text ≡ before) × IsChecked width granting.new grants)) }
+    ensures refused { IfErr result (λ cause. (text : List ℕ) (before : List Record) (grants : List Granted) → HasRead R.remaining rows.old text before
+        → IsChecked width granting.old grants → length grants + 1 ≡ at
+        → ((fields : Record) × HasRead R.remaining rows.new text (before ++ fields ∷ []) × (spelled_cause grants (granted_in fields) ≡ Some cause))
+        ⊎ (cause ≡ GrantCause.Read) ⊎ (cause ≡ GrantCause.Memory)) }
+    ensures few { IfOk result (λ found. found ≡ true → at ≤ MOST_RECORDS) }
+    ensures count { IfOk result (λ found. MatchBool found (granting.new.count ≤ at) (granting.new.count < at)) }
+{
+    if !next_row(rows, row)? {
+        return Ok(false);
+    }
+    let Some(grant) = granted_of(row) else {
+        return Err(GrantCause::Form);
+    };
+    match granting.take(alloc, width, at, grant) {
+        Ok(()) => Ok(true),
+        Err(cause) => Err(cause),
+    }
+}
+
+/// Takes the header and the grants.
+fn take_grants<R: Read>(
+    alloc: Global,
+    rows: &mut Reader<R>,
+    row: &mut ByteRecord,
+    width: u32,
+) -> Result<Tight, Flaw>
+    requires plain { IsPlain rows.old }
+    requires width { IsWidth width }
+    ensures answer { (text : List ℕ) → HasRead R.remaining rows.old text []
+        → AnswersTight width (records_of text) result }
+{
+    let mut granting = Granting::new(alloc);
+    if let Err(cause) = take_header(rows, row) {
+        return Err(flaw_at(0, cause));
+    }
+    for at in 1..MOST_RECORDS + 2 {
+        match take_grant(alloc, rows, row, width, at, &mut granting) {
+            Ok(true) => {}
+            Ok(false) => return granting.finish(alloc, width),
+            Err(cause) => return Err(flaw_at(at, cause)),
+        }
+    }
+    // Record MOST_RECORDS + 1 is the last that is read.
+    unreachable!()
+}
+
+/// Whether a grant list gives each epoch's clients the names below their number, each once: a header `epoch,client,name`,
+/// and then a record of three numbers for each grant, as `csv` reads them. An epoch is a run of records of one number, and
+/// the numbers rise.
+///
+/// # Errors
+///
+/// The first record that has a cause, with its first cause; where no record has one, the first name that is missing. A
+/// failed read is told at the record that was being read.
+pub fn check_grants<R: Read + Drop>(alloc: Global, reader: R, width: u32) -> Result<Tight, Flaw>
+    requires { IsWidth width }
+    ensures answer { IfSome (R.remaining reader) (λ text. AnswersTight width (records_of text) result) }
+    ensures exact { IfSome (R.remaining reader) (λ text. IfErr result (λ flaw. IsTightList (records_of text) → IsOutside flaw)) }
+{
+    let mut rows = open_rows(alloc, reader);
+    let mut row = ByteRecord::new(alloc);
+    take_grants(alloc, &mut rows, &mut row, width)
+}
