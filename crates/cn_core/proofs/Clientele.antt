@@ -13,7 +13,7 @@ use Rattle.cn_names.specs.Names.{is_walking, standing_in, with_standing}
 use Rattle.cn_core.specs.declared.position.Position.{Position}
 use Rattle.cn_core.specs.declared.position.Position.TheVariants.{On, Holds}
 use Rattle.cn_core.specs.State.{is_inside, position_in, with_position}
-use Rattle.cn_core.proofs.Placed.{count-push, count-set, times-absent, times-push, times-set}
+use Rattle.cn_yard.proofs.CallerLemmas.{count-push, count-set, times-absent, times-push, times-set}
 use Rattle.cn_core.specs.InsideClients.{IsPlaced, StandsFor, position_by}
 
 -- the table's entries with their positions in the yard

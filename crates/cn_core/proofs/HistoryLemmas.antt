@@ -22,7 +22,7 @@ use Rattle.cn_core.specs.declared.reply.Reply.TheVariants.{Entered, EnterRefused
 use Rattle.cn_core.specs.State.{State, IsState, position_in, with_position, position_past, past, after_enter, after_step, start, is_named, is_inside, inside_in}
 use Rattle.cn_core.specs.History.{position_after, leaves_of, inside_of, end_at, is_leave, IsHistory, Agrees, MayAnswerAll, grown}
 use Rattle.cn_core.specs.Calls.{EntersTo, StepsTo, TakesTo, IsLedgerEvent, AnswersByHistory, RunsByHistory, RunsTo}
-use Rattle.cn_core.proofs.Placed.{lookup-push, lookup-set, count-push, count-set}
+use Rattle.cn_yard.proofs.CallerLemmas.{lookup-push, lookup-set, count-push, count-set}
 use Rattle.cn_core.proofs.StateLemmas.{stands-at, zero_at}
 
 pub Agrees-start : (network : Network) → Agrees (start network) []

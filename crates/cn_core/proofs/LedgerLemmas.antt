@@ -25,7 +25,7 @@ use Rattle.cn_core.specs.declared.reply.Moved.{Moved}
 use Rattle.cn_core.specs.declared.reply.Reply.TheVariants.{Stepped}
 use Rattle.cn_core.specs.Calls.{IsMoveOf, MovesLedger, StepsTo}
 use Rattle.cn_core.specs.StateLedger.{is_on, holds, held_in, given_in, ledger_of, IsCore}
-use Rattle.cn_core.proofs.Placed.{count-push, count-set, count_pair-push, count_pair-set}
+use Rattle.cn_yard.proofs.CallerLemmas.{count-push, count-set, count_pair-push, count_pair-set}
 use Rattle.cn_core.proofs.StateLemmas.{stands-at, zero_at, IsState-start, IsState-after_enter, IsState-after_step}
 use Rattle.cn_core.proofs.HistoryLemmas.{past-after_step, Agrees-start, Agrees-after_enter, Agrees-after_step}
 use Rattle.cn_core.proofs.PassageLemmas.{sound_passages}

@@ -1,4 +1,3 @@
-pub mod Placed
 pub mod Clientele
 pub mod StateLemmas
 pub mod HistoryLemmas

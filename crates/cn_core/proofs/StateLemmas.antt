@@ -14,7 +14,7 @@ use Rattle.cn_wiring.specs.Network.{Network, IsNetwork}
 use Rattle.cn_core.specs.declared.position.Position.{Position}
 use Rattle.cn_core.specs.declared.position.Position.TheVariants.{On}
 use Rattle.cn_core.specs.State.{State, IsState, position_in, position_past, after_enter, after_step, start, times_entered}
-use Rattle.cn_core.proofs.Placed.{lookup-push, lookup-set, times-push, times-absent, times-set}
+use Rattle.cn_yard.proofs.CallerLemmas.{lookup-push, lookup-set, times-push, times-absent, times-set}
 
 -- what a table says of the end of a wire
 pub stands-at : (network : Network) → IsNetwork network → (wire : ℕ) (end : End) → wire < length network.table.ends → end_of network.table wire ≡ end → Stands network.table end

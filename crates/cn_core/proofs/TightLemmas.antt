@@ -18,7 +18,7 @@ use Rattle.cn_ledger.specs.Ledger.{IsQuiet, times_given}
 use Rattle.cn_core.specs.StateLedger.{is_on, holds, granted_in, ledger_of, IsCore}
 use Rattle.cn_core.specs.Tight.{grants_in, IsTightState, IsBoundedState}
 use Rattle.cn_ledger.proofs.CallerLemmas.{bounded, counts-few, names-differ, tight}
-use Rattle.cn_core.proofs.Placed.{count_pair-found}
+use Rattle.cn_yard.proofs.CallerLemmas.{count_pair-found}
 use Rattle.cn_core.proofs.HistoryLemmas.{inside_or_named}
 
 named-position : (p : Option Position) (name : ℕ) → name_at p ≡ Some name → p ≡ Some (Holds name)

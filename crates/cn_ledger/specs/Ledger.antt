@@ -8,6 +8,7 @@ use Rattle.cn_wiring.specs.declared.end.End.{End}
 use Rattle.cn_wiring.specs.declared.end.End.TheVariants.{Balancer, Exit}
 use Rattle.cn_wiring.specs.Table.{Table, Stands, IsFullFlow, sum_at}
 
+-- what has come in, gone by, left and been given at some moment
 pub record Ledger : Type 0 where
   -- how many came in by each entry
   pub entered : ℕ → ℕ

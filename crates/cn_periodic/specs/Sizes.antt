@@ -10,6 +10,6 @@ block_balancers level = 2 ^ level / 2 * level
 abbrev pub periodic_depth : ℕ → ℕ
 periodic_depth level = level * level
 
--- its balancers: one for each two wires, depth times
+-- the balancers of the periodic network: one for each two wires, depth times
 abbrev pub periodic_balancers : ℕ → ℕ
 periodic_balancers level = 2 ^ level / 2 * periodic_depth level
