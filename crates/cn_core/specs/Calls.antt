@@ -35,16 +35,16 @@ stepped_reply (Err fault) = StepRefused fault
 abbrev pub EntersTo : State → ℕ → ℕ → Reply → State → Type 0
 EntersTo old client entry Entered new =
     (entry < old.network.table.entries) × (position_in old.clients client ≡ None)
-        × (length old.clients < MOST_CLIENTS) × (new ≡ after_enter old client entry)
+    × (length old.clients < MOST_CLIENTS) × (new ≡ after_enter old client entry)
 EntersTo old client entry (EnterRefused NoSuchEntry) new = (old.network.table.entries ≤ entry) × (new ≡ old)
 EntersTo old client entry (EnterRefused AlreadyIn) new =
     (entry < old.network.table.entries) × IsSome (position_in old.clients client) × (new ≡ old)
 EntersTo old client entry (EnterRefused EpochFull) new =
     (entry < old.network.table.entries) × (position_in old.clients client ≡ None)
-        × (MOST_CLIENTS ≤ length old.clients) × (new ≡ old)
+    × (MOST_CLIENTS ≤ length old.clients) × (new ≡ old)
 EntersTo old client entry (EnterRefused Memory) new =
     (entry < old.network.table.entries) × (position_in old.clients client ≡ None)
-        × (length old.clients < MOST_CLIENTS) × (new ≡ old)
+    × (length old.clients < MOST_CLIENTS) × (new ≡ old)
 EntersTo old client entry (Stepped moved) new = ⊥
 EntersTo old client entry (StepRefused fault) new = ⊥
 
@@ -68,14 +68,14 @@ TakesTo old (Step client) reply new = StepsTo old client reply new
 abbrev pub AnswersByHistory : State → Event → Reply → State → Type 0
 AnswersByHistory old event reply new =
     (history : List Event) → Agrees old history → MayAnswer old.network.table history event reply
-        × Agrees new (grown history event reply)
+    × Agrees new (grown history event reply)
 
 -- by every history that the old state agrees with these are answers to the events, and the new state agrees with the history after them
 abbrev pub RunsByHistory : State → List Event → List Reply → State → Type 0
 RunsByHistory old events replies new =
     (history : List Event) → Agrees old history
     → MayAnswerAll old.network.table history events replies
-        × Agrees new (grown_by history events replies)
+    × Agrees new (grown_by history events replies)
 
 -- a step that moved a client so is one event on the ledger: a passage, or a leave. The name that is told is that of the
 -- visit less the base, the number of those that came in before the epoch.
@@ -110,6 +110,6 @@ abbrev pub RunsTo : State → List Event → List Reply → State → Type 0
 RunsTo old [] [] new = new ≡ old
 RunsTo old (event ∷ events) (reply ∷ replies) new =
     (mid : State) × TakesTo old event reply mid × IsLedgerEvent old event reply mid
-        × RunsTo mid events replies new
+    × RunsTo mid events replies new
 RunsTo old [] (reply ∷ replies) new = ⊥
 RunsTo old (event ∷ events) [] new = ⊥

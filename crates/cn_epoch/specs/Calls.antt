@@ -55,7 +55,7 @@ abbrev pub AnswersByHistory : Epochs → Command → Answer → Epochs → Type 
 AnswersByHistory old command answer new =
     (turns : ℕ) (history : List Event) → Agrees old turns history
     → MayAnswer old.core.network.table turns history command answer
-        × Agrees new (turns_after turns answer) (grown history command answer)
+    × Agrees new (turns_after turns answer) (grown history command answer)
 
 -- commands with these answers take the old epochs to the new ones, one after another
 abbrev pub RunsTo : Epochs → List Command → List Answer → Epochs → Type 0
@@ -70,4 +70,4 @@ abbrev pub RunsByHistory : Epochs → List Command → List Answer → Epochs �
 RunsByHistory old commands answers new =
     (turns : ℕ) (history : List Event) → Agrees old turns history
     → MayAnswerAll old.core.network.table turns history commands answers
-        × Agrees new (turns_by turns answers) (grown_by history commands answers)
+    × Agrees new (turns_by turns answers) (grown_by history commands answers)

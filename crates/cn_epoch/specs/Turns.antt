@@ -70,7 +70,7 @@ IsSameAnswer answer other = ⊥
 abbrev pub HasOneRecord : Table → ℕ → List Event → Type 0
 HasOneRecord table turns history =
     (r s : EpochRecord) → IsRecordOf table turns history r → IsRecordOf table turns history s
-        → IsSameRecord r s
+    → IsSameRecord r s
 
 -- an answer that is not want of memory
 abbrev pub HadMemory : Answer → Type 0
@@ -142,5 +142,5 @@ abbrev pub HaveOneAnswer : Table → ℕ → List Event → List Command → Typ
 HaveOneAnswer table turns history commands =
     (answers others : List Answer) → All HadMemory answers → All HadMemory others
     → MayAnswerAll table turns history commands answers
-        → MayAnswerAll table turns history commands others
+    → MayAnswerAll table turns history commands others
     → AllZip IsSameAnswer answers others

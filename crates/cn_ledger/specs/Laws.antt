@@ -11,7 +11,7 @@ use Rattle.cn_ledger.specs.Ledger.{Ledger, IsSound, all_entered}
 abbrev pub AllSound : (Table → Ledger → Type 0) → Type 0
 AllSound P =
     (network : Network) (ledger : Ledger) → IsNetwork network → IsSound network.table ledger
-        → P network.table ledger
+    → P network.table ledger
 
 -- on a counting network such an event takes a sound ledger to a sound one
 abbrev pub KeepsSound : (Table → Ledger → Ledger → Type 0) → Type 0
@@ -52,7 +52,7 @@ NamesDiffer l =
 abbrev pub GrantsOnce : Ledger → Type 0
 GrantsOnce l =
     (client exit visit name : ℕ) → 1 ≤ l.granted client exit visit name
-        → l.granted client exit visit name ≡ 1
+    → l.granted client exit visit name ≡ 1
 
 -- a client stands on a wire that ends so
 pub record StandsAt (t : Table) (l : Ledger) (client wire : ℕ) (end : End) : Type 0 where

@@ -5,7 +5,8 @@ pub mod laws;
 mod reading;
 mod writing;
 
-pub use reading::{Batch, BatchCause, BatchEpoch, BatchFault, read_batch};
-pub use reading::{Flaw, Tight, TightEpoch, check_grants};
-pub use reading::{ScheduleCause, ScheduleFault, read_schedule};
+pub use reading::{
+    Batch, BatchCause, BatchEpoch, BatchFault, Flaw, ScheduleCause, ScheduleFault, Tight,
+    TightEpoch, check_grants, read_batch, read_schedule,
+};
 pub use writing::{EmitFault, emit, render_replay, render_report, render_tight, render_wiring};
