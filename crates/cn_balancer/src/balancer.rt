@@ -54,7 +54,8 @@ impl Balancer {
     pub fn arrive(&mut self, input: u32)
         requires input { input < 2 }
         requires room { all_arrivals self.old < MOST_ARRIVALS }
-        ensures arrived { self.new.arrivals ≡ slice_set self.old.arrivals input (slice_index self.old.arrivals input + 1) }
+        ensures arrived { self.new.arrivals
+            ≡ slice_set self.old.arrivals input (slice_index self.old.arrivals input + 1) }
         ensures passed { self.new.passages ≡ self.old.passages }
         ensures one_more { all_arrivals self.new ≡ all_arrivals self.old + 1 }
     {
@@ -70,7 +71,8 @@ impl Balancer {
         ensures output { result.output ≡ result.number % 2 }
         ensures arrived { self.new.arrivals ≡ self.old.arrivals }
         ensures passed { self.new.passages ≡ self.old.passages + 1 }
-        ensures departed { (output : ℕ) → output < 2 → half self.new.passages output ≡ half self.old.passages output + when (result.output == output) 1 }
+        ensures departed { (output : ℕ) → output < 2 → half self.new.passages output
+            ≡ half self.old.passages output + when (result.output == output) 1 }
     {
         let number = self.passages;
         self.passages += 1;

@@ -4,9 +4,9 @@ use Rattle.std.proofs.lemmas.List.{drop-map, take-append-drop, take-map}
 use Rattle.std.proofs.Math.Nat.{pow-succ'}
 use Rattle.cn_spec.specs.Networks.{IsRow, bitonic}
 use Rattle.cn_spec.specs.declared.limits.TheConstants.{MOST_BALANCERS}
-use Rattle.cn_spec.proofs.CallerLemmas.{back_row, front_row, half_row, times-append}
+use Rattle.cn_spec.proofs.CallerLemmas.{back_row, front_row, half_pow, half_row, same_level, shorter, times-append}
 use Rattle.cn_wiring.specs.Plan.{Plan, AllLoose}
-use Rattle.cn_wiring.proofs.CallerLemmas.{Builds-beside, Builds-loose, Builds-same, Builds-sized, Builds-then, half_pow, same_level, shorter}
+use Rattle.cn_wiring.proofs.CallerLemmas.{Builds-beside, Builds-loose, Builds-same, Builds-sized, Builds-then}
 use Rattle.cn_bitonic.specs.Order.{bitonic_made, merger_made}
 use Rattle.cn_bitonic.specs.Parts.{BuildsBitonic, BuildsMerger}
 use Rattle.cn_bitonic.specs.Sizes.{bitonic_balancers, bitonic_depth}

@@ -6,10 +6,10 @@ use Rattle.std.proofs.Math.Nat.{pow-suc, pow-succ'}
 use Rattle.cn_spec.specs.Networks.{IsRow, evens, odds, layer, merge}
 use Rattle.cn_spec.specs.Sums.{times}
 use Rattle.cn_spec.specs.declared.limits.TheConstants.{MOST_BALANCERS}
-use Rattle.cn_spec.proofs.CallerLemmas.{evens_row, map_evens, map_odds, odds_row, times-append, times_evens_odds}
+use Rattle.cn_spec.proofs.CallerLemmas.{evens_row, map_evens, map_odds, odds_row, same_level, shorter, times-append, times_evens_odds}
 use Rattle.cn_wiring.specs.Made.{with_layer}
 use Rattle.cn_wiring.specs.Plan.{Plan, AllLoose, Builds, IsFlow, next_wire}
-use Rattle.cn_wiring.proofs.CallerLemmas.{Builds-beside, Builds-like, Builds-loose, Builds-sized, Builds-then, same_level, shorter}
+use Rattle.cn_wiring.proofs.CallerLemmas.{Builds-beside, Builds-like, Builds-loose, Builds-sized, Builds-then}
 use Rattle.cn_bitonic.specs.Order.{merger_made}
 use Rattle.cn_bitonic.specs.Parts.{BuildsMerger}
 

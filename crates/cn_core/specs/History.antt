@@ -95,7 +95,8 @@ enter_answer table history client entry =
 abbrev pub step_answer : Table → List Event → Option Position → Reply
 step_answer table history None = StepRefused Stranger
 step_answer table history (Some (Holds name)) = StepRefused (HasName name)
-step_answer table history (Some (On wire)) = Stepped (moved_past table (end_of table wire) (steps_before table history (end_of table wire)))
+step_answer table history (Some (On wire)) =
+    Stepped (moved_past table (end_of table wire) (steps_before table history (end_of table wire)))
 
 -- the answer to an event after a history
 abbrev pub answer_to : Table → List Event → Event → Reply

@@ -7,7 +7,13 @@ use Rattle.cn_core.specs.InsideClients.{positions}
 
 -- its state
 abbrev pub state_of : Inside → State
-state_of c = record { network = c.network.now; entered = c.entered.items; passes = c.passes.items; visits = c.exits; clients = positions c.clients }
+state_of c = record {
+  network = c.network.now;
+  entered = c.entered.items;
+  passes = c.passes.items;
+  visits = c.exits;
+  clients = positions c.clients;
+}
 
 -- what each core keeps, and the yard has the network's wires
 pub record IsInside (c : Inside) : Type 0 where

@@ -17,7 +17,8 @@ with_passage table earlier None passages = passages
 abbrev pub passages_of : Table → List Event → List (ℕ × ℕ)
 passages_of table [] = []
 passages_of table (Enter c entry ∷ earlier) = passages_of table earlier
-passages_of table (Step c ∷ earlier) = with_passage table earlier (end_at table (position_after table earlier c)) (passages_of table earlier)
+passages_of table (Step c ∷ earlier) =
+    with_passage table earlier (end_at table (position_after table earlier c)) (passages_of table earlier)
 
 -- how often passage n of balancer b is among the passages
 abbrev pub times_passed : ℕ → ℕ → List (ℕ × ℕ) → ℕ

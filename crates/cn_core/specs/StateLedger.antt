@@ -25,7 +25,8 @@ holds name (Holds other) = other == name
 
 -- how many clients hold the name of a visit of an exit
 abbrev pub held_in : State → ℕ → ℕ → ℕ
-held_in s i v = when (nat_lt i s.network.table.width) (count_by (holds (name_of s.network.table.width i v)) (values_of s.clients))
+held_in s i v =
+    when (nat_lt i s.network.table.width) (count_by (holds (name_of s.network.table.width i v)) (values_of s.clients))
 
 -- how often a number was given: a passage's in the history, a visit's to the clients that hold its name
 abbrev pub given_in : State → List Event → End → ℕ → ℕ
@@ -35,7 +36,8 @@ given_in s history (Exit i) v = held_in s i v
 -- how often a client was granted a visit of an exit and its name
 abbrev pub granted_in : State → ℕ → ℕ → ℕ → ℕ → ℕ
 granted_in s c i v name =
-    when (nat_lt i s.network.table.width && (name_of s.network.table.width i v == name)) (count_by (λ e. nat_eq c e.0 && holds name e.1) s.clients)
+    when (nat_lt i s.network.table.width && (name_of s.network.table.width i v == name))
+    (count_by (λ e. nat_eq c e.0 && holds name e.1) s.clients)
 
 -- the ledger of a state, with the passages of a history
 abbrev pub ledger_of : State → List Event → Ledger

@@ -71,7 +71,8 @@ impl Clients {
 
     /// Where a client is, if it has entered.
     pub(crate) fn find(&self, client: u64) -> Option<Found>
-        ensures position { option_map position_found result ≡ position_in (positions self.now) client }
+        ensures position { option_map position_found result
+            ≡ position_in (positions self.now) client }
         ensures token { IfSome result (IsFound self.now client) }
     {
         match self.names.standing(client)? {
@@ -88,7 +89,8 @@ impl Clients {
         requires new { position_in (positions self.old) client ≡ None }
         requires wire { wire < length self.old.yard.lists }
         requires few { length (positions self.old) < MOST_CLIENTS }
-        ensures ok { OnOk result (positions self.new ≡ positions self.old ++ (client, On wire) ∷ []) }
+        ensures ok { OnOk result
+            (positions self.new ≡ positions self.old ++ (client, On wire) ∷ []) }
         ensures err { OnErr result (positions self.new ≡ positions self.old) }
         ensures wires { length self.new.yard.lists ≡ length self.old.yard.lists }
     {
@@ -102,9 +104,11 @@ impl Clients {
 
     /// A client's token goes to another wire, where it stands last.
     pub(crate) fn walk(&mut self, token: Token, wire: u32)
-        requires walking { (client : ℕ) × (standing_in self.old.names client ≡ Some (Walking token)) }
+        requires walking { (client : ℕ)
+            × (standing_in self.old.names client ≡ Some (Walking token)) }
         requires wire { wire < length self.old.yard.lists }
-        ensures walked { (client : ℕ) → standing_in self.old.names client ≡ Some (Walking token) → positions self.new ≡ with_position (positions self.old) client (On wire) }
+        ensures walked { (client : ℕ) → standing_in self.old.names client ≡ Some (Walking token)
+            → positions self.new ≡ with_position (positions self.old) client (On wire) }
         ensures wires { length self.new.yard.lists ≡ length self.old.yard.lists }
     {
         self.yard.move_to(token, wire);
@@ -113,7 +117,8 @@ impl Clients {
     /// A client leaves with a name, and its token is gone.
     pub(crate) fn settle(&mut self, client: u64, token: Token, name: u64)
         requires walking { standing_in self.old.names client ≡ Some (Walking token) }
-        ensures settled { positions self.new ≡ with_position (positions self.old) client (Holds name) }
+        ensures settled { positions self.new
+            ≡ with_position (positions self.old) client (Holds name) }
         ensures wires { length self.new.yard.lists ≡ length self.old.yard.lists }
     {
         self.yard.release(token);

@@ -15,7 +15,7 @@ use Rattle.cn_epoch.specs.declared.answer.TurnFault.TheVariants.{NotQuiet, Memor
 use Rattle.cn_epoch.specs.declared.command.Command.{Command}
 use Rattle.cn_epoch.specs.declared.command.Command.TheVariants.{Enter, Step, Turn}
 use Rattle.cn_epoch.specs.declared.record.EpochRecord.{EpochRecord}
-use Rattle.cn_epoch.specs.Turns.{HadMemory, IsRecordOf, IsSameAnswer, IsSameRecord, MayAnswerAll, MayAnswer, MayReply, MayTurn, cut_by, grown, replied_to, turns_after}
+use Rattle.cn_epoch.specs.Turns.{HadMemory, IsRecordOf, IsSameAnswer, IsSameRecord, MayAnswerAll, MayAnswer, MayReply, MayTurn, cut_by, grown, grown_by, replied_to, turns_after, turns_by}
 
 module _ (network : Network) (is : IsNetwork network) where
   pub one-record : (turns : ℕ) (history : List Event) (r s : EpochRecord) → IsRecordOf network.table turns history r → IsRecordOf network.table turns history s → IsSameRecord r s
@@ -74,10 +74,10 @@ module _ (network : Network) (is : IsNetwork network) where
   left-same turns history event (TurnRefused fault) (Replied other) same = absurd same
   left-same turns history event (TurnRefused fault) (Turned s) same = absurd same
 
-  pub turns-same : (turns : ℕ) (answer other : Answer) → IsSameAnswer answer other → turns_after turns answer ≡ turns_after turns other
+  turns-same : (turns : ℕ) (answer other : Answer) → IsSameAnswer answer other → turns_after turns answer ≡ turns_after turns other
   turns-same turns answer other same = (left-same turns [] (StepEvent 0) answer other same).0
 
-  pub history-same : (history : List Event) (command : Command) (answer other : Answer) → IsSameAnswer answer other → grown history command answer ≡ grown history command other
+  history-same : (history : List Event) (command : Command) (answer other : Answer) → IsSameAnswer answer other → grown history command answer ≡ grown history command other
   history-same history (Enter client entry) answer other same = (left-same 0 history (EnterEvent client entry) answer other same).1
   history-same history (Step client) answer other same = (left-same 0 history (StepEvent client) answer other same).1
   history-same history Turn answer other same = (left-same 0 history (StepEvent 0) answer other same).2
@@ -96,3 +96,19 @@ module _ (network : Network) (is : IsNetwork network) where
   one-list turns history [] (answer ∷ answers) others may might told also = absurd may
   one-list turns history (command ∷ commands) [] others may might told also = absurd may
   one-list turns history (command ∷ commands) (answer ∷ answers) [] may might told also = absurd might
+
+  -- the turns that a list of answers tells, and the history that it leaves
+  pub turns_by-same : (turns : ℕ) (answers others : List Answer) → AllZip IsSameAnswer answers others → turns_by turns answers ≡ turns_by turns others
+  turns_by-same turns [] [] same = refl
+  turns_by-same turns (answer ∷ answers) (other ∷ others) (same, rest) =
+      ap (λ n. turns_by n answers) (turns-same turns answer other same) ∙ turns_by-same (turns_after turns other) answers others rest
+  turns_by-same turns [] (other ∷ others) same = absurd same
+  turns_by-same turns (answer ∷ answers) [] same = absurd same
+
+  pub grown_by-same : (history : List Event) (commands : List Command) (answers others : List Answer) → AllZip IsSameAnswer answers others → grown_by history commands answers ≡ grown_by history commands others
+  grown_by-same history [] answers others same = refl
+  grown_by-same history (command ∷ commands) [] [] same = refl
+  grown_by-same history (command ∷ commands) (answer ∷ answers) (other ∷ others) (same, rest) =
+      ap (λ h. grown_by h commands answers) (history-same history command answer other same) ∙ grown_by-same (grown history command other) commands answers others rest
+  grown_by-same history (command ∷ commands) [] (other ∷ others) same = absurd same
+  grown_by-same history (command ∷ commands) (answer ∷ answers) [] same = absurd same

@@ -39,7 +39,8 @@ TurnsTo old (Replied reply) new = ⊥
 
 -- an event with this answer does so, and is one event on the ledger where it is accepted; no epoch ends
 abbrev pub RepliesTo : Epochs → Event → Answer → Epochs → Type 0
-RepliesTo old event (Replied reply) new = core.TakesTo old.core event reply new.core × IsLedgerEvent old.core event reply new.core × (new.number ≡ old.number)
+RepliesTo old event (Replied reply) new =
+    core.TakesTo old.core event reply new.core × IsLedgerEvent old.core event reply new.core × (new.number ≡ old.number)
 RepliesTo old event (Turned r) new = ⊥
 RepliesTo old event (TurnRefused fault) new = ⊥
 
@@ -60,7 +61,8 @@ AnswersByHistory old command answer new =
 -- commands with these answers take the old epochs to the new ones, one after another
 abbrev pub RunsTo : Epochs → List Command → List Answer → Epochs → Type 0
 RunsTo old [] [] new = new ≡ old
-RunsTo old (command ∷ commands) (answer ∷ answers) new = (mid : Epochs) × TakesTo old command answer mid × RunsTo mid commands answers new
+RunsTo old (command ∷ commands) (answer ∷ answers) new =
+    (mid : Epochs) × TakesTo old command answer mid × RunsTo mid commands answers new
 RunsTo old [] (answer ∷ answers) new = ⊥
 RunsTo old (command ∷ commands) [] new = ⊥
 

@@ -123,7 +123,8 @@ grown history Turn answer = cut_by history answer
 abbrev pub MayAnswerAll : Table → ℕ → List Event → List Command → List Answer → Type 0
 MayAnswerAll table turns history [] [] = Unit {0}
 MayAnswerAll table turns history (command ∷ commands) (answer ∷ answers) =
-    MayAnswer table turns history command answer × MayAnswerAll table (turns_after turns answer) (grown history command answer) commands answers
+    MayAnswer table turns history command answer
+    × MayAnswerAll table (turns_after turns answer) (grown history command answer) commands answers
 MayAnswerAll table turns history [] (answer ∷ answers) = ⊥
 MayAnswerAll table turns history (command ∷ commands) [] = ⊥
 

@@ -34,7 +34,8 @@ pub fn exit_of(width: u32, name: u64) -> Place
     requires { 1 ≤ width }
     ensures exit { result.exit < width }
     ensures name { step.name_of width result.exit result.visit ≡ name }
-    ensures only { (exit visit : ℕ) → exit < width → name ≡ step.name_of width exit visit → (result.exit ≡ exit) × (result.visit ≡ visit) }
+    ensures only { (exit visit : ℕ) → exit < width → name ≡ step.name_of width exit visit
+        → (result.exit ≡ exit) × (result.visit ≡ visit) }
 {
     let width = u64::from(width);
     let (visit, exit) = (name / width, name % width);

@@ -22,7 +22,8 @@ pub fn expected(width: u32, clients: u64, exit: u32) -> u64
 
 /// Whether each count is at least any later one.
 fn never_rises(counts: &[u64]) -> bool
-    ensures { IsTrue result ↔ ((i j : ℕ) → i < j → j < length counts.now → slice_index counts.now j ≤ slice_index counts.now i) }
+    ensures { IsTrue result ↔ ((i j : ℕ) → i < j → j < length counts.now
+        → slice_index counts.now j ≤ slice_index counts.now i) }
 {
     counts.is_sorted_by(|earlier, later| later <= earlier)
 }

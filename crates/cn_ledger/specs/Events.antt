@@ -34,7 +34,8 @@ pub record Goes (t : Table) (old new : Ledger) (c u : ℕ) (end : End) (to : ℕ
   pub entered : (e : ℕ) → new.entered e ≡ old.entered e
   pub count : (other : End) → new.count other ≡ old.count other + when (is_end end other) 1
   pub on : (wire : ℕ) → new.on wire + one_at u wire ≡ old.on wire + to wire
-  pub standing : (wire d : ℕ) → new.standing wire d + when ((u == wire) && (c == d)) 1 ≡ old.standing wire d + when (c == d) (to wire)
+  pub standing : (wire d : ℕ) → new.standing wire d + when ((u == wire) && (c == d)) 1
+      ≡ old.standing wire d + when (c == d) (to wire)
   -- the count is the number that is given
   pub given : (other : End) (n : ℕ) → new.given other n ≡ old.given other n + one_number end (old.count end) other n
 
@@ -47,4 +48,5 @@ pub record Passes (t : Table) (old new : Ledger) (c u b : ℕ) : Type 0 where
 pub record Leaves (t : Table) (old new : Ledger) (c u i : ℕ) : Type 0 where
   pub goes : Goes t old new c u (Exit i) (λ _. 0)
   pub granted : (d j v name : ℕ) → new.granted d j v name
-      ≡ old.granted d j v name + when ((c == d) && ((i == j) && ((old.count (Exit i) == v) && (name_of t.width i (old.count (Exit i)) == name)))) 1
+      ≡ old.granted d j v name
+      + when ((c == d) && ((i == j) && ((old.count (Exit i) == v) && (name_of t.width i (old.count (Exit i)) == name)))) 1

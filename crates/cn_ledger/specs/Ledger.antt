@@ -25,7 +25,8 @@ pub record Ledger : Type 0 where
 
 -- how many have been put on wire u: those that came in by it, or its half of those that passed its balancer
 abbrev pub put : Table → Ledger → ℕ → ℕ
-put t l u = cond (nat_lt u t.entries) (l.entered u) (half (l.count (Balancer ((u - t.entries) / 2))) ((u - t.entries) % 2))
+put t l u =
+    cond (nat_lt u t.entries) (l.entered u) (half (l.count (Balancer ((u - t.entries) / 2))) ((u - t.entries) % 2))
 
 -- f 0, f 1, f 2 .. add up to m: each sum of enough of them is m
 abbrev pub AddsUpTo : (ℕ → ℕ) → ℕ → Type 0
@@ -46,7 +47,8 @@ pub record IsSound (t : Table) (l : Ledger) : Type 0 where
   -- a client is granted a visit no more often than the exit gives it
   pub once : (c i v name : ℕ) → l.granted c i v name ≤ l.given (Exit i) v
   -- and so are two clients together
-  pub apart : (c d i v : ℕ) → c ≢ d → l.granted c i v (name_of t.width i v) + l.granted d i v (name_of t.width i v) ≤ l.given (Exit i) v
+  pub apart : (c d i v : ℕ) → c ≢ d
+      → l.granted c i v (name_of t.width i v) + l.granted d i v (name_of t.width i v) ≤ l.given (Exit i) v
   -- each visit that is given is granted to a client
   pub told : (i v : ℕ) → i < t.width → 1 ≤ l.given (Exit i) v
       → (c : ℕ) × (1 ≤ l.granted c i v (name_of t.width i v))
@@ -95,4 +97,11 @@ pub record IsTight (t : Table) (l : Ledger) : Type 0 where
 
 -- nobody has come
 abbrev pub empty_ledger : Ledger
-empty_ledger = record { entered = λ _. 0; count = λ _. 0; on = λ _. 0; standing = λ _ _. 0; given = λ _ _. 0; granted = λ _ _ _ _. 0 }
+empty_ledger = record {
+  entered = λ _. 0;
+  count = λ _. 0;
+  on = λ _. 0;
+  standing = λ _ _. 0;
+  given = λ _ _. 0;
+  granted = λ _ _ _ _. 0;
+}

@@ -9,4 +9,9 @@ two_wide = record { entries = 2; width = 2; balancers = 1; ends = Balancer 0 ∷
 
 -- the counting tree with four exits (Shavit, Zemach, Diffracting Trees, TOCS 1996, section 2)
 abbrev pub tree_of_four : Table
-tree_of_four = record { entries = 1; width = 4; balancers = 3; ends = Balancer 0 ∷ Balancer 1 ∷ Balancer 2 ∷ Exit 0 ∷ Exit 2 ∷ Exit 1 ∷ Exit 3 ∷ [] }
+tree_of_four = record {
+  entries = 1;
+  width = 4;
+  balancers = 3;
+  ends = Balancer 0 ∷ Balancer 1 ∷ Balancer 2 ∷ Exit 0 ∷ Exit 2 ∷ Exit 1 ∷ Exit 3 ∷ [];
+}

@@ -6,10 +6,10 @@ use Rattle.std.proofs.Math.Nat.{pow-suc, pow-succ'}
 use Rattle.cn_spec.specs.Networks.{IsRow, a_cochain, b_cochain, block, layer}
 use Rattle.cn_spec.specs.Sums.{times}
 use Rattle.cn_spec.specs.declared.limits.TheConstants.{MOST_BALANCERS}
-use Rattle.cn_spec.proofs.CallerLemmas.{a_row, b_row, map_a_cochain, map_b_cochain, times-append, times_cochains}
+use Rattle.cn_spec.proofs.CallerLemmas.{a_row, b_row, half_pow, map_a_cochain, map_b_cochain, same_level, shorter, times-append, times_cochains}
 use Rattle.cn_wiring.specs.Made.{layer_made, with_layer}
 use Rattle.cn_wiring.specs.Plan.{Plan, AllLoose, Builds, IsFlow, next_wire}
-use Rattle.cn_wiring.proofs.CallerLemmas.{Builds-beside, Builds-like, Builds-loose, Builds-sized, Builds-then, half_pow, same_level, shorter}
+use Rattle.cn_wiring.proofs.CallerLemmas.{Builds-beside, Builds-like, Builds-loose, Builds-sized, Builds-then}
 use Rattle.cn_periodic.specs.Order.{block_made}
 use Rattle.cn_periodic.specs.Parts.{BuildsBlock}
 use Rattle.cn_periodic.specs.Sizes.{block_balancers}

@@ -1,13 +1,10 @@
 -- What jobs write has one text.
-use Rattle.std.proofs.Common.{◌≡◌, ℕ, List, [], ◌∷◌, ◌++◌, refl, sym, ap, subst, ◌∙◌}
-use Rattle.std.specs.List.{AllZip}
+use Rattle.std.proofs.Common.{◌≡◌, ℕ, List, [], ◌++◌, sym, ap, subst, ◌∙◌}
 use Rattle.cn_wiring.specs.Network.{Network, IsNetwork}
-use Rattle.cn_core.specs.declared.event.Event.{Event}
 use Rattle.cn_core.specs.History.{enters_of, inside_of}
-use Rattle.cn_epoch.specs.declared.answer.Answer.{Answer}
 use Rattle.cn_epoch.specs.declared.command.Command.{Command}
-use Rattle.cn_epoch.specs.Turns.{IsSameAnswer, grown, grown_by, turns_after, turns_by}
-use Rattle.cn_epoch.proofs.CallerLemmas.{history-same, one-list, turns-same}
+use Rattle.cn_epoch.specs.Turns.{grown_by, turns_by}
+use Rattle.cn_epoch.proofs.CallerLemmas.{grown_by-same, one-list, turns_by-same}
 use Rattle.cn_report.specs.Writing.Replay.{end_line}
 use Rattle.cn_report.proofs.CallerLemmas.{lines-same}
 use Rattle.cn_report.specs.Writing.Text.{heading}
@@ -19,26 +16,11 @@ use Rattle.cn_renamer.specs.Replay.{IsReplayOf, IsReplayOfCommands, IsReplayText
 use Rattle.cn_renamer.specs.Show.{IsWiringOf}
 
 module _ (network : Network) (is : IsNetwork network) where
-  turns_by-same : (turns : ℕ) (answers others : List Answer) → AllZip IsSameAnswer answers others → turns_by turns answers ≡ turns_by turns others
-  turns_by-same turns [] [] same = refl
-  turns_by-same turns (answer ∷ answers) (other ∷ others) (same, rest) =
-      ap (λ n. turns_by n answers) (turns-same network is turns answer other same) ∙ turns_by-same (turns_after turns other) answers others rest
-  turns_by-same turns [] (other ∷ others) same = absurd same
-  turns_by-same turns (answer ∷ answers) [] same = absurd same
-
-  grown_by-same : (history : List Event) (commands : List Command) (answers others : List Answer) → AllZip IsSameAnswer answers others → grown_by history commands answers ≡ grown_by history commands others
-  grown_by-same history [] answers others same = refl
-  grown_by-same history (command ∷ commands) [] [] same = refl
-  grown_by-same history (command ∷ commands) (answer ∷ answers) (other ∷ others) (same, rest) =
-      ap (λ h. grown_by h commands answers) (history-same network is history command answer other same) ∙ grown_by-same (grown history command other) commands answers others rest
-  grown_by-same history (command ∷ commands) [] (other ∷ others) same = absurd same
-  grown_by-same history (command ∷ commands) (answer ∷ answers) [] same = absurd same
-
   pub one-text : (commands : List Command) (text other : List ℕ) → IsReplayText network commands text → IsReplayText network commands other → text ≡ other
   one-text commands text other one another =
       let same = one-list network is 0 [] commands one.answers another.answers one.by_history another.by_history one.memory another.memory in
       one.replayed
-      ∙ rw (turns_by-same 0 one.answers another.answers same, grown_by-same [] commands one.answers another.answers same)
+      ∙ rw (turns_by-same network is 0 one.answers another.answers same, grown_by-same network is [] commands one.answers another.answers same)
       (ap (λ (lines : List ℕ). heading network ++ lines ++ end_line (turns_by 0 another.answers) (enters_of (grown_by [] commands another.answers)) (inside_of network.table (grown_by [] commands another.answers)))
       (lines-same network.table.width commands one.answers another.answers same))
       ∙ sym another.replayed

@@ -19,5 +19,5 @@ pub use Rattle.cn_spec.proofs.Flows.{map_a_cochain, map_b_cochain, map_evens, ma
 pub use Rattle.cn_spec.proofs.Flows.{times_evens_odds, times_interleave}
 pub use Rattle.cn_spec.proofs.Interleave.{length_interleave}
 pub use Rattle.cn_spec.proofs.Layers.{layer_push}
-pub use Rattle.cn_spec.proofs.Rows.{back_row, evens_row, front_row, half_row, odds_row, power_below}
+pub use Rattle.cn_spec.proofs.Rows.{back_row, evens_row, front_row, half_pow, half_row, odds_row, power_below, same_level, shorter}
 pub use Rattle.cn_spec.proofs.Tree.{tree_turn, tree_zero}

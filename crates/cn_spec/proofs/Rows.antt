@@ -1,6 +1,8 @@
 -- How long the parts of a row are, and that they are all of it.
-use Rattle.std.proofs.Common.{◌≡◌, ℕ, zero, suc, ◌+◌, ◌-◌, ◌*◌, ◌/◌, ◌≤◌, ◌<◌, ◌^◌, List, length, take, drop, sym, ap, ◌∙◌, subst, length-drop, length-take-le, arith}
-use Rattle.std.proofs.Math.Nat.{pow-suc}
+use Rattle.std.proofs.Common.{◌≡◌, ℕ, zero, suc, ◌+◌, ◌-◌, ◌*◌, ◌/◌, ◌≤◌, ◌<◌, ◌^◌, List, length, take, drop, inl, inr, sym, ap, ◌∙◌, subst, length-drop, length-take-le, arith}
+use Rattle.std.proofs.Math.Nat.{pow-suc, pow-succ'}
+use Rattle.std.proofs.lemmas.Bool.{cases_order}
+use Rattle.std.proofs.lemmas.Nat.{pow_below, pow_pos}
 use Rattle.std.proofs.lemmas.List.Sums.{sum_by-take-drop}
 use Rattle.std.specs.List.{sum}
 use Rattle.cn_spec.specs.Networks.{IsRow, evens, odds, layer}
@@ -34,6 +36,22 @@ layer_row level x y e f = length_layer x y (e ∙ sym f) ∙ ap (λ n. n * 2) e 
 pub power_below : (level : ℕ) → 0 < level → 2 ^ (level - 1) * 2 ≡ 2 ^ level
 power_below zero h = absurd (omega arith)
 power_below (suc level) h = let k : suc level - 1 ≡ level = omega arith in ap (λ n. 2 ^ n * 2) k ∙ sym (pow-suc 2 level)
+
+-- half of a row's length
+pub half_pow : (n : ℕ) → 2 ^ suc n / 2 ≡ 2 ^ n
+half_pow n = let e = pow-succ' 2 n in omega arith
+
+-- a row of the level below is shorter
+pub shorter : (n : ℕ) (x part : List ℕ) → IsRow (suc n) x → IsRow n part → length part < length x
+shorter n x part row r = let l : length x ≡ 2 * 2 ^ n = row ∙ pow-succ' 2 n in omega (arith, pow_pos n, r)
+
+-- a length has one level
+pub same_level : (n m level : ℕ) → n ≡ 2 ^ m → n ≡ 2 ^ level → level ≡ m
+same_level n m level p q =
+    elim (cases_order level m) [
+      | inl e ↦ e
+      | inr o ↦ elim o [ inl l ↦ absurd (omega (arith, pow_below level m l)) | inr l ↦ absurd (omega (arith, pow_below m level l)) ]
+    ]
 
 -- ---- sums
 

@@ -48,7 +48,8 @@ pub fn once_below_is_each_below()
 /// A list of m numbers in which each number below m stands is an order of those numbers; and in an order of them each
 /// stands once, and no other number does.
 pub fn all_below_is_each_below()
-    ensures all_stand { (m : ℕ) (xs : List ℕ) → length xs ≡ m → ((n : ℕ) → n < m → 1 ≤ times n xs) → IsEachBelow m xs }
+    ensures all_stand { (m : ℕ) (xs : List ℕ) → length xs ≡ m
+        → ((n : ℕ) → n < m → 1 ≤ times n xs) → IsEachBelow m xs }
     ensures each_once { (m : ℕ) (xs : List ℕ) → IsEachBelow m xs → IsOnceBelow m xs }
 {}
 
@@ -60,17 +61,21 @@ pub fn tight_names_are_shared()
 /// The merger of two rows with the step property has it (Aspnes, Herlihy, Shavit 1994, section 3), and no token is
 /// lost or made.
 pub fn merger_counts()
-    ensures is_step { (level : ℕ) (x y : List ℕ) → IsRow level x → IsRow level y → IsStep x → IsStep y → IsStep (merge level x y) }
+    ensures is_step { (level : ℕ) (x y : List ℕ) → IsRow level x → IsRow level y
+        → IsStep x → IsStep y → IsStep (merge level x y) }
     ensures shares { (level : ℕ) (x y : List ℕ) → IsRow level x → IsRow level y → IsStep x → IsStep y
         → merge level x y ≡ shares (sum x + sum y) (2 ^ suc level) }
-    ensures is_row { (level : ℕ) (x y : List ℕ) → IsRow level x → IsRow level y → IsRow (suc level) (merge level x y) }
-    ensures conserves { (level : ℕ) (x y : List ℕ) → IsRow level x → IsRow level y → sum (merge level x y) ≡ sum x + sum y }
+    ensures is_row { (level : ℕ) (x y : List ℕ) → IsRow level x → IsRow level y
+        → IsRow (suc level) (merge level x y) }
+    ensures conserves { (level : ℕ) (x y : List ℕ) → IsRow level x → IsRow level y
+        → sum (merge level x y) ≡ sum x + sum y }
 {}
 
 /// The bitonic network's counts are the shares of what enters, whatever enters (Aspnes, Herlihy, Shavit 1994,
 /// section 3): so they have the step property, and no token is lost or made.
 pub fn bitonic_counts()
-    ensures shares { (level : ℕ) (x : List ℕ) → IsRow level x → bitonic level x ≡ shares (sum x) (2 ^ level) }
+    ensures shares { (level : ℕ) (x : List ℕ) → IsRow level x
+        → bitonic level x ≡ shares (sum x) (2 ^ level) }
     ensures is_step { (level : ℕ) (x : List ℕ) → IsRow level x → IsStep (bitonic level x) }
     ensures conserves { (level : ℕ) (x : List ℕ) → IsRow level x → sum (bitonic level x) ≡ sum x }
 {}
@@ -85,7 +90,8 @@ pub fn highest_and_lowest_chains()
 /// A block lowers by one the level of the chains that have the step property (Aspnes, Herlihy, Shavit 1994, section 4),
 /// a block over two wires is one balancer, and no token is lost or made.
 pub fn block_lowers_chains()
-    ensures lowers { (level i : ℕ) (x : List ℕ) → i < level → IsRow level x → HasStepChains (suc i) x → HasStepChains i (block level x) }
+    ensures lowers { (level i : ℕ) (x : List ℕ) → i < level → IsRow level x
+        → HasStepChains (suc i) x → HasStepChains i (block level x) }
     ensures pair { (a b : ℕ) → block 1 (a ∷ b ∷ []) ≡ half (a + b) 0 ∷ half (a + b) 1 ∷ [] }
     ensures is_row { (level : ℕ) (x : List ℕ) → IsRow level x → IsRow level (block level x) }
     ensures conserves { (level : ℕ) (x : List ℕ) → IsRow level x → sum (block level x) ≡ sum x }
@@ -94,7 +100,8 @@ pub fn block_lowers_chains()
 /// The periodic network's counts are the shares of what enters, whatever enters (Aspnes, Herlihy, Shavit 1994,
 /// section 4): so they have the step property, and no token is lost or made.
 pub fn periodic_counts()
-    ensures shares { (level : ℕ) (x : List ℕ) → IsRow level x → periodic level x ≡ shares (sum x) (2 ^ level) }
+    ensures shares { (level : ℕ) (x : List ℕ) → IsRow level x
+        → periodic level x ≡ shares (sum x) (2 ^ level) }
     ensures is_step { (level : ℕ) (x : List ℕ) → IsRow level x → IsStep (periodic level x) }
     ensures conserves { (level : ℕ) (x : List ℕ) → IsRow level x → sum (periodic level x) ≡ sum x }
 {}
@@ -114,7 +121,8 @@ pub fn worked_rows()
     ensures bitonic_split { bitonic 2 (1 ∷ 0 ∷ 1 ∷ 0 ∷ []) ≡ 1 ∷ 1 ∷ 0 ∷ 0 ∷ [] }
     ensures bitonic_wide { bitonic 3 (9 ∷ 0 ∷ 4 ∷ 0 ∷ 0 ∷ 7 ∷ 1 ∷ 30 ∷ []) ≡ shares 51 8 }
     ensures merger_crossed { merge 1 (1 ∷ 0 ∷ []) (1 ∷ 0 ∷ []) ≡ 1 ∷ 1 ∷ 0 ∷ 0 ∷ [] }
-    ensures merger_wide { merge 2 (3 ∷ 2 ∷ 2 ∷ 2 ∷ []) (1 ∷ 1 ∷ 1 ∷ 0 ∷ []) ≡ 2 ∷ 2 ∷ 2 ∷ 2 ∷ 1 ∷ 1 ∷ 1 ∷ 1 ∷ [] }
+    ensures merger_wide { merge 2 (3 ∷ 2 ∷ 2 ∷ 2 ∷ []) (1 ∷ 1 ∷ 1 ∷ 0 ∷ [])
+        ≡ 2 ∷ 2 ∷ 2 ∷ 2 ∷ 1 ∷ 1 ∷ 1 ∷ 1 ∷ [] }
     ensures cochain_a { a_cochain (0 ∷ 1 ∷ 2 ∷ 3 ∷ 4 ∷ 5 ∷ 6 ∷ 7 ∷ []) ≡ 0 ∷ 3 ∷ 4 ∷ 7 ∷ [] }
     ensures cochain_b { b_cochain (0 ∷ 1 ∷ 2 ∷ 3 ∷ 4 ∷ 5 ∷ 6 ∷ 7 ∷ []) ≡ 1 ∷ 2 ∷ 5 ∷ 6 ∷ [] }
     ensures one_block_is_not_enough { block 2 (2 ∷ 0 ∷ 0 ∷ 0 ∷ []) ≡ 1 ∷ 0 ∷ 1 ∷ 0 ∷ [] }

@@ -52,7 +52,8 @@ pub fn tree(alloc: Global, width: u32) -> Result<Counting, BuildFault>
 fn grow(alloc: Global, draft: &mut Draft, wire: u32, level: u32) -> Result<Vec<u32>, AllocError>
     requires room { draft.old.balancers + (2 ^ level - 1) ≤ MOST_BALANCERS }
     requires loose { AllLoose draft.old (wire ∷ []) }
-    ensures order { IfOk result (λ exits. tree_made level draft.old wire ≡ (draft.new, exits.items)) }
+    ensures order { IfOk result
+        (λ exits. tree_made level draft.old wire ≡ (draft.new, exits.items)) }
     ensures built { IfOk result (λ exits.
         Builds draft.old draft.new (wire ∷ []) exits.items level (2 ^ level - 1)) }
     ensures row { IfOk result (λ exits. IsRow level exits.items) }

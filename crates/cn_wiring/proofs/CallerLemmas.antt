@@ -8,6 +8,5 @@ pub use Rattle.cn_wiring.proofs.Flow.{full_flow-draft, full_flow-exists, full_fl
 pub use Rattle.cn_wiring.proofs.Builds.{Builds-beside, Builds-giving, Builds-like, Builds-loose, Builds-loose_with, Builds-same}
 pub use Rattle.cn_wiring.proofs.Builds.{Builds-sized, Builds-then}
 pub use Rattle.cn_wiring.proofs.Finished.{Drawn, drawn, drawn_built, drawn_counts}
-pub use Rattle.cn_wiring.proofs.Rows.{all_ok, entries_row, flows_row, half_pow, outputs_count, shorter}
+pub use Rattle.cn_wiring.proofs.Rows.{all_ok, entries_row, flows_row, outputs_count}
 pub use Rattle.cn_wiring.proofs.Unique.{same_table}
-pub use Rattle.cn_wiring.proofs.WidthLemmas.{same_level}

@@ -1,23 +1,14 @@
 -- Rows of wires of a level.
-use Rattle.std.proofs.Common.{◌≡◌, ℕ, suc, ◌*◌, ◌/◌, ◌^◌, ◌<◌, ◌≤◌, List, length, map, ◌∙◌, arith, Result, Ok, Err}
+use Rattle.std.proofs.Common.{◌≡◌, ℕ, ◌≤◌, List, length, map, ◌∙◌, arith, Result, Ok, Err}
 use Rattle.std.specs.List.{range_with_len}
 use Rattle.std.specs.Result.{IfOk}
 use Rattle.std.proofs.lemmas.List.{length-map}
 use Rattle.std.proofs.lemmas.List.FromFn.{length-range_with_len}
 use Rattle.std.proofs.lemmas.Nat.{pow_pos}
-use Rattle.std.proofs.Math.Nat.{pow-succ'}
 use Rattle.cn_spec.specs.Networks.{IsRow}
 use Rattle.cn_spec.specs.declared.limits.TheConstants.{MOST_ENDS, MOST_LEVEL}
 use Rattle.cn_wiring.specs.Widths.{IsWidthOf}
 use Rattle.cn_wiring.proofs.WidthLemmas.{width_few}
-
--- half of the wires of a level
-pub half_pow : (n : ℕ) → 2 ^ suc n / 2 ≡ 2 ^ n
-half_pow n = let e = pow-succ' 2 n in omega arith
-
--- a row of the level below is shorter
-pub shorter : (n : ℕ) (x part : List ℕ) → IsRow (suc n) x → IsRow n part → length part < length x
-shorter n x part row r = let l : length x ≡ 2 * 2 ^ n = row ∙ pow-succ' 2 n in omega (arith, pow_pos n, r)
 
 -- the entries of a width are a row of its level, and so are their flows
 pub entries_row : (width level : ℕ) → IsWidthOf level width → IsRow level (range_with_len 0 width)

@@ -7,14 +7,6 @@ use Rattle.std.proofs.Math.Pow.{pow_mono}
 use Rattle.cn_spec.specs.declared.limits.TheConstants.{MOST_ENDS, MOST_LEVEL}
 use Rattle.cn_wiring.specs.Widths.{IsWidth}
 
--- a number has one logarithm
-pub same_level : (n m level : ℕ) → n ≡ 2 ^ m → n ≡ 2 ^ level → level ≡ m
-same_level n m level p q =
-    elim (cases_order level m) [
-      | inl e ↦ e
-      | inr o ↦ elim o [ inl l ↦ absurd (omega (arith, pow_below level m l)) | inr l ↦ absurd (omega (arith, pow_below m level l)) ]
-    ]
-
 -- the level of a number that is a power of two, by the greatest power of two that is not above it
 pub level_is_log : (n log level : ℕ) → 2 ^ log ≤ n → n < 2 * 2 ^ log → n ≡ 2 ^ level → level ≡ log
 level_is_log n log level low high e =

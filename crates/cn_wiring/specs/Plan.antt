@@ -39,11 +39,16 @@ ending_at ends (w ∷ ws) b = ending_at (slice_set ends w (Some b)) ws b
 
 -- the plan with its next balancer, at which the wires ws end, and whose outputs are loose
 abbrev pub with_balancer : Plan → List ℕ → Plan
-with_balancer d ws = record { entries = d.entries; balancers = d.balancers + 1; ends = ending_at d.ends ws d.balancers ++ None ∷ None ∷ [] }
+with_balancer d ws = record {
+  entries = d.entries;
+  balancers = d.balancers + 1;
+  ends = ending_at d.ends ws d.balancers ++ None ∷ None ∷ [];
+}
 
 -- f gives each output of each balancer its half of the balancer's passages
 abbrev pub IsFlow : Plan → (ℕ → ℕ) → Type 0
-IsFlow d f = (b : ℕ) → b < d.balancers → (f (output d b 0) ≡ half (passages d b f) 0) × (f (output d b 1) ≡ half (passages d b f) 1)
+IsFlow d f =
+    (b : ℕ) → b < d.balancers → (f (output d b 0) ≡ half (passages d b f) 0) × (f (output d b 1) ≡ half (passages d b f) 1)
 
 -- 1 where wire w is loose, and otherwise 0
 abbrev pub loose : Plan → ℕ → ℕ

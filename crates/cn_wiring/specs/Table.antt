@@ -17,7 +17,8 @@ pub record Table : Type 0 where
 
 -- the table of these numbers and ends
 abbrev pub table_with : ℕ → ℕ → ℕ → List End → Table
-table_with entries width balancers ends = record { entries = entries; width = width; balancers = balancers; ends = ends }
+table_with entries width balancers ends =
+    record { entries = entries; width = width; balancers = balancers; ends = ends }
 
 -- where wire u ends
 abbrev pub end_of : Table → ℕ → End
@@ -62,7 +63,10 @@ pub record IsWellFormed (t : Table) : Type 0 where
 -- A full flow gives each wire a number, and each output of a balancer its half of what comes in: it is what passes in a
 -- quiet state (section 2.1).
 abbrev pub IsFullFlow : Table → (ℕ → ℕ) → Type 0
-IsFullFlow t f = (b : ℕ) → b < t.balancers → (f (t.entries + 2 * b) ≡ half (sum_at t (Balancer b) f) 0) × (f (t.entries + 2 * b + 1) ≡ half (sum_at t (Balancer b) f) 1)
+IsFullFlow t f =
+    (b : ℕ) → b < t.balancers
+    → (f (t.entries + 2 * b) ≡ half (sum_at t (Balancer b) f) 0)
+    × (f (t.entries + 2 * b + 1) ≡ half (sum_at t (Balancer b) f) 1)
 
 -- the balancer of an end, or none of an exit
 abbrev pub balancer_of : End → Option ℕ

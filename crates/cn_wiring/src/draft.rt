@@ -54,7 +54,8 @@ impl Draft {
         requires some { 1 ≤ entries }
         requires limit { entries ≤ MOST_ENDS }
         ensures plan { IfOk result (λ d. d ≡ entries_alone entries) }
-        ensures loose { IfOk result (λ d. (w : ℕ) → loose d w ≡ times w (range_with_len 0 entries)) }
+        ensures loose { IfOk result
+            (λ d. (w : ℕ) → loose d w ≡ times w (range_with_len 0 entries)) }
         ensures level { IfOk result (λ d. Each (HasLevel d 0) (range_with_len 0 entries)) }
     {
         Ok(Draft {
@@ -124,7 +125,8 @@ impl Draft {
         requires both { AllLoose self.old (u ∷ v ∷ []) }
         ensures wires { IfOk result (λ r. (r.0 ≡ next_wire self.old) × (r.1 ≡ r.0 + 1)) }
         ensures plan { OnOk result (self.new ≡ with_balancer self.old (u ∷ v ∷ [])) }
-        ensures built { IfOk result (λ r. Builds self.old self.new (u ∷ v ∷ []) (r.0 ∷ r.1 ∷ []) 1 1) }
+        ensures built { IfOk result
+            (λ r. Builds self.old self.new (u ∷ v ∷ []) (r.0 ∷ r.1 ∷ []) 1 1) }
         ensures halves { IfOk result (λ r. (f : ℕ → ℕ) → IsFlow self.new f
             → (f r.0 ≡ half (f u + f v) 0) × (f r.1 ≡ half (f u + f v) 1)) }
         ensures flows { IfOk result (λ r. (f : ℕ → ℕ) → IsFlow self.old f
@@ -151,7 +153,8 @@ impl Draft {
         requires one { AllLoose self.old (wire ∷ []) }
         ensures wires { IfOk result (λ r. (r.0 ≡ next_wire self.old) × (r.1 ≡ r.0 + 1)) }
         ensures plan { OnOk result (self.new ≡ with_balancer self.old (wire ∷ [])) }
-        ensures built { IfOk result (λ r. Builds self.old self.new (wire ∷ []) (r.0 ∷ r.1 ∷ []) 1 1) }
+        ensures built { IfOk result
+            (λ r. Builds self.old self.new (wire ∷ []) (r.0 ∷ r.1 ∷ []) 1 1) }
         ensures halves { IfOk result (λ r. (f : ℕ → ℕ) → IsFlow self.new f
             → (f r.0 ≡ half (f wire) 0) × (f r.1 ≡ half (f wire) 1)) }
         ensures flows { IfOk result (λ r. (f : ℕ → ℕ) → IsFlow self.old f
@@ -207,7 +210,8 @@ impl Draft {
         ensures formed { IfOk result IsWellFormed }
         ensures flow { IfOk result (λ t. (i : ℕ) (f : ℕ → ℕ) → i < length exits.now
             → sum_at t (Exit i) f ≡ f (slice_index exits.now i)) }
-        ensures depth { IfOk result (λ t. (n : ℕ) → Each (HasLevel self n) exits.now → HasDepth t n) }
+        ensures depth { IfOk result
+            (λ t. (n : ℕ) → Each (HasLevel self n) exits.now → HasDepth t n) }
         ensures refused { IfErr result (λ e. e.0 ≡ self) }
     {
         let width = exits.len() as u32;

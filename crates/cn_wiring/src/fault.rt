@@ -75,7 +75,8 @@ fn sizes_fit(entries: u32, width: u32, balancers: u32, ends: &[End]) -> bool
 /// The first wire that ends at no balancer and no exit of the table.
 fn find_no_such_end(entries: u32, width: u32, balancers: u32, ends: &[End]) -> Option<u32>
     requires { length ends.now < 2 ^ 32 }
-    ensures { IsFirstFailure result (length ends.now) (StandsAt (table_with entries width balancers ends.now)) }
+    ensures { let table = table_with entries width balancers ends.now in
+        IsFirstFailure result (length ends.now) (StandsAt table) }
 {
     for (u, end) in ends.iter().enumerate() {
         let stands = match end {
@@ -92,7 +93,8 @@ fn find_no_such_end(entries: u32, width: u32, balancers: u32, ends: &[End]) -> O
 /// The first wire that leads back.
 fn find_backward(entries: u32, width: u32, balancers: u32, ends: &[End]) -> Option<u32>
     requires { EndsStand (table_with entries width balancers ends.now) }
-    ensures { IsFirstFailure result (length ends.now) (LeadsOnAt (table_with entries width balancers ends.now)) }
+    ensures { let table = table_with entries width balancers ends.now in
+        IsFirstFailure result (length ends.now) (LeadsOnAt table) }
 {
     for (u, end) in ends.iter().enumerate() {
         if let End::Balancer(b) = end {

@@ -51,7 +51,8 @@ impl Wiring {
     ) -> Result<Wiring, (WiringFault, Vec<End>)>
         ensures table { IfOk result (λ t. t ≡ table_with entries width balancers ends.items) }
         ensures formed { IfOk result IsWellFormed }
-        ensures fault { IfErr result (λ e. IsFault (table_with entries width balancers ends.items) e.0) }
+        ensures fault { let table = table_with entries width balancers ends.items in
+            IfErr result (λ e. IsFault table e.0) }
         ensures accepts { IsWellFormed (table_with entries width balancers ends.items)
             → IfErr result (λ e. e.0 ≡ WiringFault.Memory) }
         ensures handed_back { IfErr result (λ e. e.1 ≡ ends) }
@@ -116,7 +117,8 @@ impl Wiring {
     ///
     /// It does nothing: its contract is the law.
     pub fn full_flow_laws(&self)
-        ensures exists { (x : ℕ → ℕ) → (f : ℕ → ℕ) × IsFullFlow self.now f × Agree self.now.entries f x }
+        ensures exists { (x : ℕ → ℕ)
+            → (f : ℕ → ℕ) × IsFullFlow self.now f × Agree self.now.entries f x }
         ensures unique { (f g : ℕ → ℕ) → IsFullFlow self.now f → IsFullFlow self.now g
             → Agree self.now.entries f g → Agree (self.now.entries + 2 * self.now.balancers) f g }
         ensures draft { (f : ℕ → ℕ) → IsFullFlow self.now f ↔ IsFlow (plan_of_table self.now) f }

@@ -2,7 +2,8 @@
 use Rattle.std.proofs.Common.{◌≡◌, sym, ◌∙◌, subst}
 use Rattle.cn_wiring.specs.Made.{IsTableOf}
 use Rattle.cn_wiring.specs.Network.{Network}
-use Rattle.cn_wiring.proofs.CallerLemmas.{same_level, same_table}
+use Rattle.cn_spec.proofs.CallerLemmas.{same_level}
+use Rattle.cn_wiring.proofs.CallerLemmas.{same_table}
 use Rattle.cn_words.specs.Net.{Description, IsNetworkOf, levels_of, plan_of}
 
 pub one-network : (net : Description) (network other : Network) → IsNetworkOf net network → IsNetworkOf net other → network ≡ other

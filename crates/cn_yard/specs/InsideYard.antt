@@ -28,7 +28,8 @@ yard_of y = record { lists = lists_of y.wires y.live.items; spare = length y.fre
 pub record IsYard (y : Inside) : Type 0 where
   pub on_wires : All (λ s. s.wire < y.wires) y.live.items
   -- each number below that of all records is that of one token or of one free record
-  pub numbers : (n : ℕ) → count_by (λ s. nat_eq n s.token) y.live.items + times n y.free.items ≡ once_below (length y.live.items + length y.free.items) n
+  pub numbers : (n : ℕ) → count_by (λ s. nat_eq n s.token) y.live.items + times n y.free.items
+      ≡ once_below (length y.live.items + length y.free.items) n
   pub few : length y.live.items + length y.free.items ≤ MOST_TOKENS
   -- there is room for all records in either list
   pub room_live : length y.live.items + length y.free.items ≤ vec_capacity y.live

@@ -51,7 +51,8 @@ pub(crate) fn count_on(list: &[LiveRecord], wire: u32) -> usize
 
 /// The least wire on which a token of the list stands.
 pub(crate) fn least_wire(list: &[LiveRecord]) -> Option<u32>
-    ensures { MatchOption result (length list.now ≡ 0) (λ wire. Any (λ s. s.wire ≡ wire) list.now × All (λ s. wire ≤ s.wire) list.now) }
+    ensures { MatchOption result (length list.now ≡ 0)
+        (λ wire. Any (λ s. s.wire ≡ wire) list.now × All (λ s. wire ≤ s.wire) list.now) }
 {
     list.iter().map(|standing| standing.wire).min()
 }

@@ -80,8 +80,10 @@ impl Yard {
     /// It does nothing: its contract is the law.
     pub fn yard_laws(&self)
         ensures once { (token : ℕ) → times_in self.now.lists token ≤ 1 }
-        ensures there { (token client wire : ℕ) → standing self.now.lists token ≡ Some (wire, client) → IsThere self.now.lists token client wire }
-        ensures numbers { (token : ℕ) → IsSome (standing self.now.lists token) → token < tokens_in self.now.lists + self.now.spare }
+        ensures there { (token client wire : ℕ) → standing self.now.lists token ≡ Some (wire, client)
+            → IsThere self.now.lists token client wire }
+        ensures numbers { (token : ℕ) → IsSome (standing self.now.lists token)
+            → token < tokens_in self.now.lists + self.now.spare }
         ensures few { tokens_in self.now.lists + self.now.spare ≤ MOST_TOKENS }
     {
         // Reads the yard: what it keeps is known of a yard that is read.
@@ -122,7 +124,8 @@ impl Yard {
     pub fn move_to(&mut self, token: Token, wire: u32)
         requires live { IsSome (standing self.old.lists token) }
         requires wire { wire < length self.old.lists }
-        ensures { (from client : ℕ) → standing self.old.lists token ≡ Some (from, client) → Moves self.old self.new token client wire }
+        ensures { (from client : ℕ) → standing self.old.lists token ≡ Some (from, client)
+            → Moves self.old self.new token client wire }
     {
         let place = place_of(&self.live, token);
         let moved = self.live.remove(place);
@@ -153,7 +156,8 @@ impl Yard {
     /// The token after `token`, which stands in the yard, on its wire, if it is not the last there.
     pub fn next(&self, token: Token) -> Option<Token>
         requires { IsSome (standing self.now.lists token) }
-        ensures { (wire client : ℕ) → standing self.now.lists token ≡ Some (wire, client) → result ≡ after token (on self.now.lists wire) }
+        ensures { (wire client : ℕ) → standing self.now.lists token ≡ Some (wire, client)
+            → result ≡ after token (on self.now.lists wire) }
     {
         let place = place_of(&self.live, token);
         let wire = self.live[place].wire;

@@ -2,7 +2,8 @@ use Rattle.std.proofs.Common.{◌≡◌, ◌∙◌, map, ap}
 use Rattle.std.specs.List.{range_with_len}
 use Rattle.cn_spec.specs.Networks as net
 use Rattle.cn_wiring.specs.declared.kind.Kind.TheVariants.{Bitonic}
-use Rattle.cn_wiring.proofs.CallerLemmas.{Drawn, drawn, drawn_built, drawn_counts, entries_row, flows_row, outputs_count, same_level}
+use Rattle.cn_spec.proofs.CallerLemmas.{same_level}
+use Rattle.cn_wiring.proofs.CallerLemmas.{Drawn, drawn, drawn_built, drawn_counts, entries_row, flows_row, outputs_count}
 use Rattle.cn_bitonic.specs.Order.{bitonic_plan}
 use Rattle.cn_bitonic.specs.Sizes.{bitonic_balancers, bitonic_depth}
 use Rattle.cn_bitonic.proofs.Halves.{Counted, Sequence}

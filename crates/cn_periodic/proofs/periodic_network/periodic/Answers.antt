@@ -2,7 +2,8 @@ use Rattle.std.proofs.Common.{◌≡◌, ◌∙◌, map, ap}
 use Rattle.std.specs.List.{range_with_len}
 use Rattle.cn_spec.specs.Networks as net
 use Rattle.cn_wiring.specs.declared.kind.Kind.TheVariants.{Periodic}
-use Rattle.cn_wiring.proofs.CallerLemmas.{Drawn, drawn, drawn_built, drawn_counts, entries_row, flows_row, outputs_count, same_level}
+use Rattle.cn_spec.proofs.CallerLemmas.{same_level}
+use Rattle.cn_wiring.proofs.CallerLemmas.{Drawn, drawn, drawn_built, drawn_counts, entries_row, flows_row, outputs_count}
 use Rattle.cn_periodic.specs.Order.{periodic_plan}
 use Rattle.cn_periodic.specs.Parts.{BuildsPeriodic}
 use Rattle.cn_periodic.specs.Sizes.{periodic_balancers, periodic_depth}

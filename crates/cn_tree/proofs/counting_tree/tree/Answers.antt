@@ -1,7 +1,8 @@
 use Rattle.std.proofs.Common.{◌≡◌, ◌-◌, ◌^◌, ◌∙◌, refl}
 use Rattle.cn_spec.specs.Networks as net
 use Rattle.cn_wiring.specs.declared.kind.Kind.TheVariants.{Tree}
-use Rattle.cn_wiring.proofs.CallerLemmas.{Drawn, drawn, drawn_built, same_level}
+use Rattle.cn_spec.proofs.CallerLemmas.{same_level}
+use Rattle.cn_wiring.proofs.CallerLemmas.{Drawn, drawn, drawn_built}
 use Rattle.cn_tree.specs.Order.{tree_plan}
 use Rattle.cn_tree.proofs.counting_tree.tree.Goals as goal
 use Rattle.cn_tree.proofs.counting_tree.tree.Goals.{In_ok-exits}
