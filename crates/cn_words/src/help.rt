@@ -25,14 +25,14 @@ impl HelpTexts {
     /// All of them, with the limits of the service.
     pub(crate) fn new(alloc: Global) -> Result<HelpTexts, AllocError> {
         Ok(HelpTexts {
-            renamer: renamer_help(alloc)?,
+            renamer: String::from_str(alloc, RENAMER)?,
             run: run_help(alloc)?,
             replay: replay_help(alloc)?,
             check: check_help(alloc)?,
-            show: show_help(alloc)?,
+            show: String::from_str(alloc, SHOW)?,
             width: width_help(alloc)?,
-            workers: workers_help(alloc)?,
-            hand: hand_help(alloc)?,
+            workers: format!(in alloc; "How many workers walk each epoch: 1 to {MOST_WORKERS}")?,
+            hand: format!(in alloc; "How many tokens in hand each worker has: 1 to {MOST_HAND}")?,
         })
     }
 }
@@ -43,36 +43,27 @@ fn width_help(alloc: Global) -> Result<String, AllocError> {
     format!(in alloc; "The width of the network: a power of two from {least} to {most}")
 }
 
-fn workers_help(alloc: Global) -> Result<String, AllocError> {
-    format!(in alloc; "How many workers walk each epoch: 1 to {MOST_WORKERS}")
-}
-
-fn hand_help(alloc: Global) -> Result<String, AllocError> {
-    format!(in alloc; "How many tokens in hand each worker has at most: 1 to {MOST_HAND}")
-}
-
-fn renamer_help(alloc: Global) -> Result<String, AllocError> {
-    String::from_str(
-        alloc,
-        "\
+const RENAMER: &str = "\
 The help of each command shows an input and what is printed for it.
 
 Status:
   0  done
   1  the input is refused
   2  the command line is refused
-  3  not finished: there is not the memory, or a write failed
-  4  the grant list is not tight",
-    )
-}
+  3  not finished: no memory, or a write failed
+  4  the grant list is not tight";
+
+// ---- run
 
 fn run_help(alloc: Global) -> Result<String, AllocError> {
     let mut text = format!(in alloc;
         "\
-Input: a batch, as CSV on standard input. Its header is as below. Each further record is a client of
-an epoch, who comes with an identity and to an entry. The records of an epoch stand together, and the
-numbers of epochs rise. A tree has the entry 0 alone, another network the entries 0 to W-1. An epoch
-has at most {MOST_CLIENTS} clients, and a batch at most {MOST_RECORDS} records besides the header.
+Input: a batch, as CSV on standard input. After the header, each record is a
+client: the epoch that it is in, its identity, and the entry that it comes to.
+All are numbers below 2^64 in decimal digits. The records of an epoch stand
+together, and the numbers of epochs rise. Entries are 0 to W-1, and a tree has
+entry 0 alone. An epoch has at most {MOST_CLIENTS} clients, and a batch at most
+{MOST_RECORDS} records besides the header.
 
     epoch,client,entry
     1,17,3
@@ -84,12 +75,12 @@ has at most {MOST_CLIENTS} clients, and a batch at most {MOST_RECORDS} records b
     )?;
     text.push_str(RUN_OUTPUT)?;
     text.push_str(OFFER_HELP)?;
-    text.push_str(RUN_REFUSALS)?;
+    text.push_str(RUN_END)?;
     Ok(text)
 }
 
 const RUN_OUTPUT: &str = "
-Output of `renamer run --network bitonic --width 4` for it, the report:
+Output for it of `renamer run --network bitonic --width 4`, a report:
 
     network bitonic width 4 balancers 6 depth 3
     epoch 1 clients 5
@@ -104,7 +95,7 @@ Output of `renamer run --network bitonic --width 4` for it, the report:
     name 4 client 42
     end epochs 1 grants 5
 
-The same with `--form grants`, a grant list as `renamer check` reads it:
+Output with `--form grants`, a grant list for `renamer check`:
 
     epoch,client,name
     1,17,0
@@ -113,32 +104,41 @@ The same with `--form grants`, a grant list as `renamer check` reads it:
     1,23,3
     1,42,4
 
-The clients of an epoch are shared out among the workers. A worker enters its next clients until it has
-H tokens in hand, walks all of these to their exits, and goes on so. With one worker the output is
-settled by the batch and by H; with several it is open which client gets which name.
+The clients of an epoch are shared out among K workers. Each worker brings in
+its next clients until it has H tokens in hand, walks them all out, and goes on
+so. With one worker the batch and H settle the output; with several it is open
+which client gets which name.
 
-The report is held whole before it is written: of a run that does not end well nothing is printed.
+The report is held whole before it is written: a run that does not end well
+prints nothing.
 ";
 
-const RUN_REFUSALS: &str = "
-A batch is refused at its first record that is wrong, by a line on standard error:
+const RUN_END: &str = "
+A batch is refused at its first wrong record, by a line on standard error:
 
     renamer: record 2: Duplicate
 
-Records count from 0: the header is record 0, and an empty line has no number.
+Records count from 0: the header is record 0. An empty line has no number.
 
 Status:
   0  done
   1  the batch is refused
   2  the command line is refused
-  3  not finished: there is not the memory, or a write failed";
+  3  not finished: no memory, or a write failed";
+
+// ---- replay
 
 fn replay_help(alloc: Global) -> Result<String, AllocError> {
     let mut text = format!(in alloc;
         "\
-Input: a schedule, as CSV on standard input. Its header is as below. Each further record is a command:
-`enter,C,U` brings client C in at entry U; `step,C,` moves C past its next balancer, or out with a name;
-`turn,,` ends the epoch. An epoch has at most {MOST_CLIENTS} clients, and a schedule at most {MOST_RECORDS}
+Input: a schedule, as CSV on standard input. After the header, each record is a
+command; client C and wire U are numbers below 2^64 in decimal digits.
+
+  enter,C,U  brings client C in on entry U
+  step,C,    takes client C past its next balancer, or out with a name
+  turn,,     ends the epoch, where nobody is inside
+
+An epoch has at most {MOST_CLIENTS} clients, and a schedule at most {MOST_RECORDS}
 records besides the header.
 
     op,client,wire
@@ -154,7 +154,7 @@ records besides the header.
 }
 
 const REPLAY_OUTPUT: &str = "
-Output of `renamer replay --network bitonic --width 2` for it:
+Output for it of `renamer replay --network bitonic --width 2`:
 
     network bitonic width 2 balancers 1 depth 1
     enter 7 wire 0
@@ -167,31 +167,39 @@ Output of `renamer replay --network bitonic --width 2` for it:
     name 0 client 7
     end epoch 1 entered 0 inside 0
 
-A command that is refused is told in the output, and changes nothing: a turn while clients are inside
-(NotQuiet, and how many), an enter of no entry (NoSuchEntry), of a client of the epoch (AlreadyIn) or
-into a full epoch (EpochFull), a step of no client of the epoch (Stranger) or of one that is out
-(HasName, and the name).
+A command that is refused changes nothing, and the output tells why:
 
-The output is held whole before it is written. A schedule is refused at its first record that is wrong,
-by a line on standard error:
+  NoSuchEntry  an enter on a wire that is no entry
+  AlreadyIn    an enter of a client that has entered in this epoch
+  EpochFull    an enter into an epoch that has all the clients it may have
+  Stranger     a step of a client that has not entered in this epoch
+  HasName M    a step of a client that is out, and has name M
+  NotQuiet S   a turn while S clients are inside
+
+The output is held whole before it is written. A schedule is refused at its
+first wrong record, by a line on standard error:
 
     renamer: record 2: Op
 
-Records count from 0: the header is record 0, and an empty line has no number.
+Records count from 0: the header is record 0. An empty line has no number.
 
 Status:
   0  done, also where commands are refused
   1  the schedule is refused
   2  the command line is refused
-  3  not finished: there is not the memory, or a write failed";
+  3  not finished: no memory, or a write failed";
+
+// ---- check
 
 fn check_help(alloc: Global) -> Result<String, AllocError> {
     let mut text = format!(in alloc;
         "\
-Input: a grant list, as CSV on standard input. Its header is as below. Each further record is a grant:
-a client of an epoch, and its name. The numbers of epochs do not fall. A list has at most {MOST_RECORDS}
-records besides the header. It is tight where no client and no name of an epoch stands twice, and the
-names of an epoch of k grants are 0 to k-1.
+Input: a grant list, as CSV on standard input. After the header, each record is
+a grant: an epoch, a client of it, and the name that this client has. All are
+numbers below 2^64 in decimal digits. The records of an epoch stand together,
+and the numbers of epochs rise. A list has at most {MOST_RECORDS} records besides
+the header. It is tight where in each epoch no client and no name stands twice,
+and the k grants have the names 0 to k-1.
 
     epoch,client,name
     1,17,0
@@ -206,36 +214,35 @@ names of an epoch of k grants are 0 to k-1.
 }
 
 const CHECK_OUTPUT: &str = "
-Output of `renamer check --width 4` for it, each epoch with how many of its names fall to exit 0, 1, 2
-and 3, by their remainders when divided by the width:
+Output for it of `renamer check --width 4`; the counts tell how many names of
+the epoch have the remainders 0, 1, 2 and 3 when divided by the width:
 
     epoch 1 clients 5 counts 2 1 1 1
     tight epochs 1 grants 5
 
-A list that is not tight has no output, but one of these lines on standard error:
+A list that is not tight has no output, and one such line on standard error:
 
     renamer: flaw: DuplicateClient record 2
     renamer: flaw: DuplicateName record 3
     renamer: flaw: Gap epoch 1 name 2
 
-A list that can't be read is refused at its first record that is no grant:
+A list is refused at its first record that is no grant in its place:
 
     renamer: record 2: Form
 
-Records count from 0: the header is record 0, and an empty line has no number.
+Records count from 0: the header is record 0. An empty line has no number.
 
 Status:
   0  the list is tight
   1  the list is refused
   2  the command line is refused
-  3  not finished: there is not the memory, or a write failed
+  3  not finished: no memory, or a write failed
   4  the list is not tight";
 
-fn show_help(alloc: Global) -> Result<String, AllocError> {
-    String::from_str(
-        alloc,
-        "\
-It reads nothing. Output of `renamer show --network tree --width 4`:
+// ---- show
+
+const SHOW: &str = "\
+No input is read. Output of `renamer show --network tree --width 4`:
 
     network tree width 4 balancers 3 depth 2
     wire 0 balancer 0
@@ -247,13 +254,10 @@ It reads nothing. Output of `renamer show --network tree --width 4`:
     wire 6 exit 3
     end wires 7
 
-The first wires are the entries: one of a tree, W of another network. After them come the two outputs of
-balancer 0, those of balancer 1, and so on. Balancers are numbered so that each wire ends at an exit or
-at a balancer of a greater number than the one that it comes from.
+The first wires are the entries: W of them, or one of a tree. After them come
+the two outputs of balancer 0, then those of balancer 1, and so on.
 
 Status:
   0  done
   2  the command line is refused
-  3  not finished: there is not the memory, or a write failed",
-    )
-}
+  3  not finished: no memory, or a write failed";
