@@ -1,4 +1,3 @@
-pub mod PlainCommands
 pub mod Readings
 pub mod WordNumbers
 pub mod OneNetwork

@@ -5,7 +5,7 @@ use Rattle.cn_wiring.specs.Widths.{IsWidth}
 use Rattle.cn_words.specs.Net.{Description}
 use Rattle.cn_words.specs.declared.options.Form.{Form}
 
--- how many workers walk, how many tokens each has in hand at most, and what is written
+-- a network, how many workers walk it, how many tokens each has in hand at most, and what is written
 pub record Settings : Type 0 where
   pub net : Description
   pub workers : ℕ
