@@ -1,3 +1,4 @@
 pub mod CommandLine
 pub mod Net
+pub mod Options
 pub mod Words

@@ -4,7 +4,9 @@
 mod command_line;
 pub mod laws;
 mod net;
+mod options;
 mod words;
 
 pub use net::{Net, NetFault};
+pub use options::{Form, OptionFault, Options};
 pub use words::{Job, WordsFault, parse_words};

@@ -1,0 +1,26 @@
+-- What a run is asked for beside its batch.
+use Rattle.std.specs.Prelude.{ℕ, ◌≤◌}
+use Rattle.cn_spec.specs.declared.limits.TheConstants.{MOST_HAND, MOST_WORKERS}
+use Rattle.cn_wiring.specs.Widths.{IsWidth}
+use Rattle.cn_words.specs.Net.{Description}
+use Rattle.cn_words.specs.declared.options.Form.{Form}
+
+-- how many workers walk, how many tokens each has in hand at most, and what is written
+pub record Settings : Type 0 where
+  pub net : Description
+  pub workers : ℕ
+  pub hand : ℕ
+  pub form : Form
+
+-- an epoch may have so many workers
+abbrev pub IsWorkers : ℕ → Type 0
+IsWorkers workers = (1 ≤ workers) × (workers ≤ MOST_WORKERS)
+
+-- a worker may have so many tokens in hand
+abbrev pub IsHand : ℕ → Type 0
+IsHand hand = (1 ≤ hand) × (hand ≤ MOST_HAND)
+
+-- the network is built, and both numbers are within their limits
+abbrev pub IsWithin : Settings → Type 0
+IsWithin settings =
+    IsWidth settings.net.width × IsWorkers settings.workers × IsHand settings.hand
