@@ -1,3 +1,4 @@
+pub mod Check
 pub mod Outputs
 pub mod Performing
 pub mod Replay

@@ -1,6 +1,7 @@
 //! The calls of the program: what each of its jobs writes.
 #![tactic(auto)]
 
+mod checking;
 mod fault;
 pub mod laws;
 mod output_fault;
@@ -10,8 +11,9 @@ mod runtime;
 mod showing;
 mod writing;
 
-pub use cn_report::{ScheduleCause, ScheduleFault};
-pub use cn_words::{Job, Net, NetFault, WordsFault, parse_words};
+pub use checking::{CheckFault, check};
+pub use cn_report::{BatchCause, BatchFault, Flaw, ScheduleCause, ScheduleFault};
+pub use cn_words::{Form, Job, Net, NetFault, OptionFault, Options, WordsFault, parse_words};
 pub use fault::{Fault, end};
 pub use output_fault::OutputFault;
 pub use performing::{perform, run};
