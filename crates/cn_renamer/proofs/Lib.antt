@@ -1,1 +1,2 @@
 pub mod OneText
+pub mod Walks

@@ -8,6 +8,8 @@ mod output_fault;
 mod performing;
 mod replaying;
 mod runtime;
+mod serve_fault;
+mod serving_by_core;
 mod showing;
 mod writing;
 
@@ -19,4 +21,5 @@ pub use output_fault::OutputFault;
 pub use performing::{perform, run};
 pub use replaying::{ReplayFault, replay};
 pub use runtime::RuntimeFault;
+pub use serve_fault::ServeFault;
 pub use showing::{ShowFault, show};
