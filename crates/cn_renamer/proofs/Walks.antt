@@ -1,30 +1,33 @@
 -- Clients on their way through the core, with a yard in which those who are inside stand.
-use Rattle.std.proofs.Common.{◌≡◌, ◌≢◌, ℕ, suc, zero, ◌+◌, ◌*◌, ◌-◌, ◌%◌, ◌<◌, ◌≤◌, Bool, true, false, cond, nat_eq, eqb, List, [], ◌∷◌, ◌++◌, length, map, refl, sym, ap, subst, ◌∙◌, arith, Option, Some, None, inl, inr}
-use Rattle.std.specs.Prelude.{IsSome, count_by, ◌⊎◌, ◌==◌}
+use Rattle.std.proofs.Common.{◌≡◌, ◌≢◌, ℕ, suc, zero, ◌+◌, ◌*◌, ◌-◌, ◌%◌, ◌<◌, ◌≤◌, Bool, true, false, cond, nat_eq, eqb, List, [], ◌∷◌, ◌++◌, length, map, refl, sym, ap, subst, ◌∙◌, append_assoc, length-append, arith, Option, Some, None, inl, inr}
+use Rattle.std.specs.Prelude.{All, IsSome, count_by, ◌⊎◌, ◌==◌}
 use Rattle.std.specs.Map.{keys_of, lookup, values_of}
 use Rattle.std.proofs.lemmas.Bool.{cases_eq, cases_lt, eq-eqb, eqb-true, ne_eqb}
 use Rattle.std.proofs.lemmas.List.{append-nil, get_or_past, length-map, map-append}
+use Rattle.std.proofs.lemmas.List.Elements.{All-cons, All-head, All-nil, All-tail}
 use Rattle.std.proofs.lemmas.List.Sums.{count_by-le-length}
 use Rattle.std.proofs.lemmas.Map.{keys-set_value}
-use Rattle.std.proofs.lemmas.Map.Entries.{sum_by-set_value}
+use Rattle.std.proofs.lemmas.Map.Entries.{length-keys_of, sum_by-set_value}
 use Rattle.cn_wiring.specs.declared.end.End.{End}
 use Rattle.cn_wiring.specs.declared.end.End.TheVariants.{Balancer, Exit}
 use Rattle.cn_wiring.specs.Table.{LeadsOn, Stands, Table, end_of, output_wire}
-use Rattle.cn_spec.proofs.CallerLemmas.{sum_below-zero}
+use Rattle.cn_spec.proofs.CallerLemmas.{sum_below-zero, times-append, times-cons, times-nil}
+use Rattle.cn_spec.specs.Sums.{times}
 use Rattle.cn_yard.specs.Lists.{Admits, IsThere, Lists, Moves, Releases, Yard, first_of, here_or, on, standing, standing_below, tokens_in}
 use Rattle.cn_yard.proofs.CallerLemmas.{count-push, count-set, lookup-push, lookup-set}
+use Rattle.cn_core.specs.declared.client.Client.{Client}
 use Rattle.cn_core.specs.declared.position.Position.{Position}
 use Rattle.cn_core.specs.declared.position.Position.TheVariants.{On, Holds}
+use Rattle.cn_core.specs.declared.reply.EnterFault.{EnterFault}
+use Rattle.cn_core.specs.declared.reply.EnterFault.TheVariants.{NoSuchEntry, AlreadyIn, EpochFull, Memory}
 use Rattle.cn_core.specs.declared.reply.Moved.{Moved}
 use Rattle.cn_core.specs.declared.reply.Moved.TheVariants.{On as Passed, Out}
-use Rattle.cn_core.specs.declared.reply.Reply.TheVariants.{Stepped, StepRefused}
-use Rattle.cn_core.specs.declared.reply.StepFault.{StepFault}
-use Rattle.cn_core.specs.declared.reply.StepFault.TheVariants.{Stranger, HasName}
-use Rattle.cn_core.specs.Calls.{StepsTo}
+use Rattle.cn_core.specs.declared.reply.Reply.TheVariants.{EnterRefused, Stepped}
+use Rattle.cn_core.specs.Calls.{EntersTo, StepsTo}
 use Rattle.cn_core.specs.History.{moved_past}
 use Rattle.cn_core.specs.State.{State, after_enter, after_step, inside_in, is_inside, past, position_in, with_position}
 use Rattle.cn_epoch.specs.Turns.{Epochs}
-use Rattle.cn_renamer.specs.Walk.{Comes, IsInYard, ahead_in, ahead_of, wires_of}
+use Rattle.cn_renamer.specs.Walk.{Comes, IsInYard, MayFollow, ahead_in, ahead_of, wires_of}
 
 -- a client on a wire is inside
 pub inside-some : (s : State) (client wire : ℕ) → position_in s.clients client ≡ Some (On wire) → 1 ≤ inside_in s
@@ -183,17 +186,6 @@ left s t client i v name moved is (wire, found, past_it, new) = by (end_of s.net
     by (Balancer c) moved new = cc
     by (Exit j) moved new = record { name = _; network = ap (λ (x : State). x.network) new; clients = ap (λ (x : State). x.clients) new }
 
--- a client on a wire is not refused
-not-refused : (s t : State) (client from : ℕ) (fault : StepFault) → position_in s.clients client ≡ Some (On from) → StepsTo s client (StepRefused fault) t → ⊥
-not-refused s t client from Stranger at (none, same) = let both = sym none ∙ at in no both
-  where
-    no : ◌≡◌ {A = Option Position} None (Some (On from)) → ⊥
-    no h = cc
-not-refused s t client from (HasName name) at (holds, same) = let both = sym holds ∙ at in no both
-  where
-    no : ◌≡◌ {A = Option Position} (Some (Holds name)) (Some (On from)) → ⊥
-    no h = cc
-
 -- the token of a client that passed a balancer has moved with it
 passed-yard : (y z : Yard) (s t : State) (token client from b to : ℕ) → IsInYard y.lists s → standing y.lists token ≡ Some (from, client) → HasPassed s t client from b to
     → Moves y z token client to → IsInYard z.lists t
@@ -266,12 +258,6 @@ module _ (y z : Yard) (old new : Epochs) (token client from : ℕ) (moved : Move
         nearer = passed-nearer y.lists old.core new.core token client from b to is there.found there.inside has;
       }
 
-  -- where that leads there is a wire
-  pub stepped-within : (b n to : ℕ) → moved ≡ Passed b n to → to < length y.lists
-  stepped-within b n to m =
-      let has = passed old.core new.core client from b n to moved m (is.there token from client there.found) steps in
-      (passed-within y.lists old.core new.core token client from b to is there.found there.inside has).1
-
   -- out by an exit
   pub stepped-out : (i v name : ℕ) → moved ≡ Out i v name → Releases y z token → HasStepped old new z.lists
   stepped-out i v name m releases =
@@ -281,10 +267,6 @@ module _ (y z : Yard) (old new : Epochs) (token client from : ℕ) (moved : Move
         came = stepped-comes old new client (Holds has.name) has.network has.clients number;
         nearer = left-nearer y.lists old.core new.core token client from is there.found there.inside has;
       }
-
--- a client with a token is not refused
-pub never-refused : (y : Yard) (s t : State) (token client from : ℕ) (fault : StepFault) → IsInYard y.lists s → IsThere y.lists token client from → StepsTo s client (StepRefused fault) t → ⊥
-never-refused y s t token client from fault is there steps = not-refused s t client from fault (is.there token from client there.found) steps
 
 -- ---- the first token of a wire
 
@@ -327,3 +309,100 @@ some-within lists wire some = elim (cases_lt wire (length lists)) [
 -- where no token stands on any wire nobody is inside
 pub nobody-inside : (lists : Lists) (s : State) → IsInYard lists s → ((wire : ℕ) → on lists wire ≡ []) → inside_in s ≡ 0
 nobody-inside lists s is none = sym is.all ∙ sum_below-zero (length lists) (λ u. length (on lists u)) (λ u. ap length (none u))
+
+-- ---- clients that may follow those who came
+
+times-here : (n m : ℕ) (ns : List ℕ) → n ≡ m → 1 ≤ times n (m ∷ ns)
+times-here n m ns same =
+    let one : ◌≡◌ {A = ℕ} (cond (eqb m n) 1 0) 1 = ap {B = ℕ} (λ b. cond b 1 0) (eq-eqb m n (sym same)) in
+    omega (arith, times-cons n m ns)
+
+-- a key that is found is there
+key-found : (es : List (ℕ × Position)) (client : ℕ) (p : Position) → position_in es client ≡ Some p → 1 ≤ times client (keys_of es)
+key-found [] client p found = cc
+key-found (e ∷ es) client p found = by (nat_eq client e.0) (eqb-true client e.0) found (λ rest. key-found es client p rest)
+  where
+    by : (b : Bool) → (b ≡ true → client ≡ e.0) → cond b (Some e.1) (position_in es client) ≡ Some p
+        → (position_in es client ≡ Some p → 1 ≤ times client (keys_of es)) → 1 ≤ times client (keys_of (e ∷ es))
+    by true same found rest = omega (arith, times-here client e.0 (keys_of es) (same refl))
+    by false same found rest = omega (arith, times-cons client e.0 (keys_of es), rest found)
+
+all-before : (P : Client → Type 0) (front back : List Client) → All P (front ++ back) → All P front
+all-before P [] back all = All-nil P
+all-before P (c ∷ front) back all = All-cons P c front (All-head P c (front ++ back) all) (all-before P front back (All-tail P c (front ++ back) all))
+
+all-after : (P : Client → Type 0) (front back : List Client) → All P (front ++ back) → All P back
+all-after P [] back all = all
+all-after P (c ∷ front) back all = all-after P front back (All-tail P c (front ++ back) all)
+
+came-length : (old new : Epochs) (front : List Client) → Comes (map (λ (c : Client). c.id) front) old new → length new.core.clients ≡ length old.core.clients + length front
+came-length old new front came =
+    omega (
+      arith,
+      ap length came.clients,
+      length-append (keys_of old.core.clients) (map (λ (c : Client). c.id) front),
+      length-map front (λ (c : Client). c.id),
+      length-keys_of old.core.clients,
+      length-keys_of new.core.clients,
+    )
+
+-- a client that may follow has not come
+pub not-come : (s : State) (c : Client) (rest : List Client) → MayFollow s (c ∷ rest) → position_in s.clients c.id ≡ None
+not-come s c rest may = by (position_in s.clients c.id) refl
+  where
+    by : (p : Option Position) → position_in s.clients c.id ≡ p → position_in s.clients c.id ≡ None
+    by None e = e
+    by (Some p) e = absurd (omega (
+      arith,
+      key-found s.clients c.id p e,
+      may.once c.id,
+      times-append c.id (keys_of s.clients) (c.id ∷ map (λ (x : Client). x.id) rest),
+      times-here c.id c.id (map (λ (x : Client). x.id) rest) refl,
+    ))
+
+-- and is refused for want of memory alone
+pub only-memory : (s t : State) (c : Client) (fault : EnterFault) → MayFollow s (c ∷ []) → EntersTo s c.id c.entry (EnterRefused fault) t → fault ≡ Memory
+only-memory s t c NoSuchEntry may refused = absurd (omega (arith, refused.0, All-head (λ (x : Client). x.entry < s.network.table.entries) c [] may.within))
+only-memory s t c AlreadyIn may refused = let is = subst IsSome (not-come s c [] may) refused.1 in cc
+only-memory s t c EpochFull may refused = absurd (omega (arith, refused.2, may.few))
+only-memory s t c Memory may refused = refl
+
+-- the first of those that may follow may follow without the others
+pub front-follow : (s : State) (front back : List Client) → MayFollow s (front ++ back) → MayFollow s front
+front-follow s front back may = record {
+  within = all-before (λ (x : Client). x.entry < s.network.table.entries) front back may.within;
+  once = λ client. omega (
+    arith,
+    may.once client,
+    ap (λ (l : List ℕ). times client (keys_of s.clients ++ l)) (map-append (λ (c : Client). c.id) front back),
+    times-append client (keys_of s.clients) (map (λ (c : Client). c.id) front ++ map (λ (c : Client). c.id) back),
+    times-append client (map (λ (c : Client). c.id) front) (map (λ (c : Client). c.id) back),
+    times-append client (keys_of s.clients) (map (λ (c : Client). c.id) front),
+  );
+  few = omega (arith, may.few, length-append front back);
+}
+
+-- once some have come the others may follow
+pub rest-follow : (old new : Epochs) (front back : List Client) → MayFollow old.core (front ++ back) → Comes (map (λ (c : Client). c.id) front) old new → MayFollow new.core back
+rest-follow old new front back may came = record {
+  within = rw came.network (all-after (λ (x : Client). x.entry < old.core.network.table.entries) front back may.within);
+  once = λ client. rw came.clients (rw (append_assoc (keys_of old.core.clients) (map (λ (c : Client). c.id) front) (map (λ (c : Client). c.id) back), ← map-append (λ (c : Client). c.id) front back) (may.once client));
+  few = omega (arith, may.few, length-append front back, came-length old new front came);
+}
+
+-- some have come, and then others
+pub come-then : (first second third : Epochs) (front back : List ℕ) → Comes front first second → Comes back second third → Comes (front ++ back) first third
+come-then first second third front back came more = record {
+  network = more.network ∙ came.network;
+  number = more.number ∙ came.number;
+  clients = more.clients ∙ ap (λ keys. keys ++ back) came.clients ∙ append_assoc (keys_of first.core.clients) front back;
+}
+
+-- some have come, then others, and then these have walked out
+pub round-comes : (first second third fourth : Epochs) (front next : List Client) → Comes (map (λ (c : Client). c.id) front) first second
+    → Comes (map (λ (c : Client). c.id) next) second third → Comes [] third fourth → Comes (map (λ (c : Client). c.id) (front ++ next)) first fourth
+round-comes first second third fourth front next came more out =
+    let before : List ℕ = map (λ (c : Client). c.id) front in
+    let after : List ℕ = map (λ (c : Client). c.id) next in
+    let all = come-then first third fourth (before ++ after) [] (come-then first second third before after came more) out in
+    subst (λ (l : List ℕ). Comes l first fourth) (append-nil (before ++ after) ∙ sym (map-append (λ (c : Client). c.id) front next)) all

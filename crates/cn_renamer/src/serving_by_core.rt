@@ -59,10 +59,10 @@ impl<'a> Walk<'a> {
         ensures kept { OnOk result (IsInYard self.new.yard.lists self.new.epochs.core) }
         ensures came { OnOk result (Comes (client.id ∷ []) self.old.epochs self.new.epochs) }
     {
-        match self.epochs.enter(client.id, client.entry) {
-            Ok(()) => {}
-            Err(EnterFault::Memory) => return Err(AllocError),
-            Err(_) => unreachable!(),
+        if let Err(fault) = self.epochs.enter(client.id, client.entry) {
+            // A client that may come is refused for want of memory alone.
+            prove!(matches!(fault, EnterFault::Memory));
+            return Err(AllocError);
         }
         self.yard.admit(client.id, client.entry as u32)?;
         Ok(())
