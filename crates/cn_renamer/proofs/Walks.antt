@@ -1,6 +1,8 @@
 -- Clients on their way through the core, with a yard in which those who are inside stand.
 use Rattle.std.proofs.Common.{◌≡◌, ◌≢◌, ℕ, suc, zero, ◌+◌, ◌*◌, ◌-◌, ◌%◌, ◌<◌, ◌≤◌, Bool, true, false, cond, nat_eq, eqb, List, [], ◌∷◌, ◌++◌, length, map, refl, sym, ap, subst, ◌∙◌, append_assoc, length-append, arith, Option, Some, None, inl, inr}
 use Rattle.std.specs.Prelude.{All, IsSome, count_by, ◌⊎◌, ◌==◌}
+use Rattle.std.specs.List.{AllZip}
+use Rattle.std.specs.List.Sorted.{IsPermutation}
 use Rattle.std.specs.Map.{keys_of, lookup, values_of}
 use Rattle.std.proofs.lemmas.Bool.{cases_eq, cases_lt, eq-eqb, eqb-true, ne_eqb}
 use Rattle.std.proofs.lemmas.List.{append-nil, get_or_past, length-map, map-append}
@@ -10,11 +12,12 @@ use Rattle.std.proofs.lemmas.Map.{keys-set_value}
 use Rattle.std.proofs.lemmas.Map.Entries.{length-keys_of, sum_by-set_value}
 use Rattle.cn_wiring.specs.declared.end.End.{End}
 use Rattle.cn_wiring.specs.declared.end.End.TheVariants.{Balancer, Exit}
-use Rattle.cn_wiring.specs.Table.{LeadsOn, Stands, Table, end_of, output_wire}
+use Rattle.cn_wiring.specs.Network.{Network}
+use Rattle.cn_wiring.specs.Table.{IsWellFormed, LeadsOn, Stands, Table, end_of, output_wire}
 use Rattle.cn_spec.proofs.CallerLemmas.{sum_below-zero, times-append, times-cons, times-nil}
 use Rattle.cn_spec.specs.Sums.{times}
 use Rattle.cn_yard.specs.Lists.{Admits, IsThere, Lists, Moves, Releases, Yard, first_of, here_or, on, standing, standing_below, tokens_in}
-use Rattle.cn_yard.proofs.CallerLemmas.{count-push, count-set, lookup-push, lookup-set}
+use Rattle.cn_yard.proofs.CallerLemmas.{count-push, count-set, lookup-push, lookup-set, nobody-on}
 use Rattle.cn_core.specs.declared.client.Client.{Client}
 use Rattle.cn_core.specs.declared.position.Position.{Position}
 use Rattle.cn_core.specs.declared.position.Position.TheVariants.{On, Holds}
@@ -25,8 +28,14 @@ use Rattle.cn_core.specs.declared.reply.Moved.TheVariants.{On as Passed, Out}
 use Rattle.cn_core.specs.declared.reply.Reply.TheVariants.{EnterRefused, Stepped}
 use Rattle.cn_core.specs.Calls.{EntersTo, StepsTo}
 use Rattle.cn_core.specs.History.{moved_past}
-use Rattle.cn_core.specs.State.{State, after_enter, after_step, inside_in, is_inside, past, position_in, with_position}
-use Rattle.cn_epoch.specs.Turns.{Epochs}
+use Rattle.cn_core.specs.State.{State, after_enter, after_step, inside_in, is_inside, past, position_in, start, with_position}
+use Rattle.cn_epoch.specs.Calls.{TellsEpoch}
+use Rattle.cn_epoch.specs.Turns.{Epochs, IsTightRecord}
+use Rattle.cn_epoch.specs.declared.record.EpochRecord.{EpochRecord}
+use Rattle.cn_report.specs.Reading.Batch.{MayCome}
+use Rattle.cn_report.specs.declared.reading.gathering.BatchEpoch.{BatchEpoch}
+use Rattle.cn_report.specs.Writing.Outcome.{IsWholeRecord}
+use Rattle.cn_renamer.specs.Serve.{IsServed}
 use Rattle.cn_renamer.specs.Walk.{Comes, IsInYard, MayFollow, ahead_in, ahead_of, wires_of}
 
 -- a client on a wire is inside
@@ -406,3 +415,42 @@ round-comes first second third fourth front next came more out =
     let after : List ℕ = map (λ (c : Client). c.id) next in
     let all = come-then first third fourth (before ++ after) [] (come-then first second third before after came more) out in
     subst (λ (l : List ℕ). Comes l first fourth) (append-nil (before ++ after) ∙ sym (map-append (λ (c : Client). c.id) front next)) all
+
+-- ---- an epoch begins and ends
+
+-- where no token stands on any wire none stands
+nothing-found : (token : ℕ) (es : List (ℕ × ℕ)) → length es ≡ 0 → lookup (nat_eq token) es ≡ None
+nothing-found token [] none = refl
+nothing-found token (e ∷ es) none = absurd (omega arith)
+
+none-stands : (n : ℕ) (lists : Lists) (token : ℕ) → ((u : ℕ) → length (on lists u) ≡ 0) → standing_below n lists token ≡ None
+unfolding standing_below
+none-stands zero lists token none = refl
+none-stands (suc n) lists token none = rw (nothing-found token (on lists n) (none n)) (none-stands n lists token none)
+
+-- on a yard where no token stands an epoch may begin
+pub begins : (lists : Lists) (network : Network) → IsWellFormed network.table → length lists ≡ wires_of network.table → tokens_in lists ≡ 0 → IsInYard lists (start network)
+begins lists network formed wires none = record {
+  formed = formed;
+  wires = wires;
+  there = λ token wire client stands. absurd (nowhere token wire client stands);
+  once = λ token other wire to client stands also. absurd (nowhere token wire client stands);
+  all = none;
+}
+  where
+    nowhere : (token wire client : ℕ) → standing lists token ≡ Some (wire, client) → ⊥
+    nowhere token wire client stands = no (sym (none-stands (length lists) lists token (nobody-on lists none)) ∙ stands)
+      where
+        no : ◌≡◌ {A = Option (ℕ × ℕ)} None (Some (wire, client)) → ⊥
+        no h = cc
+
+-- where nobody is inside the next may begin
+pub begins-next : (lists : Lists) (s : State) → IsInYard lists s → inside_in s ≡ 0 → IsInYard lists (start s.network)
+begins-next lists s is quiet = begins lists s.network is.formed is.wires (is.all ∙ quiet)
+
+-- records of epochs that were served are whole
+pub whole : (width : ℕ) (epochs : List BatchEpoch) (records : List EpochRecord) → AllZip (IsServed width) epochs records → All (IsWholeRecord width) records
+whole width [] [] served = All-nil (IsWholeRecord width)
+whole width [] (r ∷ records) served = absurd served
+whole width (e ∷ epochs) [] served = absurd served
+whole width (e ∷ epochs) (r ∷ records) (one, rest) = All-cons (IsWholeRecord width) r records (one.tight.exits, one.tight.names) (whole width epochs records rest)

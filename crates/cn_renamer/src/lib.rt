@@ -22,4 +22,5 @@ pub use performing::{perform, run};
 pub use replaying::{ReplayFault, replay};
 pub use runtime::RuntimeFault;
 pub use serve_fault::ServeFault;
+pub use serving_by_core::serve_by_core;
 pub use showing::{ShowFault, show};

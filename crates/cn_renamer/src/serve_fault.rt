@@ -1,10 +1,12 @@
 //! What keeps a batch from being served to its end.
 
 ghost use Rattle.std.specs.Prelude.{◌≡◌};
+ghost use Rattle.cn_renamer.specs.declared.serve_fault.ServeFault.TheVariants.{Memory};
 ghost use Rattle.cn_renamer.specs.Serve.{fault_of_batch, fault_of_output, status_of_serve};
 
 use crate::output_fault::OutputFault;
 use cn_report::{BatchCause, BatchFault};
+use cn_wiring::BuildFault;
 use thiserror::Error;
 
 /// Why a run did not end well. Its text is the line that the program prints.
@@ -42,6 +44,15 @@ impl From<BatchFault> for ServeFault {
             BatchCause::Memory => ServeFault::Memory,
             _ => ServeFault::Batch(fault),
         }
+    }
+}
+
+/// A network that is built fails to be built for want of memory alone.
+impl From<BuildFault> for ServeFault {
+    ghost from_gives = { λ _ fault. fault ≡ Memory };
+
+    fn from(_fault: BuildFault) -> Self {
+        ServeFault::Memory
     }
 }
 

@@ -5,6 +5,7 @@ ghost use Rattle.std.specs.List.{AllZip};
 ghost use Rattle.cn_spec.specs.declared.limits.TheConstants.{MOST_HAND};
 ghost use Rattle.cn_core.specs.State.{inside_in, start};
 ghost use Rattle.cn_yard.specs.Lists.{on};
+ghost use Rattle.cn_words.specs.Net.{IsNetworkOf};
 ghost use Rattle.cn_report.specs.Reading.Batch.{AreServable, MayCome};
 ghost use Rattle.cn_report.specs.Writing.Written.{HasWritten, written_by};
 ghost use Rattle.cn_renamer.specs.Outputs.{until_output};
@@ -174,4 +175,53 @@ fn serve_epochs(
         records.push_reserved(served);
     }
     Ok(records)
+}
+
+/// Writes the report of epochs on a network, served with at most so many clients inside at a time as the options have.
+fn report_epochs<W: Write>(
+    alloc: Global,
+    writer: &mut W,
+    options: &Options,
+    network: &Counting,
+    epochs: &[BatchEpoch],
+    state: RandomState,
+) -> Result<(), OutputFault>
+    requires built { IsNetworkOf options.now.net network.now }
+    requires servable { AreServable network.now.table.entries epochs.now }
+    ensures { let Is = IsReportOfEpochs options.now.net epochs.now in
+        HasWritten W.contents Is (written_by until_output result) writer.old writer.new }
+{
+    let records = serve_epochs(alloc, network, options.hand(), epochs, state)?;
+    let text = render_report(alloc, network, &records)?;
+    write_text(writer, &text)
+}
+
+/// Reads a batch, serves its epochs one after another by the core, and writes the report: the network, each epoch's number
+/// and its number of clients, how many left by each exit, who holds which name, and how many epochs and grants there are.
+/// Each epoch has at most as many clients inside at a time as the options have in hand, and one worker: neither the
+/// options' workers nor their form is looked at.
+///
+/// The random states are for the clients of a batch's epoch as they are read, and for the table of clients of the core.
+/// Nothing is written before every epoch has ended.
+///
+/// # Errors
+/// `Batch` with the first record that has a cause, and its first cause; `Memory` where any growth was refused; `Write`
+/// where a write failed or the flush at the end, with the number of bytes that were written: they are the first of the
+/// text. On any other fault nothing was written.
+pub fn serve_by_core<R: Read + Drop, W: Write>(
+    alloc: Global,
+    reader: R,
+    writer: &mut W,
+    options: &Options,
+    state: RandomState,
+    names_state: RandomState,
+) -> Result<(), ServeFault>
+    ensures written { let Is = IsReportOfKnown options.now.net (R.remaining reader) in
+        HasWritten W.contents Is (written_by until_serve result) writer.old writer.new }
+    ensures refused { IfErr result (IsServeFault options.now.net (R.remaining reader)) }
+{
+    let network = options.net().build(alloc)?;
+    let batch = read_batch(alloc, reader, network.entries(), state)?;
+    report_epochs(alloc, writer, options, &network, &batch.epochs, names_state)?;
+    Ok(())
 }
