@@ -1,8 +1,7 @@
 -- Clients on their way through the core, with a yard in which those who are inside stand.
-use Rattle.std.proofs.Common.{◌≡◌, ◌≢◌, ℕ, suc, zero, ◌+◌, ◌*◌, ◌-◌, ◌%◌, ◌<◌, ◌≤◌, Bool, true, false, cond, nat_eq, eqb, List, [], ◌∷◌, ◌++◌, length, map, refl, sym, ap, subst, ◌∙◌, append_assoc, length-append, arith, Option, Some, None, inl, inr}
-use Rattle.std.specs.Prelude.{All, IsSome, count_by, ◌⊎◌, ◌==◌}
+use Rattle.std.proofs.Common.{◌≡◌, ◌≢◌, ℕ, suc, zero, ◌+◌, ◌*◌, ◌%◌, ◌<◌, ◌≤◌, Bool, true, false, cond, nat_eq, eqb, List, [], ◌∷◌, ◌++◌, length, map, refl, sym, ap, subst, ◌∙◌, append_assoc, length-append, arith, Option, Some, None, inl, inr}
+use Rattle.std.specs.Prelude.{All, IsSome, ◌⊎◌, ◌==◌}
 use Rattle.std.specs.List.{AllZip}
-use Rattle.std.specs.List.Sorted.{IsPermutation}
 use Rattle.std.specs.Map.{keys_of, lookup, values_of}
 use Rattle.std.proofs.lemmas.Bool.{cases_eq, cases_lt, eq-eqb, eqb-true, ne_eqb}
 use Rattle.std.proofs.lemmas.List.{append-nil, get_or_past, length-map, map-append}
@@ -13,8 +12,8 @@ use Rattle.std.proofs.lemmas.Map.Entries.{length-keys_of, sum_by-set_value}
 use Rattle.cn_wiring.specs.declared.end.End.{End}
 use Rattle.cn_wiring.specs.declared.end.End.TheVariants.{Balancer, Exit}
 use Rattle.cn_wiring.specs.Network.{Network}
-use Rattle.cn_wiring.specs.Table.{IsWellFormed, LeadsOn, Stands, Table, end_of, output_wire}
-use Rattle.cn_spec.proofs.CallerLemmas.{sum_below-zero, times-append, times-cons, times-nil}
+use Rattle.cn_wiring.specs.Table.{IsWellFormed, LeadsOn, Stands, end_of, output_wire}
+use Rattle.cn_spec.proofs.CallerLemmas.{sum_below-zero, times-append, times-cons}
 use Rattle.cn_spec.specs.Sums.{times}
 use Rattle.cn_yard.specs.Lists.{Admits, IsThere, Lists, Moves, Releases, Yard, first_of, here_or, on, standing, standing_below, tokens_in}
 use Rattle.cn_yard.proofs.CallerLemmas.{count-push, count-set, lookup-push, lookup-set, nobody-on}
@@ -29,10 +28,8 @@ use Rattle.cn_core.specs.declared.reply.Reply.TheVariants.{EnterRefused, Stepped
 use Rattle.cn_core.specs.Calls.{EntersTo, StepsTo}
 use Rattle.cn_core.specs.History.{moved_past}
 use Rattle.cn_core.specs.State.{State, after_enter, after_step, inside_in, is_inside, past, position_in, start, with_position}
-use Rattle.cn_epoch.specs.Calls.{TellsEpoch}
-use Rattle.cn_epoch.specs.Turns.{Epochs, IsTightRecord}
+use Rattle.cn_epoch.specs.Turns.{Epochs}
 use Rattle.cn_epoch.specs.declared.record.EpochRecord.{EpochRecord}
-use Rattle.cn_report.specs.Reading.Batch.{MayCome}
 use Rattle.cn_report.specs.declared.reading.gathering.BatchEpoch.{BatchEpoch}
 use Rattle.cn_report.specs.Writing.Outcome.{IsWholeRecord}
 use Rattle.cn_renamer.specs.Serve.{IsServed}
@@ -95,13 +92,13 @@ module _ (old new : Lists) (s t : State) (token client : ℕ) (is : IsInYard old
     once = λ a b wire from who one two.
         elim (now-at a token to client wire who (standing old a) (sym (stands a) ∙ one)) [
           | inl (same, w, c) ↦ elim (now-at b token to client from who (standing old b) (sym (stands b) ∙ two)) [
-              | inl (also, x, d) ↦ same ∙ sym also
-              | inr (differ, before) ↦ absurd (differ (own b from (rw c before)))
-            ]
+            | inl (also, x, d) ↦ same ∙ sym also
+            | inr (differ, before) ↦ absurd (differ (own b from (rw c before)))
+          ]
           | inr (differ, before) ↦ elim (now-at b token to client from who (standing old b) (sym (stands b) ∙ two)) [
-              | inl (also, x, d) ↦ absurd (differ (own a wire (rw d before)))
-              | inr (apart, then) ↦ is.once a b wire from who before then
-            ]
+            | inl (also, x, d) ↦ absurd (differ (own a wire (rw d before)))
+            | inr (apart, then) ↦ is.once a b wire from who before then
+          ]
         ];
     all = all;
   }
@@ -454,3 +451,11 @@ whole width [] [] served = All-nil (IsWholeRecord width)
 whole width [] (r ∷ records) served = absurd served
 whole width (e ∷ epochs) [] served = absurd served
 whole width (e ∷ epochs) (r ∷ records) (one, rest) = All-cons (IsWholeRecord width) r records (one.tight.exits, one.tight.names) (whole width epochs records rest)
+
+-- where one more epoch was served
+pub served-more : (width : ℕ) (epochs : List BatchEpoch) (records : List EpochRecord) (e : BatchEpoch) (r : EpochRecord) → AllZip (IsServed width) epochs records → IsServed width e r
+    → AllZip (IsServed width) (epochs ++ e ∷ []) (records ++ r ∷ [])
+served-more width [] [] e r served one = (one, tt)
+served-more width [] (x ∷ records) e r served one = absurd served
+served-more width (x ∷ epochs) [] e r served one = absurd served
+served-more width (x ∷ epochs) (y ∷ records) e r (first, rest) one = (first, served-more width epochs records e r rest one)

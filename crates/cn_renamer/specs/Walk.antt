@@ -1,5 +1,5 @@
 -- The clients of an epoch on their way through the core, with a yard in which those who are inside stand on their wires.
-use Rattle.std.specs.Prelude.{ℕ, ◌≡◌, ◌≤◌, ◌<◌, ◌+◌, ◌*◌, ◌-◌, ◌++◌, ◌∷◌, [], All, List, Some, length, map}
+use Rattle.std.specs.Prelude.{ℕ, ◌≡◌, ◌≤◌, ◌<◌, ◌+◌, ◌*◌, ◌-◌, ◌++◌, All, List, Some, length, map}
 use Rattle.std.specs.List.{sum_by}
 use Rattle.std.specs.Map.{keys_of, values_of}
 use Rattle.cn_spec.specs.Sums.{times}

@@ -1,6 +1,5 @@
 use Rattle.std.proofs.Common.{◌++◌, [], ◌∙◌, ap, append_assoc, sym, subst}
 use Rattle.std.specs.Slice.Iter.{chunks_rest}
-use Rattle.cn_core.specs.declared.client.Client.{Client}
 use Rattle.cn_renamer.specs.Walk.{MayFollow}
 use Rattle.cn_renamer.proofs.Walks.{front-follow, rest-follow, round-comes}
 use Rattle.cn_renamer.proofs.serving_by_core.Walk.walk_all.Goals as goal

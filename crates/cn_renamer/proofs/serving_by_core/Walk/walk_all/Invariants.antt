@@ -1,5 +1,5 @@
-use Rattle.std.proofs.Common.{◌≡◌, ◌<◌, ◌++◌, List, map}
-use Rattle.std.specs.Slice.Iter.{chunks_rest, chunks_size}
+use Rattle.std.proofs.Common.{◌≡◌, ◌++◌, List, map}
+use Rattle.std.specs.Slice.Iter.{chunks_rest}
 use Rattle.cn_core.specs.declared.client.Client.{Client}
 use Rattle.cn_core.specs.State.{inside_in}
 use Rattle.cn_renamer.specs.Walk.{Comes, IsInYard, MayFollow}
