@@ -1,5 +1,6 @@
 pub mod PlainCommands
 pub mod Readings
-pub mod WordWidths
+pub mod WordNumbers
 pub mod OneNetwork
+pub mod OneRun
 pub mod CallerLemmas

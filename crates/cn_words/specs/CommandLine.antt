@@ -1,20 +1,41 @@
 -- The command line, as clap is told of it.
-use Rattle.std.specs.Prelude.{true, codes, Some}
+use Rattle.std.specs.Prelude.{true, codes, Some, [], ◌∷◌}
 use Rattle.clap.specs.Words.{App, Rule, Text, new_app, new_rule, with_rule, with_subcommand}
 
--- an option that has to be given, with one value
+-- an option with one value, which has to be given
 abbrev pub required_option : Text → Rule
 required_option name = record (new_rule name) { long = Some name; value_names = 1; required = true }
 
+-- an option with one value, which is this one where none is given
+abbrev pub option_with : Text → Text → Rule
+option_with default name =
+    record (new_rule name) { long = Some name; value_names = 1; defaults = default ∷ [] }
+
+-- SUBCOMMAND --network N --width W
+abbrev pub network_words : Text → App
+network_words name =
+    with_rule (with_rule (new_app name) (required_option (codes "network")))
+    (required_option (codes "width"))
+
+-- run --network N --width W [--workers K] [--hand H] [--form F]
+abbrev pub run_words : App
+run_words =
+    with_rule (with_rule (with_rule (network_words (codes "run"))
+    (option_with (codes "1") (codes "workers")))
+    (option_with (codes "1") (codes "hand")))
+    (option_with (codes "report") (codes "form"))
+
 -- replay --network N --width W
 abbrev pub replay_words : App
-replay_words = with_rule (with_rule (new_app (codes "replay")) (required_option (codes "network")))
-    (required_option (codes "width"))
+replay_words = network_words (codes "replay")
+
+-- check --width W
+abbrev pub check_words : App
+check_words = with_rule (new_app (codes "check")) (required_option (codes "width"))
 
 -- show --network N --width W
 abbrev pub show_words : App
-show_words = with_rule (with_rule (new_app (codes "show")) (required_option (codes "network")))
-    (required_option (codes "width"))
+show_words = network_words (codes "show")
 
 -- the program's name, which is never one of its words, and a subcommand that has to be given
 abbrev pub renamer_words : App
@@ -27,4 +48,6 @@ renamer_words = record (new_app (codes "renamer")) {
 
 -- the whole command line
 abbrev pub command_line : App
-command_line = with_subcommand (with_subcommand renamer_words replay_words.top) show_words.top
+command_line =
+    with_subcommand (with_subcommand (with_subcommand (with_subcommand renamer_words
+    run_words.top) replay_words.top) check_words.top) show_words.top

@@ -1,4 +1,6 @@
+pub mod Choices
 pub mod CommandLine
 pub mod Net
+pub mod Offered
 pub mod Options
 pub mod Words

@@ -1,14 +1,17 @@
 -- What the words of a command line ask for, and what a refusal of them ends with.
-use Rattle.std.specs.Prelude.{◌≡◌, ◌≢◌, ℕ, List, [], ◌∷◌, Option, Some, None, ⊤, codes, decimal}
-use Rattle.clap.specs.Words.{IsAmong, Kinds, Row, Text, fault_of, first_of, subcommand_of}
+use Rattle.std.specs.Prelude.{◌≡◌, ◌≢◌, ℕ, List, [], ◌∷◌, Option, Some, None, ⊤, codes}
+use Rattle.clap.specs.Words.{IsAmong, Kinds, Row, Text, fault_of, subcommand_of}
 use Rattle.clap.specs.declared.error.ErrorKind.{ErrorKind}
 use Rattle.clap.specs.declared.error.ErrorKind.TheVariants.{DisplayHelp, OutOfMemory}
-use Rattle.cn_wiring.specs.Kinds.{kind_word}
 use Rattle.cn_wiring.specs.Widths.{IsWidth}
+use Rattle.cn_words.specs.Choices.{Names, NamesRun, NamesWidth}
 use Rattle.cn_words.specs.CommandLine.{command_line}
-use Rattle.cn_words.specs.Net.{Description}
+use Rattle.cn_words.specs.Offered.{IsOffered}
+use Rattle.cn_words.specs.Options.{IsWithin}
+use Rattle.cn_words.specs.declared.choices.ChoiceFault.{ChoiceFault}
+use Rattle.cn_words.specs.declared.choices.ChoiceFault.TheVariants as choice
 use Rattle.cn_words.specs.declared.words.Job.{Job}
-use Rattle.cn_words.specs.declared.words.Job.TheVariants.{Replay, Show}
+use Rattle.cn_words.specs.declared.words.Job.TheVariants.{Check, Replay, Run, Show}
 use Rattle.cn_words.specs.declared.words.WordsFault.{WordsFault}
 use Rattle.cn_words.specs.declared.words.WordsFault.TheVariants.{Help, Refused, Memory}
 
@@ -18,22 +21,22 @@ status_of (Help text) = 0
 status_of (Refused text) = 2
 status_of Memory = 3
 
--- the options name this network: its kind by the word for it, and its width in decimal digits
-pub record Names (options : List Row) (net : Description) : Type 0 where
-  pub kind : first_of (codes "network") options ≡ Some (kind_word net.kind)
-  pub width : first_of (codes "width") options ≡ Some (decimal net.width)
-
--- the options name no network that is built
-abbrev pub NamesNone : List Row → Type 0
-NamesNone options = (net : Description) → Names options net → ¬ IsWidth net.width
-
--- a subcommand with its options asks for this job, of a network that is built
+-- a subcommand with its options asks for this job: it is the job's, the options name what the job has
+-- and nothing else, and all of it is within the limits
 abbrev pub Asks : Option (Text × List Row) → Job → Type 0
 Asks None job = ⊥
+Asks (Some (name, options)) (Run settings) =
+    (name ≡ codes "run") × NamesRun options settings × IsWithin settings × IsOffered settings
 Asks (Some (name, options)) (Replay net) =
     (name ≡ codes "replay") × Names options net × IsWidth net.width
+Asks (Some (name, options)) (Check width) =
+    (name ≡ codes "check") × NamesWidth options width × IsWidth width
 Asks (Some (name, options)) (Show net) =
     (name ≡ codes "show") × Names options net × IsWidth net.width
+
+-- it asks for no job
+abbrev pub AsksNone : Option (Text × List Row) → Type 0
+AsksNone chosen = (job : Job) → ¬ Asks chosen job
 
 -- what clap has against the words, which is nothing where it takes them
 abbrev pub faults_in : List Text → Kinds
@@ -60,5 +63,11 @@ IsFaultBy kind Memory = ⊤
 -- what answers a subcommand with its options that asks for no job
 abbrev pub IsRefusalOf : Option (Text × List Row) → WordsFault → Type 0
 IsRefusalOf chosen (Help text) = ⊥
-IsRefusalOf chosen (Refused text) = (job : Job) → Asks chosen job → ⊥
+IsRefusalOf chosen (Refused text) = AsksNone chosen
 IsRefusalOf chosen Memory = ⊤
+
+-- what answers a fault of options
+abbrev pub IsRefusalBy : ChoiceFault → WordsFault → Type 0
+IsRefusalBy fault (Help text) = ⊥
+IsRefusalBy fault (Refused text) = fault ≢ choice.Memory
+IsRefusalBy fault Memory = ⊤

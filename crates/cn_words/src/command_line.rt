@@ -1,12 +1,13 @@
 //! The command line as clap is told of it.
 
-ghost use Rattle.std.specs.Prelude.{◌≡◌, false, codes, IfOk};
+ghost use Rattle.std.specs.Prelude.{◌≡◌, false, true, codes, IfOk};
 ghost use Rattle.clap.specs.Words.{app_of, rule_of, with_subcommand};
-ghost use Rattle.cn_words.specs.CommandLine.{command_line, renamer_words, replay_words, required_option, show_words};
+ghost use Rattle.cn_words.specs.CommandLine.{check_words, command_line, network_words, option_with};
+ghost use Rattle.cn_words.specs.CommandLine.{renamer_words, replay_words, required_option};
+ghost use Rattle.cn_words.specs.CommandLine.{run_words, show_words};
 
+use crate::help::HelpTexts;
 use clap::{Arg, Command};
-use cn_spec::limits::MOST_LEVEL;
-use cn_wiring::width_of;
 use std::alloc::{AllocError, Global};
 
 fn option<'a>(alloc: Global, name: &'a str, value: &'a str, help: &'a str) -> Arg<'a>
@@ -20,66 +21,114 @@ fn option<'a>(alloc: Global, name: &'a str, value: &'a str, help: &'a str) -> Ar
         .help(help)
 }
 
-fn network_option<'a>(alloc: Global) -> Arg<'a>
-    ensures rule { rule_of result ≡ required_option (codes "network") }
+fn option_or<'a>(
+    alloc: Global,
+    name: &'a str,
+    value: &'a str,
+    default: &'a str,
+    help: &'a str,
+) -> Arg<'a>
+    ensures rule { rule_of result ≡ option_with default.entry.now name.entry.now }
     ensures local { result.global ≡ false }
 {
-    option(
-        alloc,
-        "network",
-        "N",
-        "The kind of network: bitonic, periodic or tree",
-    )
+    Arg::new(alloc, name)
+        .long(name)
+        .value_name(value)
+        .default_value(default)
+        .help(help)
 }
 
-/// What the help says of the widths.
-pub(crate) fn widths_help(alloc: Global) -> Result<String, AllocError> {
-    let least = width_of(1);
-    let most = width_of(MOST_LEVEL);
-    format!(in alloc; "The width of the network: a power of two from {least} to {most}")
-}
-
-fn width_option<'a>(alloc: Global, help: &'a str) -> Arg<'a>
+fn width_option<'a>(alloc: Global, help: &'a HelpTexts) -> Arg<'a>
     ensures rule { rule_of result ≡ required_option (codes "width") }
     ensures local { result.global ≡ false }
 {
-    option(alloc, "width", "W", help)
+    option(alloc, "width", "W", &help.width)
 }
 
-fn replay_command<'a>(alloc: Global, widths: &'a str) -> Result<Command<'a>, AllocError>
+/// A subcommand on a network of some width.
+fn network_command<'a>(
+    alloc: Global,
+    name: &'a str,
+    help: &'a HelpTexts,
+) -> Result<Command<'a>, AllocError>
+    ensures { IfOk result (λ command. app_of command ≡ network_words name.entry.now) }
+{
+    let kinds = "The kind of network: bitonic, periodic or tree";
+    Command::new(alloc, name)
+        .arg(option(alloc, "network", "N", kinds))?
+        .arg(width_option(alloc, help))
+}
+
+fn run_command<'a>(alloc: Global, help: &'a HelpTexts) -> Result<Command<'a>, AllocError>
+    ensures { IfOk result (λ command. app_of command ≡ run_words) }
+{
+    let forms = "What is written: report or grants";
+    network_command(alloc, "run", help)?
+        .about("Reads a batch, gives the clients of each epoch their names, and prints them")
+        .after_help(&help.run)
+        .arg(option_or(alloc, "workers", "K", "1", &help.workers))?
+        .arg(option_or(alloc, "hand", "H", "1", &help.hand))?
+        .arg(option_or(alloc, "form", "F", "report", forms))
+}
+
+fn replay_command<'a>(alloc: Global, help: &'a HelpTexts) -> Result<Command<'a>, AllocError>
     ensures { IfOk result (λ command. app_of command ≡ replay_words) }
 {
-    Command::new(alloc, "replay")
-        .about("Reads a schedule of enters, steps and turns, and prints what each is answered")
-        .arg(network_option(alloc))?
-        .arg(width_option(alloc, widths))
+    let command = network_command(alloc, "replay", help)?;
+    Ok(
+        command
+            .about("Reads a schedule of enters, steps and turns, and prints what each is answered")
+            .after_help(&help.replay),
+    )
 }
 
-fn show_command<'a>(alloc: Global, widths: &'a str) -> Result<Command<'a>, AllocError>
+fn check_command<'a>(alloc: Global, help: &'a HelpTexts) -> Result<Command<'a>, AllocError>
+    ensures { IfOk result (λ command. app_of command ≡ check_words) }
+{
+    Command::new(alloc, "check")
+        .about("Reads a grant list, and prints how many names of each epoch fall to each exit")
+        .after_help(&help.check)
+        .arg(width_option(alloc, help))
+}
+
+fn show_command<'a>(alloc: Global, help: &'a HelpTexts) -> Result<Command<'a>, AllocError>
     ensures { IfOk result (λ command. app_of command ≡ show_words) }
 {
-    Command::new(alloc, "show")
-        .about("Prints where each wire of a network ends")
-        .arg(network_option(alloc))?
-        .arg(width_option(alloc, widths))
+    let command = network_command(alloc, "show", help)?;
+    Ok(
+        command
+            .about("Prints where each wire of a network ends")
+            .after_help(&help.show),
+    )
 }
 
-/// The words of the program, with one subcommand.
-fn renamer_command<'a>(alloc: Global, widths: &'a str) -> Result<Command<'a>, AllocError>
-    ensures { IfOk result (λ command. app_of command ≡ with_subcommand renamer_words replay_words.top) }
+/// The program's name, with no subcommand yet.
+fn renamer_command<'a>(alloc: Global, help: &'a HelpTexts) -> Command<'a>
+    ensures { app_of result ≡ renamer_words }
 {
-    let replay = replay_command(alloc, widths)?;
     Command::new(alloc, "renamer")
         .about("Tight renaming by counting networks")
+        .after_help(&help.renamer)
         .subcommand_required(true)
         .arg_required_else_help(true)
-        .subcommand(replay)
 }
 
-/// The whole command line, with each of its subcommands; `widths` is what its help says of the widths.
-pub(crate) fn command<'a>(alloc: Global, widths: &'a str) -> Result<Command<'a>, AllocError>
+/// The command with one more subcommand.
+fn with<'a>(command: Command<'a>, subcommand: Command<'a>) -> Result<Command<'a>, AllocError>
+    requires { (app_of subcommand).top.is_plain ≡ true }
+    ensures { IfOk result (λ whole. app_of whole
+        ≡ with_subcommand (app_of command.entry) (app_of subcommand.entry).top) }
+{
+    command.subcommand(subcommand)
+}
+
+/// The whole command line, with each of its subcommands.
+pub(crate) fn command<'a>(alloc: Global, help: &'a HelpTexts) -> Result<Command<'a>, AllocError>
     ensures { IfOk result (λ command. app_of command ≡ command_line) }
 {
-    let show = show_command(alloc, widths)?;
-    renamer_command(alloc, widths)?.subcommand(show)
+    let renamer = renamer_command(alloc, help);
+    let renamer = with(renamer, run_command(alloc, help)?)?;
+    let renamer = with(renamer, replay_command(alloc, help)?)?;
+    let renamer = with(renamer, check_command(alloc, help)?)?;
+    with(renamer, show_command(alloc, help)?)
 }

@@ -1,9 +1,12 @@
 //! What the program is asked for: networks by kind and width, and the command line.
 #![tactic(auto)]
 
+mod choices;
 mod command_line;
+mod help;
 pub mod laws;
 mod net;
+mod offered;
 mod options;
 mod words;
 

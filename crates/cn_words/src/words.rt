@@ -1,28 +1,32 @@
 //! The words of a command line, and the job that they ask for.
 
-ghost use Rattle.std.specs.Prelude.{◌≡◌, ◌≢◌, ℕ, IfErr, IfOk, MatchOption, MatchResult};
-ghost use Rattle.std.specs.Prelude.{decimal, map, option_map, string_bytes};
-ghost use Rattle.clap.specs.Words.{first_of, found_of, kind_of, rows_of, subcommand_rows_of};
-ghost use Rattle.cn_wiring.specs.declared.kind.Kind.{Kind};
-ghost use Rattle.cn_wiring.specs.Kinds.{kind_word};
-ghost use Rattle.cn_wiring.specs.Widths.{IsWidth};
-ghost use Rattle.cn_words.specs.Words.{Asks, IsFaultBy, IsFaultOf, IsJobOf, IsRefusalOf, Names, NamesNone};
-ghost use Rattle.cn_words.specs.Words.{status_of};
+ghost use Rattle.std.specs.Prelude.{◌≡◌, ◌≢◌, IfErr, IfOk, MatchResult, map, string_bytes};
+ghost use Rattle.clap.specs.Words.{kind_of, subcommand_rows_of};
+ghost use Rattle.cn_words.specs.Words.{Asks, AsksNone, IsFaultBy, IsFaultOf, IsJobOf, IsRefusalBy};
+ghost use Rattle.cn_words.specs.Words.{IsRefusalOf, status_of};
+ghost use Rattle.cn_words.specs.declared.choices.ChoiceFault.TheVariants as choice;
 ghost use Rattle.cn_words.specs.declared.words.WordsFault.TheVariants.{Memory};
 
-use crate::command_line::{command, widths_help};
-use crate::net::{Net, NetFault};
+use crate::choices::{ChoiceFault, chosen_net, chosen_width};
+use crate::command_line::command;
+use crate::help::HelpTexts;
+use crate::net::Net;
+use crate::offered::offered_options;
+use crate::options::Options;
 use clap::error::ErrorKind;
 use clap::{ArgMatches, Command};
-use cn_wiring::{Kind, is_width};
 use std::alloc::{AllocError, Global};
 use thiserror::Error;
 
 /// What the words ask for.
 #[derive(Clone, Copy, Debug, PartialEq, Eq)]
 pub enum Job {
+    /// Read a batch, give each epoch's clients their names, and write what these options ask for.
+    Run(Options),
     /// Read a schedule, and write what a core of this network answers.
     Replay(Net),
+    /// Read a grant list, and write how tight it is for a network of this width.
+    Check(u32),
     /// Write where each wire of this network ends.
     Show(Net),
 }
@@ -73,91 +77,49 @@ impl WordsFault {
         }
     }
 
-    fn of_net(alloc: Global, fault: NetFault) -> WordsFault
-        ensures { status_of result ≢ 0 }
+    fn of_choice(alloc: Global, fault: ChoiceFault) -> WordsFault
+        ensures { IsRefusalBy fault result }
     {
         match format!(in alloc; "{fault}\n") {
-            Ok(text) => WordsFault::Refused(text),
-            Err(_) => WordsFault::Memory,
+            Ok(text) if fault != ChoiceFault::Memory => WordsFault::Refused(text),
+            _ => WordsFault::Memory,
         }
     }
 }
 
-/// The kind that a word is for.
-fn kind_named(word: &str) -> Option<Kind>
-    ensures { MatchOption result ((kind : Kind) → word.now ≢ kind_word kind)
-        (λ kind. word.now ≡ kind_word kind) }
+/// The job that a subcommand with its options asks for.
+fn chosen_job(alloc: Global, matches: &ArgMatches<'_>) -> Result<Job, ChoiceFault>
+    ensures { let asked = subcommand_rows_of matches.now in
+        MatchResult result (Asks asked) (λ fault. fault ≢ choice.Memory → AsksNone asked) }
 {
-    if word == Kind::Bitonic.word() {
-        Some(Kind::Bitonic)
-    } else if word == Kind::Periodic.word() {
-        Some(Kind::Periodic)
-    } else if word == Kind::Tree.word() {
-        Some(Kind::Tree)
-    } else {
-        None
+    match matches.subcommand() {
+        Some(("run", options)) => Ok(Job::Run(offered_options(alloc, options)?)),
+        Some(("replay", options)) => Ok(Job::Replay(chosen_net(alloc, options)?)),
+        Some(("check", options)) => Ok(Job::Check(chosen_width(alloc, options)?)),
+        Some(("show", options)) => Ok(Job::Show(chosen_net(alloc, options)?)),
+        _ => Err(ChoiceFault::Subcommand),
     }
-}
-
-/// The width that a word is the decimal digits of.
-fn width_named(alloc: Global, word: &str) -> Result<Option<u32>, AllocError>
-    ensures { IfOk result (λ found. MatchOption found
-        ((width : ℕ) → IsWidth width → word.now ≢ decimal width)
-        (λ width. IsWidth width × (word.now ≡ decimal width))) }
-{
-    let Ok(width) = word.parse::<u32>() else {
-        return Ok(None);
-    };
-    let digits = width.to_string(alloc)?;
-    if is_width(width) && digits.as_str() == word {
-        Ok(Some(width))
-    } else {
-        Ok(None)
-    }
-}
-
-fn value_of<'a>(options: &ArgMatches<'a>, name: &str) -> Option<&'a str>
-    ensures { option_map (λ value. value.now) result
-        ≡ first_of name.now (rows_of (found_of options.now)) }
-{
-    options.get_str(name)
-}
-
-/// The network that the options name, if they name one that is built.
-fn chosen_net(alloc: Global, options: &ArgMatches<'_>) -> Result<Option<Net>, AllocError>
-    ensures { let given = rows_of (found_of options.now) in
-        IfOk result (λ found. MatchOption found (NamesNone given) (λ net. Names given net × IsWidth net.width)) }
-{
-    let (Some(network), Some(width)) = (value_of(options, "network"), value_of(options, "width"))
-    else {
-        return Ok(None);
-    };
-    let (Some(kind), Some(width)) = (kind_named(network), width_named(alloc, width)?) else {
-        return Ok(None);
-    };
-    Ok(Net::new(kind, width).ok())
 }
 
 fn asked_job(alloc: Global, matches: &ArgMatches<'_>) -> Result<Job, WordsFault>
     ensures { let asked = subcommand_rows_of matches.now in
         MatchResult result (Asks asked) (IsRefusalOf asked) }
 {
-    let asked = match matches.subcommand() {
-        Some(("replay", options)) => chosen_net(alloc, options)?.map(Job::Replay),
-        Some(("show", options)) => chosen_net(alloc, options)?.map(Job::Show),
-        _ => None,
-    };
-    match asked {
-        Some(job) => Ok(job),
-        None => Err(WordsFault::of_net(alloc, NetFault::Width)),
+    match chosen_job(alloc, matches) {
+        Ok(job) => Ok(job),
+        Err(fault) => Err(WordsFault::of_choice(alloc, fault)),
     }
 }
 
-fn read_words<'a>(alloc: Global, words: &'a [String], widths: &'a str) -> Result<Job, WordsFault>
+fn read_words<'a>(
+    alloc: Global,
+    words: &'a [String],
+    help: &'a HelpTexts,
+) -> Result<Job, WordsFault>
     ensures { let texts = map string_bytes words.entry.now in
         MatchResult result (IsJobOf texts) (IsFaultOf texts) }
 {
-    let command: Command<'a> = command(alloc, widths)?;
+    let command: Command<'a> = command(alloc, help)?;
     match command.try_get_matches_from(words) {
         Ok(matches) => asked_job(alloc, &matches),
         Err(error) => Err(WordsFault::of_parse(alloc, error)),
@@ -168,11 +130,11 @@ fn read_words<'a>(alloc: Global, words: &'a [String], widths: &'a str) -> Result
 /// program's name.
 ///
 /// `WordsFault::Help` answers a request for help, and `WordsFault::Refused` words that clap does not
-/// take, or that name a network that is not built.
+/// take, or that name what is not built, is outside its limits, or is not run by this build.
 pub fn parse_words(alloc: Global, words: Vec<String>) -> Result<Job, WordsFault>
     ensures ok { IfOk result (IsJobOf (map string_bytes words.items)) }
     ensures err { IfErr result (IsFaultOf (map string_bytes words.items)) }
 {
-    let widths = widths_help(alloc)?;
-    read_words(alloc, words.as_slice(), &widths)
+    let help = HelpTexts::new(alloc)?;
+    read_words(alloc, words.as_slice(), &help)
 }

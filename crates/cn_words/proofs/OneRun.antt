@@ -1,0 +1,42 @@
+-- Options name one run at most.
+use Rattle.std.proofs.Common.{◌≡◌, ◌<◌, ◌^◌, ◌↔◌, ℕ, List, Result, Ok, Err, MatchResult, codes, arith, lit<, subst}
+use Rattle.std.specs.Prelude.{IsErr, IsErrOf}
+use Rattle.clap.specs.Words.{Row}
+use Rattle.cn_spec.specs.declared.limits.TheConstants.{MOST_HAND, MOST_WORKERS}
+use Rattle.cn_words.specs.Choices.{GivesNumber, NamesNoRun, NamesRun}
+use Rattle.cn_words.specs.Options.{IsHand, IsWithin, IsWorkers, Settings}
+use Rattle.cn_words.specs.declared.options.OptionFault.{OptionFault}
+use Rattle.cn_words.specs.declared.options.OptionFault.TheVariants.{Hand, Workers}
+use Rattle.cn_words.proofs.WordNumbers.{one_number}
+
+pub few_workers : (workers : ℕ) → IsWorkers workers → workers < 2 ^ 32
+few_workers workers within =
+    let all : MOST_WORKERS < 2 ^ 32 = lit< tt in
+    omega (arith, within.1)
+
+pub small_hand : (hand : ℕ) → IsHand hand → hand < 2 ^ 32
+small_hand hand within =
+    let all : MOST_HAND < 2 ^ 32 = lit< tt in
+    omega (arith, within.1)
+
+-- where these numbers are refused, no settings that are named are within their limits
+pub refused_numbers : (given : List Row) (workers hand : ℕ) (answer : Result Settings OptionFault) (fault : OptionFault)
+    → GivesNumber given (codes "workers") workers → GivesNumber given (codes "hand") hand
+    → (IsErrOf answer Workers ↔ (¬ IsWorkers workers)) → (IsErrOf answer Hand ↔ (IsWorkers workers × (¬ IsHand hand)))
+    → answer ≡ Err fault → NamesNoRun given
+refused_numbers given workers hand answer Workers gives_workers gives_hand few small is settings names within =
+    let same = one_number given (codes "workers") settings.workers workers (names.workers, few_workers settings.workers within.1) gives_workers in
+    few.0 is (subst IsWorkers same within.1)
+refused_numbers given workers hand answer Hand gives_workers gives_hand few small is settings names within =
+    let same = one_number given (codes "hand") settings.hand hand (names.hand, small_hand settings.hand within.2) gives_hand in
+    (small.0 is).1 (subst IsHand same within.2)
+
+-- an error is an answer wherever nothing is asked for
+pub refused : {T E : Type 0} (Is : T → Type 0) (Unless : E → Type 0) (Nothing : Type 0) (r : Result T E) → IsErr r → Nothing → MatchResult r Is (λ e. Unless e → Nothing)
+refused Is Unless Nothing (Ok x) is nothing = cc
+refused Is Unless Nothing (Err e) is nothing = λ unless. nothing
+
+pub one_count : (given : List Row) (one other : Settings) → NamesRun given one → IsWithin one → NamesRun given other → IsWithin other → one.workers ≡ other.workers
+one_count given one other names within names_other within_other =
+    one_number given (codes "workers") one.workers other.workers
+    (names.workers, few_workers one.workers within.1) (names_other.workers, few_workers other.workers within_other.1)

@@ -1,0 +1,263 @@
+//! What the help tells of the formats of each subcommand, its limits and its statuses.
+
+use crate::offered::OFFER_HELP;
+use cn_spec::limits::{MOST_CLIENTS, MOST_HAND, MOST_LEVEL, MOST_RECORDS, MOST_WORKERS};
+use cn_wiring::width_of;
+use std::alloc::{AllocError, Global};
+
+/// The texts of help that the command line borrows.
+#[derive(Drop)]
+pub(crate) struct HelpTexts {
+    /// Of the whole program.
+    pub(crate) renamer: String,
+    /// Of the subcommands.
+    pub(crate) run: String,
+    pub(crate) replay: String,
+    pub(crate) check: String,
+    pub(crate) show: String,
+    /// Of their options.
+    pub(crate) width: String,
+    pub(crate) workers: String,
+    pub(crate) hand: String,
+}
+
+impl HelpTexts {
+    /// All of them, with the limits of the service.
+    pub(crate) fn new(alloc: Global) -> Result<HelpTexts, AllocError> {
+        Ok(HelpTexts {
+            renamer: String::from_str(alloc, RENAMER)?,
+            run: run_help(alloc)?,
+            replay: replay_help(alloc)?,
+            check: check_help(alloc)?,
+            show: String::from_str(alloc, SHOW)?,
+            width: width_help(alloc)?,
+            workers: format!(in alloc; "How many workers walk each epoch: 1 to {MOST_WORKERS}")?,
+            hand: format!(in alloc; "How many tokens in hand each worker has: 1 to {MOST_HAND}")?,
+        })
+    }
+}
+
+fn width_help(alloc: Global) -> Result<String, AllocError> {
+    let least = width_of(1);
+    let most = width_of(MOST_LEVEL);
+    format!(in alloc; "The width of the network: a power of two from {least} to {most}")
+}
+
+const RENAMER: &str = "\
+The help of each command shows an input and what is printed for it.
+
+Status:
+  0  done
+  1  the input is refused
+  2  the command line is refused
+  3  not finished: no memory, or a write failed
+  4  the grant list is not tight";
+
+// ---- run
+
+fn run_help(alloc: Global) -> Result<String, AllocError> {
+    let mut text = format!(in alloc;
+        "\
+Input: a batch, as CSV on standard input. After the header, each record is a
+client: the epoch that it is in, its identity, and the entry that it comes to.
+All are numbers below 2^64 in decimal digits. The records of an epoch stand
+together, and the numbers of epochs rise. Entries are 0 to W-1, and a tree has
+entry 0 alone. An epoch has at most {MOST_CLIENTS} clients, and a batch at most
+{MOST_RECORDS} records besides the header.
+
+    epoch,client,entry
+    1,17,3
+    1,5,3
+    1,99,3
+    1,23,3
+    1,42,3
+"
+    )?;
+    text.push_str(RUN_OUTPUT)?;
+    text.push_str(OFFER_HELP)?;
+    text.push_str(RUN_END)?;
+    Ok(text)
+}
+
+const RUN_OUTPUT: &str = "
+Output for it of `renamer run --network bitonic --width 4`, a report:
+
+    network bitonic width 4 balancers 6 depth 3
+    epoch 1 clients 5
+    exit 0 count 2
+    exit 1 count 1
+    exit 2 count 1
+    exit 3 count 1
+    name 0 client 17
+    name 1 client 5
+    name 2 client 99
+    name 3 client 23
+    name 4 client 42
+    end epochs 1 grants 5
+
+Output with `--form grants`, a grant list for `renamer check`:
+
+    epoch,client,name
+    1,17,0
+    1,5,1
+    1,99,2
+    1,23,3
+    1,42,4
+
+The clients of an epoch are shared out among K workers. Each worker brings in
+its next clients until it has H tokens in hand, walks them all out, and goes on
+so. With one worker the batch and H settle the output; with several it is open
+which client gets which name.
+
+The report is held whole before it is written: a run that does not end well
+prints nothing.
+";
+
+const RUN_END: &str = "
+A batch is refused at its first wrong record, by a line on standard error:
+
+    renamer: record 2: Duplicate
+
+Records count from 0: the header is record 0. An empty line has no number.
+
+Status:
+  0  done
+  1  the batch is refused
+  2  the command line is refused
+  3  not finished: no memory, or a write failed";
+
+// ---- replay
+
+fn replay_help(alloc: Global) -> Result<String, AllocError> {
+    let mut text = format!(in alloc;
+        "\
+Input: a schedule, as CSV on standard input. After the header, each record is a
+command; client C and wire U are numbers below 2^64 in decimal digits.
+
+  enter,C,U  brings client C in on entry U
+  step,C,    takes client C past its next balancer, or out with a name
+  turn,,     ends the epoch, where nobody is inside
+
+An epoch has at most {MOST_CLIENTS} clients, and a schedule at most {MOST_RECORDS}
+records besides the header.
+
+    op,client,wire
+    enter,7,0
+    turn,,
+    step,7,
+    step,7,
+    turn,,
+"
+    )?;
+    text.push_str(REPLAY_OUTPUT)?;
+    Ok(text)
+}
+
+const REPLAY_OUTPUT: &str = "
+Output for it of `renamer replay --network bitonic --width 2`:
+
+    network bitonic width 2 balancers 1 depth 1
+    enter 7 wire 0
+    refused turn NotQuiet 1
+    pass 7 balancer 0 number 0 wire 2
+    leave 7 exit 0 visit 0 name 0
+    turn epoch 0 clients 1
+    exit 0 count 1
+    exit 1 count 0
+    name 0 client 7
+    end epoch 1 entered 0 inside 0
+
+A command that is refused changes nothing, and the output tells why:
+
+  NoSuchEntry  an enter on a wire that is no entry
+  AlreadyIn    an enter of a client that has entered in this epoch
+  EpochFull    an enter into an epoch that has all the clients it may have
+  Stranger     a step of a client that has not entered in this epoch
+  HasName M    a step of a client that is out, and has name M
+  NotQuiet S   a turn while S clients are inside
+
+The output is held whole before it is written. A schedule is refused at its
+first wrong record, by a line on standard error:
+
+    renamer: record 2: Op
+
+Records count from 0: the header is record 0. An empty line has no number.
+
+Status:
+  0  done, also where commands are refused
+  1  the schedule is refused
+  2  the command line is refused
+  3  not finished: no memory, or a write failed";
+
+// ---- check
+
+fn check_help(alloc: Global) -> Result<String, AllocError> {
+    let mut text = format!(in alloc;
+        "\
+Input: a grant list, as CSV on standard input. After the header, each record is
+a grant: an epoch, a client of it, and the name that this client has. All are
+numbers below 2^64 in decimal digits. The records of an epoch stand together,
+and the numbers of epochs rise. A list has at most {MOST_RECORDS} records besides
+the header. It is tight where in each epoch no client and no name stands twice,
+and the k grants have the names 0 to k-1.
+
+    epoch,client,name
+    1,17,0
+    1,5,1
+    1,99,2
+    1,23,3
+    1,42,4
+"
+    )?;
+    text.push_str(CHECK_OUTPUT)?;
+    Ok(text)
+}
+
+const CHECK_OUTPUT: &str = "
+Output for it of `renamer check --width 4`; the counts tell how many names of
+the epoch have the remainders 0, 1, 2 and 3 when divided by the width:
+
+    epoch 1 clients 5 counts 2 1 1 1
+    tight epochs 1 grants 5
+
+A list that is not tight has no output, and one such line on standard error:
+
+    renamer: flaw: DuplicateClient record 2
+    renamer: flaw: DuplicateName record 3
+    renamer: flaw: Gap epoch 1 name 2
+
+A list is refused at its first record that is no grant in its place:
+
+    renamer: record 2: Form
+
+Records count from 0: the header is record 0. An empty line has no number.
+
+Status:
+  0  the list is tight
+  1  the list is refused
+  2  the command line is refused
+  3  not finished: no memory, or a write failed
+  4  the list is not tight";
+
+// ---- show
+
+const SHOW: &str = "\
+No input is read. Output of `renamer show --network tree --width 4`:
+
+    network tree width 4 balancers 3 depth 2
+    wire 0 balancer 0
+    wire 1 balancer 1
+    wire 2 balancer 2
+    wire 3 exit 0
+    wire 4 exit 2
+    wire 5 exit 1
+    wire 6 exit 3
+    end wires 7
+
+The first wires are the entries: W of them, or one of a tree. After them come
+the two outputs of balancer 0, then those of balancer 1, and so on.
+
+Status:
+  0  done
+  2  the command line is refused
+  3  not finished: no memory, or a write failed";
