@@ -1,1 +1,3 @@
 pub mod OneText
+pub mod Reports
+pub mod Walks

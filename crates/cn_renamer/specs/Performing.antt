@@ -1,6 +1,7 @@
 -- What the program writes, and what it ends with.
 use Rattle.std.specs.Prelude.{ℕ, ◌≡◌, List, MatchResult, IfErr, Option, Result, Ok, Err, string_bytes}
 use Rattle.clap.specs.Words.{Text}
+use Rattle.cn_wiring.specs.Widths.{IsWidth}
 use Rattle.cn_report.specs.Writing.Written.{HasWritten, Written, Nothing, written_by}
 use Rattle.cn_words.specs.Words.{IsFaultOf, IsJobOf}
 use Rattle.cn_words.specs.declared.words.Job.{Job}
@@ -8,41 +9,51 @@ use Rattle.cn_words.specs.declared.words.Job.TheVariants as job
 use Rattle.cn_words.specs.declared.words.WordsFault.{WordsFault}
 use Rattle.cn_words.specs.declared.words.WordsFault.TheVariants as words
 use Rattle.cn_renamer.specs.declared.fault.Fault.{Fault}
-use Rattle.cn_renamer.specs.declared.fault.Fault.TheVariants.{Refused, Runtime, Replay, Output}
+use Rattle.cn_renamer.specs.declared.fault.Fault.TheVariants.{Refused, Runtime, Serve, Replay, Check, Output}
 use Rattle.cn_renamer.specs.declared.output_fault.OutputFault.TheVariants as output
+use Rattle.cn_renamer.specs.Check.{IsCheckFault, IsCheckOfKnown, status_of_check, until_check}
 use Rattle.cn_renamer.specs.Outputs.{until_output}
 use Rattle.cn_renamer.specs.Replay.{IsReplayFault, IsReplayOfKnown, status_of_replay, until_replay}
+use Rattle.cn_renamer.specs.Serve.{IsReportOfKnown, IsServeFault, status_of_serve, until_serve}
 use Rattle.cn_renamer.specs.Show.{IsWiringOf}
+
+-- networks are built of the width that a job has; those of a replay, a run and a wiring that is shown are by themselves
+abbrev pub IsBuiltFor : Job → Type 0
+IsBuiltFor (job.Check width) = IsWidth width
+IsBuiltFor other = Unit {0}
 
 -- the text of a job, by the bytes that its reader has left, where they are known
 abbrev pub IsTextOf : Job → Option (List ℕ) → List ℕ → Type 0
+IsTextOf (job.Run options) known text = IsReportOfKnown options.net known text
 IsTextOf (job.Replay net) known text = IsReplayOfKnown net known text
+IsTextOf (job.Check width) known text = IsCheckOfKnown width known text
 IsTextOf (job.Show net) known text = IsWiringOf net text
 
 -- how much of its text a job has written that met a fault
 abbrev pub until_fault : Fault → Written
 until_fault (Refused text) = Nothing
 until_fault (Runtime fault) = Nothing
+until_fault (Serve fault) = until_serve fault
 until_fault (Replay fault) = until_replay fault
+until_fault (Check fault) = until_check fault
 until_fault (Output fault) = until_output fault
 
 -- the runtime refused arguments or random words, or the memory for them
 abbrev pub IsOfRuntime : Fault → Type 0
-IsOfRuntime (Refused text) = ⊥
 IsOfRuntime (Runtime fault) = Unit {0}
-IsOfRuntime (Replay fault) = ⊥
 IsOfRuntime (Output fault) = fault ≡ output.Memory
+IsOfRuntime other = ⊥
 
--- the faults that a job may end with: a replay its own, or that of the source of its random words; showing a wiring its own
+-- the faults that a job may end with: its own, and where it asks for random words that of their source
 abbrev pub MayEnd : Job → Option (List ℕ) → Fault → Type 0
+MayEnd (job.Run options) known (Serve fault) = IsServeFault options.net known fault
+MayEnd (job.Run options) known other = IsOfRuntime other
 MayEnd (job.Replay net) known (Replay fault) = IsReplayFault known fault
-MayEnd (job.Replay net) known (Refused text) = ⊥
-MayEnd (job.Replay net) known (Runtime fault) = Unit {0}
-MayEnd (job.Replay net) known (Output fault) = fault ≡ output.Memory
+MayEnd (job.Replay net) known other = IsOfRuntime other
+MayEnd (job.Check width) known (Check fault) = IsCheckFault known fault
+MayEnd (job.Check width) known other = ⊥
 MayEnd (job.Show net) known (Output fault) = Unit {0}
-MayEnd (job.Show net) known (Refused text) = ⊥
-MayEnd (job.Show net) known (Runtime fault) = ⊥
-MayEnd (job.Show net) known (Replay fault) = ⊥
+MayEnd (job.Show net) known other = ⊥
 
 -- the text that answers words, by what is read of them
 abbrev pub IsTextAsked : Result Job WordsFault → Option (List ℕ) → List ℕ → Type 0
@@ -65,11 +76,14 @@ pub record HasRun {U W : Type 0} (texts : List Text) (known : Option (List ℕ))
   pub written : HasWritten contents (IsTextAsked asked known) (written_by until_fault answer) old new
   pub ends : IfErr answer (MayEndAsked asked known)
 
--- the status that a fault ends the program with: input that is refused 1, words that are refused 2, what could not be done 3
+-- the status that a fault ends the program with: input that is refused 1, words that are refused 2, what could not be done 3,
+-- a list that is not tight 4
 abbrev pub status_of : Fault → ℕ
 status_of (Refused text) = 2
 status_of (Runtime fault) = 3
+status_of (Serve fault) = status_of_serve fault
 status_of (Replay fault) = status_of_replay fault
+status_of (Check fault) = status_of_check fault
 status_of (Output fault) = 3
 
 -- the status of the program by its answer: 0 where all is done

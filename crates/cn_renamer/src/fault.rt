@@ -3,12 +3,14 @@
 ghost use Rattle.std.specs.Prelude.{◌≡◌, ◌↔◌, true};
 ghost use Rattle.std.specs.Result.{is_ok};
 ghost use Rattle.cn_renamer.specs.Performing.{IsOfRuntime, status_by, status_of};
-ghost use Rattle.cn_renamer.specs.declared.fault.Fault.TheVariants.{Output, Replay};
+ghost use Rattle.cn_renamer.specs.declared.fault.Fault.TheVariants.{Check, Output, Replay, Serve};
 ghost use Rattle.cn_renamer.specs.declared.output_fault.OutputFault.TheVariants.{Memory};
 
+use crate::checking::CheckFault;
 use crate::output_fault::OutputFault;
 use crate::replaying::ReplayFault;
 use crate::runtime::RuntimeFault;
+use crate::serve_fault::ServeFault;
 use std::alloc::AllocError;
 use std::io::{self, Write};
 use thiserror::Error;
@@ -22,9 +24,15 @@ pub enum Fault {
     /// The runtime refuses what the program needs.
     #[error(transparent)]
     Runtime(RuntimeFault),
+    /// The batch was refused, or its report was not written whole.
+    #[error(transparent)]
+    Serve(ServeFault),
     /// The schedule was refused, or the replay was not written whole.
     #[error(transparent)]
     Replay(ReplayFault),
+    /// The grant list is not tight, or what it tells was not written whole.
+    #[error(transparent)]
+    Check(CheckFault),
     /// The wiring or the help was not written whole, or there was not the memory to read the words.
     #[error(transparent)]
     Output(OutputFault),
@@ -32,16 +40,27 @@ pub enum Fault {
 
 impl Fault {
     /// The status with which the program ends: 1 for input that is refused, 2 for words that are refused, 3 for want of
-    /// memory, a runtime that refuses what the program needs, and a write that failed. It is never 0.
+    /// memory, a runtime that refuses what the program needs, and a write that failed, 4 for a grant list that is not tight.
+    /// It is never 0.
     pub fn status(&self) -> u8
         ensures { result ≡ status_of self.now }
     {
         match self {
             Fault::Refused(_) => 2,
             Fault::Runtime(fault) => fault.status(),
+            Fault::Serve(fault) => fault.status(),
             Fault::Replay(fault) => fault.status(),
+            Fault::Check(fault) => fault.status(),
             Fault::Output(fault) => fault.status(),
         }
+    }
+}
+
+impl From<ServeFault> for Fault {
+    ghost from_gives = { λ fault told. told ≡ Serve fault };
+
+    fn from(fault: ServeFault) -> Fault {
+        Fault::Serve(fault)
     }
 }
 
@@ -50,6 +69,14 @@ impl From<ReplayFault> for Fault {
 
     fn from(fault: ReplayFault) -> Fault {
         Fault::Replay(fault)
+    }
+}
+
+impl From<CheckFault> for Fault {
+    ghost from_gives = { λ fault told. told ≡ Check fault };
+
+    fn from(fault: CheckFault) -> Fault {
+        Fault::Check(fault)
     }
 }
 

@@ -1,20 +1,26 @@
 //! The calls of the program: what each of its jobs writes.
 #![tactic(auto)]
 
+mod checking;
 mod fault;
 pub mod laws;
 mod output_fault;
 mod performing;
 mod replaying;
 mod runtime;
+mod serve_fault;
+mod serving_by_core;
 mod showing;
 mod writing;
 
-pub use cn_report::{ScheduleCause, ScheduleFault};
-pub use cn_words::{Job, Net, NetFault, WordsFault, parse_words};
+pub use checking::{CheckFault, check};
+pub use cn_report::{BatchCause, BatchFault, Flaw, ScheduleCause, ScheduleFault};
+pub use cn_words::{Form, Job, Net, NetFault, OptionFault, Options, WordsFault, parse_words};
 pub use fault::{Fault, end};
 pub use output_fault::OutputFault;
 pub use performing::{perform, run};
 pub use replaying::{ReplayFault, replay};
 pub use runtime::RuntimeFault;
+pub use serve_fault::ServeFault;
+pub use serving_by_core::serve_by_core;
 pub use showing::{ShowFault, show};

@@ -2,11 +2,13 @@
 
 ghost use Rattle.std.specs.Prelude.{IfErr, map, string_bytes};
 ghost use Rattle.cn_report.specs.Writing.Written.{HasWritten, written_by};
-ghost use Rattle.cn_renamer.specs.Performing.{HasRun, IsTextOf, MayEnd, until_fault};
+ghost use Rattle.cn_renamer.specs.Performing.{HasRun, IsBuiltFor, IsTextOf, MayEnd, until_fault};
 
+use crate::checking::check;
 use crate::fault::Fault;
 use crate::output_fault::OutputFault;
 use crate::replaying::replay;
+use crate::serving_by_core::serve_by_core;
 use crate::showing::show;
 use crate::writing::write_text;
 use cn_words::{Job, WordsFault, parse_words};
@@ -17,6 +19,8 @@ use std::random::RandomSource;
 
 /// Does a job: reads what it reads, and writes its text. Random words are asked for only by a job that keeps clients.
 ///
+/// The width of a check is one that networks have ([`cn_wiring::is_width`]), as [`parse_words`] answers it.
+///
 /// # Errors
 /// That of the job's own call; or that of the source of random words, and then nothing was written.
 pub fn perform<R: Read + Drop, W: Write, S: RandomSource>(
@@ -26,15 +30,23 @@ pub fn perform<R: Read + Drop, W: Write, S: RandomSource>(
     writer: &mut W,
     source: &S,
 ) -> Result<(), Fault>
+    requires { IsBuiltFor job }
     ensures written { let Is = IsTextOf job (R.remaining reader) in
         HasWritten W.contents Is (written_by until_fault result) writer.old writer.new }
     ensures ends { IfErr result (MayEnd job (R.remaining reader)) }
 {
     match job {
+        Job::Run(options) => {
+            let state = RandomState::new(source)?;
+            let names_state = RandomState::new(source)?;
+            let served = serve_by_core(alloc, reader, writer, &options, state, names_state);
+            Ok(served?)
+        }
         Job::Replay(net) => {
             let state = RandomState::new(source)?;
             Ok(replay(alloc, reader, writer, &net, state)?)
         }
+        Job::Check(width) => Ok(check(alloc, reader, writer, width)?),
         Job::Show(net) => Ok(show(alloc, writer, &net)?),
     }
 }

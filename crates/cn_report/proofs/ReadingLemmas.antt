@@ -12,5 +12,6 @@ pub mod RecordFields
 pub mod RecordLists
 pub mod Results
 pub mod ScheduleRecords
+pub mod ServableEpochs
 pub mod TightFacts
 pub mod UniqueBatch

@@ -91,7 +91,7 @@ all_more : (P : BatchEpoch → Type 0) (es : List BatchEpoch) (e : BatchEpoch) �
 all_more P [] e all last = (last, tt)
 all_more P (x ∷ es) e all last = (all.0, all_more P es e all.1 last)
 
-rising_more : (es : List BatchEpoch) (e : BatchEpoch) → AreRising es → AllByRecursion (λ x. x.number < e.number) es → AreRising (es ++ e ∷ [])
+pub rising_more : (es : List BatchEpoch) (e : BatchEpoch) → AreRising es → AllByRecursion (λ x. x.number < e.number) es → AreRising (es ++ e ∷ [])
 unfolding AreRising
 rising_more [] e rising below = (tt, tt)
 rising_more (x ∷ es) e rising below = (all_more (λ y. x.number < y.number) es e rising.0 below.0, rising_more es e rising.1 below.1)
@@ -117,7 +117,7 @@ over_epochs g arrivals held = by g.latest.clients.items refl
     })
 
 -- all of them are below a greater number
-over_below : (g : Gathering) (n : ℕ) → g.latest.number < n → AllByRecursion (λ x. x.number < g.latest.number) g.over.items → AllByRecursion (λ x. x.number < n) (over_after g)
+pub over_below : (g : Gathering) (n : ℕ) → g.latest.number < n → AllByRecursion (λ x. x.number < g.latest.number) g.over.items → AllByRecursion (λ x. x.number < n) (over_after g)
 over_below g n h below = by (leb_tells 1 (length g.latest.clients.items))
   where
     by : ((leb 1 (length g.latest.clients.items) ≡ true) × (1 ≤ length g.latest.clients.items)) ⊎ ((leb 1 (length g.latest.clients.items) ≡ false) × (length g.latest.clients.items < 1))

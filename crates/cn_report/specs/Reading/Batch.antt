@@ -1,9 +1,11 @@
 -- Which records are a batch, and what is wrong with those that are none.
-use Rattle.std.specs.Prelude.{ℕ, ◌≡◌, ◌<◌, ◌⊎◌, ◌∷◌, [], Bool, List, drop, length, map, Option, Some, None, Result, MatchResult, codes, if◌then◌else◌, ⊤}
+use Rattle.std.specs.Prelude.{ℕ, ◌≡◌, ◌<◌, ◌≤◌, ◌⊎◌, ◌∷◌, [], All, Bool, List, drop, length, map, Option, Some, None, Result, MatchResult, codes, if◌then◌else◌, ⊤}
 use Rattle.std.specs.List.{AllByRecursion, flat_map}
 use Rattle.std.specs.Cmp.Lexicographic.{pointwise}
 use Rattle.std.specs.Str.{bytes_eq}
 use Rattle.cn_core.specs.declared.client.Client.{Client}
+use Rattle.cn_spec.specs.Sums.{times}
+use Rattle.cn_spec.specs.declared.limits.TheConstants.{MOST_CLIENTS}
 use Rattle.cn_report.specs.Reading.Arrival.{arrival_in, arrivals_in, spelled_cause}
 use Rattle.cn_report.specs.Reading.Faults.{IsClean, IsFirstFault, cause_by}
 use Rattle.cn_report.specs.Reading.Records.{Record}
@@ -71,6 +73,19 @@ pub record AreEpochs (epochs : List BatchEpoch) (arrivals : List Arrival) : Type
   pub rising : AreRising epochs
   pub some : AllByRecursion (λ e. 0 < length e.clients.items) epochs
   pub spells : flat_map arrivals_of epochs ≡ arrivals
+
+-- these clients may come in one epoch to a network with so many entries: no more than an epoch takes, each by one of the
+-- entries, and none twice
+pub record MayCome (entries : ℕ) (clients : List Client) : Type 0 where
+  pub few : length clients ≤ MOST_CLIENTS
+  pub within : All (λ c. c.entry < entries) clients
+  pub once : (client : ℕ) → times client (map (λ c. c.id) clients) ≤ 1
+
+-- these epochs can be served, one after another: the numbers rise, each has some client, and its clients may come
+pub record AreServable (entries : ℕ) (epochs : List BatchEpoch) : Type 0 where
+  pub rising : AreRising epochs
+  pub some : All (λ e. 0 < length e.clients.items) epochs
+  pub come : All (λ e. MayCome entries e.clients.items) epochs
 
 -- the records are a batch of these epochs: none has a cause, and the epochs spell those after the header
 pub record IsBatch (entries : ℕ) (rows : List Record) (epochs : List BatchEpoch) : Type 0 where

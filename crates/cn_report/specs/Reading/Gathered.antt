@@ -4,7 +4,7 @@ use Rattle.std.specs.List.{AllByRecursion, flat_map, list_any}
 use Rattle.cn_core.specs.declared.client.Client.{Client}
 use Rattle.cn_spec.specs.declared.limits.TheConstants.{MOST_CLIENTS, MOST_RECORDS}
 use Rattle.cn_report.specs.Reading.Arrival.{last_epoch}
-use Rattle.cn_report.specs.Reading.Batch.{AreRising, arrivals_of}
+use Rattle.cn_report.specs.Reading.Batch.{AreRising, AreServable, MayCome, arrivals_of}
 use Rattle.cn_report.specs.declared.reading.arrival.Arrival.{Arrival}
 use Rattle.cn_report.specs.declared.reading.batch_fault.BatchCause.{BatchCause}
 use Rattle.cn_report.specs.declared.reading.batch_fault.BatchCause.TheVariants.{Duplicate, EpochFull, BatchFull}
@@ -23,6 +23,14 @@ pub record Holds (g : Gathering) (arrivals : List Arrival) : Type 0 where
 pub record IsGathered (g : Gathering) (arrivals : List Arrival) : Type 0 where
   pub holds : Holds g arrivals
   pub last : last_epoch arrivals ≡ g.latest.number
+
+-- what the gathering keeps whatever was read: the epochs that are over can be served, and the clients of the latest, whose
+-- number is greater, may come
+pub record Keeps (entries : ℕ) (g : Gathering) : Type 0 where
+  pub over : AreServable entries g.over.items
+  pub below : AllByRecursion (λ e. e.number < g.latest.number) g.over.items
+  pub latest : MayCome entries g.latest.clients.items
+  pub standing : g.standing.keys ≡ map (λ c. c.id) g.latest.clients.items
 
 -- the epochs that are over once the latest is
 abbrev pub over_after : Gathering → List BatchEpoch

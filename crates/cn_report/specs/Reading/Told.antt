@@ -29,10 +29,13 @@ told_epoch width grants e = (e, length (of_epoch e grants), counts_of width (map
 abbrev pub plain_tight : TightEpoch → ℕ × ℕ × List ℕ
 plain_tight epoch = (epoch.number, epoch.clients, epoch.counts.items)
 
+-- what the records tell of their epochs, in order
+abbrev pub told_epochs : ℕ → List Record → List (ℕ × ℕ × List ℕ)
+told_epochs width rows = map (told_epoch width (grants_in (drop 1 rows))) (epoch_numbers (grants_in (drop 1 rows)))
+
 -- these are the epochs of the records
 abbrev pub IsTold : ℕ → List Record → List TightEpoch → Type 0
-IsTold width rows epochs =
-    map plain_tight epochs ≡ map (told_epoch width (grants_in (drop 1 rows))) (epoch_numbers (grants_in (drop 1 rows)))
+IsTold width rows epochs = map plain_tight epochs ≡ told_epochs width rows
 
 -- what these records answer: what a tight list tells of them, or their flaw
 abbrev pub AnswersTight : ℕ → List Record → Result Tight Flaw → Type 0

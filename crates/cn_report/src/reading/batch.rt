@@ -5,8 +5,8 @@ ghost use Rattle.std.specs.Bool.{MatchBool};
 ghost use Rattle.cn_spec.specs.declared.limits.TheConstants.{MOST_RECORDS};
 ghost use Rattle.cn_report.specs.declared.reading.arrival.Arrival.{Arrival};
 ghost use Rattle.cn_report.specs.Reading.Arrival.{arrival_cause, arrival_in, spelled_cause};
-ghost use Rattle.cn_report.specs.Reading.Batch.{AnswersBatch, IsBatchFault, header_cause};
-ghost use Rattle.cn_report.specs.Reading.Gathered.{IsGathered};
+ghost use Rattle.cn_report.specs.Reading.Batch.{AnswersBatch, AreServable, IsBatchFault, header_cause};
+ghost use Rattle.cn_report.specs.Reading.Gathered.{IsGathered, Keeps};
 ghost use Rattle.cn_report.specs.Reading.Records.{HasRead, IsPlain, Record, records_of};
 
 use crate::reading::arrival::arrival_of;
@@ -63,6 +63,7 @@ fn take_arrival<R: Read>(
         → ((fields : Record) × HasRead R.remaining rows.new text (before ++ fields ∷ []) × (spelled_cause entries arrivals (arrival_in fields) ≡ Some cause))
         ⊎ (cause ≡ BatchCause.Read) ⊎ (cause ≡ BatchCause.Memory)) }
     ensures few { IfOk result (λ found. found ≡ true → at ≤ MOST_RECORDS) }
+    ensures keeps { OnOk result (Keeps entries gathering.old → Keeps entries gathering.new) }
 {
     if !next_row(rows, row)? {
         return Ok(false);
@@ -83,8 +84,9 @@ fn take_arrivals<R: Read>(
     state: RandomState,
 ) -> Result<Batch, BatchFault>
     requires { IsPlain rows.old }
-    ensures { (text : List ℕ) → HasRead R.remaining rows.old text []
+    ensures answer { (text : List ℕ) → HasRead R.remaining rows.old text []
         → AnswersBatch entries (records_of text) result }
+    ensures fits { IfOk result (λ batch. AreServable entries batch.epochs.items) }
 {
     let mut gathering = Gathering::new(alloc, state);
     if let Err(cause) = take_header(rows, row) {
@@ -110,7 +112,8 @@ fn take_arrivals<R: Read>(
 }
 
 /// The epochs of a batch: a header `epoch,client,entry`, and then a record of three numbers for each client, as `csv`
-/// reads them. An epoch is a run of records of one number, and the numbers rise.
+/// reads them. An epoch is a run of records of one number, and the numbers rise. Whatever the reader gives, the epochs are
+/// such as a network with `entries` entries can serve.
 ///
 /// # Errors
 ///
@@ -122,7 +125,8 @@ pub fn read_batch<R: Read + Drop>(
     entries: u32,
     state: RandomState,
 ) -> Result<Batch, BatchFault>
-    ensures { IfSome (R.remaining reader) (λ text. AnswersBatch entries (records_of text) result) }
+    ensures answer { IfSome (R.remaining reader) (λ text. AnswersBatch entries (records_of text) result) }
+    ensures fits { IfOk result (λ batch. AreServable entries batch.epochs.items) }
 {
     let mut rows = open_rows(alloc, reader);
     let mut row = ByteRecord::new(alloc);

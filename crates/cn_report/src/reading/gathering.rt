@@ -1,10 +1,10 @@
 //! The epochs of a batch, as its records come.
 
-ghost use Rattle.std.specs.Prelude.{◌≡◌, ◌≤◌, ◌+◌, ◌⊎◌, ◌∷◌, ◌++◌, [], List, None, Some, OnOk, IfErr, IfOk, length};
+ghost use Rattle.std.specs.Prelude.{◌≡◌, ℕ, ◌≤◌, ◌+◌, ◌⊎◌, ◌∷◌, ◌++◌, [], List, None, Some, OnOk, IfErr, IfOk, length};
 ghost use Rattle.cn_report.specs.declared.reading.arrival.Arrival.{Arrival};
 ghost use Rattle.cn_report.specs.Reading.Arrival.{arrival_cause};
-ghost use Rattle.cn_report.specs.Reading.Batch.{AreEpochs};
-ghost use Rattle.cn_report.specs.Reading.Gathered.{Holds, IsGathered, joining_cause, over_after};
+ghost use Rattle.cn_report.specs.Reading.Batch.{AreEpochs, AreServable};
+ghost use Rattle.cn_report.specs.Reading.Gathered.{Holds, IsGathered, Keeps, joining_cause, over_after};
 
 use crate::reading::arrival::Arrival;
 use crate::reading::batch_fault::BatchCause;
@@ -34,7 +34,8 @@ pub(crate) struct Gathering {
 
 impl Gathering {
     pub(crate) fn new(alloc: Global, state: RandomState) -> Self
-        ensures { IsGathered result [] }
+        ensures none { IsGathered result [] }
+        ensures keeps { (entries : ℕ) → Keeps entries result }
     {
         Gathering {
             over: Vec::new(alloc),
@@ -67,7 +68,8 @@ impl Gathering {
     // Comes to this epoch.
     fn reach(&mut self, alloc: Global, epoch: u64) -> Result<(), AllocError>
         requires { self.old.latest.number ≤ epoch }
-        ensures { OnOk result ((self.new.latest.number ≡ epoch) × ((before : List Arrival) → Holds self.old before → Holds self.new before)) }
+        ensures holds { OnOk result ((self.new.latest.number ≡ epoch) × ((before : List Arrival) → Holds self.old before → Holds self.new before)) }
+        ensures keeps { OnOk result ((entries : ℕ) → Keeps entries self.old → Keeps entries self.new) }
     {
         if self.latest.number == epoch {
             return Ok(());
@@ -114,6 +116,7 @@ impl Gathering {
         ensures ok { OnOk result ((before : List Arrival) → IsGathered self.old before → length before + 1 ≡ at
             → (arrival_cause entries before arrival ≡ None) × IsGathered self.new (before ++ arrival ∷ [])) }
         ensures few { OnOk result (at ≤ MOST_RECORDS) }
+        ensures keeps { OnOk result (Keeps entries self.old → Keeps entries self.new) }
         ensures err { IfErr result (λ cause. (before : List Arrival) → IsGathered self.old before → length before + 1 ≡ at
             → (arrival_cause entries before arrival ≡ Some cause) ⊎ (cause ≡ BatchCause.Memory)) }
     {
@@ -135,7 +138,8 @@ impl Gathering {
 
     /// The epochs.
     pub(crate) fn finish(self, alloc: Global) -> Result<Vec<BatchEpoch>, AllocError>
-        ensures { IfOk result (λ epochs. (arrivals : List Arrival) → IsGathered self arrivals → AreEpochs epochs.items arrivals) }
+        ensures epochs { IfOk result (λ epochs. (arrivals : List Arrival) → IsGathered self arrivals → AreEpochs epochs.items arrivals) }
+        ensures fits { IfOk result (λ epochs. (entries : ℕ) → Keeps entries self → AreServable entries epochs.items) }
     {
         let mut gathering = self;
         match gathering.turn(alloc, 0) {

@@ -10,24 +10,28 @@ pub loop-at-init : goal.loop-at-init
 loop-at-init g c = record {
   few = omega arith;
   plain = c.in_default.ensures.plain;
+  keeps = c.new-gathering.ensures.keeps c.args.entries;
   taken = λ text read.
       let (fields, now, e) = c.in_default.ensures.ok text read in
-      (fields ∷ [], [], now, refl, taken_header c.args.entries fields e, c.new-gathering.ensures);
+      (fields ∷ [], [], now, refl, taken_header c.args.entries fields e, c.new-gathering.ensures.none);
 }
 
-pub returns-in-Ok : goal.returns-in-Ok
-returns-in-Ok g c = λ text read.
+pub returns-in-Ok-clause-answer : goal.returns-in-Ok-clause-answer
+returns-in-Ok-clause-answer g c = λ text read.
     let (before, arrivals, now, size, t, gathered) = c.loop-at.invariant.taken text read in
     let (all, ended) = rw c.in-Ok-false.field-0-test at (c.in-Ok-false.ensures.found text before arrivals now gathered (omega (arith, t.counted, size))) in
-    taken_all c.args.entries (records_of text) before arrivals c.in-Ok.epochs.items t all (c.in-Ok.ensures arrivals ended)
+    taken_all c.args.entries (records_of text) before arrivals c.in-Ok.epochs.items t all (c.in-Ok.ensures.epochs arrivals ended)
 
-pub returns-in-Err-finish : goal.returns-in-Err-finish
-returns-in-Err-finish g c = λ text read.
+pub returns-in-Ok-clause-fits : goal.returns-in-Ok-clause-fits
+returns-in-Ok-clause-fits g c = c.in-Ok.ensures.fits c.args.entries (c.in-Ok-false.ensures.keeps c.loop-at.invariant.keeps)
+
+pub returns-in-Err-finish-clause-answer : goal.returns-in-Err-finish-clause-answer
+returns-in-Err-finish-clause-answer g c = λ text read.
     let (before, arrivals, now, size, t, gathered) = c.loop-at.invariant.taken text read in
     rw (← size) (stop_before header_cause (record_cause c.args.entries) IsOfReading g.R.Read.remaining c.loop-at.rows text before Memory t.clean now (inr refl))
 
-pub returns-in-Err-take_arrival : goal.returns-in-Err-take_arrival
-returns-in-Err-take_arrival g c = λ text read.
+pub returns-in-Err-take_arrival-clause-answer : goal.returns-in-Err-take_arrival-clause-answer
+returns-in-Err-take_arrival-clause-answer g c = λ text read.
     let (before, arrivals, now, size, t, gathered) = c.loop-at.invariant.taken text read in
     elim (c.in-Err-take_arrival.ensures.refused text before arrivals now gathered (omega (arith, t.counted, size))) [
       | inl w ↦
@@ -41,6 +45,7 @@ pub loop-at-preserved : goal.loop-at-preserved
 loop-at-preserved g c = record {
   few = omega (arith, c.in-Ok-true.ensures.few c.in-Ok-true.field-0-test);
   plain = c.in-Ok-true.ensures.plain;
+  keeps = c.in-Ok-true.ensures.keeps c.loop-at.invariant.keeps;
   taken = λ text read.
       let (before, arrivals, now, size, t, gathered) = c.loop-at.invariant.taken text read in
       let (fields, arrival, next, is, none, more) = rw c.in-Ok-true.field-0-test at (c.in-Ok-true.ensures.found text before arrivals now gathered (omega (arith, t.counted, size))) in (

@@ -1,6 +1,7 @@
 use Rattle.std.proofs.Common.{◌≡◌, ◌∙◌, true, sym, inl, inr, arith, rules}
 use Rattle.std.specs.Result.{is_ok}
 use Rattle.cn_report.proofs.ReadingLemmas.GatheredEpochs.{backwards, out_of_range, taken_of, told_of}
+use Rattle.cn_report.proofs.ReadingLemmas.ServableEpochs.{joined_keeps}
 use Rattle.cn_report.proofs.ReadingLemmas.Results.{if_err_map, on_ok, on_ok_map}
 use Rattle.cn_report.proofs.reading.gathering.Gathering.take.Goals as goal
 
@@ -14,7 +15,7 @@ returns-then-arrival-from-clause-err c = λ before gathered size.
 pub returns-clause-ok : goal.returns-clause-ok
 returns-clause-ok c =
     let good : is_ok c.reach.result ≡ true = search rules in
-    let (here, keeps) = on_ok c.reach.result good c.reach.ensures in
+    let (here, keeps) = on_ok c.reach.result good c.reach.ensures.holds in
     on_ok_map c.join.result c.join.ensures.ok (λ j before gathered size.
     let (none, over, number, clients, keys) = j in
     let held = keeps before gathered.holds in (
@@ -25,10 +26,18 @@ returns-clause-ok c =
 pub returns-clause-err : goal.returns-clause-err
 returns-clause-err c =
     let good : is_ok c.reach.result ≡ true = search rules in
-    let (here, keeps) = on_ok c.reach.result good c.reach.ensures in
+    let (here, keeps) = on_ok c.reach.result good c.reach.ensures.holds in
     if_err_map c.join.result c.join.ensures.err (λ cause told before gathered size.
     elim told [
       | inl e ↦
           inl (sym (told_of c.reach.new.self before c.args.entries c.args.at c.args.arrival (keeps before gathered.holds) here (omega (arith, gathered.last, c.if-arrival-self.false)) (omega (arith, c.from.ensures, c.if-arrival-from.false)) size) ∙ e)
       | inr e ↦ inr e
     ])
+
+pub returns-clause-keeps : goal.returns-clause-keeps
+returns-clause-keeps c =
+    let good : is_ok c.reach.result ≡ true = search rules in
+    let reached = on_ok c.reach.result good c.reach.ensures.keeps in
+    on_ok_map c.join.result c.join.ensures.ok (λ j keeps.
+    let (none, over, number, clients, keys) = j in
+    joined_keeps c.reach.new.self c.join.new.self c.args.at c.args.entries _ none (omega (arith, c.from.ensures, c.if-arrival-from.false)) over number clients keys (reached c.args.entries keeps))

@@ -1,0 +1,71 @@
+-- The text of a list of grants that is tight, and what is told where it is not written.
+use Rattle.std.specs.Prelude.{ℕ, ◌≡◌, ◌≢◌, IfSome, List, Option, map}
+use Rattle.cn_report.specs.Reading.Grants.{IsFlaw, IsOutside, IsTightList}
+use Rattle.cn_report.specs.Reading.Records.{records_of}
+use Rattle.cn_report.specs.Reading.Told.{plain_tight, told_epochs}
+use Rattle.cn_report.specs.declared.reading.grant.Flaw.TheVariants as flaw
+use Rattle.cn_report.specs.declared.reading.grant.Flaw.{Flaw}
+use Rattle.cn_report.specs.declared.reading.granting.TightEpoch.{TightEpoch}
+use Rattle.cn_report.specs.Writing.Tight.{tight_text}
+use Rattle.cn_report.specs.Writing.Written.{Written, First, Nothing}
+use Rattle.cn_renamer.specs.declared.checking.CheckFault.{CheckFault}
+use Rattle.cn_renamer.specs.declared.checking.CheckFault.TheVariants as fault
+use Rattle.cn_renamer.specs.declared.output_fault.OutputFault.{OutputFault}
+use Rattle.cn_renamer.specs.declared.output_fault.OutputFault.TheVariants as output
+
+-- this is the text that tells these epochs
+abbrev pub IsTightTextOf : List TightEpoch → List ℕ → Type 0
+IsTightTextOf epochs text = text ≡ tight_text (map plain_tight epochs)
+
+-- the bytes that were read are a tight list of grants, and this is the text that tells its epochs, with the names of each
+-- counted by their remainders
+pub record IsCheckOf (width : ℕ) (bytes text : List ℕ) : Type 0 where
+  pub tight : IsTightList (records_of bytes)
+  pub told : text ≡ tight_text (told_epochs width (records_of bytes))
+
+-- the same, where the bytes that a reader has left are known
+abbrev pub IsCheckOfKnown : ℕ → Option (List ℕ) → List ℕ → Type 0
+IsCheckOfKnown width known text = IfSome known (λ bytes. IsCheckOf width bytes text)
+
+-- how much of its text a check has written that met a fault
+abbrev pub until_check : CheckFault → Written
+until_check (fault.Flaw why) = Nothing
+until_check fault.Memory = Nothing
+until_check (fault.Write written) = First written
+
+-- a flaw is that of the bytes, and never want of memory; a tight list is refused only where a read failed
+abbrev pub IsCheckFault : Option (List ℕ) → CheckFault → Type 0
+IsCheckFault known (fault.Flaw why) =
+    (why ≢ flaw.Memory)
+    × IfSome known (λ bytes. IsFlaw (records_of bytes) why × (IsTightList (records_of bytes) → IsOutside why))
+IsCheckFault known fault.Memory = Unit {0}
+IsCheckFault known (fault.Write written) = Unit {0}
+
+-- what a check tells of a flaw: want of memory apart
+abbrev pub fault_of_flaw : Flaw → CheckFault
+fault_of_flaw flaw.Memory = fault.Memory
+fault_of_flaw (flaw.Read at) = fault.Flaw (flaw.Read at)
+fault_of_flaw (flaw.Form at) = fault.Flaw (flaw.Form at)
+fault_of_flaw (flaw.DuplicateClient at) = fault.Flaw (flaw.DuplicateClient at)
+fault_of_flaw (flaw.DuplicateName at) = fault.Flaw (flaw.DuplicateName at)
+fault_of_flaw (flaw.Gap epoch name) = fault.Flaw (flaw.Gap epoch name)
+
+-- and of a text that was not written whole
+abbrev pub fault_of_output : OutputFault → CheckFault
+fault_of_output output.Memory = fault.Memory
+fault_of_output (output.Write written) = fault.Write written
+
+-- the status that a flaw ends the program with: input that is refused 1, a list that is not tight 4
+abbrev pub status_of_flaw : Flaw → ℕ
+status_of_flaw (flaw.Read at) = 1
+status_of_flaw (flaw.Form at) = 1
+status_of_flaw (flaw.DuplicateClient at) = 4
+status_of_flaw (flaw.DuplicateName at) = 4
+status_of_flaw (flaw.Gap epoch name) = 4
+status_of_flaw flaw.Memory = 3
+
+-- and that of a fault
+abbrev pub status_of_check : CheckFault → ℕ
+status_of_check (fault.Flaw why) = status_of_flaw why
+status_of_check fault.Memory = 3
+status_of_check (fault.Write written) = 3

@@ -1,0 +1,121 @@
+//! A list of grants, checked.
+
+ghost use Rattle.std.specs.Prelude.{◌≡◌, IfErr};
+ghost use Rattle.cn_wiring.specs.Widths.{IsWidth};
+ghost use Rattle.cn_report.specs.Writing.Written.{HasWritten, written_by};
+ghost use Rattle.cn_renamer.specs.Check.{IsCheckFault, IsCheckOfKnown, IsTightTextOf, fault_of_flaw, fault_of_output, status_of_check, until_check};
+ghost use Rattle.cn_renamer.specs.Outputs.{until_output};
+
+use crate::output_fault::OutputFault;
+use crate::writing::write_text;
+use cn_report::{Flaw, Tight, check_grants, render_tight};
+use std::alloc::Global;
+use std::fmt;
+use std::io::{Read, Write};
+use thiserror::Error;
+
+/// Why a check did not end well. Its text is the line that the program prints.
+#[derive(Clone, Copy, Debug, PartialEq, Eq, Error)]
+pub enum CheckFault {
+    /// The input is no tight list of grants: its flaw, which is never want of memory.
+    #[error("{}", FlawLine(*.0))]
+    Flaw(Flaw),
+    /// A growth was refused.
+    #[error("renamer: memory")]
+    Memory,
+    /// A write failed, or the flush at the end, after this many bytes of the text.
+    #[error("renamer: write after {written} bytes")]
+    Write { written: u64 },
+}
+
+/// A flaw, printed as the program's line.
+#[derive(Clone, Copy)]
+struct FlawLine(Flaw);
+
+impl fmt::Display for FlawLine {
+    fn fmt<W: fmt::Write>(&self, f: &mut fmt::Formatter<W>) -> fmt::Result {
+        let flaw = self.0;
+        match flaw {
+            Flaw::Read(at) | Flaw::Form(at) => write!(f, "renamer: record {at}: {flaw}"),
+            Flaw::DuplicateClient(at) | Flaw::DuplicateName(at) => {
+                write!(f, "renamer: flaw: {flaw} record {at}")
+            }
+            Flaw::Gap { epoch, name } => {
+                write!(f, "renamer: flaw: {flaw} epoch {epoch} name {name}")
+            }
+            Flaw::Memory => f.write_str("renamer: memory"),
+        }
+    }
+}
+
+impl CheckFault {
+    /// The status with which the program ends: 1 for input that is no list of grants, 3 for want of memory and for a write
+    /// that failed, 4 for a list that is not tight.
+    pub fn status(&self) -> u8
+        ensures { result ≡ status_of_check self.now }
+    {
+        match self {
+            CheckFault::Flaw(flaw) => match flaw {
+                Flaw::Read(_) | Flaw::Form(_) => 1,
+                Flaw::DuplicateClient(_) | Flaw::DuplicateName(_) | Flaw::Gap { .. } => 4,
+                Flaw::Memory => 3,
+            },
+            CheckFault::Memory | CheckFault::Write { .. } => 3,
+        }
+    }
+}
+
+impl From<Flaw> for CheckFault {
+    ghost from_gives = { λ flaw told. told ≡ fault_of_flaw flaw };
+
+    fn from(flaw: Flaw) -> Self {
+        match flaw {
+            Flaw::Memory => CheckFault::Memory,
+            _ => CheckFault::Flaw(flaw),
+        }
+    }
+}
+
+impl From<OutputFault> for CheckFault {
+    ghost from_gives = { λ fault told. told ≡ fault_of_output fault };
+
+    fn from(fault: OutputFault) -> Self {
+        match fault {
+            OutputFault::Memory => CheckFault::Memory,
+            OutputFault::Write { written } => CheckFault::Write { written },
+        }
+    }
+}
+
+/// Writes the text that tells the epochs of a tight list.
+fn write_tight<W: Write>(alloc: Global, writer: &mut W, tight: &Tight) -> Result<(), OutputFault>
+    ensures { HasWritten W.contents (IsTightTextOf tight.now.epochs.items) (written_by until_output result) writer.old writer.new }
+{
+    let text = render_tight(alloc, tight)?;
+    write_text(writer, &text)
+}
+
+/// Reads a list of grants, and writes what it tells where it is tight: each epoch's number and its number of clients, how
+/// many of its names are `i` modulo the width, for each `i` below it, and how many epochs and grants there are.
+///
+/// The width is one of the widths of networks ([`cn_wiring::is_width`]). Nothing is written before the whole list is judged.
+///
+/// # Errors
+/// `Flaw` with the first record that has a flaw, or the first gap; `Memory` where any growth was refused; `Write` where a
+/// write failed or the flush at the end, with the number of bytes that were written: they are the first of the text. On any
+/// other fault nothing was written.
+pub fn check<R: Read + Drop, W: Write>(
+    alloc: Global,
+    reader: R,
+    writer: &mut W,
+    width: u32,
+) -> Result<(), CheckFault>
+    requires { IsWidth width }
+    ensures written { let Is = IsCheckOfKnown width (R.remaining reader) in
+        HasWritten W.contents Is (written_by until_check result) writer.old writer.new }
+    ensures flawed { IfErr result (IsCheckFault (R.remaining reader)) }
+{
+    let tight = check_grants(alloc, reader, width)?;
+    write_tight(alloc, writer, &tight)?;
+    Ok(())
+}
