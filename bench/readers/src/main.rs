@@ -1,0 +1,205 @@
+//! The peers of the jobs that read CSV, in plain Rust without contracts: `readers check` reads a grant list of width 4 and
+//! prints the tight text, `readers run` reads a batch for the tree of width 2, walks each client straight through, and
+//! prints the report.
+
+use csv::{ByteRecord, Reader, ReaderBuilder};
+use indexmap::IndexSet;
+use std::fmt::Write as _;
+use std::io::{self, Stdin, Write as _};
+use std::process::ExitCode;
+use std::sync::atomic::{AtomicU64, Ordering};
+
+type Refused = String;
+
+fn number(field: &[u8]) -> Option<u64> {
+    if field.is_empty() || field.len() > 20 || !field.iter().all(u8::is_ascii_digit) {
+        return None;
+    }
+    std::str::from_utf8(field).ok()?.parse().ok()
+}
+
+fn open(header: [&[u8]; 3]) -> Result<Reader<Stdin>, Refused> {
+    let mut rows = ReaderBuilder::new()
+        .has_headers(false)
+        .flexible(true)
+        .from_reader(io::stdin());
+    let mut row = ByteRecord::new();
+    let found = rows.read_byte_record(&mut row).map_err(|e| e.to_string())?;
+    if found && row.iter().eq(header) {
+        Ok(rows)
+    } else {
+        Err("record 0: Header".to_string())
+    }
+}
+
+fn three(at: u64, row: &ByteRecord) -> Result<(u64, u64, u64), Refused> {
+    if row.len() != 3 {
+        return Err(format!("record {at}: FieldCount"));
+    }
+    match (number(&row[0]), number(&row[1]), number(&row[2])) {
+        (Some(first), Some(second), Some(third)) => Ok((first, second, third)),
+        _ => Err(format!("record {at}: number")),
+    }
+}
+
+// ---- check
+
+const WIDTH: u64 = 4;
+
+/// The grants of the latest epoch.
+#[derive(Default)]
+struct Granting {
+    epoch: u64,
+    clients: IndexSet<u64>,
+    names: IndexSet<u64>,
+    text: String,
+    epochs: u64,
+    grants: u64,
+}
+
+impl Granting {
+    fn finish(&mut self) -> Result<(), Refused> {
+        let count = self.names.len() as u64;
+        if count == 0 {
+            return Ok(());
+        }
+        if let Some(name) = (0..count).find(|name| !self.names.contains(name)) {
+            return Err(format!("Gap epoch {} name {name}", self.epoch));
+        }
+        write!(self.text, "epoch {} clients {count} counts", self.epoch).unwrap();
+        for exit in 0..WIDTH {
+            write!(self.text, " {}", (count + WIDTH - 1 - exit) / WIDTH).unwrap();
+        }
+        self.text.push('\n');
+        self.epochs += 1;
+        self.grants += count;
+        self.clients.clear();
+        self.names.clear();
+        Ok(())
+    }
+
+    fn take(&mut self, at: u64, grant: (u64, u64, u64)) -> Result<(), Refused> {
+        let (epoch, client, name) = grant;
+        if epoch < self.epoch {
+            return Err(format!("record {at}: Form"));
+        }
+        if epoch > self.epoch {
+            self.finish()?;
+            self.epoch = epoch;
+        }
+        if !self.clients.insert(client) {
+            return Err(format!("DuplicateClient record {at}"));
+        }
+        if !self.names.insert(name) {
+            return Err(format!("DuplicateName record {at}"));
+        }
+        Ok(())
+    }
+}
+
+fn check() -> Result<String, Refused> {
+    let mut rows = open([b"epoch", b"client", b"name"])?;
+    let mut row = ByteRecord::new();
+    let mut granting = Granting::default();
+    let mut at = 0;
+    while rows.read_byte_record(&mut row).map_err(|e| e.to_string())? {
+        at += 1;
+        granting.take(at, three(at, &row)?)?;
+    }
+    granting.finish()?;
+    let Granting { mut text, epochs, grants, .. } = granting;
+    writeln!(text, "tight epochs {epochs} grants {grants}").unwrap();
+    Ok(text)
+}
+
+// ---- run
+
+struct Epoch {
+    number: u64,
+    clients: Vec<u64>,
+}
+
+fn read_batch() -> Result<Vec<Epoch>, Refused> {
+    let mut rows = open([b"epoch", b"client", b"entry"])?;
+    let mut row = ByteRecord::new();
+    let mut epochs: Vec<Epoch> = Vec::new();
+    let mut standing = IndexSet::new();
+    let mut at = 0;
+    while rows.read_byte_record(&mut row).map_err(|e| e.to_string())? {
+        at += 1;
+        let (number, client, entry) = three(at, &row)?;
+        if epochs.last().is_some_and(|latest| number < latest.number) {
+            return Err(format!("record {at}: EpochBackwards"));
+        }
+        if entry >= 1 {
+            return Err(format!("record {at}: EntryRange"));
+        }
+        if epochs.last().map_or(true, |latest| number > latest.number) {
+            epochs.push(Epoch { number, clients: Vec::new() });
+            standing.clear();
+        }
+        if !standing.insert(client) {
+            return Err(format!("record {at}: Duplicate"));
+        }
+        epochs.last_mut().unwrap().clients.push(client);
+    }
+    Ok(epochs)
+}
+
+/// The tree of width 2: a balancer and two exits.
+#[derive(Default)]
+struct Tree {
+    balancer: AtomicU64,
+    exits: [AtomicU64; 2],
+}
+
+impl Tree {
+    fn walk(&self) -> u64 {
+        let exit = self.balancer.fetch_add(1, Ordering::AcqRel) % 2;
+        exit + 2 * self.exits[exit as usize].fetch_add(1, Ordering::AcqRel)
+    }
+}
+
+fn put_epoch(text: &mut String, epoch: &Epoch) {
+    let tree = Tree::default();
+    let mut holders = vec![0; epoch.clients.len()];
+    for client in &epoch.clients {
+        holders[tree.walk() as usize] = *client;
+    }
+    writeln!(text, "epoch {} clients {}", epoch.number, holders.len()).unwrap();
+    for (exit, count) in tree.exits.iter().enumerate() {
+        writeln!(text, "exit {exit} count {}", count.load(Ordering::Acquire)).unwrap();
+    }
+    for (name, client) in holders.iter().enumerate() {
+        writeln!(text, "name {name} client {client}").unwrap();
+    }
+}
+
+fn run() -> Result<String, Refused> {
+    let epochs = read_batch()?;
+    let mut text = String::from("network tree width 2 balancers 1 depth 1\n");
+    for epoch in &epochs {
+        put_epoch(&mut text, epoch);
+    }
+    let grants: usize = epochs.iter().map(|epoch| epoch.clients.len()).sum();
+    writeln!(text, "end epochs {} grants {grants}", epochs.len()).unwrap();
+    Ok(text)
+}
+
+fn main() -> ExitCode {
+    let done = match std::env::args().nth(1).as_deref() {
+        Some("check") => check(),
+        Some("run") => run(),
+        _ => Err("readers check | run".to_string()),
+    };
+    match done {
+        Ok(text) => {
+            io::stdout().write_all(text.as_bytes()).expect("a writer that takes all");
+            ExitCode::SUCCESS
+        }
+        Err(refused) => {
+            eprintln!("{refused}");
+            ExitCode::FAILURE
+        }
+    }
+}
