@@ -3,11 +3,10 @@
 use cn_spec::limits::MOST_LEVEL;
 use cn_wiring::{Kind, width_of};
 use cn_words::{Job, Net, WordsFault, parse_words};
-use std::alloc::Global;
-use std::test::Fail;
+use std::alloc::{AllocError, Global};
 
 /// The words of a line.
-pub(crate) fn words(alloc: Global, line: &str) -> Result<Vec<String>, Fail> {
+pub(crate) fn words(alloc: Global, line: &str) -> Result<Vec<String>, AllocError> {
     let mut words = Vec::new(alloc);
     for word in line.split_whitespace() {
         words.push(String::from_str(alloc, word)?)?;
@@ -15,29 +14,48 @@ pub(crate) fn words(alloc: Global, line: &str) -> Result<Vec<String>, Fail> {
     Ok(words)
 }
 
-fn parsed(alloc: Global, line: &str) -> Result<Result<Job, WordsFault>, Fail> {
-    Ok(parse_words(alloc, words(alloc, line)?))
+/// The job that the words of a line ask for, if they do.
+fn job_of(alloc: Global, line: &str) -> Option<Job> {
+    parse_words(alloc, words(alloc, line).ok()?).ok()
 }
 
 /// The status that the words of a line end with, where they ask for no job.
-fn status(alloc: Global, line: &str) -> Result<Option<u8>, Fail> {
-    Ok(parsed(alloc, line)?.err().map(|fault| fault.status()))
+fn status(alloc: Global, line: &str) -> Option<u8> {
+    let fault = parse_words(alloc, words(alloc, line).ok()?).err()?;
+    Some(fault.status())
+}
+
+/// Whether the words of a line ask for a job, and it is the wanted one.
+fn is_asked(alloc: Global, line: &str, wanted: Job) -> bool {
+    job_of(alloc, line) == Some(wanted)
+}
+
+const TWO_CLIENTS: [&str; 4] = [
+    "renamer replay --network bitonic --width 2",
+    "renamer replay --width 2 --network bitonic",
+    "renamer replay --network=bitonic --width=2",
+    "/usr/local/bin/other replay --network bitonic --width 2",
+];
+
+/// Whether the words of a line ask for a replay on the bitonic network of width 2.
+fn is_replay_on_two(alloc: Global, line: &str) -> Option<bool> {
+    let net = Net::new(Kind::Bitonic, 2).ok()?;
+    Some(is_asked(alloc, line, Job::Replay(net)))
+}
+
+/// The first line that asks for another job.
+fn wrong_line(alloc: Global) -> Option<&'static str> {
+    for line in &TWO_CLIENTS {
+        if is_replay_on_two(alloc, line) != Some(true) {
+            return Some(*line);
+        }
+    }
+    None
 }
 
 #[test]
-fn two_clients(rt: HostRuntime) -> Result<(), Fail> {
-    let alloc = rt.alloc();
-    let net = Net::new(Kind::Bitonic, 2)?;
-    for text in [
-        "renamer replay --network bitonic --width 2",
-        "renamer replay --width 2 --network bitonic",
-        "renamer replay --network=bitonic --width=2",
-        "/usr/local/bin/other replay --network bitonic --width 2",
-    ] {
-        let job = parsed(alloc, text)??;
-        assert_eq!(rt; job, Job::Replay(net), "{text}");
-    }
-    Ok(())
+fn two_clients(rt: HostRuntime) {
+    assert_eq!(rt; wrong_line(rt.alloc()), None);
 }
 
 /// Command lines that are refused.
@@ -89,77 +107,118 @@ const REFUSED: [&str; 45] = [
     "replay --network bitonic --width 2",
 ];
 
-#[test]
-fn refused_words(rt: HostRuntime) -> Result<(), Fail> {
-    for line in REFUSED {
-        assert_eq!(rt; status(rt.alloc(), line)?, Some(2), "{line}");
-    }
-    Ok(())
-}
-
-#[test]
-fn every_network_of_every_width(rt: HostRuntime) -> Result<(), Fail> {
-    let alloc = rt.alloc();
-    for (network, kind) in [
-        ("bitonic", Kind::Bitonic),
-        ("periodic", Kind::Periodic),
-        ("tree", Kind::Tree),
-    ] {
-        for level in 1..=MOST_LEVEL {
-            let width = width_of(level);
-            let net = Net::new(kind, width)?;
-            let replay = format!(in alloc; "renamer replay --network {network} --width {width}")?;
-            assert_eq!(rt; parsed(alloc, &replay)??, Job::Replay(net), "{replay}");
-            let show = format!(in alloc; "renamer show --network {network} --width {width}")?;
-            assert_eq!(rt; parsed(alloc, &show)??, Job::Show(net), "{show}");
+/// The first line that is not refused.
+fn unrefused(alloc: Global) -> Option<&'static str> {
+    for line in &REFUSED {
+        if status(alloc, line) != Some(2) {
+            return Some(*line);
         }
     }
-    Ok(())
+    None
 }
 
 #[test]
-fn want_of_memory_has_its_line(rt: HostRuntime) -> Result<(), Fail> {
-    let line = WordsFault::Memory.to_string(rt.alloc())?;
-    assert_eq!(rt; line.as_str(), "renamer: memory");
-    assert_eq!(rt; WordsFault::Memory.status(), 3);
-    Ok(())
+fn refused_words(rt: HostRuntime) {
+    assert_eq!(rt; unrefused(rt.alloc()), None);
 }
 
-/// Whether the words of a line ask for help, and are shown what the program's use is.
-fn is_helped(alloc: Global, line: &str) -> Result<bool, Fail> {
-    match parsed(alloc, line)? {
-        Err(WordsFault::Help(text)) => Ok(text.contains("Usage: renamer")),
-        _ => Ok(false),
+/// Whether the words of a replay and of a show of a network ask for these jobs.
+fn are_asked(alloc: Global, network: &str, kind: Kind, width: u32) -> Option<bool> {
+    let net = Net::new(kind, width).ok()?;
+    let options = format!(in alloc; "--network {network} --width {width}").ok()?;
+    let replay = format!(in alloc; "renamer replay {options}").ok()?;
+    let show = format!(in alloc; "renamer show {options}").ok()?;
+    Some(is_asked(alloc, &replay, Job::Replay(net)) && is_asked(alloc, &show, Job::Show(net)))
+}
+
+/// The first width at which they do not.
+fn wrong_width(alloc: Global, network: &str, kind: Kind) -> Option<u32> {
+    for level in 1..=MOST_LEVEL {
+        let width = width_of(level);
+        if are_asked(alloc, network, kind, width) != Some(true) {
+            return Some(width);
+        }
+    }
+    None
+}
+
+#[test]
+fn every_network_of_every_width(rt: HostRuntime) {
+    let wrong = [
+        wrong_width(rt.alloc(), "bitonic", Kind::Bitonic),
+        wrong_width(rt.alloc(), "periodic", Kind::Periodic),
+        wrong_width(rt.alloc(), "tree", Kind::Tree),
+    ];
+    assert_eq!(rt; wrong, [None, None, None]);
+}
+
+/// Whether want of memory has this line.
+fn has_line(alloc: Global, line: &str) -> bool {
+    match WordsFault::Memory.to_string(alloc) {
+        Ok(text) => text.as_str() == line,
+        Err(_) => false,
     }
 }
 
 #[test]
-fn help_words(rt: HostRuntime) -> Result<(), Fail> {
-    for line in [
-        "renamer --help",
-        "renamer -h",
-        "renamer help",
-        "renamer help replay",
-        "renamer help show",
-        "renamer replay --help",
-        "renamer replay -h",
-        "renamer replay --network bitonic --help",
-    ] {
-        assert!(rt; is_helped(rt.alloc(), line)?, "{line}");
-        assert_eq!(rt; status(rt.alloc(), line)?, Some(0), "{line}");
+fn want_of_memory_has_its_line(rt: HostRuntime) {
+    let told = (
+        has_line(rt.alloc(), "renamer: memory"),
+        WordsFault::Memory.status(),
+    );
+    assert_eq!(rt; told, (true, 3));
+}
+
+/// What is shown to the words of a line that ask for help.
+fn help(alloc: Global, line: &str) -> Option<String> {
+    match parse_words(alloc, words(alloc, line).ok()?) {
+        Err(WordsFault::Help(text)) => Some(text),
+        _ => None,
     }
-    Ok(())
+}
+
+/// Whether the words of a line ask for help, and are shown this.
+fn is_helped(alloc: Global, line: &str, wanted: &str) -> bool {
+    match help(alloc, line) {
+        Some(text) => text.contains(wanted),
+        None => false,
+    }
+}
+
+const HELPED: [&str; 8] = [
+    "renamer --help",
+    "renamer -h",
+    "renamer help",
+    "renamer help replay",
+    "renamer help show",
+    "renamer replay --help",
+    "renamer replay -h",
+    "renamer replay --network bitonic --help",
+];
+
+/// The first line that is not shown what the program's use is, with status 0.
+fn unhelped(alloc: Global) -> Option<&'static str> {
+    for line in &HELPED {
+        if !is_helped(alloc, line, "Usage: renamer") || status(alloc, line) != Some(0) {
+            return Some(*line);
+        }
+    }
+    None
 }
 
 #[test]
-fn help_tells_the_widths(rt: HostRuntime) -> Result<(), Fail> {
-    let alloc = rt.alloc();
+fn help_words(rt: HostRuntime) {
+    assert_eq!(rt; unhelped(rt.alloc()), None);
+}
+
+/// Whether help tells the widths that can be built.
+fn are_widths_told(alloc: Global) -> Option<bool> {
     let most = width_of(MOST_LEVEL);
-    let widths = format!(in alloc; "a power of two from 2 to {most}\n")?;
-    let text = match parsed(alloc, "renamer show --help")? {
-        Err(WordsFault::Help(text)) => text,
-        _other => String::new(alloc),
-    };
-    assert!(rt; text.contains(widths.as_str()));
-    Ok(())
+    let widths = format!(in alloc; "a power of two from 2 to {most}\n").ok()?;
+    Some(is_helped(alloc, "renamer show --help", widths.as_str()))
+}
+
+#[test]
+fn help_tells_the_widths(rt: HostRuntime) {
+    assert_eq!(rt; are_widths_told(rt.alloc()), Some(true));
 }
