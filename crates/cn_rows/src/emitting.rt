@@ -2,53 +2,60 @@
 
 use crate::writers::{Narrow, Then};
 use cn_report::{EmitFault, emit};
+use std::alloc::Global;
 use std::io;
-use std::test::Fail;
 
 const TEXT: &[u8] = b"network tree width 2 balancers 1 depth 1\n";
 
-#[test]
-fn the_whole_text_is_written_and_flushed_once(rt: HostRuntime) -> Result<(), Fail> {
-    let mut writer = Narrow::new(rt.alloc(), 1_000, Then::TakesNothing);
-    emit(&mut writer, TEXT)?;
-    assert_eq!(rt; (writer.taken.as_slice(), writer.flushes), (TEXT, 1));
-    Ok(())
+/// The end of writing a text, whether the writer has taken this much of it, and how often it was flushed.
+fn emitted(mut writer: Narrow, text: &[u8], taken: usize) -> (Result<(), EmitFault>, bool, usize) {
+    let done = emit(&mut writer, text);
+    let is_taken = Some(writer.taken.as_slice()) == text.get(..taken);
+    (done, is_taken, writer.flushes)
 }
 
 #[test]
-fn write_cut_anywhere(rt: HostRuntime) {
-    let ends = [
-        Then::TakesNothing,
-        Then::Fails(io::ErrorKind::BrokenPipe),
-        Then::Fails(io::ErrorKind::Interrupted),
-        Then::FailsOnce,
-    ];
-    for then in ends {
-        for room in 0..TEXT.len() {
-            let mut writer = Narrow::new(rt.alloc(), room, then);
-            let fault = emit(&mut writer, TEXT).err();
-            let written = room as u64;
-            assert_eq!(rt; fault, Some(EmitFault { written }), "at {room}");
-            assert_eq!(rt;
-                (writer.taken.as_slice(), writer.flushes),
-                (&TEXT[..room], 0),
-                "at {room}"
-            );
+fn the_whole_text_is_written_and_flushed_once(rt: HostRuntime) {
+    let writer = Narrow::new(rt.alloc(), 1_000, Then::TakesNothing);
+    assert_eq!(rt; emitted(writer, TEXT, TEXT.len()), (Ok(()), true, 1));
+}
+
+/// The first room of a writer at which writing to it ends otherwise.
+fn wrong_write(alloc: Global, then: Then) -> Option<usize> {
+    for room in 0..TEXT.len() {
+        let written = room as u64;
+        let writer = Narrow::new(alloc, room, then);
+        if emitted(writer, TEXT, room) != (Err(EmitFault { written }), true, 0) {
+            return Some(room);
         }
     }
+    None
+}
+
+const ENDS: [Then; 4] = [
+    Then::TakesNothing,
+    Then::Fails(io::ErrorKind::BrokenPipe),
+    Then::Fails(io::ErrorKind::Interrupted),
+    Then::FailsOnce,
+];
+
+#[test]
+fn write_cut_anywhere(rt: HostRuntime) {
+    let wrong = ENDS.map(|then| wrong_write(rt.alloc(), then));
+    assert_eq!(rt; wrong, [None, None, None, None]);
 }
 
 #[test]
 fn a_failed_flush_tells_the_whole_length(rt: HostRuntime) {
-    let mut writer = Narrow::unflushed(rt.alloc());
     let written = TEXT.len() as u64;
-    assert_eq!(rt; emit(&mut writer, TEXT), Err(EmitFault { written }));
-    assert_eq!(rt; (writer.taken.as_slice(), writer.flushes), (TEXT, 1));
+    assert_eq!(rt;
+        emitted(Narrow::unflushed(rt.alloc()), TEXT, TEXT.len()),
+        (Err(EmitFault { written }), true, 1)
+    );
 }
 
 #[test]
 fn an_empty_text_is_flushed(rt: HostRuntime) {
-    let mut writer = Narrow::new(rt.alloc(), 0, Then::TakesNothing);
-    assert_eq!(rt; emit(&mut writer, b"".as_slice()), Ok(()));
-    assert_eq!(rt; writer.flushes, 1);
+    let writer = Narrow::new(rt.alloc(), 0, Then::TakesNothing);
+    assert_eq!(rt; emitted(writer, b"", 0), (Ok(()), true, 1));
 }

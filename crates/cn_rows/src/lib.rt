@@ -15,6 +15,8 @@ mod replaying;
 #[cfg(test)]
 mod reports;
 #[cfg(test)]
+mod run_words;
+#[cfg(test)]
 mod schedules;
 #[cfg(test)]
 mod showing;

@@ -10,7 +10,6 @@ use cn_wiring::Kind;
 use std::alloc::Global;
 use std::io;
 use std::random::RandomSource;
-use std::test::Fail;
 
 const ONE_CLIENT: &[u8] = b"op,client,wire\n\
       enter,7,0\n\
@@ -55,199 +54,306 @@ impl RandomSource for Words {
     }
 }
 
-/// What an end prints and its status.
-fn ended(alloc: Global, done: &Result<(), Fault>) -> (u8, Vec<u8>) {
+/// A job by its words.
+#[derive(Clone, Copy, Debug, PartialEq, Eq)]
+enum Asked {
+    Replay,
+    Show,
+}
+
+fn job(asked: Asked, kind: Kind, width: u32) -> Option<Job> {
+    let net = Net::new(kind, width).ok()?;
+    Some(match asked {
+        Asked::Replay => Job::Replay(net),
+        Asked::Show => Job::Show(net),
+    })
+}
+
+/// What a job is given: a writer, and a source of random words.
+#[derive(Clone, Copy, Debug, PartialEq, Eq)]
+enum Given {
+    All,
+    NoWords(io::ErrorKind),
+    NoFlush,
+    /// Room for so many bytes, and then one write that fails.
+    Room(usize),
+}
+
+fn writer_of(alloc: Global, given: Given) -> Narrow {
+    match given {
+        Given::All | Given::NoWords(_) => Narrow::new(alloc, 100_000, Then::TakesNothing),
+        Given::NoFlush => Narrow::unflushed(alloc),
+        Given::Room(room) => Narrow::new(alloc, room, Then::FailsOnce),
+    }
+}
+
+fn source_of(given: Given) -> Words {
+    match given {
+        Given::NoWords(kind) => Words { fault: Some(kind) },
+        _ => Words { fault: None },
+    }
+}
+
+/// A job of a kind and a width, what it is given, what it writes, its status, and the line that is printed of its fault.
+type Row = (Asked, Kind, u32, Given, &'static [u8], u8, &'static [u8]);
+
+/// Only a replay asks for random words; and a flush that fails is a write that fails.
+const ROWS: [Row; 10] = [
+    (
+        Asked::Replay,
+        Kind::Bitonic,
+        4,
+        Given::All,
+        ONE_CLIENT_ON_BITONIC_FOUR,
+        0,
+        b"",
+    ),
+    (
+        Asked::Replay,
+        Kind::Periodic,
+        2,
+        Given::All,
+        ONE_CLIENT_ON_PERIODIC_TWO,
+        0,
+        b"",
+    ),
+    (
+        Asked::Replay,
+        Kind::Tree,
+        4,
+        Given::All,
+        ONE_CLIENT_ON_TREE_FOUR,
+        0,
+        b"",
+    ),
+    (Asked::Show, Kind::Tree, 2, Given::All, TREE_TWO, 0, b""),
+    (
+        Asked::Replay,
+        Kind::Tree,
+        2,
+        Given::NoWords(io::ErrorKind::Unsupported),
+        b"",
+        3,
+        b"renamer: runtime\n",
+    ),
+    (
+        Asked::Replay,
+        Kind::Tree,
+        2,
+        Given::NoWords(io::ErrorKind::OutOfMemory),
+        b"",
+        3,
+        b"renamer: memory\n",
+    ),
+    (
+        Asked::Show,
+        Kind::Tree,
+        2,
+        Given::NoWords(io::ErrorKind::Unsupported),
+        TREE_TWO,
+        0,
+        b"",
+    ),
+    (
+        Asked::Replay,
+        Kind::Bitonic,
+        4,
+        Given::NoFlush,
+        ONE_CLIENT_ON_BITONIC_FOUR,
+        3,
+        b"renamer: write after 124 bytes\n",
+    ),
+    (
+        Asked::Show,
+        Kind::Tree,
+        2,
+        Given::NoFlush,
+        TREE_TWO,
+        3,
+        b"renamer: write after 99 bytes\n",
+    ),
+    (
+        Asked::Show,
+        Kind::Tree,
+        2,
+        Given::Room(10),
+        b"network tr",
+        3,
+        b"renamer: write after 10 bytes\n",
+    ),
+];
+
+/// Whether an end prints this line and has this status.
+fn ends_with(alloc: Global, done: &Result<(), Fault>, line: &[u8], status: u8) -> bool {
     let mut errors = Narrow::new(alloc, 1_000, Then::TakesNothing);
-    let status = end(done, &mut errors);
-    (status, errors.taken)
+    end(done, &mut errors) == status && errors.taken.as_slice() == line
 }
 
-/// What a job writes, what is printed of its fault, and the status.
-fn performed(
-    job: Job,
-    mut writer: Narrow,
-    fault: Option<io::ErrorKind>,
-    alloc: Global,
-) -> (Vec<u8>, u8, Vec<u8>) {
-    let done = perform(alloc, job, ONE_CLIENT, &mut writer, &Words { fault });
-    let (status, errors) = ended(alloc, &done);
-    (writer.taken, status, errors)
+fn is_performed(alloc: Global, row: &Row) -> Option<bool> {
+    let (asked, kind, width, given, text, status, line) = *row;
+    let job = job(asked, kind, width)?;
+    let mut writer = writer_of(alloc, given);
+    let done = perform(alloc, job, ONE_CLIENT, &mut writer, &source_of(given));
+    Some(writer.taken.as_slice() == text && ends_with(alloc, &done, line, status))
 }
 
-fn wide(alloc: Global) -> Narrow {
-    Narrow::new(alloc, 100_000, Then::TakesNothing)
-}
-
-#[test]
-fn each_job_writes_its_text(rt: HostRuntime) -> Result<(), Fail> {
-    let jobs = [
-        (
-            Job::Replay(Net::new(Kind::Bitonic, 4)?),
-            ONE_CLIENT_ON_BITONIC_FOUR,
-        ),
-        (
-            Job::Replay(Net::new(Kind::Periodic, 2)?),
-            ONE_CLIENT_ON_PERIODIC_TWO,
-        ),
-        (
-            Job::Replay(Net::new(Kind::Tree, 4)?),
-            ONE_CLIENT_ON_TREE_FOUR,
-        ),
-        (Job::Show(Net::new(Kind::Tree, 2)?), TREE_TWO),
-    ];
-    for (job, text) in jobs {
-        let (written, status, errors) = performed(job, wide(rt.alloc()), None, rt.alloc());
-        assert_eq!(rt; written.as_slice(), text);
-        assert_eq!(rt; (status, errors.len()), (0, 0));
+/// The place of the first row that is done otherwise.
+fn wrong_row(alloc: Global) -> Option<usize> {
+    for (place, row) in ROWS.iter().enumerate() {
+        if is_performed(alloc, row) != Some(true) {
+            return Some(place);
+        }
     }
-    Ok(())
+    None
 }
 
 #[test]
-fn only_a_replay_asks_for_random_words(rt: HostRuntime) -> Result<(), Fail> {
-    let replay = Job::Replay(Net::new(Kind::Tree, 2)?);
-    let show = Job::Show(Net::new(Kind::Tree, 2)?);
-    let cases: [(Job, io::ErrorKind, &[u8], u8, &[u8]); 3] = [
-        (
-            replay,
-            io::ErrorKind::Unsupported,
-            b"",
-            3,
+fn jobs_write_their_texts_and_end(rt: HostRuntime) {
+    assert_eq!(rt; wrong_row(rt.alloc()), None);
+}
+
+/// What the words of a line write of one client's schedule, the status, and what is printed of the fault.
+fn ran(alloc: Global, line: &str) -> Option<(Vec<u8>, u8, Vec<u8>)> {
+    let words = words(alloc, line).ok()?;
+    let mut writer = writer_of(alloc, Given::All);
+    let done = run(
+        alloc,
+        words,
+        ONE_CLIENT,
+        &mut writer,
+        &source_of(Given::All),
+    );
+    let mut errors = Narrow::new(alloc, 1_000, Then::TakesNothing);
+    let status = end(&done, &mut errors);
+    Some((writer.taken, status, errors.taken))
+}
+
+/// Whether the words of a line write this text, and end with status 0 and nothing printed.
+fn writes(alloc: Global, line: &str, wanted: &[u8]) -> bool {
+    match ran(alloc, line) {
+        Some((written, status, errors)) => {
+            written.as_slice() == wanted && status == 0 && errors.is_empty()
+        }
+        None => false,
+    }
+}
+
+const LINES: [(&str, &[u8]); 3] = [
+    (
+        "renamer replay --network bitonic --width 4",
+        ONE_CLIENT_ON_BITONIC_FOUR,
+    ),
+    (
+        "renamer replay --width 2 --network periodic",
+        ONE_CLIENT_ON_PERIODIC_TWO,
+    ),
+    ("renamer show --network tree --width 2", TREE_TWO),
+];
+
+/// The first line that writes something else.
+fn wrong_line(alloc: Global) -> Option<&'static str> {
+    for (line, text) in &LINES {
+        if !writes(alloc, line, text) {
+            return Some(*line);
+        }
+    }
+    None
+}
+
+#[test]
+fn words_are_done(rt: HostRuntime) {
+    assert_eq!(rt; wrong_line(rt.alloc()), None);
+}
+
+/// Whether something is written, and whether something is printed of a fault, each ended by a line feed; and the status.
+fn told(alloc: Global, line: &str) -> Option<(Option<bool>, Option<bool>, u8)> {
+    let (written, status, errors) = ran(alloc, line)?;
+    Some((is_ended(&written), is_ended(&errors), status))
+}
+
+/// Whether a text ends with a line feed, where there is a text.
+fn is_ended(text: &[u8]) -> Option<bool> {
+    let last = text.last()?;
+    Some(*last == b'\n')
+}
+
+#[test]
+fn help_is_written_and_a_refusal_is_told(rt: HostRuntime) {
+    let help = told(rt.alloc(), "renamer help show");
+    assert_eq!(rt; help, Some((Some(true), None, 0)));
+    let refusal = told(rt.alloc(), "renamer show --network tree --width 3");
+    assert_eq!(rt; refusal, Some((None, Some(true), 2)));
+}
+
+/// Whether a fault is printed with this line, and ends with this status, also where nothing can be printed.
+fn is_told(alloc: Global, fault: Fault, line: &[u8], status: u8) -> bool {
+    let done = Err(fault);
+    let mut full = Narrow::new(alloc, 0, Then::Fails(io::ErrorKind::BrokenPipe));
+    ends_with(alloc, &done, line, status) && end(&done, &mut full) == status
+}
+
+/// A replay's fault, at this line.
+const REPLAY_FAULTS: [(ReplayFault, &[u8], u8); 3] = [
+    (REFUSED, b"renamer: record 3: Op\n", 1),
+    (ReplayFault::Memory, b"renamer: memory\n", 3),
+    (
+        ReplayFault::Write { written: 9 },
+        b"renamer: write after 9 bytes\n",
+        3,
+    ),
+];
+
+const REFUSED: ReplayFault = ReplayFault::Schedule(ScheduleFault {
+    at: 3,
+    cause: ScheduleCause::Op,
+});
+
+/// The first line that is not a replay's fault's.
+fn wrong_replay_fault(alloc: Global) -> Option<&'static [u8]> {
+    for (fault, line, status) in &REPLAY_FAULTS {
+        if !is_told(alloc, Fault::Replay(*fault), line, *status) {
+            return Some(*line);
+        }
+    }
+    None
+}
+
+const OUTPUT_FAULTS: [(OutputFault, &[u8], u8); 2] = [
+    (OutputFault::Memory, b"renamer: memory\n", 3),
+    (
+        OutputFault::Write { written: 0 },
+        b"renamer: write after 0 bytes\n",
+        3,
+    ),
+];
+
+/// The first line that is not an output's fault's.
+fn wrong_output_fault(alloc: Global) -> Option<&'static [u8]> {
+    for (fault, line, status) in &OUTPUT_FAULTS {
+        if !is_told(alloc, Fault::Output(*fault), line, *status) {
+            return Some(*line);
+        }
+    }
+    None
+}
+
+/// Whether words that are refused, and a runtime that fails, have their lines and statuses.
+fn are_told(alloc: Global) -> Option<[bool; 2]> {
+    let no = String::from_str(alloc, "no\n").ok()?;
+    Some([
+        is_told(alloc, Fault::Refused(no), b"no\n", 2),
+        is_told(
+            alloc,
+            Fault::Runtime(RuntimeFault),
             b"renamer: runtime\n",
-        ),
-        (
-            replay,
-            io::ErrorKind::OutOfMemory,
-            b"",
-            3,
-            b"renamer: memory\n",
-        ),
-        (show, io::ErrorKind::Unsupported, TREE_TWO, 0, b""),
-    ];
-    for (job, kind, text, ends, line) in cases {
-        let (written, status, errors) = performed(job, wide(rt.alloc()), Some(kind), rt.alloc());
-        assert_eq!(rt;
-            (written.as_slice(), status, errors.as_slice()),
-            (text, ends, line)
-        );
-    }
-    Ok(())
-}
-
-#[test]
-fn a_failed_flush_is_a_failed_write(rt: HostRuntime) -> Result<(), Fail> {
-    let jobs: [(Job, &[u8], &[u8]); 2] = [
-        (
-            Job::Replay(Net::new(Kind::Bitonic, 4)?),
-            ONE_CLIENT_ON_BITONIC_FOUR,
-            b"renamer: write after 124 bytes\n",
-        ),
-        (
-            Job::Show(Net::new(Kind::Tree, 2)?),
-            TREE_TWO,
-            b"renamer: write after 99 bytes\n",
-        ),
-    ];
-    for (job, text, line) in jobs {
-        let writer = Narrow::unflushed(rt.alloc());
-        let (written, status, errors) = performed(job, writer, None, rt.alloc());
-        assert_eq!(rt;
-            (written.as_slice(), status, errors.as_slice()),
-            (text, 3, line)
-        );
-    }
-    Ok(())
-}
-
-#[test]
-fn a_writer_that_fails_once_is_left(rt: HostRuntime) -> Result<(), Fail> {
-    let job = Job::Show(Net::new(Kind::Tree, 2)?);
-    let writer = Narrow::new(rt.alloc(), 10, Then::FailsOnce);
-    let (written, status, errors) = performed(job, writer, None, rt.alloc());
-    let line = b"renamer: write after 10 bytes\n".as_slice();
-    assert_eq!(rt;
-        (written.as_slice(), status, errors.as_slice()),
-        (&TREE_TWO[..10], 3, line)
-    );
-    Ok(())
-}
-
-/// What the words of a line write of one client's schedule, and the end.
-fn ran(alloc: Global, line: &str) -> Result<(Vec<u8>, u8, Vec<u8>), Fail> {
-    let mut writer = wide(alloc);
-    let source = Words { fault: None };
-    let done = run(alloc, words(alloc, line)?, ONE_CLIENT, &mut writer, &source);
-    let (status, errors) = ended(alloc, &done);
-    Ok((writer.taken, status, errors))
-}
-
-#[test]
-fn words_are_done(rt: HostRuntime) -> Result<(), Fail> {
-    let lines = [
-        (
-            "renamer replay --network bitonic --width 4",
-            ONE_CLIENT_ON_BITONIC_FOUR,
-        ),
-        (
-            "renamer replay --width 2 --network periodic",
-            ONE_CLIENT_ON_PERIODIC_TWO,
-        ),
-        ("renamer show --network tree --width 2", TREE_TWO),
-    ];
-    for (line, text) in lines {
-        let (written, status, errors) = ran(rt.alloc(), line)?;
-        assert_eq!(rt;
-            (written.as_slice(), status, errors.len()),
-            (text, 0, 0),
-            "{line}"
-        );
-    }
-    Ok(())
-}
-
-#[test]
-fn help_is_written_and_a_refusal_is_told(rt: HostRuntime) -> Result<(), Fail> {
-    let (written, status, errors) = ran(rt.alloc(), "renamer help show")?;
-    assert_eq!(rt;
-        (written.ends_with(b"\n"), status, errors.len()),
-        (true, 0, 0)
-    );
-    let (written, status, errors) = ran(rt.alloc(), "renamer show --network tree --width 3")?;
-    assert_eq!(rt;
-        (written.len(), status, errors.ends_with(b"\n")),
-        (0, 2, true)
-    );
-    Ok(())
-}
-
-#[test]
-fn each_fault_has_its_line_and_its_status(rt: HostRuntime) -> Result<(), Fail> {
-    let alloc = rt.alloc();
-    let cause = ScheduleCause::Op;
-    let refused = ReplayFault::Schedule(ScheduleFault { at: 3, cause });
-    let faults: [(Fault, &[u8], u8); 7] = [
-        (Fault::Refused(String::from_str(alloc, "no\n")?), b"no\n", 2),
-        (Fault::Runtime(RuntimeFault), b"renamer: runtime\n", 3),
-        (Fault::Replay(refused), b"renamer: record 3: Op\n", 1),
-        (Fault::Replay(ReplayFault::Memory), b"renamer: memory\n", 3),
-        (
-            Fault::Replay(ReplayFault::Write { written: 9 }),
-            b"renamer: write after 9 bytes\n",
             3,
         ),
-        (Fault::Output(OutputFault::Memory), b"renamer: memory\n", 3),
-        (
-            Fault::Output(OutputFault::Write { written: 0 }),
-            b"renamer: write after 0 bytes\n",
-            3,
-        ),
-    ];
-    for (fault, line, status) in faults {
-        let done = Err(fault);
-        let mut full = Narrow::new(alloc, 0, Then::Fails(io::ErrorKind::BrokenPipe));
-        assert_eq!(rt; ended(alloc, &done).0, status);
-        assert_eq!(rt; ended(alloc, &done).1.as_slice(), line);
-        assert_eq!(rt; end(&done, &mut full), status);
-    }
-    Ok(())
+    ])
+}
+
+#[test]
+fn each_fault_has_its_line_and_its_status(rt: HostRuntime) {
+    assert_eq!(rt; wrong_replay_fault(rt.alloc()), None);
+    assert_eq!(rt; wrong_output_fault(rt.alloc()), None);
+    assert_eq!(rt; are_told(rt.alloc()), Some([true, true]));
 }

@@ -4,7 +4,7 @@ use crate::writers::{Broken, Narrow, Then};
 use cn_renamer::{Net, ReplayFault, ScheduleCause, ScheduleFault, replay};
 use cn_spec::limits::MOST_CLIENTS;
 use cn_wiring::Kind;
-use std::alloc::Global;
+use std::alloc::{AllocError, Global};
 use std::hash::RandomState;
 use std::io;
 use std::test::Fail;
@@ -26,6 +26,7 @@ const TWO_CLIENTS_REPLAYED: &[u8] = b"network bitonic width 2 balancers 1 depth 
       leave 7 exit 1 visit 0 name 1\n\
       end epoch 0 entered 2 inside 0\n";
 
+/// Each command that is refused but a turn.
 const REFUSALS: &[u8] = b"op,client,wire\n\
       step,5,\n\
       enter,7,0\n\
@@ -44,8 +45,13 @@ const REFUSALS_REPLAYED: &[u8] = b"network bitonic width 2 balancers 1 depth 1\n
       pass 7 balancer 0 number 0 wire 2\n\
       leave 7 exit 0 visit 0 name 0\n\
       refused step 7 HasName 0\n\
-      refused enter 7 AlreadyIn\n\
-      end epoch 0 entered 1 inside 0\n";
+      refused enter 7 AlreadyIn\n";
+
+/// A turn after client 7 alone.
+const ALONE_TURNED: &[u8] = b"turn epoch 0 clients 1\n\
+      exit 0 count 1\n\
+      exit 1 count 0\n\
+      name 0 client 7\n";
 
 const TURN_REFUSED_THEN_DONE: &[u8] = b"op,client,wire\n\
       enter,7,0\n\
@@ -58,40 +64,7 @@ const TURN_REFUSED_THEN_DONE_REPLAYED: &[u8] = b"network bitonic width 2 balance
       enter 7 wire 0\n\
       refused turn NotQuiet 1\n\
       pass 7 balancer 0 number 0 wire 2\n\
-      leave 7 exit 0 visit 0 name 0\n\
-      turn epoch 0 clients 1\n\
-      exit 0 count 1\n\
-      exit 1 count 0\n\
-      name 0 client 7\n\
-      end epoch 1 entered 0 inside 0\n";
-
-const EVERY_REFUSAL: &[u8] = b"op,client,wire\n\
-      step,5,\n\
-      enter,7,0\n\
-      enter,7,1\n\
-      enter,7,2\n\
-      step,7,\n\
-      step,7,\n\
-      step,7,\n\
-      enter,7,0\n\
-      turn,,\n\
-      enter,7,0\n";
-
-const EVERY_REFUSAL_REPLAYED: &[u8] = b"network bitonic width 2 balancers 1 depth 1\n\
-      refused step 5 Stranger\n\
-      enter 7 wire 0\n\
-      refused enter 7 AlreadyIn\n\
-      refused enter 7 NoSuchEntry\n\
-      pass 7 balancer 0 number 0 wire 2\n\
-      leave 7 exit 0 visit 0 name 0\n\
-      refused step 7 HasName 0\n\
-      refused enter 7 AlreadyIn\n\
-      turn epoch 0 clients 1\n\
-      exit 0 count 1\n\
-      exit 1 count 0\n\
-      name 0 client 7\n\
-      enter 7 wire 0\n\
-      end epoch 1 entered 1 inside 1\n";
+      leave 7 exit 0 visit 0 name 0\n";
 
 const BITONIC_FOUR: &[u8] = b"op,client,wire\n\
       enter,8,0\n\
@@ -144,10 +117,9 @@ const TREE_OVERTAKING_REPLAYED: &[u8] = b"network tree width 4 balancers 3 depth
       pass 10 balancer 1 number 1 wire 4\n\
       leave 10 exit 2 visit 0 name 2\n\
       pass 20 balancer 2 number 0 wire 5\n\
-      leave 20 exit 1 visit 0 name 1\n\
-      end epoch 0 entered 3 inside 0\n";
+      leave 20 exit 1 visit 0 name 1\n";
 
-/// The rows of a turn after those: each exit's count, and each name's holder.
+/// A turn after those: each exit's count, and each name's holder.
 const TREE_OVERTAKING_TURNED: &[u8] = b"turn epoch 0 clients 3\n\
       exit 0 count 1\n\
       exit 1 count 1\n\
@@ -187,91 +159,133 @@ const PERIODIC_FOUR_REPLAYED: &[u8] = b"network periodic width 4 balancers 8 dep
       leave 9 exit 1 visit 0 name 1\n\
       end epoch 0 entered 2 inside 0\n";
 
-fn replayed(rt: &HostRuntime, kind: Kind, width: u32, input: &[u8]) -> Result<Vec<u8>, Fail> {
-    let alloc = rt.alloc();
-    let net = Net::new(kind, width)?;
+/// What a replay writes, where it is done.
+fn replayed(
+    alloc: Global,
+    state: RandomState,
+    kind: Kind,
+    width: u32,
+    input: &[u8],
+) -> Option<Vec<u8>> {
+    let net = Net::new(kind, width).ok()?;
     let mut written = Vec::new(alloc);
-    replay(alloc, input, &mut written, &net, RandomState::new(rt)?)?;
-    Ok(written)
+    replay(alloc, input, &mut written, &net, state).ok()?;
+    Some(written)
+}
+
+/// A kind and a width, and a schedule and what its replay writes, each in parts.
+type Row = (
+    Kind,
+    u32,
+    &'static [&'static [u8]],
+    &'static [&'static [u8]],
+);
+
+const ROWS: [Row; 10] = [
+    (Kind::Bitonic, 2, &[TWO_CLIENTS], &[TWO_CLIENTS_REPLAYED]),
+    (
+        Kind::Bitonic,
+        2,
+        &[REFUSALS],
+        &[REFUSALS_REPLAYED, b"end epoch 0 entered 1 inside 0\n"],
+    ),
+    (
+        Kind::Bitonic,
+        2,
+        &[TURN_REFUSED_THEN_DONE],
+        &[
+            TURN_REFUSED_THEN_DONE_REPLAYED,
+            ALONE_TURNED,
+            b"end epoch 1 entered 0 inside 0\n",
+        ],
+    ),
+    (
+        Kind::Bitonic,
+        2,
+        &[REFUSALS, b"turn,,\n", b"enter,7,0\n"],
+        &[
+            REFUSALS_REPLAYED,
+            ALONE_TURNED,
+            b"enter 7 wire 0\n",
+            b"end epoch 1 entered 1 inside 1\n",
+        ],
+    ),
+    (
+        Kind::Tree,
+        2,
+        &[b"op,client,wire\n", b"turn,,\n"],
+        &[
+            b"network tree width 2 balancers 1 depth 1\n",
+            b"turn epoch 0 clients 0\n",
+            b"exit 0 count 0\n",
+            b"exit 1 count 0\n",
+            b"end epoch 1 entered 0 inside 0\n",
+        ],
+    ),
+    (Kind::Bitonic, 4, &[BITONIC_FOUR], &[BITONIC_FOUR_REPLAYED]),
+    (
+        Kind::Periodic,
+        4,
+        &[PERIODIC_FOUR],
+        &[PERIODIC_FOUR_REPLAYED],
+    ),
+    (
+        Kind::Tree,
+        4,
+        &[TREE_OVERTAKING],
+        &[
+            TREE_OVERTAKING_REPLAYED,
+            b"end epoch 0 entered 3 inside 0\n",
+        ],
+    ),
+    (
+        Kind::Tree,
+        4,
+        &[TREE_OVERTAKING, b"turn,,\n"],
+        &[TREE_OVERTAKING_REPLAYED, TREE_OVERTAKING_TURNED],
+    ),
+    (
+        Kind::Bitonic,
+        64,
+        &[b"op,client,wire\n"],
+        &[
+            b"network bitonic width 64 balancers 672 depth 21\n",
+            b"end epoch 0 entered 0 inside 0\n",
+        ],
+    ),
+];
+
+/// The parts, one after another.
+fn joined(alloc: Global, parts: &[&[u8]]) -> Result<Vec<u8>, AllocError> {
+    let mut text = Vec::new(alloc);
+    for part in parts {
+        text.extend_from_slice(part)?;
+    }
+    Ok(text)
+}
+
+fn is_replayed(alloc: Global, state: RandomState, row: &Row) -> Option<bool> {
+    let (kind, width, schedule, wanted) = *row;
+    let schedule = joined(alloc, schedule).ok()?;
+    let wanted = joined(alloc, wanted).ok()?;
+    let written = replayed(alloc, state, kind, width, &schedule)?;
+    Some(written.as_slice() == wanted.as_slice())
+}
+
+/// The place of the first row that is replayed otherwise.
+fn wrong_row(alloc: Global, state: RandomState) -> Option<usize> {
+    for (place, row) in ROWS.iter().enumerate() {
+        if is_replayed(alloc, state, row) != Some(true) {
+            return Some(place);
+        }
+    }
+    None
 }
 
 #[test]
-fn two_clients(rt: HostRuntime) -> Result<(), Fail> {
-    assert_eq!(rt;
-        replayed(&rt, Kind::Bitonic, 2, TWO_CLIENTS)?.as_slice(),
-        TWO_CLIENTS_REPLAYED
-    );
-    Ok(())
-}
-
-#[test]
-fn refusals_without_turn(rt: HostRuntime) -> Result<(), Fail> {
-    assert_eq!(rt;
-        replayed(&rt, Kind::Bitonic, 2, REFUSALS)?.as_slice(),
-        REFUSALS_REPLAYED
-    );
-    Ok(())
-}
-
-#[test]
-fn turn_refused_then_done(rt: HostRuntime) -> Result<(), Fail> {
-    let text = replayed(&rt, Kind::Bitonic, 2, TURN_REFUSED_THEN_DONE)?;
-    assert_eq!(rt; text.as_slice(), TURN_REFUSED_THEN_DONE_REPLAYED);
-    Ok(())
-}
-
-#[test]
-fn every_refusal(rt: HostRuntime) -> Result<(), Fail> {
-    let text = replayed(&rt, Kind::Bitonic, 2, EVERY_REFUSAL)?;
-    assert_eq!(rt; text.as_slice(), EVERY_REFUSAL_REPLAYED);
-    Ok(())
-}
-
-#[test]
-fn a_turn_of_nobody(rt: HostRuntime) -> Result<(), Fail> {
-    let text = replayed(&rt, Kind::Tree, 2, b"op,client,wire\nturn,,\n".as_slice())?;
-    let wanted = b"network tree width 2 balancers 1 depth 1\n\
-      turn epoch 0 clients 0\n\
-      exit 0 count 0\n\
-      exit 1 count 0\n\
-      end epoch 1 entered 0 inside 0\n"
-        .as_slice();
-    assert_eq!(rt; text.as_slice(), wanted);
-    Ok(())
-}
-
-#[test]
-fn bitonic_four_replay(rt: HostRuntime) -> Result<(), Fail> {
-    let text = replayed(&rt, Kind::Bitonic, 4, BITONIC_FOUR)?;
-    assert_eq!(rt; text.as_slice(), BITONIC_FOUR_REPLAYED);
-    Ok(())
-}
-
-#[test]
-fn periodic_four_replay(rt: HostRuntime) -> Result<(), Fail> {
-    let text = replayed(&rt, Kind::Periodic, 4, PERIODIC_FOUR)?;
-    assert_eq!(rt; text.as_slice(), PERIODIC_FOUR_REPLAYED);
-    Ok(())
-}
-
-#[test]
-fn tree_overtaking(rt: HostRuntime) -> Result<(), Fail> {
-    let text = replayed(&rt, Kind::Tree, 4, TREE_OVERTAKING)?;
-    assert_eq!(rt; text.as_slice(), TREE_OVERTAKING_REPLAYED);
-    Ok(())
-}
-
-#[test]
-fn tree_overtaking_and_a_turn(rt: HostRuntime) -> Result<(), Fail> {
-    let mut input = Vec::new(rt.alloc());
-    input.extend_from_slice(TREE_OVERTAKING)?;
-    input.extend_from_slice(b"turn,,\n")?;
-    let text = replayed(&rt, Kind::Tree, 4, &input)?;
-    let end = b"end epoch 0 entered 3 inside 0\n".as_slice();
-    let before = TREE_OVERTAKING_REPLAYED
-        .strip_suffix(end)
-        .unwrap_or_default();
-    assert_eq!(rt; text.strip_prefix(before), Some(TREE_OVERTAKING_TURNED));
+fn rows_are_replayed(rt: HostRuntime) -> Result<(), Fail> {
+    let wrong = wrong_row(rt.alloc(), RandomState::new(&rt)?);
+    assert_eq!(rt; wrong, None);
     Ok(())
 }
 
@@ -285,35 +299,36 @@ fn comer(epoch: u32, place: u32) -> u64 {
 }
 
 /// Three epochs on two wires: all enter, pass and leave, and a turn.
-fn three_epochs(alloc: Global) -> Result<Vec<u8>, Fail> {
+fn three_epochs(alloc: Global) -> Option<Vec<u8>> {
     let mut text = String::new(alloc);
-    text.push_str("op,client,wire\n")?;
+    text.push_str("op,client,wire\n").ok()?;
     for epoch in 0..3_u32 {
         for place in 0..COMERS {
-            writeln!(text, "enter,{},{}", comer(epoch, place), place % 2)?;
+            writeln!(text, "enter,{},{}", comer(epoch, place), place % 2).ok()?;
         }
         for _ in 0..2 {
             for place in 0..COMERS {
-                writeln!(text, "step,{},", comer(epoch, place))?;
+                writeln!(text, "step,{},", comer(epoch, place)).ok()?;
             }
         }
-        writeln!(text, "turn,,")?;
+        writeln!(text, "turn,,").ok()?;
     }
-    Ok(text.into_bytes())
+    Some(text.into_bytes())
 }
 
 /// What answers them: the client at a place passes with its place for number, and its name is its place too.
-fn three_epochs_replayed(alloc: Global) -> Result<Vec<u8>, Fail> {
+fn three_epochs_replayed(alloc: Global) -> Option<Vec<u8>> {
     let mut text = String::new(alloc);
-    text.push_str("network bitonic width 2 balancers 1 depth 1\n")?;
+    text.push_str("network bitonic width 2 balancers 1 depth 1\n")
+        .ok()?;
     for epoch in 0..3_u32 {
         for place in 0..COMERS {
-            writeln!(text, "enter {} wire {}", comer(epoch, place), place % 2)?;
+            writeln!(text, "enter {} wire {}", comer(epoch, place), place % 2).ok()?;
         }
         for place in 0..COMERS {
             let client = comer(epoch, place);
             let wire = 2 + place % 2;
-            writeln!(text, "pass {client} balancer 0 number {place} wire {wire}")?;
+            writeln!(text, "pass {client} balancer 0 number {place} wire {wire}").ok()?;
         }
         for place in 0..COMERS {
             let client = comer(epoch, place);
@@ -321,68 +336,74 @@ fn three_epochs_replayed(alloc: Global) -> Result<Vec<u8>, Fail> {
             writeln!(
                 text,
                 "leave {client} exit {exit} visit {visit} name {place}"
-            )?;
+            )
+            .ok()?;
         }
         writeln!(
             text,
             "turn epoch {epoch} clients 12\nexit 0 count 6\nexit 1 count 6"
-        )?;
+        )
+        .ok()?;
         for place in 0..COMERS {
-            writeln!(text, "name {place} client {}", comer(epoch, place))?;
+            writeln!(text, "name {place} client {}", comer(epoch, place)).ok()?;
         }
     }
-    text.push_str("end epoch 3 entered 0 inside 0\n")?;
-    Ok(text.into_bytes())
+    text.push_str("end epoch 3 entered 0 inside 0\n").ok()?;
+    Some(text.into_bytes())
+}
+
+fn are_three_epochs_replayed(alloc: Global, state: RandomState) -> Option<bool> {
+    let schedule = three_epochs(alloc)?;
+    let wanted = three_epochs_replayed(alloc)?;
+    let text = replayed(alloc, state, Kind::Bitonic, 2, &schedule)?;
+    Some(text.as_slice() == wanted.as_slice())
 }
 
 #[test]
 fn a_hundred_commands_over_three_epochs(rt: HostRuntime) -> Result<(), Fail> {
-    let schedule = three_epochs(rt.alloc())?;
-    let wanted = three_epochs_replayed(rt.alloc())?;
-    let text = replayed(&rt, Kind::Bitonic, 2, &schedule)?;
-    assert_eq!(rt; text.as_slice(), wanted.as_slice());
+    let are_told = are_three_epochs_replayed(rt.alloc(), RandomState::new(&rt)?);
+    assert_eq!(rt; are_told, Some(true));
     Ok(())
 }
 
 /// One client more than an epoch may have, all on one entry.
-fn a_client_too_many(alloc: Global) -> Result<Vec<u8>, Fail> {
+fn a_client_too_many(alloc: Global) -> Option<Vec<u8>> {
     let mut text = String::new(alloc);
-    text.push_str("op,client,wire\n")?;
+    text.push_str("op,client,wire\n").ok()?;
     for client in 0..=MOST_CLIENTS {
-        writeln!(text, "enter,{client},0")?;
+        writeln!(text, "enter,{client},0").ok()?;
     }
-    Ok(text.into_bytes())
+    Some(text.into_bytes())
+}
+
+const FULL: &[u8] = b"enter 65535 wire 0\n\
+      refused enter 65536 EpochFull\n\
+      end epoch 0 entered 65536 inside 65536\n";
+
+/// Whether the one client is refused, and no other.
+fn is_one_too_many(alloc: Global, state: RandomState) -> Option<bool> {
+    let schedule = a_client_too_many(alloc)?;
+    let text = replayed(alloc, state, Kind::Tree, 2, &schedule)?;
+    Some(text.ends_with(FULL))
 }
 
 #[test]
 fn a_full_epoch_refuses_a_client(rt: HostRuntime) -> Result<(), Fail> {
-    let schedule = a_client_too_many(rt.alloc())?;
-    let text = replayed(&rt, Kind::Tree, 2, &schedule)?;
-    let end = b"enter 65535 wire 0\n\
-                refused enter 65536 EpochFull\n\
-                end epoch 0 entered 65536 inside 65536\n";
-    assert!(rt; text.ends_with(end));
+    let is_told = is_one_too_many(rt.alloc(), RandomState::new(&rt)?);
+    assert_eq!(rt; is_told, Some(true));
     Ok(())
 }
 
-#[test]
-fn a_schedule_of_no_commands(rt: HostRuntime) -> Result<(), Fail> {
-    let text = replayed(&rt, Kind::Bitonic, 64, b"op,client,wire\n".as_slice())?;
-    let wanted = b"network bitonic width 64 balancers 672 depth 21\n\
-      end epoch 0 entered 0 inside 0\n"
-        .as_slice();
-    assert_eq!(rt; text.as_slice(), wanted);
-    Ok(())
-}
-
-fn refusal(rt: &HostRuntime, input: impl io::Read + Drop) -> Result<(ReplayFault, usize), Fail> {
-    let alloc = rt.alloc();
-    let net = Net::new(Kind::Bitonic, 2)?;
+/// The fault of a schedule that is refused, and how many bytes are written.
+fn refusal(
+    alloc: Global,
+    state: RandomState,
+    input: impl io::Read + Drop,
+) -> Option<(ReplayFault, usize)> {
+    let net = Net::new(Kind::Bitonic, 2).ok()?;
     let mut written = Vec::new(alloc);
-    let fault = replay(alloc, input, &mut written, &net, RandomState::new(rt)?)
-        .err()
-        .ok_or("the schedule is refused")?;
-    Ok((fault, written.len()))
+    let fault = replay(alloc, input, &mut written, &net, state).err()?;
+    Some((fault, written.len()))
 }
 
 /// Schedules that are refused, each with its fault line.
@@ -419,62 +440,100 @@ const REFUSED: [(&[u8], &str); 9] = [
     ),
 ];
 
+fn has_line(alloc: Global, fault: &ReplayFault, line: &str) -> bool {
+    match fault.to_string(alloc) {
+        Ok(text) => text.as_str() == line,
+        Err(_) => false,
+    }
+}
+
+/// Whether a schedule is refused with this line and status 1, and nothing is written.
+fn is_refused(alloc: Global, state: RandomState, input: &[u8], line: &str) -> bool {
+    match refusal(alloc, state, input) {
+        Some((fault, written)) => {
+            written == 0 && fault.status() == 1 && has_line(alloc, &fault, line)
+        }
+        None => false,
+    }
+}
+
+/// The first schedule that is not refused so.
+fn wrong_refusal(alloc: Global, state: RandomState) -> Option<&'static [u8]> {
+    for (input, line) in &REFUSED {
+        if !is_refused(alloc, state, input, line) {
+            return Some(*input);
+        }
+    }
+    None
+}
+
 #[test]
 fn schedule_refusals(rt: HostRuntime) -> Result<(), Fail> {
-    for (input, line) in REFUSED {
-        let (fault, written) = refusal(&rt, input)?;
-        assert_eq!(rt; fault.to_string(rt.alloc())?.as_str(), line);
-        assert_eq!(rt; fault.status(), 1, "{line}");
-        assert_eq!(rt; written, 0, "{line}");
-    }
+    let wrong = wrong_refusal(rt.alloc(), RandomState::new(&rt)?);
+    assert_eq!(rt; wrong, None);
     Ok(())
+}
+
+/// The fault of a read that fails after so many lines.
+fn read_fault(at: u64) -> ReplayFault {
+    let cause = ScheduleCause::Read;
+    ReplayFault::Schedule(ScheduleFault { at, cause })
+}
+
+/// The first number of bytes, at the end of a line, after which a read that fails is told otherwise.
+fn wrong_read(alloc: Global, state: RandomState) -> Option<usize> {
+    let mut lines = 0u64;
+    for end in 0..=TWO_CLIENTS.len() {
+        let left = &TWO_CLIENTS[..end];
+        if left.is_empty() || left.ends_with(b"\n") {
+            if refusal(alloc, state, Broken { left }) != Some((read_fault(lines), 0)) {
+                return Some(end);
+            }
+            lines = lines.saturating_add(1);
+        }
+    }
+    None
 }
 
 #[test]
 fn read_cut_anywhere(rt: HostRuntime) -> Result<(), Fail> {
-    for end in 0..=TWO_CLIENTS.len() {
-        let left = &TWO_CLIENTS[..end];
-        if !left.is_empty() && !left.ends_with(b"\n") {
-            continue;
-        }
-        let at = left.iter().filter(|byte| **byte == b'\n').count() as u64;
-        let cause = ScheduleCause::Read;
-        let wanted = ReplayFault::Schedule(ScheduleFault { at, cause });
-        assert_eq!(rt;
-            refusal(&rt, Broken { left })?,
-            (wanted, 0),
-            "after {at} lines"
-        );
-    }
+    let wrong = wrong_read(rt.alloc(), RandomState::new(&rt)?);
+    assert_eq!(rt; wrong, None);
     Ok(())
 }
 
-/// The fault of a replay of two clients to a writer, and what the writer has taken.
-fn cut(rt: &HostRuntime, mut writer: Narrow) -> Result<(Option<ReplayFault>, Vec<u8>), Fail> {
-    let net = Net::new(Kind::Bitonic, 2)?;
-    let state = RandomState::new(rt)?;
-    let fault = replay(rt.alloc(), TWO_CLIENTS, &mut writer, &net, state).err();
-    Ok((fault, writer.taken))
+/// Whether a replay of two clients to a writer fails after these bytes, which the writer has taken.
+fn is_cut(alloc: Global, state: RandomState, mut writer: Narrow, wanted: &[u8]) -> Option<bool> {
+    let net = Net::new(Kind::Bitonic, 2).ok()?;
+    let fault = replay(alloc, TWO_CLIENTS, &mut writer, &net, state).err()?;
+    let written = wanted.len() as u64;
+    Some(fault == ReplayFault::Write { written } && writer.taken.as_slice() == wanted)
+}
+
+/// The first room of a writer at which a replay to it fails otherwise.
+fn wrong_write(alloc: Global, state: RandomState, then: Then) -> Option<usize> {
+    for room in 0..TWO_CLIENTS_REPLAYED.len() {
+        let writer = Narrow::new(alloc, room, then);
+        if is_cut(alloc, state, writer, &TWO_CLIENTS_REPLAYED[..room]) != Some(true) {
+            return Some(room);
+        }
+    }
+    None
 }
 
 #[test]
 fn write_cut_anywhere(rt: HostRuntime) -> Result<(), Fail> {
-    for then in [Then::TakesNothing, Then::FailsOnce] {
-        for room in 0..TWO_CLIENTS_REPLAYED.len() {
-            let (fault, taken) = cut(&rt, Narrow::new(rt.alloc(), room, then))?;
-            let written = room as u64;
-            assert_eq!(rt; fault, Some(ReplayFault::Write { written }));
-            assert_eq!(rt; taken.as_slice(), &TWO_CLIENTS_REPLAYED[..room]);
-        }
-    }
+    let (alloc, state) = (rt.alloc(), RandomState::new(&rt)?);
+    let nothing = wrong_write(alloc, state, Then::TakesNothing);
+    let once = wrong_write(alloc, state, Then::FailsOnce);
+    assert_eq!(rt; (nothing, once), (None, None));
     Ok(())
 }
 
 #[test]
 fn a_failed_flush_is_a_failed_write(rt: HostRuntime) -> Result<(), Fail> {
-    let (fault, taken) = cut(&rt, Narrow::unflushed(rt.alloc()))?;
-    let written = TWO_CLIENTS_REPLAYED.len() as u64;
-    assert_eq!(rt; fault, Some(ReplayFault::Write { written }));
-    assert_eq!(rt; taken.as_slice(), TWO_CLIENTS_REPLAYED);
+    let (alloc, state) = (rt.alloc(), RandomState::new(&rt)?);
+    let told = is_cut(alloc, state, Narrow::unflushed(alloc), TWO_CLIENTS_REPLAYED);
+    assert_eq!(rt; told, Some(true));
     Ok(())
 }

@@ -9,7 +9,7 @@ use std::hash::RandomState;
 use std::test::Fail;
 
 /// What epochs answered, and how they stand after it.
-#[derive(Debug, Drop, PartialEq, Eq)]
+#[derive(Drop, PartialEq, Eq)]
 struct Outcome {
     answers: Vec<Answer>,
     number: u64,
@@ -22,16 +22,46 @@ fn outcome_of(
     state: RandomState,
     commands: &[Command],
     calls: Calls,
-) -> Result<Outcome, Fail> {
-    let network = bitonic(alloc, 2)?;
-    let mut epochs = Epochs::new(alloc, &network, state)?;
+) -> Option<Outcome> {
+    let network = bitonic(alloc, 2).ok()?;
+    let mut epochs = Epochs::new(alloc, &network, state).ok()?;
     let answers = answers_to(&mut epochs, alloc, commands, calls)?;
-    Ok(Outcome {
+    Some(Outcome {
         answers,
         number: epochs.number(),
         entered: epochs.entered(),
         inside: epochs.inside(),
     })
+}
+
+/// Whether epochs answer so, and stand so after it.
+fn has_outcome(
+    alloc: Global,
+    state: RandomState,
+    commands: &[Command],
+    calls: Calls,
+    wanted: &Outcome,
+) -> bool {
+    match outcome_of(alloc, state, commands, calls) {
+        Some(outcome) => outcome == *wanted,
+        None => false,
+    }
+}
+
+/// Whether single calls and a run have the wanted outcome.
+fn both_have(
+    alloc: Global,
+    state: RandomState,
+    commands: &[Command],
+    wanted: Result<Outcome, AllocError>,
+) -> [bool; 2] {
+    let Ok(wanted) = wanted else {
+        return [false, false];
+    };
+    [
+        has_outcome(alloc, state, commands, Calls::Single, &wanted),
+        has_outcome(alloc, state, commands, Calls::Run, &wanted),
+    ]
 }
 
 fn enter(client: u64, entry: u64) -> Command {
@@ -105,39 +135,45 @@ fn turn_refused_then_done(alloc: Global) -> Result<Outcome, AllocError> {
 
 #[test]
 fn turn_is_refused_then_done(rt: HostRuntime) -> Result<(), Fail> {
-    for calls in [Calls::Single, Calls::Run] {
-        let outcome = outcome_of(rt.alloc(), RandomState::new(&rt)?, &turns(), calls)?;
-        assert_eq!(rt; outcome, turn_refused_then_done(rt.alloc())?, "{calls:?}");
-    }
+    let state = RandomState::new(&rt)?;
+    let wanted = turn_refused_then_done(rt.alloc());
+    assert_eq!(rt;
+        both_have(rt.alloc(), state, &turns(), wanted),
+        [true, true]
+    );
     Ok(())
 }
 
 /// How epochs stand after so many of the calls: how many ended, and how many clients entered and are inside.
-fn stand_after(alloc: Global, state: RandomState, calls: usize) -> Result<[u64; 3], Fail> {
+fn stand_after(alloc: Global, state: RandomState, calls: usize) -> Option<[u64; 3]> {
     let commands = turns_and_more();
-    let commands = commands.get(..calls).ok_or("so many calls")?;
-    let outcome = outcome_of(alloc, state, commands, Calls::Single)?;
-    Ok([outcome.number, outcome.entered, outcome.inside])
+    let outcome = outcome_of(alloc, state, commands.get(..calls)?, Calls::Single)?;
+    Some([outcome.number, outcome.entered, outcome.inside])
 }
 
 #[test]
 fn epochs_stand_by_the_calls_so_far(rt: HostRuntime) -> Result<(), Fail> {
-    for (calls, wanted) in [(4, [0, 1, 0]), (5, [1, 0, 0]), (7, [1, 1, 1])] {
-        let stand = stand_after(rt.alloc(), RandomState::new(&rt)?, calls)?;
-        assert_eq!(rt; stand, wanted, "after {calls} calls");
-    }
+    let (alloc, state) = (rt.alloc(), RandomState::new(&rt)?);
+    let stands = [4, 5, 7].map(|calls| stand_after(alloc, state, calls));
+    assert_eq!(rt; stands, [[0, 1, 0], [1, 0, 0], [1, 1, 1]].map(Some));
     Ok(())
+}
+
+const AGAIN: [Answer; 2] = [
+    Answer::Replied(Reply::StepRefused(StepFault::Stranger)),
+    Answer::Replied(Reply::Entered),
+];
+
+/// Whether client 7 is a stranger after the turn, and enters.
+fn comes_again(alloc: Global, state: RandomState) -> Option<bool> {
+    let outcome = outcome_of(alloc, state, &turns_and_more(), Calls::Single)?;
+    Some(outcome.answers.get(5..) == Some(AGAIN.as_slice()))
 }
 
 #[test]
 fn a_client_comes_again_after_a_turn(rt: HostRuntime) -> Result<(), Fail> {
-    let commands = turns_and_more();
-    let outcome = outcome_of(rt.alloc(), RandomState::new(&rt)?, &commands, Calls::Single)?;
-    let wanted = [
-        Answer::Replied(Reply::StepRefused(StepFault::Stranger)),
-        Answer::Replied(Reply::Entered),
-    ];
-    assert_eq!(rt; outcome.answers.get(5..), Some(wanted.as_slice()));
+    let again = comes_again(rt.alloc(), RandomState::new(&rt)?);
+    assert_eq!(rt; again, Some(true));
     Ok(())
 }
 
@@ -183,9 +219,11 @@ fn every_refusal(alloc: Global) -> Result<Outcome, AllocError> {
 
 #[test]
 fn every_refusal_then_turn(rt: HostRuntime) -> Result<(), Fail> {
-    for calls in [Calls::Single, Calls::Run] {
-        let outcome = outcome_of(rt.alloc(), RandomState::new(&rt)?, &refusals(), calls)?;
-        assert_eq!(rt; outcome, every_refusal(rt.alloc())?, "{calls:?}");
-    }
+    let state = RandomState::new(&rt)?;
+    let wanted = every_refusal(rt.alloc());
+    assert_eq!(rt;
+        both_have(rt.alloc(), state, &refusals(), wanted),
+        [true, true]
+    );
     Ok(())
 }

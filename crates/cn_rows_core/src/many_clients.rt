@@ -1,7 +1,7 @@
 //! Lists of some thousand clients, the greatest number among them, each walking on by itself.
 
 use crate::calls::{Calls, answers_to};
-use crate::two_wide::holders_of;
+use crate::two_wide::has_holders;
 use cn_core::{Core, Event};
 use cn_epoch::{Answer, Command, EpochRecord, Epochs};
 use cn_tree::tree;
@@ -33,23 +33,33 @@ fn events(alloc: Global, clients: &[u64]) -> Result<Vec<Event>, AllocError> {
     Ok(events)
 }
 
-/// How many replies there were, how many clients entered, the first client's name, and the holders.
-type Outcome = (usize, u64, Option<u64>, Vec<u64>);
+/// How many replies there were, how many clients entered, the first client's name, and whether the holders are the
+/// clients.
+type Outcome = (usize, u64, Option<u64>, bool);
 
-fn outcome_of(alloc: Global, state: RandomState, events: &[Event]) -> Result<Outcome, Fail> {
-    let network = tree(alloc, 4)?;
-    let mut core = Core::new(alloc, &network, state)?;
-    let replies = core.run(events)?;
-    let holders = holders_of(&core)?;
-    Ok((replies.len(), core.entered(), core.name(u64::MAX), holders))
+fn outcome_of(
+    alloc: Global,
+    state: RandomState,
+    events: &[Event],
+    clients: &[u64],
+) -> Option<Outcome> {
+    let network = tree(alloc, 4).ok()?;
+    let mut core = Core::new(alloc, &network, state).ok()?;
+    let replies = core.run(events).ok()?.len();
+    let are_holders = has_holders(&core, clients);
+    Some((replies, core.entered(), core.name(u64::MAX), are_holders))
+}
+
+fn outcome_of_many(alloc: Global, state: RandomState) -> Option<Outcome> {
+    let clients = clients(alloc).ok()?;
+    let events = events(alloc, &clients).ok()?;
+    outcome_of(alloc, state, &events, &clients)
 }
 
 #[test]
 fn a_core_of_many(rt: HostRuntime) -> Result<(), Fail> {
-    let clients = clients(rt.alloc())?;
-    let events = events(rt.alloc(), &clients)?;
-    let outcome = outcome_of(rt.alloc(), RandomState::new(&rt)?, &events)?;
-    assert_eq!(rt; outcome, (12_000, 3_000, Some(0), clients));
+    let outcome = outcome_of_many(rt.alloc(), RandomState::new(&rt)?);
+    assert_eq!(rt; outcome, Some((12_000, 3_000, Some(0), true)));
     Ok(())
 }
 
@@ -74,25 +84,46 @@ fn answers_of(
     state: RandomState,
     commands: &[Command],
     calls: Calls,
-) -> Result<Vec<Answer>, Fail> {
-    let network = tree(alloc, 4)?;
-    let mut epochs = Epochs::new(alloc, &network, state)?;
+) -> Option<Vec<Answer>> {
+    let network = tree(alloc, 4).ok()?;
+    let mut epochs = Epochs::new(alloc, &network, state).ok()?;
     answers_to(&mut epochs, alloc, commands, calls)
+}
+
+/// Whether there are answers, and this is the last of them.
+fn end_with(answers: Option<Vec<Answer>>, wanted: &Answer) -> bool {
+    match answers {
+        Some(answers) => answers.last() == Some(wanted),
+        None => false,
+    }
+}
+
+/// The answer to a turn after all clients.
+fn ended(alloc: Global) -> Result<Answer, AllocError> {
+    Ok(Answer::Turned(EpochRecord {
+        number: 0,
+        clients: MANY,
+        counts: vec![in alloc; 750; 4]?,
+        holders: clients(alloc)?,
+    }))
+}
+
+fn all_commands(alloc: Global) -> Result<Vec<Command>, AllocError> {
+    commands(alloc, &events(alloc, &clients(alloc)?)?)
+}
+
+/// Whether single calls and a run end with the wanted answer.
+fn both_end(alloc: Global, state: RandomState) -> Option<[bool; 2]> {
+    let commands = all_commands(alloc).ok()?;
+    let wanted = ended(alloc).ok()?;
+    let single = answers_of(alloc, state, &commands, Calls::Single);
+    let run = answers_of(alloc, state, &commands, Calls::Run);
+    Some([end_with(single, &wanted), end_with(run, &wanted)])
 }
 
 #[test]
 fn an_epoch_of_many(rt: HostRuntime) -> Result<(), Fail> {
-    let alloc = rt.alloc();
-    let commands = commands(alloc, &events(alloc, &clients(alloc)?)?)?;
-    for calls in [Calls::Single, Calls::Run] {
-        let answers = answers_of(alloc, RandomState::new(&rt)?, &commands, calls)?;
-        let wanted = Answer::Turned(EpochRecord {
-            number: 0,
-            clients: MANY,
-            counts: vec![in alloc; 750; 4]?,
-            holders: clients(alloc)?,
-        });
-        assert_eq!(rt; answers.last(), Some(&wanted), "{calls:?}");
-    }
+    let ends = both_end(rt.alloc(), RandomState::new(&rt)?);
+    assert_eq!(rt; ends, Some([true, true]));
     Ok(())
 }

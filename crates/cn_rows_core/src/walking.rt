@@ -1,12 +1,14 @@
 //! Whole batches, walked by the core on each network of widths 2 to 8, against the plain shares.
 
+ghost use Rattle.std.specs.Prelude.{◌<◌};
+
 use cn_bitonic::bitonic;
 use cn_core::{Core, Moved};
 use cn_periodic::periodic;
 use cn_spec::plain::shares;
 use cn_tree::tree;
 use cn_wiring::{BuildFault, Counting};
-use std::alloc::Global;
+use std::alloc::{AllocError, Global};
 use std::hash::RandomState;
 use std::test::Fail;
 
@@ -36,7 +38,7 @@ fn walked(
     core: &mut Core<'_>,
     clients: u32,
     exits: usize,
-) -> Result<Vec<u64>, Fail> {
+) -> Result<Vec<u64>, AllocError> {
     let mut counts = vec![in alloc; 0u64; exits]?;
     for round in 0..64_u8 {
         walk_round(core, clients, round, &mut counts);
@@ -44,7 +46,7 @@ fn walked(
     Ok(counts)
 }
 
-#[derive(Clone, Copy, Debug)]
+#[derive(Clone, Copy, Debug, PartialEq, Eq)]
 enum Built {
     Bitonic,
     Periodic,
@@ -59,42 +61,70 @@ fn network_of(alloc: Global, built: Built, width: u32) -> Result<Counting, Build
     }
 }
 
+/// The clients enter, on entries that change.
+fn enter_all(core: &mut Core<'_>, clients: u32, entries: u64) -> Option<()>
+    requires { 0 < entries }
+{
+    for client in 0..u64::from(clients) {
+        let entry = client.wrapping_mul(7) / 3 % entries;
+        core.enter(client, entry).ok()?;
+    }
+    Some(())
+}
+
 /// The counts of the exits after a batch, and whether nobody is inside.
 fn batch(
     alloc: Global,
     state: RandomState,
     network: &Counting,
     clients: u32,
-) -> Result<(Vec<u64>, bool), Fail> {
+) -> Option<(Vec<u64>, bool)> {
     let entries = u64::from(network.entries());
-    let mut core = Core::new(alloc, network, state)?;
-    for client in 0..u64::from(clients) {
-        let entry = client.wrapping_mul(7) / 3 % entries;
-        core.enter(client, entry)?;
-    }
-    let counts = walked(alloc, &mut core, clients, network.width() as usize)?;
-    Ok((counts, core.is_quiet()))
+    let mut core = Core::new(alloc, network, state).ok()?;
+    enter_all(&mut core, clients, entries)?;
+    let counts = walked(alloc, &mut core, clients, network.width() as usize).ok()?;
+    Some((counts, core.is_quiet()))
 }
 
 /// Whether each exit lets out its share of a batch, and nobody stays inside.
-fn agrees(rt: &HostRuntime, built: Built, width: u32, clients: u32) -> Result<bool, Fail> {
-    let network = network_of(rt.alloc(), built, width)?;
-    let (counts, is_quiet) = batch(rt.alloc(), RandomState::new(rt)?, &network, clients)?;
-    let wanted = shares(rt.alloc(), u64::from(clients), u64::from(width))?;
-    Ok(is_quiet && counts.as_slice() == wanted.as_slice())
+fn agrees(
+    alloc: Global,
+    state: RandomState,
+    built: Built,
+    width: u32,
+    clients: u32,
+) -> Option<bool> {
+    let network = network_of(alloc, built, width).ok()?;
+    let (counts, is_quiet) = batch(alloc, state, &network, clients)?;
+    let wanted = shares(alloc, u64::from(clients), u64::from(width)).ok()?;
+    Some(is_quiet && counts.as_slice() == wanted.as_slice())
+}
+
+/// The first number of clients of which the exits of a network do not let out their shares.
+fn wrong_batch(alloc: Global, state: RandomState, built: Built, width: u32) -> Option<u32> {
+    for clients in [1, 2, 5, 11, 24] {
+        if agrees(alloc, state, built, width, clients) != Some(true) {
+            return Some(clients);
+        }
+    }
+    None
+}
+
+/// The first network, by its width, and number of clients.
+fn wrong_walk(alloc: Global, state: RandomState) -> Option<(Built, u32, u32)> {
+    for built in [Built::Bitonic, Built::Periodic, Built::Tree] {
+        for width in [2, 4, 8] {
+            if let Some(clients) = wrong_batch(alloc, state, built, width) {
+                return Some((built, width, clients));
+            }
+        }
+    }
+    None
 }
 
 #[test]
 fn batches_leave_by_their_shares(rt: HostRuntime) -> Result<(), Fail> {
-    for built in [Built::Bitonic, Built::Periodic, Built::Tree] {
-        for width in [2, 4, 8] {
-            for clients in [1, 2, 5, 11, 24] {
-                assert!(rt;
-                    agrees(&rt, built, width, clients)?,
-                    "{built:?} {width}, {clients}"
-                );
-            }
-        }
-    }
+    let wrong = wrong_walk(rt.alloc(), RandomState::new(&rt)?);
+    assert_eq!(rt; wrong, None);
     Ok(())
 }

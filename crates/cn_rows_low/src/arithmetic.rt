@@ -6,7 +6,6 @@ ghost use Rattle.cn_spec.specs.Networks.{IsRow};
 
 use cn_spec::plain;
 use std::alloc::Global;
-use std::test::Fail;
 
 fn are_small(row: &[u64]) -> bool
     ensures { IsTrue result ↔ All (λ count. count ≤ 1_000) row.now }
@@ -28,55 +27,21 @@ fn is_row(row: &[u64], level: u32) -> bool
     level <= 6 && row.len() == 2_usize.pow(level)
 }
 
-fn shares(alloc: Global, count: u64, width: u64) -> Result<Vec<u64>, Fail> {
+/// Whether there are counts, and they are the wanted ones.
+fn are(counts: Option<Vec<u64>>, wanted: &[u64]) -> bool {
+    match counts {
+        Some(counts) => counts.as_slice() == wanted,
+        None => false,
+    }
+}
+
+fn shares(alloc: Global, count: u64, width: u64) -> Option<Vec<u64>> {
     if count <= 1_000_000 && width <= 1_000 {
-        Ok(plain::shares(alloc, count, width)?)
+        plain::shares(alloc, count, width).ok()
     } else {
-        Err(Fail::from("too many"))
+        None
     }
 }
-
-fn merge(alloc: Global, x: &[u64], y: &[u64], level: u32) -> Result<Vec<u64>, Fail> {
-    if is_row(x, level) && is_row(y, level) && is_small(x) && is_small(y) {
-        Ok(plain::merge(alloc, x, y, level)?)
-    } else {
-        Err(Fail::from("no two rows"))
-    }
-}
-
-fn bitonic(alloc: Global, row: &[u64], level: u32) -> Result<Vec<u64>, Fail> {
-    if is_row(row, level) && is_small(row) {
-        Ok(plain::bitonic(alloc, row, level)?)
-    } else {
-        Err(Fail::from("no row"))
-    }
-}
-
-fn block(alloc: Global, row: &[u64], level: u32) -> Result<Vec<u64>, Fail> {
-    if is_row(row, level) && is_small(row) {
-        Ok(plain::block(alloc, row, level)?)
-    } else {
-        Err(Fail::from("no row"))
-    }
-}
-
-fn periodic(alloc: Global, row: &[u64], level: u32) -> Result<Vec<u64>, Fail> {
-    if is_row(row, level) && is_small(row) {
-        Ok(plain::periodic(alloc, row, level)?)
-    } else {
-        Err(Fail::from("no row"))
-    }
-}
-
-fn tree(alloc: Global, count: u64, level: u32) -> Result<Vec<u64>, Fail> {
-    if count <= 1_000_000 {
-        Ok(plain::tree(alloc, count, level)?)
-    } else {
-        Err(Fail::from("too many"))
-    }
-}
-
-const WIDE: [u64; 8] = [9, 0, 4, 0, 0, 7, 1, 30];
 
 const SHARES: [(u64, u64, &[u64]); 8] = [
     (0, 2, &[0, 0]),
@@ -89,45 +54,84 @@ const SHARES: [(u64, u64, &[u64]); 8] = [
     (11, 8, &[2, 2, 2, 1, 1, 1, 1, 1]),
 ];
 
-#[test]
-fn expected_counts(rt: HostRuntime) -> Result<(), Fail> {
-    for (count, width, wanted) in SHARES {
-        let counts = shares(rt.alloc(), count, width)?;
-        assert_eq!(rt; counts.as_slice(), wanted, "{count} over {width}");
+/// The first count and width whose shares are not the wanted ones.
+fn wrong_shares(alloc: Global) -> Option<(u64, u64)> {
+    for (count, width, wanted) in &SHARES {
+        if !are(shares(alloc, *count, *width), wanted) {
+            return Some((*count, *width));
+        }
     }
-    Ok(())
+    None
+}
+
+#[test]
+fn expected_counts(rt: HostRuntime) {
+    assert_eq!(rt; wrong_shares(rt.alloc()), None);
 }
 
 #[test]
 fn halves_and_a_share(rt: HostRuntime) {
-    assert_eq!(rt; (plain::half(7, 0), plain::half(7, 1)), (4, 3));
-    assert_eq!(rt; plain::share(65_536, 64, 63), 1_024);
+    let told = [
+        plain::half(7, 0),
+        plain::half(7, 1),
+        plain::share(65_536, 64, 63),
+    ];
+    assert_eq!(rt; told, [4, 3, 1_024]);
+}
+
+#[derive(Clone, Copy, Debug, PartialEq, Eq)]
+enum Part {
+    Evens,
+    Odds,
+    ACochain,
+    BCochain,
+}
+
+fn part_of(alloc: Global, part: Part, row: &[u64]) -> Option<Vec<u64>> {
+    match part {
+        Part::Evens => plain::evens(alloc, row).ok(),
+        Part::Odds => plain::odds(alloc, row).ok(),
+        Part::ACochain => plain::a_cochain(alloc, row).ok(),
+        Part::BCochain => plain::b_cochain(alloc, row).ok(),
+    }
+}
+
+const WIDE: [u64; 8] = [9, 0, 4, 0, 0, 7, 1, 30];
+
+const PARTS: [(Part, &[u64], &[u64]); 4] = [
+    (Part::Evens, &WIDE, &[9, 4, 0, 1]),
+    (Part::Odds, &WIDE, &[0, 0, 7, 30]),
+    (Part::ACochain, &[0, 1, 2, 3, 4, 5, 6, 7], &[0, 3, 4, 7]),
+    (Part::BCochain, &[0, 1, 2, 3, 4, 5, 6, 7], &[1, 2, 5, 6]),
+];
+
+/// The first part of a row that is not the wanted one.
+fn wrong_part(alloc: Global) -> Option<Part> {
+    for (part, row, wanted) in &PARTS {
+        if !are(part_of(alloc, *part, row), wanted) {
+            return Some(*part);
+        }
+    }
+    None
 }
 
 #[test]
-fn evens_and_odds(rt: HostRuntime) -> Result<(), Fail> {
-    let evens = plain::evens(rt.alloc(), &WIDE)?;
-    assert_eq!(rt; evens.as_slice(), [9, 4, 0, 1].as_slice());
-    let odds = plain::odds(rt.alloc(), &WIDE)?;
-    assert_eq!(rt; odds.as_slice(), [0, 0, 7, 30].as_slice());
-    Ok(())
+fn evens_odds_and_cochains(rt: HostRuntime) {
+    assert_eq!(rt; wrong_part(rt.alloc()), None);
 }
 
 #[test]
-fn cochains(rt: HostRuntime) -> Result<(), Fail> {
-    let places = [0, 1, 2, 3, 4, 5, 6, 7];
-    let a = plain::a_cochain(rt.alloc(), &places)?;
-    assert_eq!(rt; a.as_slice(), [0, 3, 4, 7].as_slice());
-    let b = plain::b_cochain(rt.alloc(), &places)?;
-    assert_eq!(rt; b.as_slice(), [1, 2, 5, 6].as_slice());
-    Ok(())
+fn layer_of_two_balancers(rt: HostRuntime) {
+    let row = plain::layer(rt.alloc(), &[3, 0], &[2, 1]).ok();
+    assert!(rt; are(row, &[3, 2, 1, 0]));
 }
 
-#[test]
-fn layer_of_two_balancers(rt: HostRuntime) -> Result<(), Fail> {
-    let row = plain::layer(rt.alloc(), &[3, 0], &[2, 1])?;
-    assert_eq!(rt; row.as_slice(), [3, 2, 1, 0].as_slice());
-    Ok(())
+fn merge(alloc: Global, x: &[u64], y: &[u64], level: u32) -> Option<Vec<u64>> {
+    if is_row(x, level) && is_row(y, level) && is_small(x) && is_small(y) {
+        plain::merge(alloc, x, y, level).ok()
+    } else {
+        None
+    }
 }
 
 const MERGED: [(&[u64], &[u64], u32, &[u64]); 2] = [
@@ -135,59 +139,74 @@ const MERGED: [(&[u64], &[u64], u32, &[u64]); 2] = [
     (&[3, 2, 2, 2], &[1, 1, 1, 0], 2, &[2, 2, 2, 2, 1, 1, 1, 1]),
 ];
 
-#[test]
-fn merger_counts(rt: HostRuntime) -> Result<(), Fail> {
-    for (x, y, level, wanted) in MERGED {
-        let row = merge(rt.alloc(), x, y, level)?;
-        assert_eq!(rt; row.as_slice(), wanted, "at level {level}");
+/// The level of the first merger whose counts are not the wanted ones.
+fn wrong_merger(alloc: Global) -> Option<u32> {
+    for (x, y, level, wanted) in &MERGED {
+        if !are(merge(alloc, x, y, *level), wanted) {
+            return Some(*level);
+        }
     }
-    Ok(())
+    None
 }
 
-const BITONIC: [(&[u64], u32, &[u64]); 5] = [
-    (&[7], 0, &[7]),
-    (&[0, 3], 1, &[2, 1]),
-    (&[0, 0, 0, 5], 2, &[2, 1, 1, 1]),
-    (&[1, 0, 1, 0], 2, &[1, 1, 0, 0]),
-    (&WIDE, 3, &[7, 7, 7, 6, 6, 6, 6, 6]),
-];
-
 #[test]
-fn bitonic_counts(rt: HostRuntime) -> Result<(), Fail> {
-    for (row, level, wanted) in BITONIC {
-        let counts = bitonic(rt.alloc(), row, level)?;
-        assert_eq!(rt; counts.as_slice(), wanted, "{row:?}");
-    }
-    Ok(())
+fn merger_counts(rt: HostRuntime) {
+    assert_eq!(rt; wrong_merger(rt.alloc()), None);
 }
 
-const BLOCKS: [(&[u64], u32, &[u64]); 2] = [
-    (&[2, 0, 0, 0], 2, &[1, 0, 1, 0]),
-    (&[0, 3], 1, &[2, 1]),
-];
-
-#[test]
-fn one_block_is_not_enough(rt: HostRuntime) -> Result<(), Fail> {
-    for (row, level, wanted) in BLOCKS {
-        let counts = block(rt.alloc(), row, level)?;
-        assert_eq!(rt; counts.as_slice(), wanted, "{row:?}");
-    }
-    Ok(())
+#[derive(Clone, Copy, Debug, PartialEq, Eq)]
+enum Network {
+    Bitonic,
+    Block,
+    Periodic,
 }
 
-const PERIODIC: [(&[u64], u32, &[u64]); 3] = [
-    (&[7], 0, &[7]),
-    (&[2, 0, 0, 0], 2, &[1, 1, 0, 0]),
-    (&WIDE, 3, &[7, 7, 7, 6, 6, 6, 6, 6]),
+fn counts(alloc: Global, network: Network, row: &[u64], level: u32) -> Option<Vec<u64>> {
+    if !is_row(row, level) || !is_small(row) {
+        return None;
+    }
+    match network {
+        Network::Bitonic => plain::bitonic(alloc, row, level).ok(),
+        Network::Block => plain::block(alloc, row, level).ok(),
+        Network::Periodic => plain::periodic(alloc, row, level).ok(),
+    }
+}
+
+/// One block is not enough for two tokens on one wire of four.
+const ROWS: [(Network, &[u64], u32, &[u64]); 10] = [
+    (Network::Bitonic, &[7], 0, &[7]),
+    (Network::Bitonic, &[0, 3], 1, &[2, 1]),
+    (Network::Bitonic, &[0, 0, 0, 5], 2, &[2, 1, 1, 1]),
+    (Network::Bitonic, &[1, 0, 1, 0], 2, &[1, 1, 0, 0]),
+    (Network::Bitonic, &WIDE, 3, &[7, 7, 7, 6, 6, 6, 6, 6]),
+    (Network::Block, &[2, 0, 0, 0], 2, &[1, 0, 1, 0]),
+    (Network::Block, &[0, 3], 1, &[2, 1]),
+    (Network::Periodic, &[7], 0, &[7]),
+    (Network::Periodic, &[2, 0, 0, 0], 2, &[1, 1, 0, 0]),
+    (Network::Periodic, &WIDE, 3, &[7, 7, 7, 6, 6, 6, 6, 6]),
 ];
 
-#[test]
-fn periodic_counts(rt: HostRuntime) -> Result<(), Fail> {
-    for (row, level, wanted) in PERIODIC {
-        let counts = periodic(rt.alloc(), row, level)?;
-        assert_eq!(rt; counts.as_slice(), wanted, "{row:?}");
+/// The first network and level whose counts are not the wanted ones.
+fn wrong_counts(alloc: Global) -> Option<(Network, u32)> {
+    for (network, row, level, wanted) in &ROWS {
+        if !are(counts(alloc, *network, row, *level), wanted) {
+            return Some((*network, *level));
+        }
     }
-    Ok(())
+    None
+}
+
+#[test]
+fn bitonic_block_and_periodic_counts(rt: HostRuntime) {
+    assert_eq!(rt; wrong_counts(rt.alloc()), None);
+}
+
+fn tree(alloc: Global, count: u64, level: u32) -> Option<Vec<u64>> {
+    if count <= 1_000_000 {
+        plain::tree(alloc, count, level).ok()
+    } else {
+        None
+    }
 }
 
 const TREES: [(u64, u32, &[u64]); 6] = [
@@ -199,11 +218,17 @@ const TREES: [(u64, u32, &[u64]); 6] = [
     (65_536, 6, &[1_024; 64]),
 ];
 
-#[test]
-fn tree_counts(rt: HostRuntime) -> Result<(), Fail> {
-    for (count, level, wanted) in TREES {
-        let counts = tree(rt.alloc(), count, level)?;
-        assert_eq!(rt; counts.as_slice(), wanted, "{count} at level {level}");
+/// The first count and level of a tree whose counts are not the wanted ones.
+fn wrong_tree(alloc: Global) -> Option<(u64, u32)> {
+    for (count, level, wanted) in &TREES {
+        if !are(tree(alloc, *count, *level), wanted) {
+            return Some((*count, *level));
+        }
     }
-    Ok(())
+    None
+}
+
+#[test]
+fn tree_counts(rt: HostRuntime) {
+    assert_eq!(rt; wrong_tree(rt.alloc()), None);
 }

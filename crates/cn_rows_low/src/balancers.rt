@@ -69,10 +69,18 @@ const HALVES: [(u64, (u64, u64)); 5] = [
     (MOST_ARRIVALS, (2_147_483_648, 2_147_483_648)),
 ];
 
+/// The first number of tokens that does not depart so.
+fn wrong_halves() -> Option<u64> {
+    for (count, wanted) in &HALVES {
+        if halves(*count) != Some(*wanted) {
+            return Some(*count);
+        }
+    }
+    None
+}
+
 #[test]
 fn departures_halve(rt: HostRuntime) {
-    for (count, wanted) in HALVES {
-        assert_eq!(rt; halves(count), Some(wanted));
-    }
-    assert_eq!(rt; (output_of(0), output_of(u64::MAX)), (0, 1));
+    let outputs = (output_of(0), output_of(u64::MAX));
+    assert_eq!(rt; (wrong_halves(), outputs), (None, (0, 1)));
 }

@@ -26,42 +26,45 @@ fn joined(alloc: Global) -> Result<Joined, AllocError> {
 }
 
 #[test]
-fn joined_wires_are_not_loose(rt: HostRuntime) -> Result<(), AllocError> {
-    assert_eq!(rt; joined(rt.alloc())?, ([3, 4], [FRESH, JOINED]));
-    Ok(())
+fn joined_wires_are_not_loose(rt: HostRuntime) {
+    assert_eq!(rt; joined(rt.alloc()), Ok(([3, 4], [FRESH, JOINED])));
 }
 
-/// The outputs of an addition to three wires, and which wires are loose after it.
-type Added = (Vec<u32>, [bool; 6]);
+/// The two outputs of an addition to three wires, and which wires are loose after it.
+type Added = (Option<[u32; 2]>, [bool; 6]);
+
+/// Two wires, where there are two.
+fn pair(wires: &[u32]) -> Option<[u32; 2]> {
+    match wires {
+        [first, second] => Some([*first, *second]),
+        _ => None,
+    }
+}
 
 #[tactic(auto, unfolding(cn_spec::specs::Sums::times))]
 fn merged(alloc: Global) -> Result<Added, AllocError> {
     let mut draft = Draft::new(alloc, 3)?;
     let outputs = merger(alloc, &mut draft, &[2], &[0])?;
-    Ok((outputs, loose_wires(&draft)))
+    Ok((pair(&outputs), loose_wires(&draft)))
 }
 
 #[tactic(auto, unfolding(cn_spec::specs::Sums::times))]
 fn blocked(alloc: Global) -> Result<Added, AllocError> {
     let mut draft = Draft::new(alloc, 3)?;
     let outputs = block(alloc, &mut draft, &[2, 0])?;
-    Ok((outputs, loose_wires(&draft)))
+    Ok((pair(&outputs), loose_wires(&draft)))
 }
 
 /// The merger of two wires is one balancer.
 #[test]
-fn merger_of_two_wires(rt: HostRuntime) -> Result<(), AllocError> {
-    let (outputs, loose) = merged(rt.alloc())?;
-    assert_eq!(rt; (outputs.as_slice(), loose), ([3, 4].as_slice(), JOINED));
-    Ok(())
+fn merger_of_two_wires(rt: HostRuntime) {
+    assert_eq!(rt; merged(rt.alloc()), Ok((Some([3, 4]), JOINED)));
 }
 
 /// The block over two wires is one balancer.
 #[test]
-fn block_of_two_wires(rt: HostRuntime) -> Result<(), AllocError> {
-    let (outputs, loose) = blocked(rt.alloc())?;
-    assert_eq!(rt; (outputs.as_slice(), loose), ([3, 4].as_slice(), JOINED));
-    Ok(())
+fn block_of_two_wires(rt: HostRuntime) {
+    assert_eq!(rt; blocked(rt.alloc()), Ok((Some([3, 4]), JOINED)));
 }
 
 const NEWEST: [u32; 8] = [24, 25, 26, 27, 28, 29, 30, 31];
@@ -76,12 +79,19 @@ fn blocked_eight(alloc: Global) -> Result<Vec<u32>, AllocError> {
     block(alloc, &mut draft, &[0, 1, 2, 3, 4, 5, 6, 7])
 }
 
+/// Whether there are wires, and they are the wanted ones.
+fn are(wires: Result<Vec<u32>, AllocError>, wanted: &[u32]) -> bool {
+    match wires {
+        Ok(wires) => wires.as_slice() == wanted,
+        Err(_) => false,
+    }
+}
+
 /// The merger and the block over all eight entries give the newest eight wires.
 #[test]
-fn eight_wires_give_the_newest(rt: HostRuntime) -> Result<(), AllocError> {
-    assert_eq!(rt; merged_eight(rt.alloc())?.as_slice(), NEWEST.as_slice());
-    assert_eq!(rt; blocked_eight(rt.alloc())?.as_slice(), NEWEST.as_slice());
-    Ok(())
+fn eight_wires_give_the_newest(rt: HostRuntime) {
+    assert!(rt; are(merged_eight(rt.alloc()), &NEWEST));
+    assert!(rt; are(blocked_eight(rt.alloc()), &NEWEST));
 }
 
 /// One balancer over two entries, or over one.
@@ -98,7 +108,9 @@ fn forked(alloc: Global) -> Result<Wiring, AllocError> {
 }
 
 /// Entries, exits and balancers of a wiring, and the ends of its first four wires.
-fn told_by(wiring: &Wiring) -> ([u32; 3], [Option<End>; 4]) {
+type Told = ([u32; 3], [Option<End>; 4]);
+
+fn told_by(wiring: &Wiring) -> Told {
     let wires = wiring.entries() + 2 * wiring.balancers();
     let end = |wire: u32| {
         if wire < wires {
@@ -113,26 +125,29 @@ fn told_by(wiring: &Wiring) -> ([u32; 3], [Option<End>; 4]) {
     )
 }
 
+/// What both wirings tell.
+fn both_told(alloc: Global) -> Result<[Told; 2], AllocError> {
+    let joined = told_by(&two_wide(alloc)?);
+    Ok([joined, told_by(&forked(alloc)?)])
+}
+
+const BALANCER: Option<End> = Some(End::Balancer(0));
+
+const FIRST: Option<End> = Some(End::Exit(0));
+
+const SECOND: Option<End> = Some(End::Exit(1));
+
+const BOTH: [Told; 2] = [
+    ([2, 2, 1], [BALANCER, BALANCER, FIRST, SECOND]),
+    ([1, 2, 1], [BALANCER, FIRST, SECOND, None]),
+];
+
 #[test]
-fn width_two_wire_by_wire(rt: HostRuntime) -> Result<(), AllocError> {
-    let balancer = Some(End::Balancer(0));
-    let exits = [Some(End::Exit(0)), Some(End::Exit(1))];
-    assert_eq!(rt;
-        told_by(&two_wide(rt.alloc())?),
-        ([2, 2, 1], [balancer, balancer, exits[0], exits[1]])
-    );
-    assert_eq!(rt;
-        told_by(&forked(rt.alloc())?),
-        ([1, 2, 1], [balancer, exits[0], exits[1], None])
-    );
-    Ok(())
+fn width_two_wire_by_wire(rt: HostRuntime) {
+    assert_eq!(rt; both_told(rt.alloc()), Ok(BOTH));
 }
 
 #[test]
-fn three_wires(rt: HostRuntime) -> Result<(), AllocError> {
-    assert_eq!(rt;
-        wires_below(rt.alloc(), 3)?.as_slice(),
-        [0, 1, 2].as_slice()
-    );
-    Ok(())
+fn three_wires(rt: HostRuntime) {
+    assert!(rt; are(wires_below(rt.alloc(), 3), &[0, 1, 2]));
 }

@@ -2,24 +2,25 @@
 
 use cn_exit::{Exits, Leave, Place, exit_of, expected, is_step, name_of};
 use std::alloc::{AllocError, Global};
-use std::test::Fail;
 
 /// The share of an exit, where the numbers are not too large.
-fn share(width: u32, clients: u64, exit: u32) -> Result<u64, Fail> {
+fn share(width: u32, clients: u64, exit: u32) -> Option<u64> {
     if width <= 64 && exit < width && clients <= 65_536 {
-        Ok(expected(width, clients, exit))
+        Some(expected(width, clients, exit))
     } else {
-        Err(Fail::from("too many"))
+        None
     }
 }
 
-/// The shares of all exits, from exit 0 up.
-fn shares(alloc: Global, width: u32, clients: u64) -> Result<Vec<u64>, Fail> {
-    let mut shares = Vec::new(alloc);
+/// Whether these are the shares of all exits, from exit 0 up.
+fn are_shares(width: u32, clients: u64, counts: &[u64]) -> bool {
     for exit in 0..width {
-        shares.push(share(width, clients, exit)?)?;
+        let count = counts.get(exit as usize).copied();
+        if count.is_none() || share(width, clients, exit) != count {
+            return false;
+        }
     }
-    Ok(shares)
+    counts.len() == width as usize
 }
 
 const SHARES: [(u32, u64, &[u64]); 10] = [
@@ -35,12 +36,19 @@ const SHARES: [(u32, u64, &[u64]); 10] = [
     (64, 65_536, &[1_024; 64]),
 ];
 
-#[test]
-fn expected_counts(rt: HostRuntime) -> Result<(), Fail> {
-    for (width, clients, counts) in SHARES {
-        assert_eq!(rt; shares(rt.alloc(), width, clients)?.as_slice(), counts);
+/// The first width and number of clients whose shares are others.
+fn wrong_shares() -> Option<(u32, u64)> {
+    for (width, clients, counts) in &SHARES {
+        if !are_shares(*width, *clients, counts) {
+            return Some((*width, *clients));
+        }
     }
-    Ok(())
+    None
+}
+
+#[test]
+fn expected_counts(rt: HostRuntime) {
+    assert_eq!(rt; wrong_shares(), None);
 }
 
 const STEPS: [(&[u64], bool); 6] = [
@@ -52,11 +60,19 @@ const STEPS: [(&[u64], bool); 6] = [
     (&[0, 1], false),
 ];
 
+/// The first counts that are taken for a step, or are not, and should be.
+fn wrong_step() -> Option<&'static [u64]> {
+    for (counts, wanted) in &STEPS {
+        if is_step(counts) != *wanted {
+            return Some(*counts);
+        }
+    }
+    None
+}
+
 #[test]
 fn steps(rt: HostRuntime) {
-    for (counts, wanted) in STEPS {
-        assert_eq!(rt; is_step(counts), wanted, "{counts:?}");
-    }
+    assert_eq!(rt; wrong_step(), None);
 }
 
 fn two_leaves(alloc: Global) -> Result<[Leave; 2], AllocError> {
@@ -65,13 +81,13 @@ fn two_leaves(alloc: Global) -> Result<[Leave; 2], AllocError> {
     Ok([first, exits.take(2)])
 }
 
+const TWO_LEAVES: [Leave; 2] = [Leave { visit: 0, name: 2 }, Leave { visit: 1, name: 6 }];
+
 #[test]
-fn exits_and_names(rt: HostRuntime) -> Result<(), AllocError> {
-    let wanted = [(0, 2), (1, 6)].map(|(visit, name)| Leave { visit, name });
-    assert_eq!(rt; two_leaves(rt.alloc())?, wanted);
-    assert_eq!(rt; exit_of(4, 6), Place { exit: 2, visit: 1 });
-    assert_eq!(rt; name_of(4, 2, 1), 6);
-    Ok(())
+fn exits_and_names(rt: HostRuntime) {
+    assert_eq!(rt; two_leaves(rt.alloc()), Ok(TWO_LEAVES));
+    let place = Place { exit: 2, visit: 1 };
+    assert_eq!(rt; (exit_of(4, 6), name_of(4, 2, 1)), (place, 6));
 }
 
 /// The width, and the counts where there are two exits.
@@ -95,12 +111,11 @@ fn cleared(alloc: Global) -> Result<Cleared, AllocError> {
     Ok(([first, exits.take(1)], [before, after]))
 }
 
+const FIRST: Leave = Leave { visit: 0, name: 1 };
+
+const CLEARED: Cleared = ([FIRST, FIRST], [(2, Some([0, 1])), (2, Some([0, 0]))]);
+
 #[test]
-fn counts_until_cleared(rt: HostRuntime) -> Result<(), AllocError> {
-    let wanted = Leave { visit: 0, name: 1 };
-    assert_eq!(rt;
-        cleared(rt.alloc())?,
-        ([wanted, wanted], [(2, Some([0, 1])), (2, Some([0, 0]))])
-    );
-    Ok(())
+fn counts_until_cleared(rt: HostRuntime) {
+    assert_eq!(rt; cleared(rt.alloc()), Ok(CLEARED));
 }

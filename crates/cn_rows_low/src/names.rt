@@ -41,10 +41,6 @@ fn listed(names: &Names) -> Result<Vec<u64>, ByNameFault> {
     names.by_name()
 }
 
-fn nobody(alloc: Global, state: RandomState) -> Result<Names, Fail> {
-    Ok(Names::new(alloc, state)?)
-}
-
 /// A client whose token is on its way gets a name.
 fn settle(names: &mut Names, client: u64, name: u64) {
     if let Some(Standing::Walking(_)) = names.standing(client) {
@@ -65,55 +61,90 @@ const EMPTY: Told = (
     [Stands::Nowhere, Stands::Nowhere, Stands::Nowhere],
 );
 
+/// What a new map tells, and how many clients it lists.
+fn nobody(alloc: Global, state: RandomState) -> Option<(Told, usize)> {
+    let names = Names::new(alloc, state).ok()?;
+    let clients = listed(&names).ok()?;
+    Some((told_by(&names), clients.len()))
+}
+
 #[test]
 fn nobody_has_a_name(rt: HostRuntime) -> Result<(), Fail> {
-    let names = nobody(rt.alloc(), RandomState::new(&rt)?)?;
-    assert_eq!(rt; told_by(&names), EMPTY);
-    assert_eq!(rt; listed(&names).ok().ok_or("no list")?.len(), 0);
+    let told = nobody(rt.alloc(), RandomState::new(&rt)?);
+    assert_eq!(rt; told, Some((EMPTY, 0)));
     Ok(())
 }
 
+/// Two clients, where there are two.
+fn pair(clients: &[u64]) -> Option<[u64; 2]> {
+    match clients {
+        [first, second] => Some([*first, *second]),
+        _ => None,
+    }
+}
+
 /// What was told while clients 7 and 9 came in, got names 1 and 0, and were forgotten.
-#[derive(Debug, Drop, PartialEq, Eq)]
+#[derive(Clone, Copy, Debug, PartialEq, Eq)]
 struct Outcome {
     admitted: [Result<(), NamesFault>; 3],
     while_walking: (Option<ByNameFault>, Told),
     settled: Told,
-    by_name: Vec<u64>,
+    by_name: Option<[u64; 2]>,
     cleared: Told,
 }
 
-fn came_and_went(alloc: Global, state: RandomState) -> Result<Outcome, Fail> {
-    let [first, second] = two_tokens(alloc)?;
-    let mut names = nobody(alloc, state)?;
-    let admitted = [names.admit(7, first), names.admit(7, first)];
-    let while_walking = (listed(&names).err(), told_by(&names));
-    settle(&mut names, 7, 1);
+/// Both clients come in, and get names 1 and 0: what was admitted, and what was told while client 7 walked.
+fn come(
+    names: &mut Names,
+    tokens: [Token; 2],
+) -> ([Result<(), NamesFault>; 3], (Option<ByNameFault>, Told)) {
+    let [first, second] = tokens;
+    let admitted = names.admit(7, first);
+    let again = names.admit(7, first);
+    let while_walking = (listed(names).err(), told_by(names));
+    settle(names, 7, 1);
     let later = names.admit(9, second);
-    settle(&mut names, 9, 0);
+    settle(names, 9, 0);
+    ([admitted, again, later], while_walking)
+}
+
+fn came_and_went(alloc: Global, state: RandomState) -> Option<Outcome> {
+    let tokens = two_tokens(alloc).ok()?;
+    let mut names = Names::new(alloc, state).ok()?;
+    let (admitted, while_walking) = come(&mut names, tokens);
     let settled = told_by(&names);
-    let by_name = listed(&names).ok().ok_or("no list")?;
+    let clients = listed(&names).ok()?;
     names.clear();
-    Ok(Outcome {
-        admitted: [admitted[0], admitted[1], later],
+    Some(Outcome {
+        admitted,
         while_walking,
         settled,
-        by_name,
+        by_name: pair(&clients),
         cleared: told_by(&names),
     })
 }
 
+const WALKING: Told = (
+    (1, false),
+    [Stands::Nowhere, Stands::Walking, Stands::Nowhere],
+);
+
+const SETTLED: Told = (
+    (2, false),
+    [Stands::Nowhere, Stands::Holds(1), Stands::Holds(0)],
+);
+
+const CAME_AND_WENT: Outcome = Outcome {
+    admitted: [Ok(()), Err(NamesFault::Held), Ok(())],
+    while_walking: (Some(ByNameFault::StillWalking), WALKING),
+    settled: SETTLED,
+    by_name: Some([9, 7]),
+    cleared: EMPTY,
+};
+
 #[test]
 fn exits_and_names(rt: HostRuntime) -> Result<(), Fail> {
-    let walking = [Stands::Nowhere, Stands::Walking, Stands::Nowhere];
-    let settled = [Stands::Nowhere, Stands::Holds(1), Stands::Holds(0)];
-    let wanted = Outcome {
-        admitted: [Ok(()), Err(NamesFault::Held), Ok(())],
-        while_walking: (Some(ByNameFault::StillWalking), ((1, false), walking)),
-        settled: ((2, false), settled),
-        by_name: vec![in rt.alloc(); 9, 7]?,
-        cleared: EMPTY,
-    };
-    assert_eq!(rt; came_and_went(rt.alloc(), RandomState::new(&rt)?)?, wanted);
+    let outcome = came_and_went(rt.alloc(), RandomState::new(&rt)?);
+    assert_eq!(rt; outcome, Some(CAME_AND_WENT));
     Ok(())
 }

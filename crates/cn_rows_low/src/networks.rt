@@ -7,9 +7,6 @@ use cn_wiring::End::{self, Balancer, Exit};
 use cn_wiring::Kind::{self, Bitonic, Periodic, Tree};
 use cn_wiring::{BuildFault, Counting, is_width};
 use std::alloc::{AllocError, Global};
-use std::test::Fail;
-
-const KINDS: [Kind; 3] = [Bitonic, Periodic, Tree];
 
 /// The network of a kind and a width.
 fn built(alloc: Global, kind: Kind, width: u32) -> Result<Counting, BuildFault> {
@@ -28,9 +25,17 @@ fn ends_of(alloc: Global, network: &Counting) -> Result<Vec<End>, AllocError> {
 }
 
 /// The table of the network of a kind and a width.
-pub(crate) fn table(alloc: Global, kind: Kind, width: u32) -> Result<Vec<End>, Fail> {
-    let network = built(alloc, kind, width)?;
-    Ok(ends_of(alloc, &network)?)
+pub(crate) fn table(alloc: Global, kind: Kind, width: u32) -> Option<Vec<End>> {
+    let network = built(alloc, kind, width).ok()?;
+    ends_of(alloc, &network).ok()
+}
+
+/// Whether a network's table is this.
+fn is_table(alloc: Global, kind: Kind, width: u32, wanted: &[End]) -> bool {
+    match table(alloc, kind, width) {
+        Some(ends) => ends.as_slice() == wanted,
+        None => false,
+    }
 }
 
 const JOINED_TWO: [End; 4] = [Balancer(0), Balancer(0), Exit(0), Exit(1)];
@@ -116,22 +121,48 @@ const TABLES: [(Kind, u32, &[End]); 7] = [
     (Tree, 8, &TREE_EIGHT),
 ];
 
-#[test]
-fn tables_wire_by_wire(rt: HostRuntime) -> Result<(), Fail> {
-    for (kind, width, wanted) in TABLES {
-        let ends = table(rt.alloc(), kind, width)?;
-        assert_eq!(rt; ends.as_slice(), wanted, "{kind:?} {width}");
+/// The first network whose table is another.
+fn wrong_table(alloc: Global) -> Option<(Kind, u32)> {
+    for (kind, width, wanted) in &TABLES {
+        if !is_table(alloc, *kind, *width, wanted) {
+            return Some((*kind, *width));
+        }
     }
-    Ok(())
+    None
+}
+
+#[test]
+fn tables_wire_by_wire(rt: HostRuntime) {
+    assert_eq!(rt; wrong_table(rt.alloc()), None);
+}
+
+/// Whether both wires end at the balancer.
+fn is_joined(ends: &[End], balancer: u32, first: usize, second: usize) -> bool {
+    let wanted = Some(&Balancer(balancer));
+    ends.get(first) == wanted && ends.get(second) == wanted
 }
 
 /// The first of these balancers that does not join its two wires.
 fn astray(ends: &[End], joins: &[(u32, usize, usize)]) -> Option<u32> {
-    let (balancer, ..) = joins.iter().find(|(balancer, first, second)| {
-        let wanted = Some(&Balancer(*balancer));
-        ends.get(*first) != wanted || ends.get(*second) != wanted
-    })?;
-    Some(*balancer)
+    for (balancer, first, second) in joins {
+        if !is_joined(ends, *balancer, *first, *second) {
+            return Some(*balancer);
+        }
+    }
+    None
+}
+
+/// Of the network of width 8, the first balancer that does not join its two wires, and whether the wires from this one on
+/// are those of the exits.
+fn told_of_eight(
+    alloc: Global,
+    kind: Kind,
+    joins: &[(u32, usize, usize)],
+    exits: usize,
+) -> Option<(Option<u32>, bool)> {
+    let ends = table(alloc, kind, 8)?;
+    let last = ends.get(exits..)?;
+    Some((astray(&ends, joins), last == EIGHT_EXITS.as_slice()))
 }
 
 const EIGHT_EXITS: [End; 8] = [
@@ -163,11 +194,9 @@ const MERGER_OF_EIGHT: [(u32, usize, usize); 12] = [
 ];
 
 #[test]
-fn merger_of_width_eight(rt: HostRuntime) -> Result<(), Fail> {
-    let ends = table(rt.alloc(), Bitonic, 8)?;
-    assert_eq!(rt; astray(&ends, &MERGER_OF_EIGHT), None);
-    assert_eq!(rt; ends.get(48..), Some(EIGHT_EXITS.as_slice()));
-    Ok(())
+fn merger_of_width_eight(rt: HostRuntime) {
+    let told = told_of_eight(rt.alloc(), Bitonic, &MERGER_OF_EIGHT, 48);
+    assert_eq!(rt; told, Some((None, true)));
 }
 
 /// Balancers 0 to 11 are the first block, with the outputs 24 to 31, over which the second block begins. The last layer of
@@ -192,11 +221,9 @@ const BLOCK_OF_EIGHT: [(u32, usize, usize); 16] = [
 ];
 
 #[test]
-fn first_block_of_width_eight(rt: HostRuntime) -> Result<(), Fail> {
-    let ends = table(rt.alloc(), Periodic, 8)?;
-    assert_eq!(rt; astray(&ends, &BLOCK_OF_EIGHT), None);
-    assert_eq!(rt; ends.get(72..), Some(EIGHT_EXITS.as_slice()));
-    Ok(())
+fn first_block_of_width_eight(rt: HostRuntime) {
+    let told = told_of_eight(rt.alloc(), Periodic, &BLOCK_OF_EIGHT, 72);
+    assert_eq!(rt; told, Some((None, true)));
 }
 
 /// The kind of a network, its entries, exits and balancers, and its depth.
@@ -211,79 +238,58 @@ fn sizes(alloc: Global, kind: Kind, width: u32) -> Result<Sizes, BuildFault> {
     ))
 }
 
-/// Per width the sizes of the networks, and their depths.
-const SIX_WIDTHS: [(u32, [Sizes; 3]); 6] = [
-    (
-        2,
-        [
-            (Bitonic, [2, 2, 1], 1),
-            (Periodic, [2, 2, 1], 1),
-            (Tree, [1, 2, 1], 1),
-        ],
-    ),
-    (
-        4,
-        [
-            (Bitonic, [4, 4, 6], 3),
-            (Periodic, [4, 4, 8], 4),
-            (Tree, [1, 4, 3], 2),
-        ],
-    ),
-    (
-        8,
-        [
-            (Bitonic, [8, 8, 24], 6),
-            (Periodic, [8, 8, 36], 9),
-            (Tree, [1, 8, 7], 3),
-        ],
-    ),
-    (
-        16,
-        [
-            (Bitonic, [16, 16, 80], 10),
-            (Periodic, [16, 16, 128], 16),
-            (Tree, [1, 16, 15], 4),
-        ],
-    ),
-    (
-        32,
-        [
-            (Bitonic, [32, 32, 240], 15),
-            (Periodic, [32, 32, 400], 25),
-            (Tree, [1, 32, 31], 5),
-        ],
-    ),
-    (
-        64,
-        [
-            (Bitonic, [64, 64, 672], 21),
-            (Periodic, [64, 64, 1_152], 36),
-            (Tree, [1, 64, 63], 6),
-        ],
-    ),
+/// The sizes of the networks of each width.
+const SIX_WIDTHS: [Sizes; 18] = [
+    (Bitonic, [2, 2, 1], 1),
+    (Periodic, [2, 2, 1], 1),
+    (Tree, [1, 2, 1], 1),
+    (Bitonic, [4, 4, 6], 3),
+    (Periodic, [4, 4, 8], 4),
+    (Tree, [1, 4, 3], 2),
+    (Bitonic, [8, 8, 24], 6),
+    (Periodic, [8, 8, 36], 9),
+    (Tree, [1, 8, 7], 3),
+    (Bitonic, [16, 16, 80], 10),
+    (Periodic, [16, 16, 128], 16),
+    (Tree, [1, 16, 15], 4),
+    (Bitonic, [32, 32, 240], 15),
+    (Periodic, [32, 32, 400], 25),
+    (Tree, [1, 32, 31], 5),
+    (Bitonic, [64, 64, 672], 21),
+    (Periodic, [64, 64, 1_152], 36),
+    (Tree, [1, 64, 63], 6),
 ];
+
+/// The first network, by its kind and width, with other sizes.
+fn wrong_sizes(alloc: Global) -> Option<(Kind, u32)> {
+    for (kind, wires, depth) in &SIX_WIDTHS {
+        let width = wires[1];
+        if sizes(alloc, *kind, width) != Ok((*kind, *wires, *depth)) {
+            return Some((*kind, width));
+        }
+    }
+    None
+}
 
 #[test]
 fn six_widths(rt: HostRuntime) {
-    for (width, wanted) in SIX_WIDTHS {
-        for (kind, wires, depth) in wanted {
-            let told = sizes(rt.alloc(), kind, width);
-            assert_eq!(rt; told, Ok((kind, wires, depth)), "{kind:?} {width}");
+    assert_eq!(rt; wrong_sizes(rt.alloc()), None);
+}
+
+/// The first of other widths at which a network of a kind is not refused for its width.
+fn built_at(alloc: Global, kind: Kind) -> Option<u32> {
+    for width in [0, 1, 3, 63, 65, 128, 256, u32::MAX] {
+        if sizes(alloc, kind, width) != Err(BuildFault::Width) {
+            return Some(width);
         }
     }
+    None
 }
 
 #[test]
 fn other_widths(rt: HostRuntime) {
-    for kind in KINDS {
-        for width in [0, 1, 3, 63, 65, 128, 256, u32::MAX] {
-            assert_eq!(rt;
-                sizes(rt.alloc(), kind, width),
-                Err(BuildFault::Width),
-                "at width {width}"
-            );
-        }
-    }
+    let built = [Bitonic, Periodic, Tree].map(|kind| built_at(rt.alloc(), kind));
+    assert_eq!(rt; built, [None, None, None]);
 }
 
 #[test]

@@ -1,10 +1,9 @@
 //! All small lists of ends, against the rules of a wiring written plainly.
 
-use crate::wirings::{Sizes, told};
+use crate::wirings::{Sizes, is_told};
 use cn_wiring::End::{self, Balancer, Exit};
 use cn_wiring::WiringFault::{self, Backward, ExitCount, InDegree, Length, NoSuchEnd};
 use std::alloc::{AllocError, Global};
-use std::test::Fail;
 
 /// How many wires end at an end.
 fn arrivals(ends: &[End], end: End) -> usize {
@@ -71,15 +70,22 @@ fn list(alloc: Global, wires: u32, number: u64) -> Result<Vec<End>, AllocError> 
     Ok(ends)
 }
 
+/// Whether the list with a number is told its first fault.
+fn is_list_told(alloc: Global, sizes: Sizes, wires: u32, number: u64) -> bool {
+    match list(alloc, wires, number) {
+        Ok(ends) => is_told(alloc, sizes, &ends, first_fault(sizes, &ends)),
+        Err(_) => false,
+    }
+}
+
 /// The first list, by its number, that is not told its first fault.
-fn mistold(alloc: Global, sizes: Sizes, wires: u32) -> Result<Option<u64>, Fail> {
+fn mistold(alloc: Global, sizes: Sizes, wires: u32) -> Option<u64> {
     for number in 0..6_u64.saturating_pow(wires) {
-        let ends = list(alloc, wires, number)?;
-        if told(alloc, sizes, &ends)? != first_fault(sizes, &ends) {
-            return Ok(Some(number));
+        if !is_list_told(alloc, sizes, wires, number) {
+            return Some(number);
         }
     }
-    Ok(None)
+    None
 }
 
 /// Entries, exits and balancers, and how many ends a list has: in the last row not as many as there are wires.
@@ -95,10 +101,17 @@ const SMALL: [(Sizes, u32); 9] = [
     ([2, 2, 2], 5),
 ];
 
-#[test]
-fn all_small_lists(rt: HostRuntime) -> Result<(), Fail> {
-    for (sizes, wires) in SMALL {
-        assert_eq!(rt; mistold(rt.alloc(), sizes, wires)?, None, "{sizes:?}");
+/// The first sizes, and the first list of them by its number, that is not told its first fault.
+fn first_mistold(alloc: Global) -> Option<(Sizes, u64)> {
+    for (sizes, wires) in &SMALL {
+        if let Some(number) = mistold(alloc, *sizes, *wires) {
+            return Some((*sizes, number));
+        }
     }
-    Ok(())
+    None
+}
+
+#[test]
+fn all_small_lists(rt: HostRuntime) {
+    assert_eq!(rt; first_mistold(rt.alloc()), None);
 }

@@ -6,7 +6,6 @@ use cn_wiring::Kind::{self, Bitonic, Periodic, Tree};
 use cn_wiring::WiringFault::{Backward, ExitCount, InDegree, Length, NoSuchEnd};
 use cn_wiring::{Wiring, WiringFault};
 use std::alloc::{AllocError, Global};
-use std::test::Fail;
 
 /// Entries, exits and balancers.
 pub(crate) type Sizes = [u32; 3];
@@ -19,25 +18,43 @@ fn ends_of(alloc: Global, wiring: &Wiring) -> Result<Vec<End>, AllocError> {
 }
 
 /// Whether the wiring has these sizes and these ends.
-fn is_told_back(
-    alloc: Global,
-    wiring: &Wiring,
-    sizes: Sizes,
-    ends: &[End],
-) -> Result<bool, AllocError> {
-    let told = [wiring.entries(), wiring.width(), wiring.balancers()];
-    Ok(told == sizes && ends_of(alloc, wiring)?.as_slice() == ends)
+fn is_told_back(alloc: Global, wiring: &Wiring, sizes: Sizes, ends: &[End]) -> bool {
+    match ends_of(alloc, wiring) {
+        Ok(told) => {
+            [wiring.entries(), wiring.width(), wiring.balancers()] == sizes
+                && told.as_slice() == ends
+        }
+        Err(_) => false,
+    }
 }
 
-/// The fault that the list of ends gets, which comes back with it, or none where it is a wiring with these ends.
-pub(crate) fn told(alloc: Global, sizes: Sizes, ends: &[End]) -> Result<Option<WiringFault>, Fail> {
+/// Whether the list of ends gets this fault, and comes back with it, or gets none, and is a wiring with these ends.
+pub(crate) fn is_told(
+    alloc: Global,
+    sizes: Sizes,
+    ends: &[End],
+    wanted: Option<WiringFault>,
+) -> bool {
     let [entries, width, balancers] = sizes;
-    let list = ends.to_vec(alloc)?;
+    let Ok(list) = ends.to_vec(alloc) else {
+        return false;
+    };
     match Wiring::from_ends(alloc, entries, width, balancers, list) {
-        Ok(wiring) if is_told_back(alloc, &wiring, sizes, ends)? => Ok(None),
-        Ok(_) => Err(Fail::from("other ends")),
-        Err((fault, back)) if back.as_slice() == ends => Ok(Some(fault)),
-        Err(_) => Err(Fail::from("another list")),
+        Ok(wiring) => wanted.is_none() && is_told_back(alloc, &wiring, sizes, ends),
+        Err((fault, back)) => wanted == Some(fault) && back.as_slice() == ends,
+    }
+}
+
+/// Whether there is a list of ends, and it is told so.
+fn is_told_all(
+    alloc: Global,
+    ends: Option<Vec<End>>,
+    sizes: Sizes,
+    wanted: Option<WiringFault>,
+) -> bool {
+    match ends {
+        Some(ends) => is_told(alloc, sizes, &ends, wanted),
+        None => false,
     }
 }
 
@@ -79,12 +96,19 @@ const REFUSALS: [(Sizes, &[End], Option<WiringFault>); 9] = [
     ([2, 2, 0], &[Exit(1), Exit(0)], None),
 ];
 
-#[test]
-fn wiring_refusals(rt: HostRuntime) -> Result<(), Fail> {
-    for (sizes, ends, wanted) in REFUSALS {
-        assert_eq!(rt; told(rt.alloc(), sizes, ends)?, wanted, "{ends:?}");
+/// The first list of the row that is not told so.
+fn wrong_refusal(alloc: Global) -> Option<&'static [End]> {
+    for (sizes, ends, wanted) in &REFUSALS {
+        if !is_told(alloc, *sizes, ends, *wanted) {
+            return Some(*ends);
+        }
     }
-    Ok(())
+    None
+}
+
+#[test]
+fn wiring_refusals(rt: HostRuntime) {
+    assert_eq!(rt; wrong_refusal(rt.alloc()), None);
 }
 
 const HOSTILE: [Sizes; 6] = [
@@ -96,21 +120,28 @@ const HOSTILE: [Sizes; 6] = [
     [u32::MAX, u32::MAX, u32::MAX],
 ];
 
-#[test]
-fn hostile_wirings(rt: HostRuntime) -> Result<(), Fail> {
-    for sizes in HOSTILE {
-        assert_eq!(rt; told(rt.alloc(), sizes, &[])?, Some(Length), "{sizes:?}");
+/// The first sizes at which no ends are not told to be of another length.
+fn wrong_hostile(alloc: Global) -> Option<Sizes> {
+    for sizes in &HOSTILE {
+        if !is_told(alloc, *sizes, &[], Some(Length)) {
+            return Some(*sizes);
+        }
     }
-    Ok(())
+    None
+}
+
+#[test]
+fn hostile_wirings(rt: HostRuntime) {
+    assert_eq!(rt; wrong_hostile(rt.alloc()), None);
 }
 
 /// A list with an end for each wire of a table of these sizes, all of them exit 0.
-fn all_to_exit_zero(alloc: Global, sizes: Sizes) -> Result<Vec<End>, Fail> {
+fn all_to_exit_zero(alloc: Global, sizes: Sizes) -> Option<Vec<End>> {
     let [entries, _, balancers] = sizes;
     if entries <= 10_000 && balancers <= 100_000 {
-        Ok(vec![in alloc; Exit(0); (entries + 2 * balancers) as usize]?)
+        vec![in alloc; Exit(0); (entries + 2 * balancers) as usize].ok()
     } else {
-        Err(Fail::from("too many"))
+        None
     }
 }
 
@@ -126,56 +157,60 @@ const LIMITS: [(Sizes, Option<WiringFault>); 9] = [
     ([1, 1, 65_537], Some(Length)),
 ];
 
+/// The first sizes at which such a list is not told so.
+fn wrong_limit(alloc: Global) -> Option<Sizes> {
+    for (sizes, wanted) in &LIMITS {
+        if !is_told_all(alloc, all_to_exit_zero(alloc, *sizes), *sizes, *wanted) {
+            return Some(*sizes);
+        }
+    }
+    None
+}
+
 /// Each limit of length at its last good value, where the next fault stands, and at its first bad one.
 #[test]
-fn limits_of_length(rt: HostRuntime) -> Result<(), Fail> {
-    for (sizes, wanted) in LIMITS {
-        let ends = all_to_exit_zero(rt.alloc(), sizes)?;
-        assert_eq!(rt; told(rt.alloc(), sizes, &ends)?, wanted, "{sizes:?}");
-    }
-    Ok(())
+fn limits_of_length(rt: HostRuntime) {
+    assert_eq!(rt; wrong_limit(rt.alloc()), None);
+}
+
+fn to_exits_backwards(alloc: Global, width: u32) -> Option<Vec<End>> {
+    (0..width).rev().map(Exit).collect(alloc).ok()
 }
 
 /// The largest wiring: 4,096 entries that lead to as many exits, in the other order.
 #[test]
-fn as_many_wires_as_can_be(rt: HostRuntime) -> Result<(), Fail> {
-    let ends: Vec<End> = (0..4_096_u32).rev().map(Exit).collect(rt.alloc())?;
-    assert_eq!(rt; told(rt.alloc(), [4_096, 4_096, 0], &ends)?, None);
-    Ok(())
+fn as_many_wires_as_can_be(rt: HostRuntime) {
+    let ends = to_exits_backwards(rt.alloc(), 4_096);
+    assert!(rt; is_told_all(rt.alloc(), ends, [4_096, 4_096, 0], None));
 }
 
-const WIDEST: [(Kind, Sizes); 3] = [
+const GIVEN_BACK: [(Kind, Sizes); 4] = [
+    (Bitonic, [2, 2, 1]),
     (Bitonic, [64, 64, 672]),
     (Periodic, [64, 64, 1_152]),
     (Tree, [1, 64, 63]),
 ];
 
-#[test]
-fn tables_are_given_back(rt: HostRuntime) -> Result<(), Fail> {
-    let two = table(rt.alloc(), Bitonic, 2)?;
-    assert_eq!(rt; told(rt.alloc(), [2, 2, 1], &two)?, None);
-    for (kind, sizes) in WIDEST {
-        let ends = table(rt.alloc(), kind, 64)?;
-        assert_eq!(rt; told(rt.alloc(), sizes, &ends)?, None, "{kind:?}");
+/// The first network whose table is not told to be a wiring.
+fn wrong_table(alloc: Global) -> Option<(Kind, Sizes)> {
+    for (kind, sizes) in &GIVEN_BACK {
+        if !is_told_all(alloc, table(alloc, *kind, sizes[1]), *sizes, None) {
+            return Some((*kind, *sizes));
+        }
     }
-    Ok(())
+    None
+}
+
+#[test]
+fn tables_are_given_back(rt: HostRuntime) {
+    assert_eq!(rt; wrong_table(rt.alloc()), None);
 }
 
 /// The table of width 64 with another end of its last wire.
-fn changed(alloc: Global, kind: Kind, end: End) -> Result<Vec<End>, Fail> {
+fn changed(alloc: Global, kind: Kind, end: End) -> Option<Vec<End>> {
     let mut ends = table(alloc, kind, 64)?;
-    *ends.last_mut().ok_or("a wire")? = end;
-    Ok(ends)
-}
-
-/// What is told of the table of width 64 where its last wire ends elsewhere.
-fn told_of_change(
-    alloc: Global,
-    kind: Kind,
-    sizes: Sizes,
-    end: End,
-) -> Result<Option<WiringFault>, Fail> {
-    told(alloc, sizes, &changed(alloc, kind, end)?)
+    *ends.last_mut()? = end;
+    Some(ends)
 }
 
 /// The last wire ends at the last exit. Another end of it, and the fault that is told: another exit, no exit, and the
@@ -192,26 +227,27 @@ const LAST_WIRES: [(Kind, Sizes, End, WiringFault); 9] = [
     (Tree, [1, 64, 63], Balancer(62), Backward(126)),
 ];
 
-/// A fault at the last wire is told.
-#[test]
-fn faults_at_the_last_end(rt: HostRuntime) -> Result<(), Fail> {
-    for (kind, sizes, end, wanted) in LAST_WIRES {
-        let fault = told_of_change(rt.alloc(), kind, sizes, end)?;
-        assert_eq!(rt; fault, Some(wanted), "{kind:?}");
+/// The first network and end of its last wire of which another fault is told.
+fn wrong_last_end(alloc: Global) -> Option<(Kind, End)> {
+    for (kind, sizes, end, wanted) in &LAST_WIRES {
+        if !is_told_all(alloc, changed(alloc, *kind, *end), *sizes, Some(*wanted)) {
+            return Some((*kind, *end));
+        }
     }
-    Ok(())
+    None
 }
 
-/// What is told of the table of width 64 and more wires.
-fn told_of_more(
-    alloc: Global,
-    kind: Kind,
-    sizes: Sizes,
-    more: &[End],
-) -> Result<Option<WiringFault>, Fail> {
+/// A fault at the last wire is told.
+#[test]
+fn faults_at_the_last_end(rt: HostRuntime) {
+    assert_eq!(rt; wrong_last_end(rt.alloc()), None);
+}
+
+/// The table of width 64 and more wires.
+fn with_more(alloc: Global, kind: Kind, more: &[End]) -> Option<Vec<End>> {
     let mut ends = table(alloc, kind, 64)?;
-    ends.extend_from_slice(more)?;
-    told(alloc, sizes, &ends)
+    ends.extend_from_slice(more).ok()?;
+    Some(ends)
 }
 
 /// One exit more than are reached, and one balancer more than are fed.
@@ -229,11 +265,17 @@ const ONE_MORE: [(Kind, Sizes, &[End], WiringFault); 6] = [
     (Tree, [1, 66, 64], &[Exit(64), Exit(65)], InDegree(63)),
 ];
 
-#[test]
-fn faults_at_one_more(rt: HostRuntime) -> Result<(), Fail> {
-    for (kind, sizes, more, wanted) in ONE_MORE {
-        let fault = told_of_more(rt.alloc(), kind, sizes, more)?;
-        assert_eq!(rt; fault, Some(wanted), "{kind:?}");
+/// The first network and sizes of which another fault is told.
+fn wrong_more(alloc: Global) -> Option<(Kind, Sizes)> {
+    for (kind, sizes, more, wanted) in &ONE_MORE {
+        if !is_told_all(alloc, with_more(alloc, *kind, more), *sizes, Some(*wanted)) {
+            return Some((*kind, *sizes));
+        }
     }
-    Ok(())
+    None
+}
+
+#[test]
+fn faults_at_one_more(rt: HostRuntime) {
+    assert_eq!(rt; wrong_more(rt.alloc()), None);
 }

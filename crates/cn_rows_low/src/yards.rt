@@ -3,37 +3,36 @@
 use cn_spec::limits::MOST_TOKENS;
 use cn_yard::{Token, Yard};
 use std::alloc::Global;
-use std::test::Fail;
 
-/// A yard whose calls answer an error where they may not be made.
+/// A yard whose calls answer nothing where they may not be made.
 #[derive(Drop)]
 struct Guarded {
     yard: Yard,
 }
 
 impl Guarded {
-    fn reserve(&mut self, records: u32) -> Result<(), Fail> {
+    fn reserve(&mut self, records: u32) -> Option<()> {
         if self.yard.len() <= 1_000_000 && records <= 1_000_000 {
-            Ok(self.yard.reserve(records)?)
+            self.yard.reserve(records).ok()
         } else {
-            Err(Fail::from("too many"))
+            None
         }
     }
 
-    fn admit(&mut self, client: u64, wire: u32) -> Result<Token, Fail> {
+    fn admit(&mut self, client: u64, wire: u32) -> Option<Token> {
         if wire < self.yard.wires() && self.yard.len() < MOST_TOKENS {
-            Ok(self.yard.admit(client, wire)?)
+            self.yard.admit(client, wire).ok()
         } else {
-            Err(Fail::from("no such wire"))
+            None
         }
     }
 
-    fn move_to(&mut self, token: Token, wire: u32) -> Result<(), Fail> {
+    fn move_to(&mut self, token: Token, wire: u32) -> Option<()> {
         if wire < self.yard.wires() && self.yard.is_live(token) {
             self.yard.move_to(token, wire);
-            Ok(())
+            Some(())
         } else {
-            Err(Fail::from("no such wire or token"))
+            None
         }
     }
 
@@ -104,15 +103,15 @@ impl Guarded {
 
 type Stand = ([[Option<u64>; 2]; 3], Option<u32>, (u32, u32, bool));
 
-fn yard_of(alloc: Global, wires: u32) -> Result<Guarded, Fail> {
-    Ok(Guarded {
-        yard: Yard::new(alloc, wires)?,
-    })
+/// A yard of three wires.
+fn three_wires(alloc: Global) -> Option<Guarded> {
+    let yard = Yard::new(alloc, 3).ok()?;
+    Some(Guarded { yard })
 }
 
 /// The yard after each move of the row.
-fn stands(alloc: Global) -> Result<[Stand; 6], Fail> {
-    let mut yard = yard_of(alloc, 3)?;
+fn stands(alloc: Global) -> Option<[Stand; 6]> {
+    let mut yard = three_wires(alloc)?;
     yard.reserve(2)?;
     let empty = yard.stand();
     let t = yard.admit(7, 0)?;
@@ -126,69 +125,66 @@ fn stands(alloc: Global) -> Result<[Stand; 6], Fail> {
     let left = yard.stand();
     yard.admit(9, 1)?;
     yard.admit(10, 1)?;
-    Ok([empty, both, turned, apart, left, yard.stand()])
+    Some([empty, both, turned, apart, left, yard.stand()])
 }
 
 const NOBODY: [Option<u64>; 2] = [None, None];
 
+const EIGHT: [Option<u64>; 2] = [Some(8), None];
+
+const STANDS: [Stand; 6] = [
+    ([NOBODY, NOBODY, NOBODY], None, (0, 2, true)),
+    ([[Some(7), Some(8)], NOBODY, NOBODY], Some(0), (2, 0, false)),
+    ([[Some(8), Some(7)], NOBODY, NOBODY], Some(0), (2, 0, false)),
+    ([[Some(7), None], NOBODY, EIGHT], Some(0), (2, 0, false)),
+    ([NOBODY, NOBODY, EIGHT], Some(2), (1, 1, false)),
+    ([NOBODY, [Some(9), Some(10)], EIGHT], Some(1), (3, 0, false)),
+];
+
 #[test]
-fn yard_moves(rt: HostRuntime) -> Result<(), Fail> {
-    let eight = [Some(8), None];
-    assert_eq!(rt;
-        stands(rt.alloc())?,
-        [
-            ([NOBODY, NOBODY, NOBODY], None, (0, 2, true)),
-            ([[Some(7), Some(8)], NOBODY, NOBODY], Some(0), (2, 0, false)),
-            ([[Some(8), Some(7)], NOBODY, NOBODY], Some(0), (2, 0, false)),
-            ([[Some(7), None], NOBODY, eight], Some(0), (2, 0, false)),
-            ([NOBODY, NOBODY, eight], Some(2), (1, 1, false)),
-            ([NOBODY, [Some(9), Some(10)], eight], Some(1), (3, 0, false)),
-        ]
-    );
-    Ok(())
+fn yard_moves(rt: HostRuntime) {
+    assert_eq!(rt; stands(rt.alloc()), Some(STANDS));
 }
 
 /// The places of two tokens on one wire, how many stand there, who is released, and whether it stands there still.
 type Looks = ([Option<(u32, u64)>; 2], [Option<u32>; 2], Option<u64>, bool);
 
-fn looks(alloc: Global) -> Result<Looks, Fail> {
-    let mut yard = yard_of(alloc, 3)?;
+fn looks(alloc: Global) -> Option<Looks> {
+    let mut yard = three_wires(alloc)?;
     let t = yard.admit(7, 0)?;
     let u = yard.admit(8, 0)?;
     let counts = [yard.count(0), yard.count(1)];
     yard.move_to(u, 2)?;
     let places = [yard.place(t), yard.place(u)];
     let released = yard.release(t);
-    Ok((places, counts, released, yard.yard.is_live(t)))
+    Some((places, counts, released, yard.yard.is_live(t)))
 }
 
+const LOOKS: Looks = (
+    [Some((0, 7)), Some((2, 8))],
+    [Some(2), Some(0)],
+    Some(7),
+    false,
+);
+
 #[test]
-fn looks_at_tokens_and_wires(rt: HostRuntime) -> Result<(), Fail> {
-    assert_eq!(rt;
-        looks(rt.alloc())?,
-        (
-            [Some((0, 7)), Some((2, 8))],
-            [Some(2), Some(0)],
-            Some(7),
-            false
-        )
-    );
-    Ok(())
+fn looks_at_tokens_and_wires(rt: HostRuntime) {
+    assert_eq!(rt; looks(rt.alloc()), Some(LOOKS));
 }
 
 /// The wires and the free records after a reserve of so many, and the tokens and free records once so many came in.
-fn full(alloc: Global, records: u32) -> Result<[(u32, u32); 2], Fail> {
-    let mut yard = yard_of(alloc, 3)?;
+fn full(alloc: Global, records: u32) -> Option<[(u32, u32); 2]> {
+    let mut yard = three_wires(alloc)?;
     yard.reserve(records)?;
     let reserved = (yard.yard.wires(), yard.yard.spare());
     for client in 0..records {
         yard.admit(u64::from(client), client % 3)?;
     }
-    Ok([reserved, (yard.yard.len(), yard.yard.spare())])
+    Some([reserved, (yard.yard.len(), yard.yard.spare())])
 }
 
 #[test]
-fn room_for_all_clients_of_an_epoch(rt: HostRuntime) -> Result<(), Fail> {
-    assert_eq!(rt; full(rt.alloc(), 65_536)?, [(3, 65_536), (65_536, 0)]);
-    Ok(())
+fn room_for_all_clients_of_an_epoch(rt: HostRuntime) {
+    let told = full(rt.alloc(), 65_536);
+    assert_eq!(rt; told, Some([(3, 65_536), (65_536, 0)]));
 }
