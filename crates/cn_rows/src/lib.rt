@@ -5,6 +5,8 @@
 #[cfg(test)]
 mod batches;
 #[cfg(test)]
+mod checking;
+#[cfg(test)]
 mod emitting;
 #[cfg(test)]
 mod grants;
@@ -16,6 +18,8 @@ mod replaying;
 mod reports;
 #[cfg(test)]
 mod schedules;
+#[cfg(test)]
+mod serving;
 #[cfg(test)]
 mod showing;
 #[cfg(test)]
