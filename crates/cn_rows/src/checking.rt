@@ -95,7 +95,11 @@ fn failing_reads_and_writes(rt: HostRuntime) -> Result<(), Fail> {
         assert_eq!(rt; (text.len(), flushes), (0, 0));
     }
     for room in [0, 10, TWO_EPOCHS_TIGHT.len() - 1] {
-        let (text, fault, _) = outcome(alloc, TWO_EPOCHS, Narrow::new(alloc, room, Then::FailsOnce))?;
+        let (text, fault, _) = outcome(
+            alloc,
+            TWO_EPOCHS,
+            Narrow::new(alloc, room, Then::FailsOnce),
+        )?;
         let written = room as u64;
         assert_eq!(rt; fault, Some(CheckFault::Write { written }));
         assert_eq!(rt; text.as_slice(), &TWO_EPOCHS_TIGHT[..room]);

@@ -12,6 +12,7 @@ use std::test::Fail;
 type Asked = (Kind, u32, u32);
 
 const BITONIC_TWO: Asked = (Kind::Bitonic, 2, 1);
+
 const BITONIC_FOUR: Asked = (Kind::Bitonic, 4, 1);
 
 const FIVE_ON_ONE_ENTRY: &[u8] = b"epoch,client,entry\n\
@@ -221,21 +222,40 @@ fn identity_fields(rt: HostRuntime) -> Result<(), Fail> {
 #[test]
 fn batch_refusals(rt: HostRuntime) -> Result<(), Fail> {
     let rows: [(Asked, &[u8], u64, BatchCause); 10] = [
-        (BITONIC_TWO, b"1,18446744073709551616,0\n", 1, BatchCause::ClientNumber),
+        (
+            BITONIC_TWO,
+            b"1,18446744073709551616,0\n",
+            1,
+            BatchCause::ClientNumber,
+        ),
         (BITONIC_TWO, b"1,+7,0\n", 1, BatchCause::ClientNumber),
         (BITONIC_TWO, b"1,,0\n", 1, BatchCause::ClientNumber),
-        (BITONIC_TWO, b"1,000000000000000000007,0\n", 1, BatchCause::ClientNumber),
+        (
+            BITONIC_TWO,
+            b"1,000000000000000000007,0\n",
+            1,
+            BatchCause::ClientNumber,
+        ),
         (BITONIC_TWO, b"1,007,0\n1,7,1\n", 2, BatchCause::Duplicate),
         (BITONIC_FOUR, b"1,17\n", 1, BatchCause::FieldCount),
         ((Kind::Tree, 4, 1), b"1,17,1\n", 1, BatchCause::EntryRange),
-        (BITONIC_FOUR, b"2,17,0\n1,18,9\n", 2, BatchCause::EpochBackwards),
+        (
+            BITONIC_FOUR,
+            b"2,17,0\n1,18,9\n",
+            2,
+            BatchCause::EpochBackwards,
+        ),
         (BITONIC_FOUR, b"1,17,0\n1,17,1\n", 2, BatchCause::Duplicate),
         (BITONIC_FOUR, b"1,17,4\n", 1, BatchCause::EntryRange),
     ];
     for (asked, records, at, cause) in rows {
         let batch = with_header(rt.alloc(), records)?;
         let fault = refusal(&rt, asked, batch.as_slice())?;
-        assert_eq!(rt; fault, Some(ServeFault::Batch(BatchFault { at, cause })), "{cause}");
+        assert_eq!(rt;
+            fault,
+            Some(ServeFault::Batch(BatchFault { at, cause })),
+            "{cause}"
+        );
     }
     Ok(())
 }
@@ -257,11 +277,7 @@ fn failing_first_read(rt: HostRuntime) -> Result<(), Fail> {
 }
 
 /// The fault of a write that ends after so many bytes, and what was written.
-fn cut(
-    rt: &HostRuntime,
-    room: usize,
-    then: Then,
-) -> Result<(Option<ServeFault>, Vec<u8>), Fail> {
+fn cut(rt: &HostRuntime, room: usize, then: Then) -> Result<(Option<ServeFault>, Vec<u8>), Fail> {
     let mut writer = Narrow::new(rt.alloc(), room, then);
     let fault = serve(rt, BITONIC_TWO, SINGLE_CLIENT, &mut writer)?.err();
     Ok((fault, writer.taken))
@@ -270,11 +286,19 @@ fn cut(
 #[test]
 fn failing_writer(rt: HostRuntime) -> Result<(), Fail> {
     for room in [0, 10, SINGLE_CLIENT_SERVED.len() - 1] {
-        for then in [Then::Fails(io::ErrorKind::BrokenPipe), Then::FailsOnce, Then::TakesNothing] {
+        for then in [
+            Then::Fails(io::ErrorKind::BrokenPipe),
+            Then::FailsOnce,
+            Then::TakesNothing,
+        ] {
             let (fault, taken) = cut(&rt, room, then)?;
             let written = room as u64;
             assert_eq!(rt; fault, Some(ServeFault::Write { written }), "after {room}");
-            assert_eq!(rt; taken.as_slice(), &SINGLE_CLIENT_SERVED[..room], "after {room}");
+            assert_eq!(rt;
+                taken.as_slice(),
+                &SINGLE_CLIENT_SERVED[..room],
+                "after {room}"
+            );
         }
     }
     assert_eq!(rt; &SINGLE_CLIENT_SERVED[..10], b"network bi".as_slice());
@@ -290,7 +314,11 @@ fn full_epoch(rt: &HostRuntime, clients: u64) -> Result<(Vec<u8>, Vec<u8>), Fail
     writeln!(report, "network tree width 64 balancers 63 depth 6")?;
     writeln!(report, "epoch 1 clients {clients}")?;
     for exit in 0..64 {
-        writeln!(report, "exit {exit} count {}", (clients.saturating_add(63) - exit) / 64)?;
+        writeln!(
+            report,
+            "exit {exit} count {}",
+            (clients.saturating_add(63) - exit) / 64
+        )?;
     }
     for client in 0..clients {
         writeln!(batch, "1,{client},0")?;
