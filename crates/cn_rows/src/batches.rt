@@ -1,5 +1,6 @@
 //! Batches, read.
 
+use crate::writers::Broken;
 use cn_report::{BatchCause, BatchFault, read_batch};
 use std::alloc::Global;
 use std::hash::RandomState;
@@ -153,24 +154,6 @@ fn batch_refusals(rt: HostRuntime) -> Result<(), Fail> {
     Ok(())
 }
 
-// Gives a text, and then fails.
-#[derive(Drop)]
-struct Failing<'a> {
-    text: &'a [u8],
-}
-
-impl<'a> io::Read for Failing<'a> {
-    fn read(&mut self, buffer: &mut [u8]) -> io::Result<usize> {
-        if self.text.is_empty() {
-            return Err(io::Error::from(io::ErrorKind::BrokenPipe));
-        }
-        let count = self.text.len().min(buffer.len());
-        buffer[..count].copy_from_slice(&self.text[..count]);
-        self.text = &self.text[count..];
-        Ok(count)
-    }
-}
-
 #[test]
 fn read_cut_anywhere(rt: HostRuntime) -> Result<(), Fail> {
     let mut lines = 0u64;
@@ -180,7 +163,7 @@ fn read_cut_anywhere(rt: HostRuntime) -> Result<(), Fail> {
             lines = lines.saturating_add(1);
         }
         let cause = BatchCause::Read;
-        let fault = read(&rt, Failing { text })?.err();
+        let fault = read(&rt, Broken { left: text })?.err();
         assert_eq!(rt; fault, Some(BatchFault { at: lines, cause }), "at {end}");
     }
     assert_eq!(rt; lines, 6);

@@ -1,5 +1,6 @@
 //! Grant lists, judged.
 
+use crate::writers::Broken;
 use cn_report::{Flaw, check_grants, render_tight};
 use cn_wiring::is_width;
 use std::alloc::Global;
@@ -108,24 +109,6 @@ fn empty_input(rt: HostRuntime) -> Result<(), Fail> {
     Ok(())
 }
 
-// Gives a text, and then fails.
-#[derive(Drop)]
-struct Failing<'a> {
-    text: &'a [u8],
-}
-
-impl<'a> io::Read for Failing<'a> {
-    fn read(&mut self, buffer: &mut [u8]) -> io::Result<usize> {
-        if self.text.is_empty() {
-            return Err(io::Error::from(io::ErrorKind::BrokenPipe));
-        }
-        let count = self.text.len().min(buffer.len());
-        buffer[..count].copy_from_slice(&self.text[..count]);
-        self.text = &self.text[count..];
-        Ok(count)
-    }
-}
-
 #[test]
 fn read_cut_anywhere(rt: HostRuntime) -> Result<(), Fail> {
     let mut lines = 0u64;
@@ -134,7 +117,7 @@ fn read_cut_anywhere(rt: HostRuntime) -> Result<(), Fail> {
         if text.last() == Some(&b'\n') {
             lines = lines.saturating_add(1);
         }
-        let flaw = judged(rt.alloc(), Failing { text })?.err();
+        let flaw = judged(rt.alloc(), Broken { left: text })?.err();
         assert_eq!(rt; flaw, Some(Flaw::Read(lines)), "at {end}");
     }
     assert_eq!(rt; lines, 4);

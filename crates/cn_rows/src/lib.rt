@@ -5,6 +5,8 @@
 #[cfg(test)]
 mod batches;
 #[cfg(test)]
+mod checking;
+#[cfg(test)]
 mod emitting;
 #[cfg(test)]
 mod grants;
@@ -18,6 +20,8 @@ mod reports;
 mod run_words;
 #[cfg(test)]
 mod schedules;
+#[cfg(test)]
+mod serving;
 #[cfg(test)]
 mod showing;
 #[cfg(test)]

@@ -1,12 +1,15 @@
 //! Jobs, done as the program does them, and the program's end.
 
+ghost use Rattle.std.specs.Prelude.{IsTrue};
+ghost use Rattle.cn_renamer.specs.Performing.{IsBuiltFor};
+
 use crate::words::words;
 use crate::writers::{Narrow, Then};
 use cn_renamer::{
-    Fault, Job, Net, OutputFault, ReplayFault, RuntimeFault, ScheduleCause, ScheduleFault, end,
-    perform, run,
+    BatchCause, BatchFault, CheckFault, Fault, Flaw, Form, Job, Net, Options, OutputFault,
+    ReplayFault, RuntimeFault, ScheduleCause, ScheduleFault, ServeFault, end, perform, run,
 };
-use cn_wiring::Kind;
+use cn_wiring::{Kind, is_width};
 use std::alloc::Global;
 use std::io;
 use std::random::RandomSource;
@@ -29,6 +32,22 @@ const ONE_CLIENT_ON_TREE_FOUR: &[u8] = b"network tree width 4 balancers 3 depth 
       enter 7 wire 0\n\
       pass 7 balancer 0 number 0 wire 1\n\
       end epoch 0 entered 1 inside 1\n";
+
+const BATCH: &[u8] = b"epoch,client,entry\n\
+      1,17,1\n";
+
+const BATCH_ON_BITONIC_TWO: &[u8] = b"network bitonic width 2 balancers 1 depth 1\n\
+      epoch 1 clients 1\n\
+      exit 0 count 1\n\
+      exit 1 count 0\n\
+      name 0 client 17\n\
+      end epochs 1 grants 1\n";
+
+const GRANTS: &[u8] = b"epoch,client,name\n\
+      1,17,0\n";
+
+const GRANTS_OF_WIDTH_TWO: &[u8] = b"epoch 1 clients 1 counts 1 0\n\
+      tight epochs 1 grants 1\n";
 
 const TREE_TWO: &[u8] = b"network tree width 2 balancers 1 depth 1\n\
       wire 0 balancer 0\n\
@@ -57,16 +76,39 @@ impl RandomSource for Words {
 /// A job by its words.
 #[derive(Clone, Copy, Debug, PartialEq, Eq)]
 enum Asked {
+    Run,
     Replay,
+    Check,
     Show,
 }
 
 fn job(asked: Asked, kind: Kind, width: u32) -> Option<Job> {
     let net = Net::new(kind, width).ok()?;
     Some(match asked {
+        Asked::Run => Job::Run(Options::new(net, 1, 1, Form::Report).ok()?),
         Asked::Replay => Job::Replay(net),
+        Asked::Check => Job::Check(width),
         Asked::Show => Job::Show(net),
     })
+}
+
+/// Whether networks of a job's width are built.
+fn is_built(job: Job) -> bool
+    ensures { IsTrue result → IsBuiltFor job }
+{
+    match job {
+        Job::Check(width) => is_width(width),
+        Job::Run(_) | Job::Replay(_) | Job::Show(_) => true,
+    }
+}
+
+/// The input of a job: a batch, a schedule or a grant list.
+fn input_of(job: Job) -> &'static [u8] {
+    match job {
+        Job::Run(_) => BATCH,
+        Job::Check(_) => GRANTS,
+        Job::Replay(_) | Job::Show(_) => ONE_CLIENT,
+    }
 }
 
 /// What a job is given: a writer, and a source of random words.
@@ -97,36 +139,14 @@ fn source_of(given: Given) -> Words {
 /// A job of a kind and a width, what it is given, what it writes, its status, and the line that is printed of its fault.
 type Row = (Asked, Kind, u32, Given, &'static [u8], u8, &'static [u8]);
 
-/// Only a replay asks for random words; and a flush that fails is a write that fails.
-const ROWS: [Row; 10] = [
-    (
-        Asked::Replay,
-        Kind::Bitonic,
-        4,
-        Given::All,
-        ONE_CLIENT_ON_BITONIC_FOUR,
-        0,
-        b"",
-    ),
-    (
-        Asked::Replay,
-        Kind::Periodic,
-        2,
-        Given::All,
-        ONE_CLIENT_ON_PERIODIC_TWO,
-        0,
-        b"",
-    ),
-    (
-        Asked::Replay,
-        Kind::Tree,
-        4,
-        Given::All,
-        ONE_CLIENT_ON_TREE_FOUR,
-        0,
-        b"",
-    ),
+/// Only a run and a replay ask for random words; and a flush that fails is a write that fails.
+const ROWS: [Row; 16] = [
+    (Asked::Replay, Kind::Bitonic, 4, Given::All, ONE_CLIENT_ON_BITONIC_FOUR, 0, b""),
+    (Asked::Replay, Kind::Periodic, 2, Given::All, ONE_CLIENT_ON_PERIODIC_TWO, 0, b""),
+    (Asked::Replay, Kind::Tree, 4, Given::All, ONE_CLIENT_ON_TREE_FOUR, 0, b""),
     (Asked::Show, Kind::Tree, 2, Given::All, TREE_TWO, 0, b""),
+    (Asked::Run, Kind::Bitonic, 2, Given::All, BATCH_ON_BITONIC_TWO, 0, b""),
+    (Asked::Check, Kind::Bitonic, 2, Given::All, GRANTS_OF_WIDTH_TWO, 0, b""),
     (
         Asked::Replay,
         Kind::Tree,
@@ -146,11 +166,21 @@ const ROWS: [Row; 10] = [
         b"renamer: memory\n",
     ),
     (
-        Asked::Show,
-        Kind::Tree,
+        Asked::Run,
+        Kind::Bitonic,
         2,
         Given::NoWords(io::ErrorKind::Unsupported),
-        TREE_TWO,
+        b"",
+        3,
+        b"renamer: runtime\n",
+    ),
+    (Asked::Show, Kind::Tree, 2, Given::NoWords(io::ErrorKind::Unsupported), TREE_TWO, 0, b""),
+    (
+        Asked::Check,
+        Kind::Bitonic,
+        2,
+        Given::NoWords(io::ErrorKind::Unsupported),
+        GRANTS_OF_WIDTH_TWO,
         0,
         b"",
     ),
@@ -163,14 +193,24 @@ const ROWS: [Row; 10] = [
         3,
         b"renamer: write after 124 bytes\n",
     ),
+    (Asked::Show, Kind::Tree, 2, Given::NoFlush, TREE_TWO, 3, b"renamer: write after 99 bytes\n"),
     (
-        Asked::Show,
-        Kind::Tree,
+        Asked::Run,
+        Kind::Bitonic,
         2,
         Given::NoFlush,
-        TREE_TWO,
+        BATCH_ON_BITONIC_TWO,
         3,
-        b"renamer: write after 99 bytes\n",
+        b"renamer: write after 131 bytes\n",
+    ),
+    (
+        Asked::Check,
+        Kind::Bitonic,
+        2,
+        Given::NoFlush,
+        GRANTS_OF_WIDTH_TWO,
+        3,
+        b"renamer: write after 53 bytes\n",
     ),
     (
         Asked::Show,
@@ -192,8 +232,11 @@ fn ends_with(alloc: Global, done: &Result<(), Fault>, line: &[u8], status: u8) -
 fn is_performed(alloc: Global, row: &Row) -> Option<bool> {
     let (asked, kind, width, given, text, status, line) = *row;
     let job = job(asked, kind, width)?;
+    if !is_built(job) {
+        return None;
+    }
     let mut writer = writer_of(alloc, given);
-    let done = perform(alloc, job, ONE_CLIENT, &mut writer, &source_of(given));
+    let done = perform(alloc, job, input_of(job), &mut writer, &source_of(given));
     Some(writer.taken.as_slice() == text && ends_with(alloc, &done, line, status))
 }
 
@@ -212,14 +255,14 @@ fn jobs_write_their_texts_and_end(rt: HostRuntime) {
     assert_eq!(rt; wrong_row(rt.alloc()), None);
 }
 
-/// What the words of a line write of one client's schedule, the status, and what is printed of the fault.
-fn ran(alloc: Global, line: &str) -> Option<(Vec<u8>, u8, Vec<u8>)> {
+/// What the words of a line write of an input, the status, and what is printed of the fault.
+fn ran(alloc: Global, line: &str, input: &[u8]) -> Option<(Vec<u8>, u8, Vec<u8>)> {
     let words = words(alloc, line).ok()?;
     let mut writer = writer_of(alloc, Given::All);
     let done = run(
         alloc,
         words,
-        ONE_CLIENT,
+        input,
         &mut writer,
         &source_of(Given::All),
     );
@@ -228,9 +271,9 @@ fn ran(alloc: Global, line: &str) -> Option<(Vec<u8>, u8, Vec<u8>)> {
     Some((writer.taken, status, errors.taken))
 }
 
-/// Whether the words of a line write this text, and end with status 0 and nothing printed.
-fn writes(alloc: Global, line: &str, wanted: &[u8]) -> bool {
-    match ran(alloc, line) {
+/// Whether the words of a line write this text of an input, and end with status 0 and nothing printed.
+fn writes(alloc: Global, line: &str, input: &[u8], wanted: &[u8]) -> bool {
+    match ran(alloc, line, input) {
         Some((written, status, errors)) => {
             written.as_slice() == wanted && status == 0 && errors.is_empty()
         }
@@ -238,22 +281,34 @@ fn writes(alloc: Global, line: &str, wanted: &[u8]) -> bool {
     }
 }
 
-const LINES: [(&str, &[u8]); 3] = [
+const LINES: [(&str, &[u8], &[u8]); 5] = [
     (
         "renamer replay --network bitonic --width 4",
+        ONE_CLIENT,
         ONE_CLIENT_ON_BITONIC_FOUR,
     ),
     (
         "renamer replay --width 2 --network periodic",
+        ONE_CLIENT,
         ONE_CLIENT_ON_PERIODIC_TWO,
     ),
-    ("renamer show --network tree --width 2", TREE_TWO),
+    (
+        "renamer show --network tree --width 2",
+        ONE_CLIENT,
+        TREE_TWO,
+    ),
+    (
+        "renamer run --network bitonic --width 2 --hand 64",
+        BATCH,
+        BATCH_ON_BITONIC_TWO,
+    ),
+    ("renamer check --width 2", GRANTS, GRANTS_OF_WIDTH_TWO),
 ];
 
 /// The first line that writes something else.
 fn wrong_line(alloc: Global) -> Option<&'static str> {
-    for (line, text) in &LINES {
-        if !writes(alloc, line, text) {
+    for (line, input, text) in &LINES {
+        if !writes(alloc, line, input, text) {
             return Some(*line);
         }
     }
@@ -267,7 +322,7 @@ fn words_are_done(rt: HostRuntime) {
 
 /// Whether something is written, and whether something is printed of a fault, each ended by a line feed; and the status.
 fn told(alloc: Global, line: &str) -> Option<(Option<bool>, Option<bool>, u8)> {
-    let (written, status, errors) = ran(alloc, line)?;
+    let (written, status, errors) = ran(alloc, line, ONE_CLIENT)?;
     Some((is_ended(&written), is_ended(&errors), status))
 }
 
@@ -318,6 +373,76 @@ fn wrong_replay_fault(alloc: Global) -> Option<&'static [u8]> {
     None
 }
 
+/// A run's fault, at this line.
+const SERVE_FAULTS: [(ServeFault, &[u8], u8); 3] = [
+    (REFUSED_BATCH, b"renamer: record 2: Duplicate\n", 1),
+    (ServeFault::Memory, b"renamer: memory\n", 3),
+    (
+        ServeFault::Write { written: 10 },
+        b"renamer: write after 10 bytes\n",
+        3,
+    ),
+];
+
+const REFUSED_BATCH: ServeFault = ServeFault::Batch(BatchFault {
+    at: 2,
+    cause: BatchCause::Duplicate,
+});
+
+/// The first line that is not a run's fault's.
+fn wrong_serve_fault(alloc: Global) -> Option<&'static [u8]> {
+    for (fault, line, status) in &SERVE_FAULTS {
+        if !is_told(alloc, Fault::Serve(*fault), line, *status) {
+            return Some(*line);
+        }
+    }
+    None
+}
+
+/// A check's fault, at this line.
+const CHECK_FAULTS: [(CheckFault, &[u8], u8); 8] = [
+    (
+        CheckFault::Flaw(Flaw::Read(4)),
+        b"renamer: record 4: Read\n",
+        1,
+    ),
+    (
+        CheckFault::Flaw(Flaw::Form(2)),
+        b"renamer: record 2: Form\n",
+        1,
+    ),
+    (
+        CheckFault::Flaw(Flaw::DuplicateClient(2)),
+        b"renamer: flaw: DuplicateClient record 2\n",
+        4,
+    ),
+    (
+        CheckFault::Flaw(Flaw::DuplicateName(3)),
+        b"renamer: flaw: DuplicateName record 3\n",
+        4,
+    ),
+    (GAP, b"renamer: flaw: Gap epoch 1 name 2\n", 4),
+    (CheckFault::Flaw(Flaw::Memory), b"renamer: memory\n", 3),
+    (CheckFault::Memory, b"renamer: memory\n", 3),
+    (
+        CheckFault::Write { written: 1 },
+        b"renamer: write after 1 bytes\n",
+        3,
+    ),
+];
+
+const GAP: CheckFault = CheckFault::Flaw(Flaw::Gap { epoch: 1, name: 2 });
+
+/// The first line that is not a check's fault's.
+fn wrong_check_fault(alloc: Global) -> Option<&'static [u8]> {
+    for (fault, line, status) in &CHECK_FAULTS {
+        if !is_told(alloc, Fault::Check(*fault), line, *status) {
+            return Some(*line);
+        }
+    }
+    None
+}
+
 const OUTPUT_FAULTS: [(OutputFault, &[u8], u8); 2] = [
     (OutputFault::Memory, b"renamer: memory\n", 3),
     (
@@ -351,9 +476,16 @@ fn are_told(alloc: Global) -> Option<[bool; 2]> {
     ])
 }
 
+/// The first line of a job's fault that is another.
+fn wrong_fault(alloc: Global) -> Option<&'static [u8]> {
+    wrong_serve_fault(alloc)
+        .or_else(|| wrong_replay_fault(alloc))
+        .or_else(|| wrong_check_fault(alloc))
+        .or_else(|| wrong_output_fault(alloc))
+}
+
 #[test]
 fn each_fault_has_its_line_and_its_status(rt: HostRuntime) {
-    assert_eq!(rt; wrong_replay_fault(rt.alloc()), None);
-    assert_eq!(rt; wrong_output_fault(rt.alloc()), None);
+    assert_eq!(rt; wrong_fault(rt.alloc()), None);
     assert_eq!(rt; are_told(rt.alloc()), Some([true, true]));
 }
