@@ -93,17 +93,17 @@ fn job(asked: Asked, kind: Kind, width: u32) -> Option<Job> {
 }
 
 /// Whether networks of a job's width are built.
-fn is_built(job: Job) -> bool
-    ensures { IsTrue result → IsBuiltFor job }
+fn is_built(job: &Job) -> bool
+    ensures { IsTrue result → IsBuiltFor job.now }
 {
     match job {
-        Job::Check(width) => is_width(width),
+        Job::Check(width) => is_width(*width),
         Job::Run(_) | Job::Replay(_) | Job::Show(_) => true,
     }
 }
 
 /// The input of a job: a batch, a schedule or a grant list.
-fn input_of(job: Job) -> &'static [u8] {
+fn input_of(job: &Job) -> &'static [u8] {
     match job {
         Job::Run(_) => BATCH,
         Job::Check(_) => GRANTS,
@@ -232,11 +232,12 @@ fn ends_with(alloc: Global, done: &Result<(), Fault>, line: &[u8], status: u8) -
 fn is_performed(alloc: Global, row: &Row) -> Option<bool> {
     let (asked, kind, width, given, text, status, line) = *row;
     let job = job(asked, kind, width)?;
-    if !is_built(job) {
+    if !is_built(&job) {
         return None;
     }
+    let input = input_of(&job);
     let mut writer = writer_of(alloc, given);
-    let done = perform(alloc, job, input_of(job), &mut writer, &source_of(given));
+    let done = perform(alloc, job, input, &mut writer, &source_of(given));
     Some(writer.taken.as_slice() == text && ends_with(alloc, &done, line, status))
 }
 
