@@ -82,17 +82,17 @@ fn ended(alloc: Global, done: &Result<(), Fault>) -> (u8, Vec<u8>) {
 }
 
 /// Whether networks of a job's width are built.
-fn is_built(job: Job) -> bool
-    ensures { IsTrue result → IsBuiltFor job }
+fn is_built(job: &Job) -> bool
+    ensures { IsTrue result → IsBuiltFor job.now }
 {
     match job {
-        Job::Check(width) => is_width(width),
+        Job::Check(width) => is_width(*width),
         Job::Run(_) | Job::Replay(_) | Job::Show(_) => true,
     }
 }
 
 /// The input of a job: a batch, a schedule or a grant list.
-fn input_of(job: Job) -> &'static [u8] {
+fn input_of(job: &Job) -> &'static [u8] {
     match job {
         Job::Run(_) => BATCH,
         Job::Check(_) => GRANTS,
@@ -107,10 +107,11 @@ fn performed(
     fault: Option<io::ErrorKind>,
     alloc: Global,
 ) -> Result<(Vec<u8>, u8, Vec<u8>), Fail> {
-    if !is_built(job) {
+    if !is_built(&job) {
         return Err("no such width".into());
     }
-    let done = perform(alloc, job, input_of(job), &mut writer, &Words { fault });
+    let input = input_of(&job);
+    let done = perform(alloc, job, input, &mut writer, &Words { fault });
     let (status, errors) = ended(alloc, &done);
     Ok((writer.taken, status, errors))
 }
