@@ -1,0 +1,16 @@
+mod Totals
+mod Lists
+mod Raised
+mod Ledgers
+mod Fair
+mod Bounds
+mod Sole
+mod Fresh
+mod Kept
+mod Steps
+mod Openings
+mod Lanes
+mod Loading
+mod Ends
+mod Sharing
+mod Closings
