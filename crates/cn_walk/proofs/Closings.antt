@@ -8,27 +8,30 @@ use Rattle.std.proofs.lemmas.List.Sums.{count_by-le-length, get_or-le-sum_by, su
 use Rattle.std.proofs.lemmas.Nat.{mod_below}
 use Rattle.atomic_table.specs.Table.{Final, Seen, State}
 use Rattle.std.specs.List.{range_with_len}
-use Rattle.cn_spec.specs.Step.{name_of, share}
-use Rattle.cn_spec.specs.Sums.{once_below, sum_below, when}
+use Rattle.cn_spec.specs.Step.{IsEachBelow, name_of, share}
+use Rattle.cn_spec.specs.Sums.{once_below, sum_below, when, times}
 use Rattle.cn_wiring.specs.declared.end.End.{End}
 use Rattle.cn_wiring.specs.declared.end.End.TheVariants.{Exit}
 use Rattle.cn_wiring.specs.Table.{Stands, Table}
 use Rattle.cn_yard.specs.Lists.{Yard, tokens_in}
-use Rattle.cn_ledger.specs.Ledger.{IsSound}
+use Rattle.cn_ledger.proofs.CallerLemmas.{names-each}
+use Rattle.cn_ledger.specs.Ledger.{IsSound, IsTight, Ledger}
 use Rattle.cn_walk.specs.declared.view.Grant.{Grant}
 use Rattle.cn_walk.specs.declared.view.Start.{Start}
 use Rattle.cn_walk.specs.declared.view.View.{View}
-use Rattle.cn_walk.specs.Ends.{IsEnded, IsEnding, IsQuiet, counts_of}
+use Rattle.cn_ledger.specs.Grants.{Grant as Listed, ListsGrants, is_grant}
+use Rattle.cn_walk.specs.Closing.{IsEnding, IsMoment}
+use Rattle.cn_walk.specs.Ends.{IsQuiet, NobodyInside, counts_of}
 use Rattle.cn_walk.specs.Rule.{IsKept, ledger_of}
 use Rattle.cn_walk.specs.Views.{base, given_in, granted_in, inside_in, on_in, standing_in}
 use Rattle.cn_walk.specs.Words.{clients_in, count_in, entered_in}
 use Rattle.cn_walk.proofs.Bounds.{all_came, count_risen, few_came}
-use Rattle.cn_walk.proofs.Ends.{ended-by}
+use Rattle.cn_walk.proofs.Ends.{carried-after, tight-after, tight-before}
 use Rattle.cn_walk.proofs.Fresh.{heard_few}
 use Rattle.cn_walk.proofs.Sole.{none_given}
 use Rattle.cn_walk.proofs.Raised.{count-word, entered-word}
 use Rattle.cn_walk.proofs.Totals.{mine_alone, part_le, total_add, total_same}
-use Rattle.cn_spec.proofs.CallerLemmas.{exit_of-name_of, name-below, name_of-exit_of, sum_below-part, sum_below-same}
+use Rattle.cn_spec.proofs.CallerLemmas.{exit_of-name_of, name-below, name_of-exit_of, sum_below-part, sum_below-same, times-nil}
 
 -- at a place of a list
 pub at_get : (xs : List ℕ) (i x : ℕ) → get_elem? xs i ≡ some x → (i < length xs) × (get_or xs i 0 ≡ x)
@@ -48,38 +51,34 @@ at_all [] i x e = absurd (some-ne-none x (sym e))
 at_all (y ∷ ys) zero x e = (omega arith, some-injective y x e)
 at_all (y ∷ ys) (suc i) x e = let r = at_all ys i x e in (omega (arith, r.0), r.1)
 
--- a grant with the name of its exit and visit has the name n where these are those of n
-named-once : (w base n exit visit name : ℕ) → exit < w → base + name ≡ name_of w exit visit
-    → ◌≡◌ {A = ℕ} (cond (eqb name n) 1 0) (cond (eqb ((base + n) % w) exit && eqb visit ((base + n) / w)) 1 0)
-named-once w base n exit visit name low is = elim (cases_eq name n) [
-  | inl e ↦
-      let back = exit_of-name_of w exit visit low in
-      let same : base + n ≡ name_of w exit visit = omega arith in
-      let a : (base + n) % w ≡ exit = ap (λ (k : ℕ). k % w) same ∙ back.0 in
-      let b : visit ≡ (base + n) / w = sym (ap (λ (k : ℕ). k / w) same ∙ back.1) in
-      rw (eq-eqb name n e, eq-eqb ((base + n) % w) exit a, eq-eqb visit ((base + n) / w) b) refl
-  | inr d ↦ elim (cases_eq ((base + n) % w) exit) [
-    | inr a ↦ rw (ne_eqb name n d, ne_eqb ((base + n) % w) exit a) refl
-    | inl a ↦ elim (cases_eq visit ((base + n) / w)) [
-      | inr b ↦ rw (ne_eqb name n d, eq-eqb ((base + n) % w) exit a, ne_eqb visit ((base + n) / w) b) refl
-      | inl b ↦
-          let whole : name_of w exit visit ≡ base + n = (λ i. name_of w (sym a i) (b i)) ∙ name_of-exit_of w (base + n) in
-          absurd (d (omega arith))
-    ]
-  ]
-]
-
--- the same numbers are below
-below-alike : (a k u n : ℕ) → (u < a) ↔ (n < k) → ◌≡◌ {A = ℕ} (once_below a u) (once_below k n)
-below-alike a k u n same = elim (cases_lt n k) [
-  | inl l ↦ rw (lt-ltb n k l, lt-ltb u a (same.1 l)) refl
-  | inr l ↦ elim (cases_lt u a) [ inl h ↦ absurd (let z = same.0 h in omega arith) | inr h ↦ rw (le-ltb n k l, le-ltb u a h) refl ]
-]
-
 -- lists of the same numbers
 map-same : (f g : ℕ → ℕ) (a n : ℕ) → ((i : ℕ) → a ≤ i → i < a + n → f i ≡ g i) → map f (range_with_len a n) ≡ map g (range_with_len a n)
 map-same f g a zero same = refl
 map-same f g a (suc n) same = λ x. same a (omega arith) (omega arith) x ∷ map-same f g (a + 1) n (λ i l h. same i (omega arith) (omega arith)) x
+
+-- a grant as the ledgers' lists have it
+abbrev listed : Grant → Listed
+listed g = record { client = g.client; exit = g.exit; visit = g.visit; name = g.name }
+
+names-listed : (gs : List Grant) → map (λ (g : Listed). g.name) (map listed gs) ≡ map (λ (g : Grant). g.name) gs
+names-listed [] = refl
+names-listed (g ∷ gs) = λ x. g.name ∷ names-listed gs x
+
+count-listed : (m c i v name : ℕ) (gs : List Grant)
+    → count_by (is_grant m c i v name) (map listed gs) ≡ count_by (λ (g : Grant). eqb g.client c && (eqb g.exit i && (eqb g.visit v && eqb (g.name + m) name))) gs
+count-listed m c i v name [] = refl
+count-listed m c i v name (g ∷ gs) =
+    omega (
+      arith,
+      count-listed m c i v name gs,
+      sum_by-cons (λ (x : Listed). cond (is_grant m c i v name x) 1 0) (listed g) (map listed gs),
+      sum_by-cons (λ (x : Grant). cond (eqb x.client c && (eqb x.exit i && (eqb x.visit v && eqb (x.name + m) name))) 1 0) g gs,
+    )
+
+-- who let nobody in has no entry by u
+no-entry : (u : ℕ) (es : List ℕ) → length es ≡ 0 → times u es ≡ 0
+no-entry u [] none = times-nil u
+no-entry u (e ∷ es) none = absurd (omega arith)
 
 module _ (start : Start) (s : State (Unit {0}) View) (id : ℕ) (v : View) (kept : IsKept start s) (at : get_elem? s.views id ≡ some v) where
   -- a lane that let nobody in has nobody inside, and no grants
@@ -95,53 +94,37 @@ module _ (start : Start) (s : State (Unit {0}) View) (id : ℕ) (v : View) (kept
   alone f = omega (arith, sum_by-cons f v [])
 
   -- each grant has the name of its exit and visit
-  named-at : (j : ℕ) (d : Grant) → j < length v.grants → ((get_or v.grants j d).exit < start.network.table.width) × (base start + (get_or v.grants j d).name ≡ name_of start.network.table.width (get_or v.grants j d).exit (get_or v.grants j d).visit)
+  named-at : (j : ℕ) (d : Grant) → j < length v.grants → ((get_or v.grants j d).exit < start.network.table.width) × ((get_or v.grants j d).name + base start ≡ name_of start.network.table.width (get_or v.grants j d).exit (get_or v.grants j d).visit)
   named-at j d l =
       let g : Grant = get_or v.grants j d in
-      let test : Grant → ℕ = λ x. cond (eqb x.client g.client && (eqb x.exit g.exit && (eqb x.visit g.visit && eqb (x.name + base start) (base start + g.name)))) 1 0 in
-      let one : test g ≡ 1 = rw (eq-eqb g.client g.client refl, eq-eqb g.exit g.exit refl, eq-eqb g.visit g.visit refl, eq-eqb (g.name + base start) (base start + g.name) (omega arith)) refl in
+      let test : Grant → ℕ = λ x. cond (eqb x.client g.client && (eqb x.exit g.exit && (eqb x.visit g.visit && eqb (x.name + base start) (g.name + base start)))) 1 0 in
+      let one : test g ≡ 1 = rw (eq-eqb g.client g.client refl, eq-eqb g.exit g.exit refl, eq-eqb g.visit g.visit refl, eq-eqb (g.name + base start) (g.name + base start) refl) refl in
       let part = get_or-le-sum_by test v.grants j d l in
-      let all = part_le (granted_in (base start) g.client g.exit g.visit (base start + g.name)) s.views id v at in
-      kept.sound.named g.client g.exit g.visit (base start + g.name) (omega arith)
+      let all = part_le (granted_in (base start) g.client g.exit g.visit (g.name + base start)) s.views id v at in
+      kept.sound.named g.client g.exit g.visit (g.name + base start) (omega arith)
 
   -- the names are those below the number of grants, each once
-  names-at : IsEnded start s.words (v ∷ []) (length v.grants)
-      → ((end : End) (n : ℕ) → Stands start.network.table end → once_below (count_in start.network.table start.carried end) n + given_in end n v ≡ once_below (count_in start.network.table s.words end) n)
-      → (n : ℕ) → count_by (λ g. eqb g.name n) v.grants ≡ once_below (length v.grants) n
-  names-at ended numbered n =
+  names-at : IsTight start.network.table (ledger_of start.network.table start.carried s.words (v ∷ [])) → clients_in start.network.table s.words ≡ base start + length v.grants
+      → IsEachBelow (length v.grants) (map (λ g. g.name) v.grants)
+  names-at end all =
       let t = start.network.table in
-      let w : ℕ = t.width in
-      let m : ℕ = base start in
-      let k : ℕ = length v.grants in
-      let i : ℕ = (m + n) % w in
-      let u : ℕ = (m + n) / w in
-      let low : i < w = mod_below (m + n) w (omega (arith, kept.began.network.formed.width.0)) in
-      let same : count_by (λ g. eqb g.name n) v.grants ≡ given_in (Exit i) u v =
-      total_same (λ (g : Grant). cond (eqb g.name n) 1 0) (λ (g : Grant). cond (eqb i g.exit && eqb g.visit u) 1 0) v.grants (λ j g e.
-      let (inside, is) = at_all v.grants j g e in
-      let fact = subst (λ (x : Grant). (x.exit < w) × (m + x.name ≡ name_of w x.exit x.visit)) is (named-at j g inside) in
-      named-once w m n g.exit g.visit g.name fact.0 fact.1) in
-      let whole = name_of-exit_of w (m + n) in
-      let now : ◌≡◌ {A = ℕ} (once_below (count_in t s.words (Exit i)) u) (once_below k n) =
-      let shared = ended.counts i low in
-      let law = name-below (m + k) w i u low in
-      below-alike (count_in t s.words (Exit i)) k u n ((λ h. let z = law.0 (omega arith) in omega arith), λ h. let z = law.1 (omega arith) in omega arith) in
-      let was : ◌≡◌ {A = ℕ} (once_below (count_in t start.carried (Exit i)) u) (once_below 0 n) =
-      let shared = ended.began i low in
-      let law = name-below m w i u low in
-      below-alike (count_in t start.carried (Exit i)) 0 u n ((λ h. let z = law.0 (omega arith) in omega arith), λ h. absurd (omega arith)) in
-      let none : ◌≡◌ {A = ℕ} (once_below 0 n) 0 = ap {B = ℕ} (λ b. cond b 1 0) (le-ltb n 0 (omega arith)) in
-      omega (arith, numbered (Exit i) u low)
+      let was : Ledger = ledger_of t start.carried start.carried [] in
+      let now : Ledger = ledger_of t start.carried s.words (v ∷ []) in
+      let lists : ListsGrants (base start) was now (map listed v.grants) = λ c i k name. omega (arith, alone (granted_in (base start) c i k name), count-listed (base start) c i k name v.grants) in
+      subst (λ (ns : List ℕ). IsEachBelow (length v.grants) ns) (names-listed v.grants)
+      (names-each t was now (map listed v.grants) (length v.grants) (tight-before start kept.began) end all lists)
 
   -- the counts of the floor are shares
-  shares-at : IsEnded start s.words (v ∷ []) (length v.grants)
+  shares-at : IsTight start.network.table (ledger_of start.network.table start.carried s.words (v ∷ [])) → clients_in start.network.table s.words ≡ base start + length v.grants
       → counts_of start s.words ≡ map (λ i. share (base start + length v.grants) start.network.table.width i - share (base start) start.network.table.width i) (range_with_len 0 start.network.table.width)
-  shares-at ended =
+  shares-at end all =
       let t = start.network.table in
+      let old = tight-before start kept.began in
       map-same (λ i. get_or s.words (1 + t.entries + t.balancers + i) 0 - get_or start.carried (1 + t.entries + t.balancers + i) 0) (λ i. share (base start + length v.grants) t.width i - share (base start) t.width i) 0 t.width
       (λ i l h.
-      let now : get_or s.words (1 + t.entries + t.balancers + i) 0 ≡ share (base start + length v.grants) t.width i = sym (count-word t s.words (Exit i) (omega arith)) ∙ ended.counts i (omega arith) in
-      let was : get_or start.carried (1 + t.entries + t.balancers + i) 0 ≡ share (base start) t.width i = sym (count-word t start.carried (Exit i) (omega arith)) ∙ ended.began i (omega arith) in
+      let now : get_or s.words (1 + t.entries + t.balancers + i) 0 ≡ share (base start + length v.grants) t.width i =
+      sym (count-word t s.words (Exit i) (omega arith)) ∙ end.counts i (omega arith) ∙ ap (λ (n : ℕ). share n t.width i) all in
+      let was : get_or start.carried (1 + t.entries + t.balancers + i) 0 ≡ share (base start) t.width i = sym (count-word t start.carried (Exit i) (omega arith)) ∙ old.counts i (omega arith) in
       λ x. now x - was x)
 
   pub quiet : inside_in v ≡ 0 → clients_in start.network.table s.words ≡ base start + length v.grants → IsQuiet start v s.words
@@ -170,39 +153,36 @@ module _ (start : Start) (s : State (Unit {0}) View) (id : ℕ) (v : View) (kept
       } in
       let numbers : (end : End) (n : ℕ) → Stands t end → once_below (count_in t start.carried end) n + given_in end n v ≡ once_below (count_in t s.words end) n = λ end n stands.
       omega (arith, given end n, kept.sound.numbered end n stands) in
-      let end = ended-by start s.words (v ∷ []) (length v.grants) kept.began kept.words (subst (IsSound t) same kept.sound) (λ u l. omega (arith, alone (on_in u), none-on v out u)) all in
-      record { out = omega (arith, fair.told); came = all; numbered = numbers; ended = end; shares = shares-at end; heeded = omega (arith, f.heeded, heard_few t s.words v.loads f.low); named = named-at; names = names-at end numbers }
+      let own : (u : ℕ) → u < t.entries → entered_in t s.words u ≡ entered_in t start.carried u + times u v.entries = λ u l.
+      omega (arith, kept.entered u l, mine_alone (λ (x : View). times u x.entries) entries s.views id v at (λ j x a z. no-entry u x.entries z) mine) in
+      let nobody : NobodyInside start (v ∷ []) = λ u l. omega (arith, alone (on_in u), none-on v out u) in
+      let sound : IsSound t (ledger_of t start.carried s.words (v ∷ [])) = subst (IsSound t) same kept.sound in
+      let end = tight-after start kept.began s.words (v ∷ []) sound nobody in
+      record {
+        out = omega (arith, fair.told);
+        came = all;
+        entered = own;
+        numbered = numbers;
+        tight = end;
+        shares = shares-at end all;
+        heeded = omega (arith, f.heeded, heard_few t s.words v.loads f.low);
+        named = named-at;
+        names = names-at end all;
+        closed = carried-after start kept.began s.words (v ∷ []) sound nobody kept.words;
+      }
 
   pub ending-at : IsEnding start v s.words
   ending-at = record {
-    length_is = kept.words;
+    moment = record { state = s; id = id; here = at; kept = kept; same = refl };
+    count = kept.words;
     few = few_came start s kept;
     risen = count_risen start s kept;
     granted = omega (arith, all_came start s kept, part_le (λ (x : View). length x.entries) s.views id v at, (kept.fair id v at).told);
-    left = omega (arith, all_came start s kept, part_le (λ (x : View). x.quota) s.views id v at, total_add (λ (x : View). x.quota) (λ (x : View). length x.entries) s.views, kept.quotas);
     quiet = quiet;
   }
 
 pub ending : (start : Start) (id : ℕ) (v : View) (ws : List ℕ) (xs : List (Unit {0})) → Final (Seen (IsKept start) id v) ws xs → IsEnding start v ws
 ending start id v ws xs f = subst (λ (w : List ℕ). IsEnding start v w) f.2 (ending-at start f.0 id v f.1.0 f.1.1)
-
--- the sum of the entries' words
-pub words-came : (t : Table) (words : List ℕ) → sum_below t.entries (λ u. get_or words (1 + u) 0) ≡ clients_in t words
-words-came t words = sum_below-same t.entries (λ u. get_or words (1 + u) 0) (entered_in t words) (λ u l. sym (entered-word t words u l))
-
--- a sum that begins the sum
-pub sum_below-longer : (f : ℕ → ℕ) (m n : ℕ) → m ≤ n → sum_below m f ≤ sum_below n f
-unfolding sum_below
-sum_below-longer f m zero h = let e : m ≡ 0 = omega arith in rw e (omega arith)
-sum_below-longer f m (suc n) h = elim (cases_eq m (suc n)) [ inl e ↦ rw e (omega arith) | inr d ↦ omega (arith, sum_below-longer f m n (omega arith)) ]
-
-pub sum_below-next : (f : ℕ → ℕ) (n : ℕ) → sum_below (n + 1) f ≡ sum_below n f + f n
-unfolding sum_below
-sum_below-next f n = let e : n + 1 ≡ suc n = omega arith in rw e refl
-
-pub sum_below-none : (f : ℕ → ℕ) → sum_below 0 f ≡ 0
-unfolding sum_below
-sum_below-none f = refl
 
 -- a lane's yard has as many tokens as its view
 pub inside-yard : (y : Yard) (v : View) → y.lists ≡ v.tokens → inside_in v ≡ tokens_in y.lists

@@ -11,8 +11,8 @@ use Rattle.cn_wiring.specs.Table.{Stands, Table, is_end, sum_at}
 use Rattle.cn_ledger.specs.Ledger.{IsSound, IsTight, Ledger, put}
 use Rattle.cn_walk.specs.declared.view.Start.{Start}
 use Rattle.cn_walk.specs.declared.view.View.{View}
-use Rattle.cn_walk.specs.Ends.{IsEnded, NobodyInside}
-use Rattle.cn_walk.specs.Rule.{IsKept, IsStart, ledger_of}
+use Rattle.cn_walk.specs.Ends.{NobodyInside}
+use Rattle.cn_walk.specs.Rule.{IsCarried, IsKept, IsStart, ledger_of}
 use Rattle.cn_walk.specs.Views.{base}
 use Rattle.cn_walk.specs.Words.{clients_in, count_in, word_count}
 use Rattle.cn_spec.proofs.CallerLemmas.{name-below, name_of-exit_of, sum_below-zero, total_where-agree}
@@ -81,63 +81,33 @@ module _ (t : Table) (words : List ℕ) where
 
 -- ---- the end of a floor
 
-pub ended-by : (start : Start) (words : List ℕ) (views : List View) (k : ℕ) → IsStart start → length words ≡ word_count start.network.table
-    → IsSound start.network.table (ledger_of start.network.table start.carried words views) → NobodyInside start views → clients_in start.network.table words ≡ base start + k → IsEnded start words views k
-ended-by start words views k began long sound nobody came =
-    let t : Table = start.network.table in
-    let net = began.network in
-    let w : ℕ = t.width in
-    let m : ℕ = base start in
-    let now : Ledger = ledger_of t start.carried words views in
-    let old : IsTight t (ledger_of t start.carried start.carried []) = tight t net.formed net.counts (ledger_of t start.carried start.carried []) began.carried.sound (λ u l. refl) in
-    let end : IsTight t now = tight t net.formed net.counts now sound nobody in
-    let before : ℕ → ℕ → ℕ → ℕ → ℕ = λ c i v name. when (eqb 0 c && (ltb v (count_in t start.carried (Exit i)) && eqb (name_of w i v) name)) 1 in
-    record {
-      counts = λ i h. end.counts i h ∙ ap (λ (n : ℕ). share n w i) came;
-      began = old.counts;
-      passes = end.passes;
-      held = λ name h.
-          let (c, all) = end.held (m + name) (omega (arith, came)) in (
-            c,
-            λ d.
-                let none : before d ((m + name) % w) ((m + name) / w) (m + name) ≡ 0 = later name d in
-                omega (arith, all d),
-          );
-      only = λ c i v name g.
-          let r = end.only c i v (m + name) (omega (arith, g)) in
-          (omega (arith, r.0, came), r.1, r.2);
-      closed = record {
-        words = long;
-        sound = alone-sound t words (λ e h.
-            let is = sound.balanced e h in
-            let none = total_where-agree (is_end e) t.ends (Balancer 0) now.on (λ _. 0) (λ u l x. nobody u l) in
-            omega (arith, is, none));
-      };
-    }
-  where
-    none : (p q r : Bool) → q ≡ false → ◌≡◌ {A = ℕ} (when (p && (q && r)) 1) 0
-    none true q r h = ap {B = ℕ} (λ b. when (b && r) 1) h
-    none false q r h = refl
+module _ (start : Start) (began : IsStart start) where
+  abbrev t : Table
+  t = start.network.table
 
-    -- the names of this floor are none of the carried ones
-    later : (name d : ℕ)
-        → when (eqb 0 d && (ltb ((base start + name) / start.network.table.width) (count_in start.network.table start.carried (Exit ((base start + name) % start.network.table.width)))
-        && eqb (name_of start.network.table.width ((base start + name) % start.network.table.width) ((base start + name) / start.network.table.width)) (base start + name))) 1 ≡ 0
-    later name d =
-        let t : Table = start.network.table in
+  -- what came before is tight
+  pub tight-before : IsTight t (ledger_of t start.carried start.carried [])
+  tight-before =
+      let net = began.network in
+      tight t net.formed net.counts (ledger_of t start.carried start.carried []) began.carried.sound (λ u l. refl)
+
+  module _ (words : List ℕ) (views : List View) (sound : IsSound t (ledger_of t start.carried words views)) (nobody : NobodyInside start views) where
+    pub tight-after : IsTight t (ledger_of t start.carried words views)
+    tight-after =
         let net = began.network in
-        let w : ℕ = t.width in
-        let r : ℕ = base start + name in
-        let low : r % w < w = mod_below r w (omega (arith, net.formed.width.0)) in
-        let old : IsTight t (ledger_of t start.carried start.carried []) = tight t net.formed net.counts (ledger_of t start.carried start.carried []) began.carried.sound (λ u l. refl) in
-        let shared : count_in t start.carried (Exit (r % w)) ≡ share (base start) w (r % w) = old.counts (r % w) low in
-        let past : count_in t start.carried (Exit (r % w)) ≤ r / w = elim (cases_lt (r / w) (count_in t start.carried (Exit (r % w)))) [
-          | inr l ↦ l
-          | inl l ↦
-              let below : name_of w (r % w) (r / w) < base start = (name-below (base start) w (r % w) (r / w) low).0 (omega arith) in
-              absurd (omega (arith, name_of-exit_of w r))
-        ] in
-        none (eqb 0 d) (ltb (r / w) (count_in t start.carried (Exit (r % w)))) (eqb (name_of w (r % w) (r / w)) r) (le-ltb (r / w) (count_in t start.carried (Exit (r % w))) past)
+        tight t net.formed net.counts (ledger_of t start.carried words views) sound nobody
 
-pub ended : (start : Start) (s : State (Unit {0}) View) (k : ℕ) → IsKept start s → NobodyInside start s.views → clients_in start.network.table s.words ≡ base start + k → IsEnded start s.words s.views k
-ended start s k kept nobody came = ended-by start s.words s.views k kept.began kept.words kept.sound nobody came
+    -- another floor may begin with the words
+    pub carried-after : length words ≡ word_count t → IsCarried t words
+    carried-after long = record {
+      words = long;
+      sound = alone-sound t words (λ e h.
+          let now : Ledger = ledger_of t start.carried words views in
+          let is = sound.balanced e h in
+          let none = total_where-agree (is_end e) t.ends (Balancer 0) now.on (λ _. 0) (λ u l x. nobody u l) in
+          omega (arith, is, none));
+    }
+
+pub ended : (start : Start) (s : State (Unit {0}) View) → IsKept start s → NobodyInside start s.views
+    → IsTight start.network.table (ledger_of start.network.table start.carried s.words s.views)
+ended start s kept nobody = tight-after start kept.began s.words s.views kept.sound nobody

@@ -10,12 +10,12 @@ use Rattle.cn_wiring.specs.declared.end.End.{End}
 use Rattle.cn_wiring.specs.declared.end.End.TheVariants.{Balancer, Exit}
 use Rattle.cn_wiring.specs.Network.{Network}
 use Rattle.cn_wiring.specs.Table.{end_of, output_wire}
-use Rattle.cn_yard.specs.Lists.{IsThere, last_on, without}
+use Rattle.cn_yard.specs.Lists.{IsThere, last_on, without, on}
 use Rattle.cn_ledger.specs.Events.{one_at}
 use Rattle.cn_walk.specs.declared.view.Grant.{Grant}
 use Rattle.cn_walk.specs.declared.view.View.{View}
 use Rattle.cn_walk.specs.Rule.{IsFair}
-use Rattle.cn_walk.specs.Views.{base, entered, gone, on_in, tokens_on}
+use Rattle.cn_walk.specs.Views.{base, entered, gone, on_in}
 use Rattle.cn_walk.proofs.Ledgers.{on-entered, on-gone, onto, Lands}
 use Rattle.cn_spec.proofs.CallerLemmas.{sum_below-one, sum_below-same, sum_below-shift, sum_below-zero}
 
@@ -55,7 +55,7 @@ module _ (network : Network) (token client entry : ℕ) (v : View) (low : entry 
   came = entered token client entry v
 
   wires-came : length came.tokens ≡ length v.tokens
-  wires-came = length-map-range_with_len (λ u. tokens_on v u ++ last_on token client entry u) 0 (length v.tokens)
+  wires-came = length-map-range_with_len (λ u. on v.tokens u ++ last_on token client entry u) 0 (length v.tokens)
 
   weighed-came : (g : ℕ → ℕ) → sum_below (length came.tokens) (λ u. g u * on_in u came) ≡ sum_below (length v.tokens) (λ u. g u * on_in u v) + g entry
   weighed-came g =

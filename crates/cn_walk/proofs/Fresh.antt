@@ -42,7 +42,7 @@ whole (x ∷ ls) g =
     let front = sum_below-front (length ls) (λ u. get_or (x ∷ ls) u (g u)) in
     omega (arith, whole ls (λ k. g (suc k)), sum_by-cons (λ (y : ℕ). y) x ls)
 
-shorter : (f : ℕ → ℕ) (m n : ℕ) → m ≤ n → sum_below m f ≤ sum_below n f
+pub shorter : (f : ℕ → ℕ) (m n : ℕ) → m ≤ n → sum_below m f ≤ sum_below n f
 unfolding sum_below
 shorter f m zero h = let e : m ≡ 0 = omega arith in rw e (omega arith)
 shorter f m (suc n) h = elim (cases_eq m (suc n)) [ inl e ↦ rw e (omega arith) | inr d ↦ omega (arith, shorter f m n (omega arith)) ]

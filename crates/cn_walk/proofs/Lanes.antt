@@ -1,14 +1,21 @@
 -- What a lane holds is what its view tells, also after a step.
-use Rattle.std.proofs.Common.{◌≡◌, ℕ, ◌+◌, ◌-◌, ◌%◌, ◌<◌, ◌≤◌, List, [], ◌∷◌, ◌++◌, length, get_or, sym, ap, ◌∙◌, arith, append-nil}
+use Rattle.std.proofs.Common.{◌≡◌, ℕ, ◌+◌, ◌-◌, ◌%◌, ◌<◌, ◌≤◌, List, [], ◌∷◌, ◌++◌, length, get_or, Some, sym, ap, ◌∙◌, subst, arith, append-nil}
 use Rattle.std.specs.Prelude.{vec_capacity}
 use Rattle.std.proofs.lemmas.List.{length_push}
 use Rattle.cn_spec.specs.Step.{name_of}
 use Rattle.cn_wiring.specs.declared.end.End.TheVariants.{Balancer, Exit}
-use Rattle.cn_wiring.specs.Table.{output_wire}
-use Rattle.cn_yard.specs.Lists.{Admits, Moves, Releases, last_on, on, tokens_in, without}
-use Rattle.cn_walk.specs.declared.lane.Lane.TheInside.{Inside}
+use Rattle.cn_wiring.specs.declared.end.End.{End}
+use Rattle.cn_wiring.specs.Table.{end_of, output_wire}
+use Rattle.cn_yard.specs.Lists.{Admits, Moves, Releases, last_on, on, standing, tokens_in, without}
+use Rattle.cn_core.specs.Calls.{IsMoveOf}
+use Rattle.cn_core.specs.declared.reply.Moved.{Moved}
+use Rattle.cn_walk.specs.declared.floor.lane.Lane.TheInside.{Inside}
 use Rattle.cn_walk.specs.declared.view.View.{View}
-use Rattle.cn_walk.specs.Laned.{IsLane}
+use Rattle.cn_walk.specs.declared.view.Start.{Start}
+use Rattle.cn_walk.specs.InsideLane.{IsLane}
+use Rattle.cn_walk.specs.Lane.{LaneValue, PutsOn, StepsOn}
+use Rattle.cn_walk.specs.Plays.{IsLetBy}
+use Rattle.cn_walk.specs.Steps.{IsStep, answer_at}
 use Rattle.cn_walk.specs.Views.{base, entered, gone}
 use Rattle.cn_walk.proofs.Lists.{made}
 
@@ -78,3 +85,27 @@ module _ (old new : Inside) (token client : ℕ) (kept : IsLane old) (no_slot : 
     room = omega (arith, kept.room, yard.tokens, ap (λ gs. length gs) grants, length_push old.grants.items (record { client = client; exit = i; visit = n; name = name }));
     spare = omega (arith, kept.spare, yard.spare);
   }
+
+-- ---- what a step tells
+
+module _ (old new : LaneValue) (token client wire n : ℕ) (answer : Moved) where
+  abbrev start : Start
+  start = old.home.start
+
+  pub steps-on : (end : End) → end_of start.network.table wire ≡ end → standing old.yard.lists token ≡ Some (wire, client) → new.home ≡ old.home
+      → new.view ≡ gone token client end n old.view → PutsOn start end n old.yard new.yard token client → new.room ≡ old.room
+      → answer ≡ answer_at start end n → IsLetBy start old.view new.view client end n → StepsOn old new token client wire n answer
+  steps-on end at stood home view yard room answered let_by =
+      let by : IsLetBy start old.view new.view client (end_of start.network.table wire) n = subst (λ (e : End). IsLetBy start old.view new.view client e n) (sym at) let_by in
+      let says : answer ≡ answer_at start (end_of start.network.table wire) n = answered ∙ ap (λ (e : End). answer_at start e n) (sym at) in
+      record {
+        stood = stood;
+        home = home;
+        view = view ∙ ap (λ (e : End). gone token client e n old.view) (sym at);
+        yard = subst (λ (e : End). PutsOn start e n old.yard new.yard token client) (sym at) yard;
+        room = room;
+        answered = says;
+        step = subst (λ (a : Moved). IsStep start old.view new.view (λ l m. IsMoveOf start.network.table (base start) l m client a)) (sym says) by.step;
+        few = by.few;
+        sole = by.sole;
+      }

@@ -14,3 +14,4 @@ mod Loading
 mod Ends
 mod Sharing
 mod Closings
+mod Holding

@@ -12,12 +12,14 @@ use Rattle.cn_spec.specs.Sums.{once_below, times}
 use Rattle.cn_wiring.specs.declared.end.End.{End}
 use Rattle.cn_wiring.specs.declared.end.End.TheVariants.{Balancer, Exit}
 use Rattle.cn_wiring.specs.Table.{Stands, Table, end_of, is_end, output_wire}
-use Rattle.cn_ledger.specs.Events.{Enters, one_at}
+use Rattle.cn_ledger.specs.Events.{Enters, Leaves, Passes, one_at}
 use Rattle.cn_ledger.specs.Ledger.{IsSound, Ledger}
 use Rattle.cn_walk.specs.declared.view.Grant.{Grant}
 use Rattle.cn_walk.specs.declared.view.Start.{Start}
 use Rattle.cn_walk.specs.declared.view.View.{View}
-use Rattle.cn_walk.specs.Moves.{Coming, ComesIn, Goes_by, Going, GoesOn, IsLetBy, IsStep}
+use Rattle.cn_core.specs.Calls.{IsMoveOf}
+use Rattle.cn_walk.specs.Plays.{Coming, ComesIn, Going, GoesOn, IsLetBy}
+use Rattle.cn_walk.specs.Steps.{IsStep, answer_at}
 use Rattle.cn_walk.specs.Rule.{IsFair, IsFresh, IsKept, heard, ledger_of}
 use Rattle.cn_walk.specs.Views.{base, entered, gone}
 use Rattle.cn_walk.specs.Words.{clients_in, count_in, end_word, entered_in, entry_word}
@@ -120,6 +122,18 @@ lets_in start slots id me is same no_slot idle of low inside some_quota s kept h
     )
 
 -- ---- who goes on
+
+-- a client goes from a wire by an end
+abbrev Goes_by : Table → Ledger → Ledger → ℕ → ℕ → End → Type 0
+Goes_by t old new c u (Balancer b) = Passes t old new c u b
+Goes_by t old new c u (Exit i) = Leaves t old new c u i
+
+-- so it is told
+moved-by : (start : Start) (old new : Ledger) (c u : ℕ) (end : End) → Goes_by start.network.table old new c u end
+    → ((i : ℕ) → end ≡ Exit i → base start ≤ name_of start.network.table.width i (old.count end))
+    → IsMoveOf start.network.table (base start) old new c (answer_at start end (old.count end))
+moved-by start old new c u (Balancer b) goes later = (u, goes, refl, refl)
+moved-by start old new c u (Exit i) goes later = (u, goes, refl, let l = later i refl in omega arith)
 
 module _ (start : Start) (id token client wire : ℕ) (end : End) (v : View) (s : State (Unit {0}) View) (kept : IsKept start s) (here : get_elem? s.views id ≡ some v)
     (of : v.start ≡ start) (is : IsThere v.tokens token client wire) (wires : length v.tokens ≡ length start.network.table.ends)
@@ -235,12 +249,11 @@ module _ (start : Start) (id token client wire : ℕ) (end : End) (v : View) (s 
         omega (arith, (quota-same end n).0, kept.quotas);
   }
 
-  pub let-by : v.loads ≡ [] → IsLetBy start v then client wire end n
+  pub let-by : v.loads ≡ [] → IsLetBy start v then client end n
   let-by idle = record {
-    step = record { old = s; new = next; id = id; here = here; views = refl; kept_before = kept; kept_after = kept-gone idle; happened = (went, refl) };
+    step = record { old = s; new = next; id = id; here = here; views = refl; kept_before = kept; kept_after = kept-gone idle; happened = moved-by start was now client wire end went later-at };
     few = omega (arith, count_few start s kept end stands, few_came start s kept);
     sole = λ whole. sole start s kept id v here whole end stands;
-    later = λ i q. later-at i q;
   }
     where
       later-at : (i : ℕ) → end ≡ Exit i → base start ≤ name_of t.width i n
@@ -270,7 +283,7 @@ lets_on start slots id me is same no_slot idle of on_it wires ends stands s kept
       tt,
       subst (λ (x : ℕ). IsKept start (stepped s (end_word t is.end) x id me.1 (to n) keeps)) no_wrap
           (subst (λ (m : ℕ). IsKept start (record { words = raised s.words (end_word t is.end); homes = s.homes; views = set s.views id (to m) })) count old),
-      (no_slot, (refl, subst (λ (z : Start). IsLetBy z v (to n) is.client is.wire is.end n) (sym same) (subst (λ (m : ℕ). IsLetBy start v (to m) is.client is.wire is.end m) count all))),
+      (no_slot, (refl, subst (λ (z : Start). IsLetBy z v (to n) is.client is.end n) (sym same) (subst (λ (m : ℕ). IsLetBy start v (to m) is.client is.end m) count all))),
     )
 
 -- the same, where the word and the steps' marks are told apart

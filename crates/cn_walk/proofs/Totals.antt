@@ -53,3 +53,8 @@ module _ {X : Type 0} where
       let part = part_le g xs i v at in
       let none : g x ≡ 0 = omega (arith, sum_by-cons g x xs) in
       omega (arith, h 0 x refl none, sum_by-cons f x xs, mine_alone f g xs i v at (λ j y a. h (suc j) y a) (omega (arith, sum_by-cons g x xs)))
+
+-- one place more
+pub sum_below-next : (f : ℕ → ℕ) (n : ℕ) → sum_below (n + 1) f ≡ sum_below n f + f n
+unfolding sum_below
+sum_below-next f n = let e : n + 1 ≡ suc n = omega arith in rw e refl

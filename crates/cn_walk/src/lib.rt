@@ -1,11 +1,11 @@
 //! A counting network on atomic words, which lanes share.
 #![tactic(auto)]
 
+mod fault;
 mod floor;
-mod lane;
 pub mod laws;
 mod view;
 
-pub use floor::{CloseFault, Floor, JoinFault, LaneFault, OpenFault, Quiet, SplitFault};
-pub use lane::Lane;
+pub use fault::{JoinFault, LaneFault, OpenFault, SplitFault};
+pub use floor::{CloseFault, Floor, Lane, Quiet};
 pub use view::{Grant, Opening, Passage, Start, View};

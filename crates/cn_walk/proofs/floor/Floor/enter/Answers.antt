@@ -1,8 +1,8 @@
 use Rattle.std.proofs.Common.{◌≡◌, ◌+◌, ◌≤◌, length, refl, rules, arith, sym, subst}
 use Rattle.std.specs.Prelude.{vec_capacity}
 use Rattle.cn_yard.specs.Lists.{tokens_in}
-use Rattle.cn_walk.specs.declared.lane.Lane.TheInside.{Inside}
-use Rattle.cn_walk.specs.Laned.{IsLane}
+use Rattle.cn_walk.specs.declared.floor.lane.Lane.TheInside.{Inside}
+use Rattle.cn_walk.specs.InsideLane.{IsLane}
 use Rattle.cn_walk.proofs.Lanes.{lane-in}
 use Rattle.cn_walk.proofs.floor.Floor.enter.Goals.{then-lane-eq0-2+else-is_err, else-lane-eq0-2}
 use Rattle.cn_walk.proofs.floor.Floor.enter.Goals as goal

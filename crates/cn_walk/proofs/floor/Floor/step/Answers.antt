@@ -1,20 +1,20 @@
-use Rattle.std.proofs.Common.{◌≡◌, ℕ, ◌+◌, ◌*◌, ◌-◌, List, Some, refl, arith, sym, ap, ◌∙◌, subst}
+use Rattle.std.proofs.Common.{◌≡◌, ℕ, ◌+◌, ◌*◌, ◌-◌, ◌%◌, List, Some, refl, arith, sym, ap, ◌∙◌, subst}
 use Rattle.cn_spec.specs.Step.{name_of}
 use Rattle.cn_wiring.specs.declared.end.End.{End}
 use Rattle.cn_wiring.specs.Network.{Network}
-use Rattle.cn_wiring.specs.declared.end.End.TheVariants.{Exit}
-use Rattle.cn_wiring.specs.Table.{end_of}
-use Rattle.cn_core.specs.declared.reply.Moved.TheVariants.{Out}
+use Rattle.cn_wiring.specs.declared.end.End.TheVariants.{Balancer, Exit}
+use Rattle.cn_wiring.specs.Table.{end_of, output_wire}
+use Rattle.cn_core.specs.declared.reply.Moved.TheVariants.{On, Out}
 use Rattle.cn_walk.specs.declared.view.View.{View}
-use Rattle.cn_walk.specs.Moves.{IsLetBy, answer_at}
+use Rattle.cn_walk.specs.Plays.{IsLetBy}
 use Rattle.cn_walk.specs.declared.view.Start.{Start}
-use Rattle.cn_walk.specs.Laned.{Home, LaneValue, PutsOn}
-use Rattle.cn_walk.specs.Rule.{start_of}
+use Rattle.cn_walk.specs.Lane.{Home, LaneValue}
+use Rattle.cn_walk.specs.InsideLane.{lane_of}
 use Rattle.cn_walk.specs.Views.{base, gone}
-use Rattle.cn_walk.proofs.Lanes.{lane-on, lane-out}
+use Rattle.cn_walk.proofs.Lanes.{lane-on, lane-out, steps-on}
 use Rattle.cn_yard.proofs.CallerLemmas.{there-alike}
 use Rattle.cn_walk.proofs.floor.Floor.step.Goals as goal
-use Rattle.cn_yard.specs.Lists.{IsThere, standing}
+use Rattle.cn_yard.specs.Lists.{IsThere, Moves, standing}
 
 pub let_by-number-requires-clause-there : goal.let_by-number-requires-clause-there
 let_by-number-requires-clause-there c =
@@ -25,12 +25,11 @@ let_by-number-requires-clause-there c =
 
 pub invariant_of-lane : goal.invariant_of-lane
 invariant_of-lane c =
-    let key = c.self.inside.table.shared.key in
     let v = c.lane.inside.seat.me.0 in
     let b : ℕ = c.in-Balancer.balancer in
     let n : ℕ = c.let_by-number.result in
-    let begun : v.start ≡ start_of key = ap (λ (l : LaneValue). l.home.start) c.lane.view_is ∙ ap (λ (h : Home). h.start) c.requires.own ∙ sym (ap (λ (h : Home). h.start) c.self.view_is) in
-    let network : v.start.network ≡ c.self.inside.network.now = ap (λ (s : Start). s.network) begun ∙ c.self.invariant.0 in
+    let begun : v.start ≡ c.self.inside.counters.start = ap (λ (l : LaneValue). l.home.start) c.lane.view_is ∙ ap (λ (h : Home). h.start) c.requires.own ∙ sym (ap (λ (h : Home). h.start) c.self.view_is) in
+    let network : v.start.network ≡ c.self.inside.network.now = ap (λ (s : Start). s.network) begun ∙ c.self.invariant.network in
     let entries : c.entries.result ≡ v.start.network.table.entries = c.entries.ensures.value ∙ sym (ap (λ (x : Network). x.table.entries) network) in
     lane-on c.lane.inside _ c.args.token c.client_of-client.result c.lane.invariant c.let_by-number.ensures.seat.1 b n (c.entries.result + 2 * b + c.output_of.result)
     (omega (arith, c.output_of.ensures))
@@ -40,14 +39,13 @@ invariant_of-lane c =
 
 pub invariant_of-lane-in-Exit : goal.invariant_of-lane-in-Exit
 invariant_of-lane-in-Exit c =
-    let key = c.self.inside.table.shared.key in
     let v = c.lane.inside.seat.me.0 in
     let i : ℕ = c.in-Exit.exit in
     let n : ℕ = c.let_by-number.result in
-    let begun : v.start ≡ start_of key = ap (λ (l : LaneValue). l.home.start) c.lane.view_is ∙ ap (λ (h : Home). h.start) c.requires.own ∙ sym (ap (λ (h : Home). h.start) c.self.view_is) in
-    let network : v.start.network ≡ c.self.inside.network.now = ap (λ (s : Start). s.network) begun ∙ c.self.invariant.0 in
+    let begun : v.start ≡ c.self.inside.counters.start = ap (λ (l : LaneValue). l.home.start) c.lane.view_is ∙ ap (λ (h : Home). h.start) c.requires.own ∙ sym (ap (λ (h : Home). h.start) c.self.view_is) in
+    let network : v.start.network ≡ c.self.inside.network.now = ap (λ (s : Start). s.network) begun ∙ c.self.invariant.network in
     let width : c.width.result ≡ v.start.network.table.width = c.width.ensures.value ∙ sym (ap (λ (x : Network). x.table.width) network) in
-    let carried : c.self.inside.carried ≡ base v.start = c.self.invariant.3 ∙ sym (ap (λ (s : Start). base s) begun) in
+    let carried : c.self.inside.carried ≡ base v.start = c.self.invariant.carried ∙ sym (ap (λ (s : Start). base s) begun) in
     let name : c.name_of.result - c.self.inside.carried ≡ name_of v.start.network.table.width i n - base v.start =
     (λ x. c.name_of.ensures x - carried x) ∙ ap (λ (w : ℕ). name_of w i n - base v.start) width in
     lane-out c.lane.inside _ c.args.token c.client_of-client.result c.lane.invariant c.let_by-number.ensures.seat.1 i n (c.name_of.result - c.self.inside.carried) name
@@ -56,7 +54,6 @@ invariant_of-lane-in-Exit c =
 
 pub returns-in-Exit : goal.returns-in-Exit
 returns-in-Exit c =
-    let key = c.self.inside.table.shared.key in
     let v : View = c.lane.inside.seat.me.0 in
     let w : View = c.let_by-number.new.seat.me.0 in
     let token = c.args.token in
@@ -64,13 +61,13 @@ returns-in-Exit c =
     let wire : ℕ = c.wire_of-wire.result in
     let i : ℕ = c.in-Exit.exit in
     let n : ℕ = c.let_by-number.result in
-    let begun : v.start ≡ start_of key = ap (λ (l : LaneValue). l.home.start) c.lane.view_is ∙ ap (λ (h : Home). h.start) c.requires.own ∙ sym (ap (λ (h : Home). h.start) c.self.view_is) in
-    let started : c.args.self.now.start ≡ v.start = sym (ap (λ (h : Home). h.start) c.requires.own) ∙ sym (ap (λ (l : LaneValue). l.home.start) c.lane.view_is) in
-    let network : v.start.network ≡ c.self.inside.network.now = ap (λ (s : Start). s.network) begun ∙ c.self.invariant.0 in
+    let begun : v.start ≡ c.self.inside.counters.start = ap (λ (l : LaneValue). l.home.start) c.lane.view_is ∙ ap (λ (h : Home). h.start) c.requires.own ∙ sym (ap (λ (h : Home). h.start) c.self.view_is) in
+    let started : c.self.inside.counters.start ≡ v.start = sym begun in
+    let network : v.start.network ≡ c.self.inside.network.now = ap (λ (s : Start). s.network) begun ∙ c.self.invariant.network in
     let at : end_of v.start.network.table wire ≡ c.end-end.result = ap (λ (x : Network). end_of x.table wire) network ∙ c.end-end.ensures.at in
     let out : end_of v.start.network.table wire ≡ Exit i = at ∙ c.in-Exit.is in
     let width : c.width.result ≡ v.start.network.table.width = c.width.ensures.value ∙ sym (ap (λ (x : Network). x.table.width) network) in
-    let carried : c.self.inside.carried ≡ base v.start = c.self.invariant.3 ∙ sym (ap (λ (s : Start). base s) begun) in
+    let carried : c.self.inside.carried ≡ base v.start = c.self.invariant.carried ∙ sym (ap (λ (s : Start). base s) begun) in
     let name : c.name_of.result - c.self.inside.carried ≡ name_of v.start.network.table.width i n - base v.start =
     (λ x. c.name_of.ensures x - carried x) ∙ ap (λ (k : ℕ). name_of k i n - base v.start) width in
     let went : w ≡ gone token client (Exit i) n v = c.let_by-number.ensures.went.0 ∙ ap (λ (e : End). gone token client e n v) c.in-Exit.is in
@@ -80,13 +77,34 @@ returns-in-Exit c =
       client,
       wire,
       n,
-      record {
-        stood = stands;
-        home = λ x. record { table = c.let_by-number.ensures.seat.0 x; start = (went x).start };
-        view = went ∙ ap (λ (e : End). gone token client e n v) (sym out);
-        yard = subst (λ (e : End). PutsOn v.start e n c.lane.inside.yard c.release.new.self token client) (sym out) c.release.ensures.released;
-        room = refl;
-        answered = ap (λ (k : ℕ). Out i n k) name ∙ ap (λ (e : End). answer_at v.start e n) (sym out);
-        let_by = subst (λ (e : End). IsLetBy v.start v w client wire e n) (sym at) (subst (λ (s : Start). IsLetBy s v w client wire c.end-end.result n) started c.let_by-number.ensures.went.1);
-      },
+      steps-on (lane_of c.lane.inside) _ token client wire n _ (Exit i) out stands (λ x. record { table = c.let_by-number.ensures.seat.0 x; start = (went x).start }) went c.release.ensures.released refl
+          (ap (λ (k : ℕ). Out i n k) name)
+          (subst (λ (e : End). IsLetBy v.start v w client e n) c.in-Exit.is (subst (λ (s : Start). IsLetBy s v w client c.end-end.result n) started c.let_by-number.ensures.went.1)),
+    )
+
+pub returns-in-Balancer : goal.returns-in-Balancer
+returns-in-Balancer c =
+    let v : View = c.lane.inside.seat.me.0 in
+    let w : View = c.let_by-number.new.seat.me.0 in
+    let token = c.args.token in
+    let client : ℕ = c.client_of-client.result in
+    let wire : ℕ = c.wire_of-wire.result in
+    let b : ℕ = c.in-Balancer.balancer in
+    let n : ℕ = c.let_by-number.result in
+    let begun : v.start ≡ c.self.inside.counters.start = ap (λ (l : LaneValue). l.home.start) c.lane.view_is ∙ ap (λ (h : Home). h.start) c.requires.own ∙ sym (ap (λ (h : Home). h.start) c.self.view_is) in
+    let network : v.start.network ≡ c.self.inside.network.now = ap (λ (s : Start). s.network) begun ∙ c.self.invariant.network in
+    let on : end_of v.start.network.table wire ≡ Balancer b = ap (λ (x : Network). end_of x.table wire) network ∙ c.end-end.ensures.at ∙ c.in-Balancer.is in
+    let entries : c.entries.result ≡ v.start.network.table.entries = c.entries.ensures.value ∙ sym (ap (λ (x : Network). x.table.entries) network) in
+    let to : c.entries.result + 2 * b + c.output_of.result ≡ output_wire v.start.network.table b (n % 2) = omega (arith, c.output_of.ensures) in
+    let went : w ≡ gone token client (Balancer b) n v = c.let_by-number.ensures.went.0 ∙ ap (λ (e : End). gone token client e n v) c.in-Balancer.is in
+    let same = there-alike c.lane.inside.yard.lists token client _ _ wire c.client_of-client.ensures.1 c.wire_of-wire.ensures.1 in
+    let stands = subst (λ (u : ℕ). standing c.lane.inside.yard.lists token ≡ Some (u, client)) same.1 c.client_of-client.ensures.1.found in
+    rw (← c.lane.view_is) (
+      client,
+      wire,
+      n,
+      steps-on (lane_of c.lane.inside) _ token client wire n _ (Balancer b) on stands (λ x. record { table = c.let_by-number.ensures.seat.0 x; start = (went x).start }) went
+          (subst (λ (u : ℕ). Moves c.lane.inside.yard c.move_to.new.self token client u) to (c.move_to.ensures _ client c.client_of-client.ensures.1.found)) refl
+          (ap (λ (u : ℕ). On b n u) to)
+          (subst (λ (e : End). IsLetBy v.start v w client e n) c.in-Balancer.is (subst (λ (s : Start). IsLetBy s v w client c.end-end.result n) (sym begun) c.let_by-number.ensures.went.1)),
     )
