@@ -2,7 +2,7 @@ mod Totals
 mod Lists
 mod Raised
 mod Ledgers
-mod Fair
+mod Accounts
 mod Bounds
 mod Sole
 mod Fresh

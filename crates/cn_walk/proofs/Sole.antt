@@ -37,7 +37,8 @@ below-once (suc n) c h = elim (cases_lt n c) [
       omega (arith, below-once n c l)
 ]
 
-once-in : (c k : ℕ) → 1 ≤ once_below c k → k < c
+-- who is counted below c is below c
+pub once-in : (c k : ℕ) → 1 ≤ once_below c k → k < c
 once-in c k h = elim (cases_lt k c) [
   | inl l ↦ l
   | inr l ↦ let none : ◌≡◌ {A = ℕ} (once_below c k) 0 = ap {B = ℕ} (λ b. cond b 1 0) (le-ltb k c l) in absurd (omega arith)
@@ -72,13 +73,13 @@ module _ (start : Start) (s : State (Unit {0}) View) (kept : IsKept start s) whe
   -- a lane that let nobody in was given nothing
   pub none_given : (id : ℕ) (v : View) → get_elem? s.views id ≡ some v → length v.entries ≡ 0 → (end : End) (k : ℕ) → given_in end k v ≡ 0
   none_given id v at none end k =
-      let fair = kept.fair id v at in
+      let account = kept.accounted id v at in
       let net = kept.began.network in
       let (level, is) = levels t net.formed start.network.depth net.deep in
-      let empty = no-levels level v (omega (arith, fair.told)) in
-      let grants : length v.grants ≡ 0 = omega (arith, fair.told) in
+      let empty = no-levels level v (omega (arith, account.all)) in
+      let grants : length v.grants ≡ 0 = omega (arith, account.all) in
       let deep : start.network.depth * length v.grants ≡ 0 = ap (λ (x : ℕ). start.network.depth * x) grants ∙ omega arith in
-      let passages : length v.passages ≡ 0 = omega (arith, fair.walked level is) in
+      let passages : length v.passages ≡ 0 = omega (arith, account.walked level is) in
       by end passages grants
     where
       by : (end : End) → length v.passages ≡ 0 → length v.grants ≡ 0 → given_in end k v ≡ 0

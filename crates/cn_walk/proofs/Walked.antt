@@ -6,7 +6,7 @@ use Rattle.cn_wiring.proofs.CallerLemmas.{levels}
 use Rattle.cn_walk.specs.declared.view.Start.{Start}
 use Rattle.cn_walk.specs.declared.view.View.{View}
 use Rattle.cn_walk.specs.Laws.{TakesItsSteps}
-use Rattle.cn_walk.specs.Rule.{IsFair}
+use Rattle.cn_walk.specs.Rule.{IsAccounted}
 use Rattle.cn_walk.specs.Views.{inside_in, levels_in, on_in}
 
 -- where nobody is inside, there are no levels to add up
@@ -17,8 +17,8 @@ no-levels level v none =
     ap (λ (x : ℕ). level u * x) z ∙ omega arith)
     ∙ sum_below-zero (length v.tokens) (λ _. 0) (λ _. refl)
 
-pub takes-steps : (start : Start) (v : View) → IsNetwork start.network → IsFair start.network v → TakesItsSteps start v
-takes-steps start v net fair none =
+pub takes-steps : (start : Start) (v : View) → IsNetwork start.network → IsAccounted start.network v → TakesItsSteps start v
+takes-steps start v net account none =
     let (level, is) = levels start.network.table net.formed start.network.depth net.deep in
     let spread : (d k : ℕ) → (d + 2) * k ≡ d * k + 2 * k = λ d k. omega arith in
-    omega (arith, fair.told, fair.walked level is, no-levels level v none, spread start.network.depth (length v.grants))
+    omega (arith, account.all, account.walked level is, no-levels level v none, spread start.network.depth (length v.grants))
