@@ -4,6 +4,8 @@
 pub use Rattle.cn_wiring.proofs.Conserve.{count-twice, full_flow-sum}
 pub use Rattle.cn_wiring.proofs.Few.{full_flow-few}
 pub use Rattle.cn_wiring.proofs.Flow.{full_flow-draft, full_flow-exists, full_flow-paths, full_flow-unique, older}
+-- levels of wires
+pub use Rattle.cn_wiring.proofs.Levels.{levels}
 -- parts of networks, and networks that are finished
 pub use Rattle.cn_wiring.proofs.Builds.{Builds-beside, Builds-giving, Builds-like, Builds-loose, Builds-loose_with, Builds-same}
 pub use Rattle.cn_wiring.proofs.Builds.{Builds-sized, Builds-then}

@@ -1,0 +1,16 @@
+//! Tests of the floor: worked rows on one lane and on two, every refusal, room and quota at their limits, and that lanes
+//! and floors cross threads. They show what no clause can name.
+#![tactic(auto)]
+
+#[cfg(test)]
+mod ample_memory;
+#[cfg(test)]
+mod one_lane;
+#[cfg(test)]
+mod refusals;
+#[cfg(test)]
+mod threads;
+#[cfg(test)]
+mod two_lanes;
+#[cfg(test)]
+mod walks;

@@ -1,0 +1,103 @@
+//! Three clients in one lane of a counting tree of width 4, where the last overtakes the others: the caller of cn_walk's
+//! page, word for word, and what it is told.
+
+ghost use Rattle.std.specs.Prelude.{◌≡◌};
+
+use cn_core::Moved;
+use cn_tree::tree;
+use cn_walk::{Floor, Lane};
+use cn_yard::Token;
+use std::alloc::{AllocError, Global};
+use std::test::Fail;
+
+/// What a floor tells of the three.
+#[derive(Debug, Drop, PartialEq, Eq)]
+struct Told {
+    entered: u64,
+    moves: Vec<Moved>,
+    counts: Vec<u64>,
+    passes: Vec<u64>,
+    holders: Vec<u64>,
+}
+
+/// Steps the tokens of a lane in this order.
+fn walk(floor: &Floor<'_>, lane: &mut Lane, order: &[Token], moves: &mut Vec<Moved>) -> Option<()>
+    requires { lane.old.home ≡ floor.now }
+    ensures { lane.new.home ≡ lane.old.home }
+{
+    for token in order {
+        if !lane.is_live(*token) {
+            return None;
+        }
+        moves.push(floor.step(lane, *token)).ok()?;
+    }
+    Some(())
+}
+
+/// The clients 10, 20 and 30 come in by the one entry of the tree, and walk.
+fn three_clients(alloc: Global) -> Option<Told> {
+    let network = tree(alloc, 4).ok()?;
+    let (floor, mut lane) = Floor::open(alloc, &network, 3).ok()?;
+    let ten = floor.enter(&mut lane, 10, 0).ok()?;
+    let twenty = floor.enter(&mut lane, 20, 0).ok()?;
+    let thirty = floor.enter(&mut lane, 30, 0).ok()?;
+    let entered = floor.entered(&mut lane);
+    let order = [
+        ten, twenty, thirty, thirty, thirty, ten, ten, twenty, twenty,
+    ];
+    let mut moves = Vec::new(alloc);
+    walk(&floor, &mut lane, &order, &mut moves)?;
+    let quiet = floor.close(lane).ok()?;
+    Some(Told {
+        entered,
+        moves,
+        counts: Vec::from_slice(alloc, quiet.counts()).ok()?,
+        passes: Vec::from_slice(alloc, quiet.passes()).ok()?,
+        holders: quiet.holders().ok()?,
+    })
+}
+
+/// A passage, with its balancer, number and wire.
+fn on(balancer: u32, number: u64, wire: u32) -> Moved {
+    Moved::On {
+        balancer,
+        number,
+        wire,
+    }
+}
+
+/// A leave, with its exit and name: each exit is left once.
+fn out(exit: u32, name: u64) -> Moved {
+    Moved::Out {
+        exit,
+        visit: 0,
+        name,
+    }
+}
+
+fn wanted(alloc: Global) -> Result<Told, AllocError> {
+    let moves = [
+        on(0, 0, 1),
+        on(0, 1, 2),
+        on(0, 2, 1),
+        on(1, 0, 3),
+        out(0, 0),
+        on(1, 1, 4),
+        out(2, 2),
+        on(2, 0, 5),
+        out(1, 1),
+    ];
+    Ok(Told {
+        entered: 3,
+        moves: Vec::from_slice(alloc, &moves)?,
+        counts: vec![in alloc; 1, 1, 1, 0]?,
+        passes: vec![in alloc; 3, 2, 1]?,
+        holders: vec![in alloc; 30, 20, 10]?,
+    })
+}
+
+#[test]
+fn tree_on_one_lane(rt: HostRuntime) -> Result<(), Fail> {
+    assert_eq!(rt; three_clients(rt.alloc()), Some(wanted(rt.alloc())?));
+    Ok(())
+}

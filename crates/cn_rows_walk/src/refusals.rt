@@ -1,0 +1,142 @@
+//! What a floor refuses, and that it leaves the lane as it was.
+
+ghost use Rattle.std.specs.Prelude.{◌≡◌, IfSome};
+
+use crate::walks::step;
+use cn_bitonic::bitonic;
+use cn_core::Moved;
+use cn_walk::{CloseFault, Floor, Lane, LaneFault, OpenFault};
+use cn_wiring::Counting;
+use std::alloc::Global;
+use std::test::Fail;
+
+/// What a lane tells of itself.
+#[derive(Clone, Copy, Debug, PartialEq, Eq)]
+struct Told {
+    quota: u64,
+    room: u64,
+    inside: u64,
+    grants: usize,
+    lowest: Option<u32>,
+}
+
+fn readings(lane: &Lane) -> Told {
+    Told {
+        quota: lane.quota(),
+        room: lane.room(),
+        inside: lane.inside(),
+        grants: lane.grants().len(),
+        lowest: lane.lowest(),
+    }
+}
+
+/// What a client meets that comes in on a floor of its own, with a close before its first step, and one after its last.
+#[derive(Debug, Drop, PartialEq, Eq)]
+struct Outcome {
+    before: Told,
+    entered: Told,
+    refused: [Option<LaneFault>; 2],
+    still: Told,
+    moves: [Option<Moved>; 2],
+    counts: [u64; 2],
+    passes: u64,
+    grants: usize,
+}
+
+/// A close that is refused since tokens are inside gives back floor and lane.
+fn not_closed<'a>(floor: Floor<'a>, lane: Lane) -> Option<(Floor<'a>, Lane)>
+    requires { lane.home ≡ floor }
+    ensures { IfSome result (λ r. r.1.home ≡ r.0) }
+{
+    match floor.close(lane) {
+        Err(CloseFault::StillWalking(floor, lane)) => Some((floor, lane)),
+        _ => None,
+    }
+}
+
+fn alone(alloc: Global, network: &Counting) -> Option<Outcome> {
+    let (floor, mut lane) = Floor::open(alloc, network, 1).ok()?;
+    let before = readings(&lane);
+    let token = floor.enter(&mut lane, 7, 0).ok()?;
+    let entered = readings(&lane);
+    let refused = [
+        floor.enter(&mut lane, 8, 2).err(),
+        floor.enter(&mut lane, 8, 1).err(),
+    ];
+    let (floor, mut lane) = not_closed(floor, lane)?;
+    let still = readings(&lane);
+    let moves = [
+        step(&floor, &mut lane, token),
+        step(&floor, &mut lane, token),
+    ];
+    let quiet = floor.close(lane).ok()?;
+    let [first, second] = quiet.counts() else {
+        return None;
+    };
+    let [passes] = quiet.passes() else {
+        return None;
+    };
+    Some(Outcome {
+        before,
+        entered,
+        refused,
+        still,
+        moves,
+        counts: [*first, *second],
+        passes: *passes,
+        grants: quiet.grants().len(),
+    })
+}
+
+#[test]
+fn lane_refusals(rt: HostRuntime) -> Result<(), Fail> {
+    let network = bitonic(rt.alloc(), 2)?;
+    let entered = Told {
+        quota: 0,
+        room: 0,
+        inside: 1,
+        grants: 0,
+        lowest: Some(0),
+    };
+    let wanted = Outcome {
+        before: Told {
+            quota: 1,
+            inside: 0,
+            lowest: None,
+            ..entered
+        },
+        entered,
+        refused: [Some(LaneFault::NoSuchEntry), Some(LaneFault::QuotaSpent)],
+        still: entered,
+        moves: [
+            Some(Moved::On {
+                balancer: 0,
+                number: 0,
+                wire: 2,
+            }),
+            Some(Moved::Out {
+                exit: 0,
+                visit: 0,
+                name: 0,
+            }),
+        ],
+        counts: [1, 0],
+        passes: 1,
+        grants: 1,
+    };
+    assert_eq!(rt; alone(rt.alloc(), &network), Some(wanted));
+    Ok(())
+}
+
+/// Why a floor with this quota is not opened.
+fn open_refusal(alloc: Global, quota: u64) -> Option<OpenFault> {
+    let network = bitonic(alloc, 2).ok()?;
+    Floor::open(alloc, &network, quota).err()
+}
+
+#[test]
+fn too_much_quota(rt: HostRuntime) -> Result<(), Fail> {
+    let faults = [0, 65_536, 65_537].map(|quota| open_refusal(rt.alloc(), quota));
+    assert_eq!(rt; faults, [None, None, Some(OpenFault::Quota)]);
+    Ok(())
+}

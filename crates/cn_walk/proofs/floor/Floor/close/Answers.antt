@@ -1,0 +1,37 @@
+use Rattle.std.proofs.Common.{◌≡◌, ℕ, ◌+◌, List, length, rules, sym, ap, ◌∙◌, subst, arith}
+use Rattle.cn_wiring.specs.Network.{Network}
+use Rattle.cn_yard.specs.Lists.{tokens_in}
+use Rattle.cn_walk.specs.declared.view.Start.{Start}
+use Rattle.cn_walk.specs.declared.view.View.{View}
+use Rattle.cn_walk.specs.Ends.{IsQuiet, counts_of, passes_of}
+use Rattle.cn_walk.specs.Lane.{Home, LaneValue}
+use Rattle.cn_walk.specs.Views.{base, inside_in}
+use Rattle.cn_walk.specs.Words.{clients_in}
+use Rattle.cn_walk.proofs.Closings.{inside-yard}
+use Rattle.cn_walk.proofs.floor.Floor.close.Goals as goal
+
+pub invariant_of-result : goal.invariant_of-result
+invariant_of-result c =
+    let start : Start = c.self.inside.counters.start in
+    let v : View = c.lane.inside.seat.me.0 in
+    let ws : List ℕ = c.close-words.result.items in
+    let e = c.close-words.ensures in
+    let network : c.self.inside.network.now ≡ start.network = sym c.self.invariant.network in
+    let lane : c.of-told.result.value ≡ c.args.lane = c.of-told.ensures in
+    let view : v ≡ c.of-told.result.value.view = ap (λ (l : LaneValue). l.view) (c.lane.view_is ∙ sym lane) in
+    let about : start ≡ c.of-told.result.value.home.start = ap (λ (h : Home). h.start) (c.self.view_is ∙ sym c.requires.own ∙ ap (λ (l : LaneValue). l.home) (sym lane)) in
+    let nobody : tokens_in c.lane.inside.yard.lists ≡ 0 = search rules in
+    let out : inside_in v ≡ 0 = inside-yard c.lane.inside.yard v c.lane.invariant.tokens ∙ nobody in
+    let clients : c.clients_of.result ≡ clients_in start.network.table ws = c.clients_of.ensures ∙ (λ i. clients_in (network i).table (c.as_slice.ensures.value i)) in
+    let granted : c.len-granted.result ≡ length v.grants = search rules in
+    let came : clients_in start.network.table ws ≡ base start + length v.grants = omega (arith, e.granted, c.self.invariant.carried, c.if-entered-granted.false) in
+    let quiet : IsQuiet start v ws = e.quiet out came in
+    record {
+      quiet = subst (λ (z : Start × View). IsQuiet z.0 z.1 ws) (λ i. (about i, view i)) quiet;
+      network = network ∙ ap (λ (s : Start). s.network) about;
+      grants = c.lane.invariant.grants ∙ ap (λ (x : View). x.grants) view;
+      counts = c.counts_since-counts.ensures
+          ∙ ((λ i. counts_of (record { network = network i; quota = 0; carried = (c.as_slice-3.ensures.value ∙ c.self.invariant.words) i }) (c.as_slice-2.ensures.value i)) ∙ ap (λ (s : Start). counts_of s ws) about);
+      passes = c.passes_since-passes.ensures
+          ∙ ((λ i. passes_of (record { network = network i; quota = 0; carried = (c.as_slice-5.ensures.value ∙ c.self.invariant.words) i }) (c.as_slice-4.ensures.value i)) ∙ ap (λ (s : Start). passes_of s ws) about);
+    }

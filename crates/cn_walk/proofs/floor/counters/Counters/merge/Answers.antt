@@ -1,0 +1,15 @@
+use Rattle.std.proofs.Common.{rules, sym, ap, ◌∙◌, arith}
+use Rattle.cn_walk.specs.Rule.{start_of}
+use Rattle.cn_walk.specs.Words.{word_count}
+use Rattle.cn_walk.proofs.Sharing.{joins, looks}
+use Rattle.cn_walk.proofs.floor.counters.Counters.merge.Goals as goal
+
+pub join_seat-requires : goal.join_seat-requires
+join_seat-requires c =
+    (search rules, search rules, search rules, omega (arith, c.self.invariant.words), joins (start_of c.self.inside.table.shared.key) _ _ _ _ c.requires.slots.1 c.requires.slots.3 c.requires.out)
+
+pub load-requires : goal.load-requires
+load-requires c =
+    let formed = c.self.invariant.began.network.formed.entries.0 in
+    let count = c.self.invariant.words in
+    (search rules, omega (arith, formed, count), looks (start_of c.self.inside.table.shared.key) _ _ _ _)

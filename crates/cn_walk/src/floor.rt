@@ -1,0 +1,409 @@
+//! A floor: a counting network on atomic words, which lanes share.
+
+mod closing;
+mod counters;
+mod lane;
+mod plays;
+mod quiet;
+
+ghost use Rattle.std.specs.Prelude.{◌≡◌, ℕ, ◌+◌, ◌-◌, ◌<◌, ◌≤◌, ◌↔◌, ◌++◌, [], length, replicate, vec_capacity, vec_len, IfErr, IfOk, IsErrOf, IsSome, OnErr};
+ghost use Rattle.cn_spec.specs.declared.limits.TheConstants.{MOST_CLIENTS};
+ghost use Rattle.cn_wiring.specs.Network.{IsNetwork};
+ghost use Rattle.cn_yard.specs.Lists.{standing, tokens_in};
+ghost use Rattle.cn_walk.specs.Closing.{IsCloseRefused};
+ghost use Rattle.cn_walk.specs.Lane.{LetsIn, StepsOn, new_lane};
+ghost use Rattle.cn_walk.specs.Rule.{IsCarried, IsStart};
+ghost use Rattle.cn_walk.specs.Steps.{IsAnswer};
+ghost use Rattle.cn_walk.specs.Views.{base, joined, split_left, split_right, told};
+ghost use Rattle.cn_walk.specs.Words.{clients_in, word_count};
+
+use crate::fault::{JoinFault, LaneFault, OpenFault, SplitFault};
+use crate::view::{Grant, View};
+use atomic_table::Seat;
+use closing::{Room, clients_of, counts_since, passes_since};
+use cn_balancer::output_of;
+use cn_core::Moved;
+use cn_exit::name_of;
+use cn_spec::limits::MOST_CLIENTS;
+use cn_wiring::{Counting, End};
+use cn_yard::{Token, Yard};
+use counters::Counters;
+pub use lane::Lane;
+pub use quiet::Quiet;
+use std::alloc::{AllocError, Global};
+use std::marker::{Brand, Model};
+use std::snapshot::Snapshot;
+
+/// A counting network on atomic words, which lanes share: one word for each entry, each balancer and each exit. A client
+/// comes in, passes a balancer and leaves by one atomic add each, without a lock.
+///
+/// A lane belongs to the floor that made it, and each call has the condition that its lanes are its own. Only
+/// [`Floor::open`], [`Floor::split`], [`Floor::join`], [`Floor::close`] and an [`Floor::enter`] without room take memory.
+/// Lanes can be sent to threads, and a floor can be shared by them.
+#[derive(Drop)]
+pub struct Floor<'a> {
+    alloc: Global,
+    network: &'a Counting,
+    /// The words with which it began, and how many clients they tell.
+    words: Vec<u64>,
+    carried: u64,
+    counters: Counters,
+}
+
+impl<'a> Model for Floor<'a> {
+    ghost use Rattle.cn_walk.specs.InsideFloor.{IsFloor};
+    ghost use Rattle.cn_walk.specs.Lane.{Home};
+
+    ghost Value = { Home };
+
+    ghost view = { λ f. f.counters };
+
+    ghost invariant = { IsFloor };
+}
+
+/// Why a floor is not closed.
+#[derive(Drop)]
+pub enum CloseFault<'a> {
+    /// The lane has tokens.
+    StillWalking(Floor<'a>, Lane),
+    /// A growth was refused.
+    Memory(Floor<'a>, Lane),
+    /// Other lanes have what came in. The floor is spent.
+    LanesMissing {
+        /// How many clients came in, by all lanes.
+        entered: u64,
+        /// How many grants the lane has.
+        granted: u64,
+        /// The lane's grants.
+        grants: Vec<Grant>,
+    },
+}
+
+/// Adds grants at the end of a list that has room for them.
+fn append(to: &mut Vec<Grant>, from: &[Grant])
+    requires { vec_len to.old + length from.now ≤ vec_capacity to.old }
+    ensures items { to.new.items ≡ to.old.items ++ from.now }
+    ensures capacity { vec_capacity to.new ≡ vec_capacity to.old }
+{
+    for grant in from {
+        to.push_reserved(*grant);
+    }
+}
+
+/// A word of 0 for the lanes, and one for each entry, balancer and exit.
+///
+/// # Errors
+/// `AllocError` where they get no memory.
+fn zeros(alloc: Global, network: &Counting) -> Result<Vec<u64>, AllocError>
+    ensures network { IsNetwork network.now }
+    ensures words { IfOk result (λ words. words.items ≡ replicate (word_count network.now.table) 0) }
+    ensures carried { IfOk result (λ words. IsCarried network.now.table words.items) }
+    ensures nobody { IfOk result (λ words. clients_in network.now.table words.items ≡ 0) }
+{
+    let entries = network.entries() as usize;
+    let ends = network.balancers() as usize + network.width() as usize;
+    let words = Vec::from_elem(alloc, 0u64, 1 + entries + ends)?;
+    Ok(words)
+}
+
+impl<'a> Floor<'a> {
+    /// A floor over the network, with one lane that has the whole quota: as many clients may come in.
+    ///
+    /// # Errors
+    /// The first that stands: `Quota` (more than [`MOST_CLIENTS`]), `Memory`.
+    pub fn open(
+        alloc: Global,
+        network: &'a Counting,
+        quota: u64,
+    ) -> Result<(Floor<'a>, Lane), OpenFault>
+        ensures floor { IfOk result (λ r. (r.0.start.network ≡ network.now) × (r.0.start.quota ≡ quota)) }
+        ensures zero { IfOk result (λ r. r.0.start.carried ≡ replicate (word_count network.now.table) 0) }
+        ensures base { IfOk result (λ r. base r.0.start ≡ 0) }
+        ensures lane { IfOk result (λ r. r.1 ≡ new_lane r.0 quota) }
+        ensures quota { IsErrOf result OpenFault.Quota ↔ (MOST_CLIENTS < quota) }
+    {
+        if quota > MOST_CLIENTS {
+            return Err(OpenFault::Quota);
+        }
+        let Ok(words) = zeros(alloc, network) else {
+            return Err(OpenFault::Memory);
+        };
+        match Floor::begin(alloc, network, quota, words, 0) {
+            Ok(opened) => Ok(opened),
+            Err(_memory) => Err(OpenFault::Memory),
+        }
+    }
+
+    /// A floor that begins with these words, which tell of so many clients.
+    fn begin(
+        alloc: Global,
+        network: &'a Counting,
+        quota: u64,
+        words: Vec<u64>,
+        carried: u64,
+    ) -> Result<(Floor<'a>, Lane), AllocError>
+        requires start { IsStart (record { network = network.now; quota = quota; carried = words.items }) }
+        requires clients { carried ≡ clients_in network.now.table words.items }
+        ensures floor { IfOk result (λ r. r.0.start ≡ record { network = network.now; quota = quota; carried = words.items }) }
+        ensures lane { IfOk result (λ r. r.1 ≡ new_lane r.0 quota) }
+    {
+        let yard = Yard::new(alloc, network.entries() + 2 * network.balancers())?;
+        let (counters, seat) = Counters::new(alloc, network, quota, &words)?;
+        let lane = Lane {
+            seat,
+            yard,
+            grants: Vec::new(alloc),
+            quota,
+            room: 0,
+        };
+        let floor = Floor {
+            alloc,
+            network,
+            words,
+            carried,
+            counters,
+        };
+        Ok((floor, lane))
+    }
+
+    /// Lets a client in by an entry, in one atomic step; a refusal takes none. Its token stands last on the entry's wire.
+    /// It lowers the lane's quota by one, and its room where there is some. Identities are not compared.
+    ///
+    /// # Errors
+    /// The first that stands: `NoSuchEntry`, `QuotaSpent`, `Memory` (where the lane has no room, and gets no memory). Then
+    /// nothing has changed.
+    pub fn enter(&self, lane: &mut Lane, client: u64, entry: u64) -> Result<Token, LaneFault>
+        requires own { lane.old.home ≡ self.now }
+        ensures ok { IfOk result (λ token. LetsIn lane.old lane.new token client entry) }
+        ensures err { OnErr result (lane.new ≡ lane.old) }
+        ensures entry { IsErrOf result LaneFault.NoSuchEntry ↔ (self.now.start.network.table.entries ≤ entry) }
+        ensures quota { IsErrOf result LaneFault.QuotaSpent
+            ↔ ((entry < self.now.start.network.table.entries) × (lane.old.view.quota ≡ 0)) }
+        ensures room { 0 < lane.old.room → ¬ (IsErrOf result LaneFault.Memory) }
+    {
+        if entry >= u64::from(self.network.entries()) {
+            return Err(LaneFault::NoSuchEntry);
+        }
+        if lane.quota == 0 {
+            return Err(LaneFault::QuotaSpent);
+        }
+        let entry = entry as u32;
+        if lane.room == 0 {
+            let inside = lane.yard.len() as usize;
+            if lane.grants.reserve(inside + 1).is_err() {
+                return Err(LaneFault::Memory);
+            }
+        }
+        let Ok(token) = lane.yard.admit(client, entry) else {
+            return Err(LaneFault::Memory);
+        };
+        self.counters
+            .let_in::<Brand>(&mut lane.seat, token, client, entry);
+        lane.quota -= 1;
+        lane.room = lane.room.saturating_sub(1);
+        Ok(token)
+    }
+
+    /// Lets a live token of the lane ([`Lane::is_live`]) go by the end of its wire, in one atomic step: it stands last on
+    /// the balancer's next output, or leaves with a name. It takes no memory, and refuses nothing.
+    pub fn step(&self, lane: &mut Lane, token: Token) -> Moved
+        requires own { lane.old.home ≡ self.now }
+        requires live { IsSome (standing lane.old.yard.lists token) }
+        ensures { (client wire n : ℕ) × StepsOn lane.old lane.new token client wire n result }
+    {
+        let client = lane.yard.client_of(token);
+        let wire = lane.yard.wire_of(token);
+        let end = self.network.end(wire);
+        let number = self
+            .counters
+            .let_by::<Brand>(&mut lane.seat, token, client, wire, end);
+        match end {
+            End::Balancer(balancer) => {
+                let wire = self.network.entries() + 2 * balancer + output_of(number);
+                lane.yard.move_to(token, wire);
+                Moved::On {
+                    balancer,
+                    number,
+                    wire,
+                }
+            }
+            End::Exit(exit) => {
+                let name = name_of(self.network.width(), exit, number) - self.carried;
+                lane.yard.release(token);
+                lane.grants.push_reserved(Grant {
+                    client,
+                    exit,
+                    visit: number,
+                    name,
+                });
+                Moved::Out {
+                    exit,
+                    visit: number,
+                    name,
+                }
+            }
+        }
+    }
+
+    /// Loads the word of each entry once, in order.
+    fn load_all(&self, seat: &mut Seat<(), View>) -> u64
+        requires own { seat.old.table_id ≡ self.now.table }
+        requires slots { (seat.old.me.1 ≡ []) × (seat.old.me.0.loads ≡ []) }
+        ensures seat { (seat.new.table_id ≡ seat.old.table_id) × (seat.new.me.1 ≡ []) }
+        ensures told { seat.new.me.0 ≡ told self.now.start result seat.old.me.0 }
+        ensures answer { IsAnswer self.now.start seat.old.me.0 result }
+    {
+        let mut total = 0;
+        for entry in 0..self.network.entries() {
+            total += self.counters.load_next::<Brand>(seat, entry);
+        }
+        total - self.carried
+    }
+
+    /// How many clients came in since the floor began, by all lanes, as far as one lane can tell: it loads the word of
+    /// each entry once, in order, and adds. It takes no memory.
+    ///
+    /// The answer is no less than the lane let in and than it was told before, and more than each name that it holds.
+    pub fn entered(&self, lane: &mut Lane) -> u64
+        requires own { lane.old.home ≡ self.now }
+        ensures answer { IsAnswer self.now.start lane.old.view result }
+        ensures lane { lane.new ≡ record lane.old { view = told self.now.start result lane.old.view } }
+    {
+        self.load_all(&mut lane.seat)
+    }
+
+    /// Splits off a lane with some of the quota. The first keeps all else.
+    ///
+    /// # Errors
+    /// The first that stands, with the lane: `QuotaTooSmall`, `Memory`.
+    pub fn split(&self, mut lane: Lane, quota: u64) -> Result<(Lane, Lane), (SplitFault, Lane)>
+        requires own { lane.home ≡ self.now }
+        ensures first { IfOk result (λ r. r.0 ≡ record lane { view = split_left quota lane.view }) }
+        ensures second { IfOk result (λ r.
+            r.1 ≡ record (new_lane lane.home quota) { view = split_right quota lane.view }) }
+        ensures own { IfOk result (λ r. (r.0.home ≡ self.now) × (r.1.home ≡ self.now)) }
+        ensures enough { IfOk result (λ r. quota ≤ lane.view.quota) }
+        ensures err { IfErr result (λ r. r.1 ≡ lane) }
+        ensures small { IfErr result (λ r. (r.0 ≡ SplitFault.QuotaTooSmall) ↔ (lane.view.quota < quota)) }
+    {
+        if quota > lane.quota {
+            return Err((SplitFault::QuotaTooSmall, lane));
+        }
+        let wires = self.network.entries() + 2 * self.network.balancers();
+        let Ok(yard) = Yard::new(self.alloc, wires) else {
+            return Err((SplitFault::Memory, lane));
+        };
+        let seat = self.counters.part::<Brand>(&mut lane.seat, quota);
+        lane.quota -= quota;
+        let other = Lane {
+            seat,
+            yard,
+            grants: Vec::new(self.alloc),
+            quota,
+            room: 0,
+        };
+        Ok((lane, other))
+    }
+
+    /// Takes the second lane into the first: its grants come after the first's. Where the first has room for them it takes
+    /// no memory, and so much less is its room.
+    ///
+    /// # Errors
+    /// The first that stands, with both lanes: `StillWalking` (the second has tokens), `Memory` (the first has no room for
+    /// the second's grants, and gets no memory).
+    pub fn join(&self, mut lane: Lane, other: Lane) -> Result<Lane, (JoinFault, Lane, Lane)>
+        requires own { (lane.home ≡ self.now) × (other.home ≡ self.now) }
+        ensures ok { IfOk result (λ r. r ≡ record lane {
+          view = joined lane.view other.view;
+          room = lane.room - length other.view.grants;
+        }) }
+        ensures out { IfOk result (λ r. tokens_in other.yard.lists ≡ 0) }
+        ensures err { IfErr result (λ r. (r.1 ≡ lane) × (r.2 ≡ other)) }
+        ensures walking { IfErr result (λ r. (r.0 ≡ JoinFault.StillWalking) ↔ (0 < tokens_in other.yard.lists)) }
+        ensures room { IfErr result (λ r. (r.0 ≡ JoinFault.Memory) → lane.room < length other.view.grants) }
+    {
+        if !other.yard.is_empty() {
+            return Err((JoinFault::StillWalking, lane, other));
+        }
+        let more = other.grants.len();
+        let inside = lane.yard.len();
+        if lane.room < more as u64 {
+            if lane.grants.reserve(more + inside as usize).is_err() {
+                return Err((JoinFault::Memory, lane, other));
+            }
+        }
+        let Lane {
+            seat,
+            yard: _yard,
+            grants,
+            quota,
+            room: _room,
+        } = other;
+        lane.quota = self
+            .counters
+            .merge(&mut lane.seat, seat, inside, lane.quota, quota);
+        lane.room = lane.room.saturating_sub(more as u64);
+        append(&mut lane.grants, grants.as_slice());
+        Ok(lane)
+    }
+
+    /// Ends the floor. Its lane is to have all that came in.
+    ///
+    /// # Errors
+    /// The first that stands: `StillWalking` (the lane has tokens) and `Memory` give floor and lane back; `LanesMissing`
+    /// where the lane's grants are fewer than those that came in. Then the floor is spent.
+    pub fn close(self, lane: Lane) -> Result<Quiet<'a>, CloseFault<'a>>
+        requires own { lane.home ≡ self }
+        ensures quiet { IfOk result (λ q. (q.start ≡ self.entry.start) × (q.did ≡ lane.view)) }
+        ensures out { IfOk result (λ q. tokens_in lane.yard.lists ≡ 0) }
+        ensures refused { IfErr result (λ f. IsCloseRefused self.entry lane f) }
+    {
+        if !lane.yard.is_empty() {
+            return Err(CloseFault::StillWalking(self, lane));
+        }
+        let Ok(room) = Room::new(self.alloc, self.network, self.counters.len()) else {
+            return Err(CloseFault::Memory(self, lane));
+        };
+        let told = Snapshot::of(&lane);
+        let Floor {
+            alloc,
+            network,
+            words: before,
+            carried,
+            counters,
+        } = self;
+        let Lane {
+            seat,
+            yard: _yard,
+            grants,
+            quota: _quota,
+            room: _room,
+        } = lane;
+        let Room {
+            words,
+            counts,
+            passes,
+        } = room;
+        let words = counters.close(seat, words);
+        let entered = clients_of(network, words.as_slice()) - carried;
+        let granted = grants.len() as u64;
+        if entered != granted {
+            return Err(CloseFault::LanesMissing {
+                entered,
+                granted,
+                grants,
+            });
+        }
+        let counts = counts_since(network, words.as_slice(), before.as_slice(), counts);
+        let passes = passes_since(network, words.as_slice(), before.as_slice(), passes);
+        Ok(Quiet {
+            alloc,
+            lane: told,
+            network,
+            words,
+            counts,
+            passes,
+            grants,
+        })
+    }
+}

@@ -1,0 +1,82 @@
+//! What a closed floor leaves.
+
+ghost use Rattle.std.specs.Prelude.{◌≡◌, IfOk};
+ghost use Rattle.cn_walk.specs.Ends.{IsQuiet, ListsHolders, counts_of, passes_of};
+
+use super::lane::Lane;
+use crate::view::Grant;
+use cn_wiring::Counting;
+use std::alloc::{AllocError, Global};
+use std::marker::Model;
+use std::snapshot::Snapshot;
+
+/// What a closed floor leaves: its counts, and the grants of its one lane. [`super::Floor::close`] alone makes it.
+#[derive(Drop)]
+pub struct Quiet<'a> {
+    pub(super) alloc: Global,
+    pub(super) lane: Snapshot<Lane>,
+    pub(super) network: &'a Counting,
+    pub(super) words: Vec<u64>,
+    pub(super) counts: Vec<u64>,
+    pub(super) passes: Vec<u64>,
+    pub(super) grants: Vec<Grant>,
+}
+
+impl<'a> Model for Quiet<'a> {
+    ghost use Rattle.cn_walk.specs.Ends.{QuietValue};
+    ghost use Rattle.cn_walk.specs.InsideQuiet.{KeepsQuiet, quiet_of};
+
+    ghost Value = { QuietValue };
+
+    ghost view = { quiet_of };
+
+    ghost invariant = { KeepsQuiet };
+}
+
+impl<'a> Quiet<'a> {
+    /// What holds of each closed floor: nobody is inside, the counts are the shares of all that came in, and the names are
+    /// those below their number, each once.
+    ///
+    /// It does nothing: its contract is the law.
+    pub fn quiet_laws(&self)
+        ensures { IsQuiet self.now.start self.now.did self.now.words }
+    {
+        // Opens what each closed floor keeps.
+        let _ = &self.grants;
+    }
+
+    /// The lane's grants, in its order.
+    pub fn grants(&self) -> &[Grant]
+        ensures { result.now ≡ self.now.did.grants }
+    {
+        self.grants.as_slice()
+    }
+
+    /// How many left by each exit since the floor began: each exit's share.
+    pub fn counts(&self) -> &[u64]
+        ensures { result.now ≡ counts_of self.now.start self.now.words }
+    {
+        self.counts.as_slice()
+    }
+
+    /// How many passed each balancer since the floor began.
+    pub fn passes(&self) -> &[u64]
+        ensures { result.now ≡ passes_of self.now.start self.now.words }
+    {
+        self.passes.as_slice()
+    }
+
+    /// The clients by rising name: `holders[n]` is the client with name n.
+    ///
+    /// # Errors
+    /// `AllocError` where the list gets no memory.
+    pub fn holders(&self) -> Result<Vec<u64>, AllocError>
+        ensures { IfOk result (λ holders. ListsHolders self.now.did.grants holders.items) }
+    {
+        let mut holders = vec![in self.alloc; 0; self.grants.len()]?;
+        for grant in &self.grants {
+            holders[grant.name as usize] = grant.client;
+        }
+        Ok(holders)
+    }
+}
