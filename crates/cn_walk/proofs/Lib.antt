@@ -15,3 +15,4 @@ mod Ends
 mod Sharing
 mod Closings
 mod Holding
+mod Walks

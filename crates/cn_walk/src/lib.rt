@@ -3,9 +3,13 @@
 
 mod fault;
 mod floor;
+mod gate;
 pub mod laws;
 mod view;
+mod walking;
 
 pub use fault::{JoinFault, LaneFault, OpenFault, SplitFault};
 pub use floor::{CloseFault, Floor, Lane, Quiet};
+pub use gate::{Gate, Moment, OpenGate};
 pub use view::{Grant, Opening, Passage, Start, View};
+pub use walking::walk_all;
