@@ -16,3 +16,5 @@ mod Sharing
 mod Closings
 mod Holding
 mod Walks
+mod Halves
+mod Runs
