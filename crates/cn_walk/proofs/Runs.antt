@@ -68,7 +68,7 @@ module _ (q : QuietValue) (clients : List Client) (nobody : base q.start ≡ 0) 
             (λ i l h.
             let none : share (base q.start) t.width i ≡ 0 = ap (λ (m : ℕ). share m t.width i) nobody ∙ no-share t.width i (omega arith) in
             let same : share (base q.start + length q.did.grants) t.width i ≡ share (length clients) t.width i = ap (λ (m : ℕ). share m t.width i) many in
-            λ x. same x - none x);
+            omega (arith, same, none));
         passes = λ f full is.
             map-same (λ b. get_or q.words (1 + t.entries + b) 0 - get_or q.start.carried (1 + t.entries + b) 0) (λ b. sum_at t (Balancer b) f) 0 t.balancers
             (λ b l h.
