@@ -39,18 +39,26 @@ fn walk_all_out(floor: &Floor<'_>, lane: &mut Lane, clients: u64) -> bool
     true
 }
 
-/// The rooms of a lane after each reserve, and whether client n has name n, for all clients of a full floor over tree 64.
-fn full_floor(alloc: Global, reserved: &[u64]) -> Option<([u64; 2], u64, bool)> {
+/// Takes room after room for a lane.
+fn reserve_all(lane: &mut Lane, rooms: &[u64]) -> bool
+    ensures { lane.new.home ≡ lane.old.home }
+{
+    for room in rooms {
+        if *room > MOST_ROOM || lane.reserve(*room).is_err() {
+            return false;
+        }
+    }
+    true
+}
+
+/// The room of a lane before and after it is taken, and whether client n has name n, for all clients of a full floor over tree 64.
+fn full_floor(alloc: Global, rooms: &[u64]) -> Option<([u64; 2], u64, bool)> {
     let network = tree(alloc, 64).ok()?;
     let (floor, mut lane) = Floor::open(alloc, &network, CLIENTS).ok()?;
     let none = lane.room();
-    for room in reserved {
-        if *room <= MOST_ROOM {
-            lane.reserve(*room).ok()?;
-        }
-    }
+    let reserved = reserve_all(&mut lane, rooms);
     let some = lane.room();
-    if !walk_all_out(&floor, &mut lane, CLIENTS) {
+    if !reserved || !walk_all_out(&floor, &mut lane, CLIENTS) {
         return None;
     }
     let left = lane.room();

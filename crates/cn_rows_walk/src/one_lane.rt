@@ -1,14 +1,14 @@
 //! Three clients in one lane of a counting tree of width 4, where the last overtakes the others: the caller of cn_walk's
 //! page, word for word, and what it is told.
 
+ghost use Rattle.std.specs.Prelude.{◌≡◌};
+
 use cn_core::Moved;
 use cn_tree::tree;
 use cn_walk::{Floor, Lane};
 use cn_yard::Token;
 use std::alloc::{AllocError, Global};
 use std::test::Fail;
-
-ghost use Rattle.std.specs.Prelude.{◌≡◌};
 
 /// What a floor tells of the three.
 #[derive(Debug, Drop, PartialEq, Eq)]

@@ -29,7 +29,7 @@ module _ (start : Start) (s : State (Unit {0}) View) (kept : IsKept start s) whe
       ∙ ap (λ (k : ℕ). base start + k)
       (sum_below-total (λ u (v : View). times u v.entries) s.views t.entries
       ∙ total_same (λ (v : View). sum_below t.entries (λ u. times u v.entries)) (λ (v : View). length v.entries) s.views
-      (λ id v at. times-below t.entries v.entries (kept.fair id v at).entries))
+      (λ id v at. times-below t.entries v.entries (kept.accounted id v at).entries))
 
   pub few_came : clients_in t s.words ≤ base start + start.quota
   few_came =

@@ -83,11 +83,11 @@ no-entry u (e ∷ es) none = absurd (omega arith)
 module _ (start : Start) (s : State (Unit {0}) View) (id : ℕ) (v : View) (kept : IsKept start s) (at : get_elem? s.views id ≡ some v) where
   -- a lane that let nobody in has nobody inside, and no grants
   none-inside : (j : ℕ) (x : View) → get_elem? s.views j ≡ some x → length x.entries ≡ 0 → (u : ℕ) → on_in u x ≡ 0
-  none-inside j x a none = none-on x (omega (arith, (kept.fair j x a).told))
+  none-inside j x a none = none-on x (omega (arith, (kept.accounted j x a).all))
 
   none-granted : (j : ℕ) (x : View) → get_elem? s.views j ≡ some x → length x.entries ≡ 0 → (c i k name : ℕ) → granted_in (base start) c i k name x ≡ 0
   none-granted j x a none c i k name =
-      omega (arith, (kept.fair j x a).told, count_by-le-length (λ (g : Grant). eqb g.client c && (eqb g.exit i && (eqb g.visit k && eqb (g.name + base start) name))) x.grants)
+      omega (arith, (kept.accounted j x a).all, count_by-le-length (λ (g : Grant). eqb g.client c && (eqb g.exit i && (eqb g.visit k && eqb (g.name + base start) name))) x.grants)
 
   -- a sum over this lane alone
   alone : (f : View → ℕ) → sum_by f (v ∷ []) ≡ f v
@@ -131,10 +131,10 @@ module _ (start : Start) (s : State (Unit {0}) View) (id : ℕ) (v : View) (kept
   quiet out all =
       let t = start.network.table in
       let entries : View → ℕ = λ x. length x.entries in
-      let fair = kept.fair id v at in
+      let account = kept.accounted id v at in
       let f = kept.fresh id v at in
       let came = all_came start s kept in
-      let mine : sum_by entries s.views ≡ entries v = omega (arith, came, fair.told) in
+      let mine : sum_by entries s.views ≡ entries v = omega (arith, came, account.all) in
       let on : (u : ℕ) → sum_by (on_in u) s.views ≡ on_in u v = λ u. mine_alone (on_in u) entries s.views id v at (λ j x a z. none-inside j x a z u) mine in
       let standing : (u c : ℕ) → sum_by (standing_in u c) s.views ≡ standing_in u c v = λ u c.
       mine_alone (standing_in u c) entries s.views id v at (λ j x a z. omega (arith, none-inside j x a z u, count_by-le-length (λ (e : ℕ × ℕ). eqb e.1 c) (get_or x.tokens u []))) mine in
@@ -159,7 +159,7 @@ module _ (start : Start) (s : State (Unit {0}) View) (id : ℕ) (v : View) (kept
       let sound : IsSound t (ledger_of t start.carried s.words (v ∷ [])) = subst (IsSound t) same kept.sound in
       let end = tight-after start kept.began s.words (v ∷ []) sound nobody in
       record {
-        out = omega (arith, fair.told);
+        out = omega (arith, account.all);
         came = all;
         entered = own;
         numbered = numbers;
@@ -177,7 +177,7 @@ module _ (start : Start) (s : State (Unit {0}) View) (id : ℕ) (v : View) (kept
     count = kept.words;
     few = few_came start s kept;
     risen = count_risen start s kept;
-    granted = omega (arith, all_came start s kept, part_le (λ (x : View). length x.entries) s.views id v at, (kept.fair id v at).told);
+    granted = omega (arith, all_came start s kept, part_le (λ (x : View). length x.entries) s.views id v at, (kept.accounted id v at).all);
     quiet = quiet;
   }
 

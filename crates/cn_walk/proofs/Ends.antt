@@ -9,6 +9,7 @@ use Rattle.cn_wiring.specs.declared.end.End.{End}
 use Rattle.cn_wiring.specs.declared.end.End.TheVariants.{Balancer, Exit}
 use Rattle.cn_wiring.specs.Table.{Stands, Table, is_end, sum_at}
 use Rattle.cn_ledger.specs.Ledger.{IsSound, IsTight, Ledger, put}
+use Rattle.cn_walk.proofs.Sole.{once-in}
 use Rattle.cn_walk.specs.declared.view.Start.{Start}
 use Rattle.cn_walk.specs.declared.view.View.{View}
 use Rattle.cn_walk.specs.Ends.{NobodyInside}
@@ -67,12 +68,6 @@ module _ (t : Table) (words : List ℕ) where
         );
   }
     where
-      once-in : (c k : ℕ) → 1 ≤ once_below c k → k < c
-      once-in c k h = elim (cases_lt k c) [
-        | inl l ↦ l
-        | inr l ↦ let none : ◌≡◌ {A = ℕ} (once_below c k) 0 = ap {B = ℕ} (λ b. cond b 1 0) (le-ltb k c l) in absurd (omega arith)
-      ]
-
       exit-there : (i : ℕ) → 1 ≤ count_in t words (Exit i) → i < t.width
       exit-there i h = elim (cases_lt i t.width) [
         | inl l ↦ l

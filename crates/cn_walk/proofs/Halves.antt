@@ -13,7 +13,7 @@ use Rattle.cn_walk.specs.declared.view.Grant.{Grant}
 use Rattle.cn_walk.specs.Halves.{AreReady, HasNothing, IsPair, IsReady, first_of, together, whole}
 use Rattle.cn_walk.specs.Lane.{Home, LaneValue, new_lane, with_room}
 use Rattle.cn_walk.specs.Views.{split_left, split_right}
-use Rattle.cn_walk.specs.Walks.{HasWalked}
+use Rattle.cn_walk.specs.Walks.{WalksAll}
 use Rattle.cn_walk.proofs.Walks.{length_both, nobody-there}
 
 -- what a lane that had nothing has is put last
@@ -21,7 +21,7 @@ put_last : {X : Type 0} (a b xs ys : List X) → b ≡ [] → (a ++ xs) ++ (b ++
 put_last a b xs ys none =
     ap (λ (zs : List _). (a ++ xs) ++ (zs ++ ys)) none ∙ append_assoc a xs ys ∙ ap (λ (zs : List _). zs ++ (xs ++ ys)) (sym (append-nil a)) ∙ ap (λ (zs : List _). (a ++ zs) ++ (xs ++ ys)) (sym none)
 
-pub both_walked : (a b c d : LaneValue) (xs ys : List Client) → b.view.entries ≡ [] → b.view.grants ≡ [] → HasWalked a c xs → HasWalked b d ys → HasWalked (together a b) (together c d) (xs ++ ys)
+pub both_walked : (a b c d : LaneValue) (xs ys : List Client) → b.view.entries ≡ [] → b.view.grants ≡ [] → WalksAll a c xs → WalksAll b d ys → WalksAll (together a b) (together c d) (xs ++ ys)
 both_walked a b c d xs ys no_entries no_grants p q =
     let (more, grants, for) = p.grants in
     let (later, grants2, for2) = q.grants in

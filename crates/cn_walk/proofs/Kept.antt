@@ -11,7 +11,7 @@ use Rattle.cn_wiring.specs.Table.{Table}
 use Rattle.cn_ledger.specs.Ledger.{IsSound}
 use Rattle.cn_walk.specs.declared.view.Start.{Start}
 use Rattle.cn_walk.specs.declared.view.View.{View}
-use Rattle.cn_walk.specs.Rule.{IsFair, IsFresh, IsKept, ledger_of}
+use Rattle.cn_walk.specs.Rule.{IsAccounted, IsFresh, IsKept, ledger_of}
 use Rattle.cn_walk.specs.Views.{base, given_in, granted_in, on_in, standing_in}
 use Rattle.cn_walk.specs.Words.{clients_in, count_in, entered_in}
 
@@ -36,15 +36,15 @@ ledger-alike t carried words old new same = λ x. record {
 }
 
 pub kept_alike : (start : Start) (s : State (Unit {0}) View) (new : List View) → IsKept start s → AddUpAlike (base start) s.views new
-    → ((id : ℕ) (v : View) → get_elem? new id ≡ some v → IsFair start.network v)
+    → ((id : ℕ) (v : View) → get_elem? new id ≡ some v → IsAccounted start.network v)
     → ((id : ℕ) (v : View) → get_elem? new id ≡ some v → IsFresh start s.words v)
     → IsKept start (record { words = s.words; homes = s.homes; views = new })
-kept_alike start s new kept same fair fresh = record {
+kept_alike start s new kept same account fresh = record {
   began = kept.began;
   words = kept.words;
   sound = subst (IsSound start.network.table) (ledger-alike start.network.table start.carried s.words s.views new same) kept.sound;
   entered = λ u l. omega (arith, kept.entered u l, same.entries u);
-  fair = fair;
+  accounted = account;
   fresh = fresh;
   quotas = omega (arith, kept.quotas, same.quotas);
 }

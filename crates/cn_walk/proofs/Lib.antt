@@ -2,7 +2,7 @@ mod Totals
 mod Lists
 mod Raised
 mod Ledgers
-mod Fair
+mod Accounts
 mod Bounds
 mod Sole
 mod Fresh
@@ -18,3 +18,4 @@ mod Holding
 mod Walks
 mod Halves
 mod Runs
+mod Walked

@@ -14,7 +14,7 @@ use Rattle.cn_wiring.specs.Table.{Table}
 use Rattle.cn_ledger.specs.Ledger.{IsSound}
 use Rattle.cn_walk.specs.declared.view.Start.{Start}
 use Rattle.cn_walk.specs.declared.view.View.{View}
-use Rattle.cn_walk.specs.Rule.{IsCarried, IsFair, IsFresh, IsKept, IsStart, ledger_of}
+use Rattle.cn_walk.specs.Rule.{IsCarried, IsAccounted, IsFresh, IsKept, IsStart, ledger_of}
 use Rattle.cn_walk.specs.Views.{base, given_in, granted_in, new_view, on_in, standing_in, levels_in, inside_in}
 use Rattle.cn_walk.specs.Words.{clients_in, count_in, end_word, entered_in, entry_word, word_count}
 use Rattle.cn_spec.proofs.CallerLemmas.{sum_below-zero, times-nil}
@@ -100,9 +100,9 @@ module _ (start : Start) (quota : ℕ) where
   inside-new : inside_in v ≡ 0
   inside-new = sum_below-zero (length v.tokens) (λ u. on_in u v) on-new
 
-  pub fair-new : IsFair start.network v
-  fair-new = record {
-    told = omega (arith, inside-new);
+  pub accounted-new : IsAccounted start.network v
+  accounted-new = record {
+    all = omega (arith, inside-new);
     entries = λ k d less. absurd (omega arith);
     walked = λ level is. omega (arith, levels-new level);
   }
@@ -139,7 +139,7 @@ begins start is = record {
   words = is.carried.words;
   sound = subst (IsSound start.network.table) (ledger-new start start.quota start.carried) is.carried.sound;
   entered = λ u l. omega (arith, times-nil u);
-  fair = λ id v e. fair-at id v e;
+  accounted = λ id v e. account-at id v e;
   fresh = λ id v e. fresh-at id v e;
   quotas = omega arith;
 }
@@ -148,6 +148,6 @@ begins start is = record {
     fresh-at zero v e = subst (λ (x : View). IsFresh start start.carried x) (some-injective (new_view start start.quota) v e) (fresh-new start start.quota start.carried (omega arith))
     fresh-at (suc id) v e = absurd (some-ne-none v (sym e))
 
-    fair-at : (id : ℕ) (v : View) → get_elem? (new_view start start.quota ∷ []) id ≡ some v → IsFair start.network v
-    fair-at zero v e = subst (λ (x : View). IsFair start.network x) (some-injective (new_view start start.quota) v e) (fair-new start start.quota)
-    fair-at (suc id) v e = absurd (some-ne-none v (sym e))
+    account-at : (id : ℕ) (v : View) → get_elem? (new_view start start.quota ∷ []) id ≡ some v → IsAccounted start.network v
+    account-at zero v e = subst (λ (x : View). IsAccounted start.network x) (some-injective (new_view start start.quota) v e) (accounted-new start start.quota)
+    account-at (suc id) v e = absurd (some-ne-none v (sym e))

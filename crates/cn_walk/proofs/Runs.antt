@@ -17,7 +17,7 @@ use Rattle.cn_walk.specs.Halves.{HasNothing, first_of}
 use Rattle.cn_walk.specs.Lane.{Home, LaneValue, new_lane}
 use Rattle.cn_walk.specs.Runs.{IsRun}
 use Rattle.cn_walk.specs.Views.{base}
-use Rattle.cn_walk.specs.Walks.{AreFor, HasWalked}
+use Rattle.cn_walk.specs.Walks.{AreFor, WalksAll}
 use Rattle.cn_walk.specs.Words.{clients_in, entered_in, word_count}
 use Rattle.cn_walk.proofs.Bounds.{few_came}
 use Rattle.cn_walk.proofs.Closings.{map-same}
@@ -84,14 +84,14 @@ module _ (q : QuietValue) (clients : List Client) (nobody : base q.start ≡ 0) 
       }
 
 -- where the lane had nothing, its grants are those of the walk
-pub all-theirs : (a b : LaneValue) (clients : List Client) → HasNothing a → HasWalked a b clients → (b.view.entries ≡ map (λ (c : Client). c.entry) clients) × AreFor clients b.view.grants
+pub all-theirs : (a b : LaneValue) (clients : List Client) → HasNothing a → WalksAll a b clients → (b.view.entries ≡ map (λ (c : Client). c.entry) clients) × AreFor clients b.view.grants
 all-theirs a b clients none is =
     let (more, grants, for) = is.grants in
     let same : b.view.grants ≡ more = grants ∙ ap (λ (gs : List Grant). gs ++ more) none.grants in
     (is.entries ∙ ap (λ (es : List ℕ). es ++ map (λ (c : Client). c.entry) clients) none.entries, subst (λ (gs : List Grant). AreFor clients gs) (sym same) for)
 
 pub ran : (q : QuietValue) (network : Network) (a b : LaneValue) (clients : List Client) → q.start.network ≡ network → base q.start ≡ 0 → q.start.carried ≡ replicate (word_count network.table) 0 → IsQuiet q.start q.did q.words
-    → q.did ≡ b.view → HasNothing a → HasWalked a b clients → IsRun network clients q
+    → q.did ≡ b.view → HasNothing a → WalksAll a b clients → IsRun network clients q
 ran q network a b clients over nobody zero quiet did none is =
     let (entries, theirs) = all-theirs a b clients none is in
     let zeros : q.start.carried ≡ replicate (word_count q.start.network.table) 0 = zero ∙ ap (λ (n : Network). replicate {A = ℕ} (word_count n.table) 0) (sym over) in

@@ -17,12 +17,12 @@ use Rattle.cn_walk.specs.declared.view.Grant.{Grant}
 use Rattle.cn_walk.specs.declared.view.Passage.{Passage}
 use Rattle.cn_walk.specs.declared.view.Start.{Start}
 use Rattle.cn_walk.specs.declared.view.View.{View}
-use Rattle.cn_walk.specs.Rule.{IsFair, IsFresh, IsKept, heard}
+use Rattle.cn_walk.specs.Rule.{IsAccounted, IsFresh, IsKept, heard}
 use Rattle.cn_walk.specs.Views.{base, given_in, granted_in, inside_in, joined, levels_in, new_view, nobody, on_in, split_left, split_right, standing_in}
 use Rattle.cn_walk.specs.Words.{clients_in}
 use Rattle.cn_walk.proofs.Bounds.{all_came}
 use Rattle.cn_walk.proofs.Kept.{AddUpAlike, kept_alike}
-use Rattle.cn_walk.proofs.Openings.{fair-new, on-new, standing-new}
+use Rattle.cn_walk.proofs.Openings.{accounted-new, on-new, standing-new}
 use Rattle.cn_walk.proofs.Totals.{part_le, total_set}
 use Rattle.cn_spec.proofs.CallerLemmas.{sum_below-zero, times-append, times-nil}
 
@@ -44,18 +44,18 @@ splits start id q v of idle enough s kept at =
           let f : View → ℕ = λ x. x.quota + length x.entries in
           omega (arith, total_set f s.views id v left at, sum_by_push f (set s.views id left) right);
     } in
-    let f = kept.fair id v at in
+    let f = kept.accounted id v at in
     let g = kept.fresh id v at in
-    let new = subst (λ (n : Start). IsFair n.network (new_view v.start q)) of (fair-new v.start q) in
+    let new = subst (λ (n : Start). IsAccounted n.network (new_view v.start q)) of (accounted-new v.start q) in
     let all : heard start.network.table s.words v.loads ≡ clients_in start.network.table s.words = ap (λ (ls : List ℕ). heard start.network.table s.words ls) idle in
-    let fair-left : IsFair start.network left = record { told = f.told; entries = f.entries; walked = f.walked } in
-    let fair-right : IsFair start.network right = record { told = new.told; entries = new.entries; walked = new.walked } in
+    let accounted-left : IsAccounted start.network left = record { all = f.all; entries = f.entries; walked = f.walked } in
+    let accounted-right : IsAccounted start.network right = record { all = new.all; entries = new.entries; walked = new.walked } in
     let fresh-left : IsFresh start s.words left = record { low = g.low; own = g.own; heeded = g.heeded; names = g.names } in
     let fresh-right : IsFresh start s.words right = record { low = λ u. omega arith; own = omega (arith, all_came start s kept); heeded = omega (arith, g.heeded); names = λ k d less. absurd (omega arith) } in
     kept_alike start s vs kept alike
     (λ j x e. ⊎_elim
-    (λ y. ⊎_elim (λ z. subst (λ (u : View). IsFair start.network u) z.1 fair-left) (λ z. kept.fair j x z.1) (at_set s.views id j left x y))
-    (λ y. subst (λ (u : View). IsFair start.network u) y fair-right)
+    (λ y. ⊎_elim (λ z. subst (λ (u : View). IsAccounted start.network u) z.1 accounted-left) (λ z. kept.accounted j x z.1) (at_set s.views id j left x y))
+    (λ y. subst (λ (u : View). IsAccounted start.network u) y accounted-right)
     (at_snoc (set s.views id left) right x j e))
     (λ j x e. ⊎_elim
     (λ y. ⊎_elim (λ z. subst (λ (u : View). IsFresh start s.words u) z.1 fresh-left) (λ z. kept.fresh j x z.1) (at_set s.views id j left x y))
@@ -93,11 +93,11 @@ module _ (v w : View) (out : Empty w) where
   granted-joined : (m c i k name : ℕ) → granted_in m c i k name (joined v w) ≡ granted_in m c i k name v + granted_in m c i k name w
   granted-joined m c i k name = sum_by-append (λ (g : Grant). cond (eqb g.client c && (eqb g.exit i && (eqb g.visit k && eqb (g.name + m) name))) 1 0) v.grants w.grants
 
-  fair-joined : (network : Network) → IsFair network v → IsFair network w → IsFair network (joined v w)
-  fair-joined network f g =
+  accounted-joined : (network : Network) → IsAccounted network v → IsAccounted network w → IsAccounted network (joined v w)
+  accounted-joined network f g =
       let inside : inside_in w ≡ 0 = sum_below-zero (length w.tokens) (λ u. on_in u w) out in
       record {
-        told = omega (arith, f.told, g.told, length-append v.entries w.entries, length-append v.grants w.grants);
+        all = omega (arith, f.all, g.all, length-append v.entries w.entries, length-append v.grants w.grants);
         entries = All-append (λ (u : ℕ). u < network.table.entries) v.entries w.entries f.entries g.entries;
         walked = λ level is.
             let none : levels_in level w ≡ 0 = sum_below-zero (length w.tokens) (λ u. level u * on_in u w) (λ u. ap (λ (k : ℕ). level u * k) (out u) ∙ omega arith) in
@@ -141,15 +141,15 @@ joins start id other v w idle idle' out s kept at apart at_other =
       names = All-append (λ (x : Grant). base start + x.name < heard t s.words v.loads) v.grants w.grants g.names (λ k d less. let n = h.names k d less in omega (arith, n));
     } in
     let fresh-spent : IsFresh start s.words nobody = record { low = λ u. omega arith; own = omega arith; heeded = omega arith; names = λ k d less. absurd (omega arith) } in
-    let fair-spent : IsFair start.network nobody = record {
-      told = omega (arith, sum_below-zero 0 (λ _. 0) (λ _. refl));
+    let accounted-spent : IsAccounted start.network nobody = record {
+      all = omega (arith, sum_below-zero 0 (λ _. 0) (λ _. refl));
       entries = λ k d less. absurd (omega arith);
       walked = λ level is. omega (arith, sum_below-zero (length nobody.tokens) (λ u. level u * on_in u nobody) (λ u. omega arith));
     } in
     kept_alike start s vs kept alike
     (λ j x e. ⊎_elim
-    (λ y. subst (λ (u : View). IsFair start.network u) y.1 fair-spent)
-    (λ y. ⊎_elim (λ z. subst (λ (u : View). IsFair start.network u) z.1 (fair-joined v w out start.network (kept.fair id v at) (kept.fair other w here))) (λ z. kept.fair j x z.1) (at_set s.views id j both x y.1))
+    (λ y. subst (λ (u : View). IsAccounted start.network u) y.1 accounted-spent)
+    (λ y. ⊎_elim (λ z. subst (λ (u : View). IsAccounted start.network u) z.1 (accounted-joined v w out start.network (kept.accounted id v at) (kept.accounted other w here))) (λ z. kept.accounted j x z.1) (at_set s.views id j both x y.1))
     (at_set once other j nobody x e))
     (λ j x e. ⊎_elim
     (λ y. subst (λ (u : View). IsFresh start s.words u) y.1 fresh-spent)
@@ -164,6 +164,6 @@ looks start slots id i me s kept homes at fits =
     let views : s.views ≡ set s.views id v = sym (set_again s.views id v at) in
     let after : IsKept start record { words = set s.words i (get_or s.words i 0); homes = s.homes; views = set s.views id v } =
     subst (λ (x : List ℕ × List View). IsKept start record { words = x.0; homes = s.homes; views = x.1 }) (λ j. (words j, views j)) kept in
-    let f = kept.fair id v at in
+    let f = kept.accounted id v at in
     let quota = part_le (λ (x : View). x.quota + length x.entries) s.views id v at in
-    (v, keeps, tt, after, (refl, omega (arith, f.told, kept.quotas, kept.began.quota)))
+    (v, keeps, tt, after, (refl, omega (arith, f.all, kept.quotas, kept.began.quota)))

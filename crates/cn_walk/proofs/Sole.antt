@@ -17,6 +17,7 @@ use Rattle.cn_walk.specs.Rule.{IsKept}
 use Rattle.cn_walk.specs.Views.{given_in, on_in, own_count}
 use Rattle.cn_walk.specs.Words.{count_in}
 use Rattle.cn_walk.proofs.Bounds.{count_risen}
+use Rattle.cn_walk.proofs.Walked.{no-levels}
 use Rattle.cn_walk.proofs.Totals.{mine_alone, part_le, total_same}
 use Rattle.cn_spec.proofs.CallerLemmas.{sum_below-one, sum_below-part, sum_below-plus, sum_below-same, sum_below-total, sum_below-zero}
 use Rattle.cn_wiring.proofs.CallerLemmas.{levels}
@@ -36,7 +37,8 @@ below-once (suc n) c h = elim (cases_lt n c) [
       omega (arith, below-once n c l)
 ]
 
-once-in : (c k : ℕ) → 1 ≤ once_below c k → k < c
+-- who is counted below c is below c
+pub once-in : (c k : ℕ) → 1 ≤ once_below c k → k < c
 once-in c k h = elim (cases_lt k c) [
   | inl l ↦ l
   | inr l ↦ let none : ◌≡◌ {A = ℕ} (once_below c k) 0 = ap {B = ℕ} (λ b. cond b 1 0) (le-ltb k c l) in absurd (omega arith)
@@ -71,14 +73,13 @@ module _ (start : Start) (s : State (Unit {0}) View) (kept : IsKept start s) whe
   -- a lane that let nobody in was given nothing
   pub none_given : (id : ℕ) (v : View) → get_elem? s.views id ≡ some v → length v.entries ≡ 0 → (end : End) (k : ℕ) → given_in end k v ≡ 0
   none_given id v at none end k =
-      let fair = kept.fair id v at in
+      let account = kept.accounted id v at in
       let net = kept.began.network in
       let (level, is) = levels t net.formed start.network.depth net.deep in
-      let empty = sum_below-same (length v.tokens) (λ u. level u * on_in u v) (λ _. 0) (λ u l.
-      let z : on_in u v ≡ 0 = omega (arith, sum_below-part (length v.tokens) u (λ x. on_in x v) l, fair.told) in ap (λ (x : ℕ). level u * x) z ∙ omega arith) in
-      let grants : length v.grants ≡ 0 = omega (arith, fair.told) in
+      let empty = no-levels level v (omega (arith, account.all)) in
+      let grants : length v.grants ≡ 0 = omega (arith, account.all) in
       let deep : start.network.depth * length v.grants ≡ 0 = ap (λ (x : ℕ). start.network.depth * x) grants ∙ omega arith in
-      let passages : length v.passages ≡ 0 = omega (arith, fair.walked level is, sum_below-zero (length v.tokens) (λ _. 0) (λ _. refl)) in
+      let passages : length v.passages ≡ 0 = omega (arith, account.walked level is) in
       by end passages grants
     where
       by : (end : End) → length v.passages ≡ 0 → length v.grants ≡ 0 → given_in end k v ≡ 0

@@ -20,11 +20,11 @@ use Rattle.cn_walk.specs.declared.view.View.{View}
 use Rattle.cn_core.specs.Calls.{IsMoveOf}
 use Rattle.cn_walk.specs.Plays.{Coming, ComesIn, Going, GoesOn, IsLetBy}
 use Rattle.cn_walk.specs.Steps.{IsStep, answer_at}
-use Rattle.cn_walk.specs.Rule.{IsFair, IsFresh, IsKept, heard, ledger_of}
+use Rattle.cn_walk.specs.Rule.{IsAccounted, IsFresh, IsKept, heard, ledger_of}
 use Rattle.cn_walk.specs.Views.{base, entered, gone}
 use Rattle.cn_walk.specs.Words.{clients_in, count_in, end_word, entered_in, entry_word}
 use Rattle.cn_walk.proofs.Bounds.{count_few, few_came, name_later}
-use Rattle.cn_walk.proofs.Fair.{fair-entered, fair-gone}
+use Rattle.cn_walk.proofs.Accounts.{accounted-entered, accounted-gone}
 use Rattle.cn_walk.proofs.Fresh.{fresh_grown, names_below}
 use Rattle.cn_walk.proofs.Ledgers.{Lands, enters, leaves, passes}
 use Rattle.cn_walk.proofs.Sole.{sole}
@@ -86,9 +86,9 @@ module _ (start : Start) (id token client entry : ℕ) (v : View) (s : State (Un
     entered = λ u l.
         let more = total_set (λ (x : View). times u x.entries) s.views id v w here in
         omega (arith, entered-raised start.network.table s.words kept.words entry low u, kept.entered u l, times-last u entry v.entries);
-    fair = λ i x e. ⊎_elim
-        (λ y. subst (λ (z : View). IsFair start.network z) y.1 (fair-entered start.network token client entry v low inside (kept.fair id v here)))
-        (λ y. kept.fair i x y.1)
+    accounted = λ i x e. ⊎_elim
+        (λ y. subst (λ (z : View). IsAccounted start.network z) y.1 (accounted-entered start.network token client entry v low inside (kept.accounted id v here)))
+        (λ y. kept.accounted i x y.1)
         (at_set s.views id i w x e);
     fresh = λ i x e. ⊎_elim
         (λ y. subst (λ (z : View). IsFresh start after.words z) y.1 (fresh-entered idle))
@@ -235,9 +235,9 @@ module _ (start : Start) (id token client wire : ℕ) (end : End) (v : View) (s 
         let more = total_set (λ (x : View). times u x.entries) s.views id v then here in
         let same : times u then.entries ≡ times u v.entries = ap (λ (es : List ℕ). times u es) (quota-same end n).1 in
         omega (arith, entered-kept t s.words kept.words end stands u, kept.entered u l);
-    fair = λ i x e. ⊎_elim
-        (λ y. subst (λ (z : View). IsFair start.network z) y.1 (fair-gone start.network token client wire n v is there (ap (λ (z : Start). z.network) of) end ends (lands-at end refl) (kept.fair id v here)))
-        (λ y. kept.fair i x y.1)
+    accounted = λ i x e. ⊎_elim
+        (λ y. subst (λ (z : View). IsAccounted start.network z) y.1 (accounted-gone start.network token client wire n v is there (ap (λ (z : Start). z.network) of) end ends (lands-at end refl) (kept.accounted id v here)))
+        (λ y. kept.accounted i x y.1)
         (at_set s.views id i then x e);
     fresh = λ i x e. ⊎_elim
         (λ y. subst (λ (z : View). IsFresh start next.words z) y.1 (fresh-gone idle end refl))

@@ -21,9 +21,9 @@ use Rattle.cn_walk.specs.declared.view.Start.{Start}
 use Rattle.cn_walk.specs.declared.view.View.{View}
 use Rattle.cn_walk.specs.Lane.{LaneValue, LetsIn, StepsOn}
 use Rattle.cn_walk.specs.Views.{base, entered, gone, on_in}
-use Rattle.cn_walk.specs.Walks.{HasWalked, Walks, inside_by, steps_left}
+use Rattle.cn_walk.specs.Walks.{WalksAll, Walks, inside_by, steps_left}
 use Rattle.cn_walk.proofs.Closings.{inside-yard, none-on}
-use Rattle.cn_walk.proofs.Fair.{at-none, at-one, weighed-went}
+use Rattle.cn_walk.proofs.Accounts.{at-none, at-one, weighed-went}
 use Rattle.cn_walk.proofs.Ledgers.{Lands}
 use Rattle.cn_walk.proofs.Lists.{weigh-come, weigh-leave, weigh-pass}
 
@@ -220,7 +220,7 @@ each_one [] = refl
 each_one {X} (x ∷ xs) = omega (arith, each_one xs, sum_by-cons (λ (y : X). 1) x xs)
 
 pub walked : (a b : LaneValue) (xs : List Client) → Walks a b xs → tokens_in b.yard.lists ≡ 0 → ((f : ℕ → ℕ) → inside_by f a.view ≡ 0) → ((f : ℕ → ℕ) → inside_by f b.view ≡ 0)
-    → HasWalked a b xs
+    → WalksAll a b xs
 walked a b xs w out before after =
     let (more, grants, even) = w.grants in
     let is : ℕ → ℕ → ℕ = λ id d. cond (eqb d id) 1 0 in

@@ -44,12 +44,13 @@ pub record IsStart (start : Start) : Type 0 where
   pub few : base start ≤ MOST_CARRIED
 
 -- what each view is by itself
-pub record IsFair (network : Network) (v : View) : Type 0 where
+pub record IsAccounted (network : Network) (v : View) : Type 0 where
   -- who came in is inside or has a grant
-  pub told : length v.entries ≡ inside_in v + length v.grants
+  pub all : length v.entries ≡ inside_in v + length v.grants
   pub entries : All (λ u. u < network.table.entries) v.entries
   -- each has passed as many balancers as its wire is deep, or as the network is
-  pub walked : (level : ℕ → ℕ) → IsLevel network.table network.depth level → length v.passages ≡ network.depth * length v.grants + levels_in level v
+  pub walked : (level : ℕ → ℕ) → IsLevel network.table network.depth level
+      → length v.passages ≡ network.depth * length v.grants + levels_in level v
 
 -- what a lane that loads has heard: each number that it loaded, and each entry's word that it has not loaded yet
 abbrev pub heard : Table → List ℕ → List ℕ → ℕ
@@ -70,8 +71,9 @@ pub record IsKept (start : Start) (s : State (Unit {0}) View) : Type 0 where
   pub sound : IsSound start.network.table (ledger_of start.network.table start.carried s.words s.views)
   -- each entry's word has the entries of all views, above the carried ones
   pub entered : (u : ℕ) → u < start.network.table.entries
-      → entered_in start.network.table s.words u ≡ entered_in start.network.table start.carried u + sum_by (λ v. times u v.entries) s.views
-  pub fair : (id : ℕ) (v : View) → get_elem? s.views id ≡ some v → IsFair start.network v
+      → entered_in start.network.table s.words u
+      ≡ entered_in start.network.table start.carried u + sum_by (λ v. times u v.entries) s.views
+  pub accounted : (id : ℕ) (v : View) → get_elem? s.views id ≡ some v → IsAccounted start.network v
   pub fresh : (id : ℕ) (v : View) → get_elem? s.views id ≡ some v → IsFresh start s.words v
   -- the quota is spent on entries alone
   pub quotas : sum_by (λ v. v.quota + length v.entries) s.views ≡ start.quota

@@ -14,7 +14,7 @@ pub record AreFor (clients : List Client) (grants : List Grant) : Type 0 where
   pub as_often : (id : ℕ) → count_by (λ g. g.client == id) grants ≡ count_by (λ c. c.id == id) clients
 
 -- the clients came in and went out: the lane has nobody inside, and a grant more for each of them
-pub record HasWalked (old new : LaneValue) (clients : List Client) : Type 0 where
+pub record WalksAll (old new : LaneValue) (clients : List Client) : Type 0 where
   pub home : new.home ≡ old.home
   pub out : tokens_in new.yard.lists ≡ 0
   pub quota : new.view.quota + length clients ≡ old.view.quota

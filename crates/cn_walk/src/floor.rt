@@ -279,7 +279,9 @@ impl<'a> Floor<'a> {
     pub fn split(&self, mut lane: Lane, quota: u64) -> Result<(Lane, Lane), (SplitFault, Lane)>
         requires own { lane.home ≡ self.now }
         ensures first { IfOk result (λ r. r.0 ≡ record lane { view = split_left quota lane.view }) }
-        ensures second { IfOk result (λ r. r.1 ≡ record (new_lane lane.home quota) { view = split_right quota lane.view }) }
+        ensures second { IfOk result (λ r.
+            r.1 ≡ record (new_lane lane.home quota) { view = split_right quota lane.view }) }
+        ensures own { IfOk result (λ r. (r.0.home ≡ self.now) × (r.1.home ≡ self.now)) }
         ensures enough { IfOk result (λ r. quota ≤ lane.view.quota) }
         ensures err { IfErr result (λ r. r.1 ≡ lane) }
         ensures small { IfErr result (λ r. (r.0 ≡ SplitFault.QuotaTooSmall) ↔ (lane.view.quota < quota)) }

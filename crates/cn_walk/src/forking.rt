@@ -4,7 +4,7 @@ ghost use Rattle.std.specs.Prelude.{◌≡◌, ◌+◌, ◌-◌, ◌*◌, ◌/�
 ghost use Rattle.cn_spec.specs.declared.limits.TheConstants.{MOST_CLIENTS};
 ghost use Rattle.cn_yard.specs.Lists.{tokens_in};
 ghost use Rattle.cn_walk.specs.Halves.{AreOf, AreReady, HasNothing, IsPair, IsReady, MayWalk, first_of, together, whole};
-ghost use Rattle.cn_walk.specs.Walks.{HasWalked};
+ghost use Rattle.cn_walk.specs.Walks.{WalksAll};
 ghost use denote.Param.Send.{IsSync};
 
 use crate::fault::JoinFault;
@@ -45,7 +45,7 @@ pub(crate) trait Ground {
         requires ready { IsReady (Self.home self.now) (length clients.now) lane }
         requires entries { All (λ c. c.entry < (Self.home self.now).start.network.table.entries) clients.now }
         requires hand { 0 < hand }
-        ensures { HasWalked lane result clients.now };
+        ensures { WalksAll lane result clients.now };
 
     fn join(&self, lane: Lane, other: Lane) -> Lane
         requires own { (lane.home ≡ Self.home self.now) × (other.home ≡ Self.home self.now) }
@@ -147,7 +147,7 @@ pub(crate) fn walk_lanes<F: Ground + Sync, G: Gate + Sync, R: Threads + Wait + S
     requires ready { AreReady (F.home ground.now) (length clients.now) lanes }
     requires entries { All (λ c. c.entry < (F.home ground.now).start.network.table.entries) clients.now }
     requires hand { 0 < hand }
-    ensures { HasWalked (whole lanes) result clients.now }
+    ensures { WalksAll (whole lanes) result clients.now }
 {
     match lanes {
         Lanes::One(lane, worker) => ground.walk(rt, lane, clients, hand, gate, worker),
@@ -159,11 +159,11 @@ pub(crate) fn walk_lanes<F: Ground + Sync, G: Gate + Sync, R: Threads + Wait + S
                 rt,
                 move || -> Lane
                     requires { IsSync R.row × IsSync F.row × IsSync G.row × MayWalk (F.home ground.now) first.now hand left }
-                    ensures { HasWalked (whole left) result first.entry.now }
+                    ensures { WalksAll (whole left) result first.entry.now }
                 { walk_lanes(rt, ground, left, first, hand, gate) },
                 move || -> Lane
                     requires { IsSync R.row × IsSync F.row × IsSync G.row × MayWalk (F.home ground.now) second.now hand right }
-                    ensures { HasWalked (whole right) result second.entry.now }
+                    ensures { WalksAll (whole right) result second.entry.now }
                 { walk_lanes(rt, ground, right, second, hand, gate) },
             );
             ground.join(lane, other)

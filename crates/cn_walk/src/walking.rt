@@ -2,7 +2,7 @@
 
 ghost use Rattle.std.specs.Prelude.{◌≡◌, ℕ, ◌<◌, ◌≤◌, [], All, length};
 ghost use Rattle.cn_yard.specs.Lists.{tokens_in};
-ghost use Rattle.cn_walk.specs.Walks.{HasWalked, Walks, inside_by};
+ghost use Rattle.cn_walk.specs.Walks.{WalksAll, Walks, inside_by};
 
 use crate::floor::{Floor, Lane};
 use crate::gate::{Gate, Moment};
@@ -76,7 +76,7 @@ pub fn walk_all<'a, G: Gate, R: Wait>(
     requires quota { length clients.now ≤ lane.view.quota }
     requires room { length clients.now ≤ lane.room }
     requires hand { 0 < hand }
-    ensures { HasWalked lane result clients.now }
+    ensures { WalksAll lane result clients.now }
 {
     lane.lane_laws();
     let mut rest = clients;

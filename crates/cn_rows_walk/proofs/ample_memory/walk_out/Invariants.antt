@@ -2,5 +2,5 @@ use Rattle.std.proofs.Common.{◌≡◌}
 use Rattle.cn_rows_walk.proofs.ample_memory.walk_out.Given as goal
 
 -- the lane stays on its floor
-abbrev pub invariant-loop-for : goal.invariant-loop-for
-invariant-loop-for l = l.lane.home ≡ l.fn.lane.home
+abbrev pub invariant-loop : goal.invariant-loop
+invariant-loop l = l.lane.home ≡ l.fn.lane.home

@@ -14,7 +14,7 @@ use Rattle.cn_yard.specs.Lists.{IsThere, last_on, without, on}
 use Rattle.cn_ledger.specs.Events.{one_at}
 use Rattle.cn_walk.specs.declared.view.Grant.{Grant}
 use Rattle.cn_walk.specs.declared.view.View.{View}
-use Rattle.cn_walk.specs.Rule.{IsFair}
+use Rattle.cn_walk.specs.Rule.{IsAccounted}
 use Rattle.cn_walk.specs.Views.{base, entered, gone, on_in}
 use Rattle.cn_walk.proofs.Ledgers.{on-entered, on-gone, onto, Lands}
 use Rattle.cn_spec.proofs.CallerLemmas.{sum_below-one, sum_below-same, sum_below-shift, sum_below-zero}
@@ -63,18 +63,18 @@ module _ (network : Network) (token client entry : ℕ) (v : View) (low : entry 
       let moved = weighed-on n g (λ u. on_in u v) (λ u. on_in u came) (λ _. 0) (one_at entry) (λ u. omega (arith, on-entered token client entry v inside u)) in
       ap (λ (k : ℕ). sum_below k (λ u. g u * on_in u came)) wires-came ∙ omega (arith, at-none n g, at-one n entry g inside)
 
-  pub fair-entered : IsFair network v → IsFair network came
-  fair-entered fair = record {
-    told = omega (
+  pub accounted-entered : IsAccounted network v → IsAccounted network came
+  accounted-entered account = record {
+    all = omega (
       arith,
-      fair.told,
+      account.all,
       length_push v.entries entry,
       weighed-came (λ _. 1),
       once (length came.tokens) (λ u. on_in u came),
       once (length v.tokens) (λ u. on_in u v),
     );
-    entries = All-push (λ (u : ℕ). u < network.table.entries) v.entries entry fair.entries low;
-    walked = λ level is. omega (arith, fair.walked level is, weighed-came level, is.entry entry low);
+    entries = All-push (λ (u : ℕ). u < network.table.entries) v.entries entry account.entries low;
+    walked = λ level is. omega (arith, account.walked level is, weighed-came level, is.entry entry low);
   }
 
 -- ---- who goes
@@ -95,40 +95,40 @@ module _ (network : Network) (token client wire n : ℕ) (v : View) (is : IsTher
       let same = ap (λ (k : ℕ). sum_below k (λ u. g u * on_in u (went end))) (wires-went end) in
       omega (arith, at-one m wire g is.inside)
 
-  pub fair-gone : (end : End) → end_of network.table wire ≡ end → Lands n v end → IsFair network v → IsFair network (went end)
-  fair-gone (Balancer b) ends lands fair =
+  pub accounted-gone : (end : End) → end_of network.table wire ≡ end → Lands n v end → IsAccounted network v → IsAccounted network (went end)
+  accounted-gone (Balancer b) ends lands account =
       let out : ℕ = output_wire v.start.network.table b (n % 2) in
       let m : ℕ = length v.tokens in
       record {
-        told = omega (
+        all = omega (
           arith,
-          fair.told,
+          account.all,
           weighed-went (λ _. 1) (Balancer b) lands,
           at-one m out (λ _. 1) lands,
           once (length (went (Balancer b)).tokens) (λ u. on_in u (went (Balancer b))),
           once m (λ u. on_in u v),
         );
-        entries = fair.entries;
+        entries = account.entries;
         walked = λ level lv.
             let deeper : level out ≡ level wire + 1 = ap (λ (x : Network). level (output_wire x.table b (n % 2))) of ∙ lv.output wire b (n % 2) there ends (omega arith) in
-            omega (arith, fair.walked level lv, weighed-went level (Balancer b) lands, at-one m out level lands, length_push v.passages (record { balancer = b; number = n }));
+            omega (arith, account.walked level lv, weighed-went level (Balancer b) lands, at-one m out level lands, length_push v.passages (record { balancer = b; number = n }));
       }
-  fair-gone (Exit i) ends lands fair =
+  accounted-gone (Exit i) ends lands account =
       let m : ℕ = length v.tokens in
       let g : Grant = record { client = client; exit = i; visit = n; name = name_of v.start.network.table.width i n - base v.start } in
       record {
-        told = omega (
+        all = omega (
           arith,
-          fair.told,
+          account.all,
           weighed-went (λ _. 1) (Exit i) lands,
           at-none m (λ _. 1),
           once (length (went (Exit i)).tokens) (λ u. on_in u (went (Exit i))),
           once m (λ u. on_in u v),
           length_push v.grants g,
         );
-        entries = fair.entries;
+        entries = account.entries;
         walked = λ level lv.
             let last : level wire ≡ network.depth = lv.exit wire i there ends in
             let more : network.depth * length (v.grants ++ g ∷ []) ≡ network.depth * (length v.grants + 1) = ap (λ (k : ℕ). network.depth * k) (length_push v.grants g) in
-            omega (arith, fair.walked level lv, weighed-went level (Exit i) lands, at-none m level);
+            omega (arith, account.walked level lv, weighed-went level (Exit i) lands, at-none m level);
       }

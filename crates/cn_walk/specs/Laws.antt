@@ -1,0 +1,56 @@
+-- What the laws of floors say.
+use Rattle.std.specs.Prelude.{◌≡◌, ℕ, ◌+◌, ◌*◌, ◌≤◌, length, sum_by}
+use mathlib.Core.Option.{some}
+use lib.ListN.{get_elem?}
+use Rattle.atomic_table.specs.Table.{State}
+use Rattle.cn_wiring.specs.declared.end.End.{End}
+use Rattle.cn_wiring.specs.Levels.{IsLevel}
+use Rattle.cn_wiring.specs.Table.{Stands}
+use Rattle.cn_ledger.specs.Ledger.{Ledger}
+use Rattle.cn_walk.specs.declared.view.Start.{Start}
+use Rattle.cn_walk.specs.declared.view.View.{View}
+use Rattle.cn_walk.specs.Rule.{IsKept, ledger_of}
+use Rattle.cn_walk.specs.Views.{base, given_in, inside_in, levels_in}
+use Rattle.cn_walk.specs.Words.{clients_in, count_in}
+
+-- the words and the views of a floor
+abbrev pub Floor : Type 0
+Floor = State (Unit {0}) View
+
+-- whatever keeps the rule is such
+abbrev pub AtEachMoment : (Start → Floor → Type 0) → Type 0
+AtEachMoment P = (start : Start) (s : Floor) → IsKept start s → P start s
+
+-- and so is each view in it
+abbrev pub InEachView : (Start → Floor → View → Type 0) → Type 0
+InEachView P = AtEachMoment (λ start s. (id : ℕ) (v : View) → get_elem? s.views id ≡ some v → P start s v)
+
+-- the ledger of all that ever came
+abbrev pub ledger_at : Start → Floor → Ledger
+ledger_at start s = ledger_of start.network.table start.carried s.words s.views
+
+-- how many ever came, as the words tell
+abbrev pub came_at : Start → Floor → ℕ
+came_at start s = clients_in start.network.table s.words
+
+-- no two passages or visits of any lanes have one number
+abbrev pub NumbersDiffer : Start → Floor → Type 0
+NumbersDiffer start s =
+    (end : End) (n : ℕ) → Stands start.network.table end → sum_by (given_in end n) s.views ≤ 1
+
+-- no count is more than the number that ever came
+abbrev pub HasFewWords : Start → Floor → Type 0
+HasFewWords start s =
+    (end : End) → Stands start.network.table end → count_in start.network.table s.words end ≤ came_at start s
+
+-- the passages are the depth for each grant, and the levels of those inside
+abbrev pub HasWalked : Start → View → Type 0
+HasWalked start v =
+    (level : ℕ → ℕ) → IsLevel start.network.table start.network.depth level
+    → length v.passages ≡ start.network.depth * length v.grants + levels_in level v
+
+-- where nobody is inside, each client came in, passed as many balancers as the network is deep, and left
+abbrev pub TakesItsSteps : Start → View → Type 0
+TakesItsSteps start v =
+    inside_in v ≡ 0
+    → length v.entries + length v.passages + length v.grants ≡ (start.network.depth + 2) * length v.grants
