@@ -1,5 +1,5 @@
 -- Two walks side by side, and their lanes taken together.
-use Rattle.std.proofs.Common.{rules, Option, Some, None, IfSome, ◌≡◌, ℕ, ◌+◌, ◌-◌, ◌*◌, ◌/◌, ◌<◌, ◌≤◌, inl, inr, get_or, replicate, subst, eqb, cond, List, [], ◌∷◌, ◌++◌, length, map, max, sym, refl, ap, ◌∙◌, arith, append-nil}
+use Rattle.std.proofs.Common.{rules, Option, Some, None, IfSome, ◌≡◌, ℕ, ◌+◌, ◌-◌, ◌*◌, ◌/◌, ◌<◌, ◌≤◌, inl, inr, replicate, subst, eqb, cond, List, [], ◌++◌, length, map, max, sym, refl, ap, ◌∙◌, arith, append-nil}
 use Rattle.std.proofs.Math.Nat.{div-mul-le_self, mul-le-mul_right}
 use Rattle.std.proofs.lemmas.Bool.{cases_lt}
 use Rattle.std.proofs.lemmas.List.{append_assoc, get_or-replicate, get_or_past, length-replicate, map-append}

@@ -1,4 +1,4 @@
-use Rattle.std.proofs.Common.{rules, ◌≡◌, ℕ, arith, length, ap, ◌∙◌, subst}
+use Rattle.std.proofs.Common.{rules, ℕ, arith, length, ap, ◌∙◌, subst}
 use Rattle.cn_walk.specs.declared.floor.CloseFault.{CloseFault}
 use Rattle.cn_walk.specs.declared.view.Start.{Start}
 use Rattle.cn_walk.specs.Closing.{IsCloseRefused}

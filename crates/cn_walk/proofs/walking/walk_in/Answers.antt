@@ -1,6 +1,4 @@
-use Rattle.std.proofs.Common.{rules, ◌≡◌, ℕ, ◌<◌, ◌∙◌, ap, arith, get_or, length, take}
-use Rattle.std.proofs.lemmas.List.{length-take}
-use Rattle.cn_core.specs.declared.client.Client.{Client}
+use Rattle.std.proofs.Common.{rules, ◌<◌, ◌∙◌, ap}
 use Rattle.cn_walk.specs.Lane.{Home}
 use Rattle.cn_walk.proofs.Walks.{IsHeld, comes, comes_next}
 use Rattle.cn_walk.proofs.walking.walk_in.Goals as goal
