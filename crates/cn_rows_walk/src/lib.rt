@@ -5,6 +5,12 @@
 #[cfg(test)]
 mod ample_memory;
 #[cfg(test)]
+mod epochs;
+#[cfg(test)]
+mod meeting;
+#[cfg(test)]
+mod missing_lane;
+#[cfg(test)]
 mod one_lane;
 #[cfg(test)]
 mod refusals;

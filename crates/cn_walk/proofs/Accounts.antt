@@ -42,7 +42,7 @@ weighed-on n g old new from to h =
     sum_below-shift n (λ u. g u * new u) (λ u. g u * from u) (λ u. g u * old u) (λ u. g u * to u) (λ u l. weighed (g u) (new u) (from u) (old u) (to u) (h u))
 
 -- a sum of nothing
-at-none : (n : ℕ) (g : ℕ → ℕ) → sum_below n (λ u. g u * 0) ≡ 0
+pub at-none : (n : ℕ) (g : ℕ → ℕ) → sum_below n (λ u. g u * 0) ≡ 0
 at-none n g = sum_below-zero n (λ u. g u * 0) (λ u. omega arith)
 
 once : (n : ℕ) (f : ℕ → ℕ) → sum_below n (λ u. 1 * f u) ≡ sum_below n f
@@ -87,7 +87,7 @@ module _ (network : Network) (token client wire n : ℕ) (v : View) (is : IsTher
   wires-went (Balancer b) = length-map-range_with_len (λ u. without token (get_or v.tokens u []) ++ last_on token client (output_wire v.start.network.table b (n % 2)) u) 0 (length v.tokens)
   wires-went (Exit i) = length-map-range_with_len (λ u. without token (get_or v.tokens u []) ++ []) 0 (length v.tokens)
 
-  weighed-went : (g : ℕ → ℕ) (end : End) → Lands n v end
+  pub weighed-went : (g : ℕ → ℕ) (end : End) → Lands n v end
       → sum_below (length (went end).tokens) (λ u. g u * on_in u (went end)) + g wire ≡ sum_below (length v.tokens) (λ u. g u * on_in u v) + sum_below (length v.tokens) (λ u. g u * onto n v end u)
   weighed-went g end lands =
       let m : ℕ = length v.tokens in

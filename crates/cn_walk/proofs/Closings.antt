@@ -52,7 +52,7 @@ at_all (y ∷ ys) zero x e = (omega arith, some-injective y x e)
 at_all (y ∷ ys) (suc i) x e = let r = at_all ys i x e in (omega (arith, r.0), r.1)
 
 -- lists of the same numbers
-map-same : (f g : ℕ → ℕ) (a n : ℕ) → ((i : ℕ) → a ≤ i → i < a + n → f i ≡ g i) → map f (range_with_len a n) ≡ map g (range_with_len a n)
+pub map-same : (f g : ℕ → ℕ) (a n : ℕ) → ((i : ℕ) → a ≤ i → i < a + n → f i ≡ g i) → map f (range_with_len a n) ≡ map g (range_with_len a n)
 map-same f g a zero same = refl
 map-same f g a (suc n) same = λ x. same a (omega arith) (omega arith) x ∷ map-same f g (a + 1) n (λ i l h. same i (omega arith) (omega arith)) x
 

@@ -15,4 +15,7 @@ mod Ends
 mod Sharing
 mod Closings
 mod Holding
+mod Walks
+mod Halves
+mod Runs
 mod Walked

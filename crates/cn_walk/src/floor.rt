@@ -347,6 +347,14 @@ impl<'a> Floor<'a> {
         Ok(lane)
     }
 
+    /// The network that it was opened over.
+    pub(crate) fn network(&self) -> &'a Counting
+        ensures value { result.now ≡ self.now.start.network }
+        ensures network { IsNetwork self.now.start.network }
+    {
+        self.network
+    }
+
     /// Ends the floor. Its lane is to have all that came in.
     ///
     /// # Errors

@@ -3,9 +3,16 @@
 
 mod fault;
 mod floor;
+mod forking;
+mod gate;
 pub mod laws;
+mod running;
 mod view;
+mod walking;
 
 pub use fault::{JoinFault, LaneFault, OpenFault, SplitFault};
 pub use floor::{CloseFault, Floor, Lane, Quiet};
+pub use gate::{Gate, Moment, OpenGate};
+pub use running::{RunFault, run_epoch};
 pub use view::{Grant, Opening, Passage, Start, View};
+pub use walking::walk_all;

@@ -43,6 +43,7 @@ impl Lane {
     ///
     /// It does nothing: its contract is the law.
     pub fn lane_laws(&self)
+        ensures start { self.now.view.start ≡ self.now.home.start }
         ensures tokens { self.now.yard.lists ≡ self.now.view.tokens }
         ensures wires { length self.now.yard.lists ≡ length self.now.home.start.network.table.ends }
         ensures few { tokens_in self.now.yard.lists + self.now.view.quota ≤ MOST_CLIENTS }

@@ -1,0 +1,106 @@
+-- Two walks side by side, and their lanes taken together.
+use Rattle.std.proofs.Common.{rules, Option, Some, None, IfSome, ◌≡◌, ℕ, ◌+◌, ◌-◌, ◌*◌, ◌/◌, ◌<◌, ◌≤◌, inl, inr, replicate, subst, eqb, cond, List, [], ◌++◌, length, map, max, sym, refl, ap, ◌∙◌, arith, append-nil}
+use Rattle.std.proofs.Math.Nat.{div-mul-le_self, mul-le-mul_right}
+use Rattle.std.proofs.lemmas.Bool.{cases_lt}
+use Rattle.std.proofs.lemmas.List.{append_assoc, get_or-replicate, get_or_past, length-replicate, map-append}
+use Rattle.std.proofs.lemmas.Nat.{le-div}
+use Rattle.std.proofs.lemmas.List.Sums.{sum_by-append}
+use Rattle.cn_core.specs.declared.client.Client.{Client}
+use Rattle.cn_yard.specs.Lists.{empty, on, tokens_in}
+use Rattle.cn_walk.specs.declared.forking.Lanes.{Lanes}
+use Rattle.cn_walk.specs.declared.forking.Lanes.TheVariants.{One, Halves'}
+use Rattle.cn_walk.specs.declared.view.Grant.{Grant}
+use Rattle.cn_walk.specs.Halves.{AreReady, HasNothing, IsPair, IsReady, first_of, together, whole}
+use Rattle.cn_walk.specs.Lane.{Home, LaneValue, new_lane, with_room}
+use Rattle.cn_walk.specs.Views.{split_left, split_right}
+use Rattle.cn_walk.specs.Walks.{WalksAll}
+use Rattle.cn_walk.proofs.Walks.{length_both, nobody-there}
+
+-- what a lane that had nothing has is put last
+put_last : {X : Type 0} (a b xs ys : List X) → b ≡ [] → (a ++ xs) ++ (b ++ ys) ≡ (a ++ b) ++ (xs ++ ys)
+put_last a b xs ys none =
+    ap (λ (zs : List _). (a ++ xs) ++ (zs ++ ys)) none ∙ append_assoc a xs ys ∙ ap (λ (zs : List _). zs ++ (xs ++ ys)) (sym (append-nil a)) ∙ ap (λ (zs : List _). (a ++ zs) ++ (xs ++ ys)) (sym none)
+
+pub both_walked : (a b c d : LaneValue) (xs ys : List Client) → b.view.entries ≡ [] → b.view.grants ≡ [] → WalksAll a c xs → WalksAll b d ys → WalksAll (together a b) (together c d) (xs ++ ys)
+both_walked a b c d xs ys no_entries no_grants p q =
+    let (more, grants, for) = p.grants in
+    let (later, grants2, for2) = q.grants in
+    let entry : Client → ℕ = λ k. k.entry in
+    let many : length d.view.grants ≡ length b.view.grants + length later = ap length grants2 ∙ length_both b.view.grants later in
+    record {
+      home = p.home;
+      out = p.out;
+      quota = omega (arith, p.quota, q.quota, length_both xs ys);
+      room = omega (arith, p.room, length_both xs ys, many, for2.as_many, ap length no_grants);
+      entries = (λ i. p.entries i ++ q.entries i) ∙ put_last a.view.entries b.view.entries (map entry xs) (map entry ys) no_entries ∙ ap (λ (es : List ℕ). (a.view.entries ++ b.view.entries) ++ es) (sym (map-append entry xs ys));
+      seen = λ i. max (p.seen i) (q.seen i);
+      grants = (
+        more ++ later,
+        (λ i. grants i ++ grants2 i) ∙ put_last a.view.grants b.view.grants more later no_grants,
+        record {
+          as_many = omega (arith, length_both more later, length_both xs ys, for.as_many, for2.as_many);
+          as_often = λ id.
+              omega (
+                arith,
+                for.as_often id,
+                for2.as_often id,
+                sum_by-append (λ (g : Grant). cond (eqb g.client id) 1 0) more later,
+                sum_by-append (λ (k : Client). cond (eqb k.id id) 1 0) xs ys,
+              );
+        },
+      );
+    }
+
+-- lanes that are ready are so as one
+pub whole_ready : (home : Home) (n : ℕ) (lanes : Lanes) → AreReady home n lanes → IsReady home n (whole lanes)
+whole_ready home n (One lane worker) r = r
+whole_ready home n (Halves' at p left q right) r = r.0
+
+-- a later worker's clients come later
+pub first_later : (k w a b : ℕ) → 0 < w → a ≤ b → first_of k w a ≤ first_of k w b
+first_later k w a b some h = le-div (a * k / w) (b * k) w some (omega (arith, div-mul-le_self (a * k) w, mul-le-mul_right k h))
+
+-- an empty yard
+pub nobody-in : (n : ℕ) → tokens_in (empty n).lists ≡ 0
+nobody-in n =
+    nobody-there (empty n).lists (λ u. ap (λ (es : List (ℕ × ℕ)). length es) (none u))
+  where
+    none : (u : ℕ) → on (empty n).lists u ≡ []
+    none u = elim (cases_lt u n) [ inl l ↦ get_or-replicate n u [] [] l | inr l ↦ get_or_past (replicate n []) u [] (omega (arith, length-replicate {A = List (ℕ × ℕ)} n [])) ]
+
+-- a lane for which more is reserved, of which some is split off, and the one that is split off
+pub reserved_nothing : (n : ℕ) (a b : LaneValue) → HasNothing a → b ≡ with_room n a → HasNothing b
+reserved_nothing n a b is same = subst HasNothing (sym same) (record { inside = is.inside; entries = is.entries; grants = is.grants })
+
+pub left_nothing : (q : ℕ) (a b : LaneValue) → HasNothing a → b ≡ record a { view = split_left q a.view } → HasNothing b
+left_nothing q a b is same = subst HasNothing (sym same) (record { inside = is.inside; entries = is.entries; grants = is.grants })
+
+pub right_nothing : (q : ℕ) (a b : LaneValue) → b ≡ record (new_lane a.home q) { view = split_right q a.view } → HasNothing b
+right_nothing q a b same = subst HasNothing (sym same) (record { inside = nobody-in (length a.home.start.network.table.ends); entries = refl; grants = refl })
+
+-- two halves that are ready
+pub both_ready : (home : Home) (n at : ℕ) (left right : Lanes) → at ≤ n → n ≤ (whole left).room → AreReady home at left → AreReady home (n - at) right → IsReady home n (together (whole left) (whole right))
+both_ready home n at left right h room a b =
+    let x = whole_ready home at left a in
+    let y = whole_ready home (n - at) right b in
+    record {
+      home_is = x.home_is;
+      nothing = record {
+        inside = x.nothing.inside;
+        entries = λ i. x.nothing.entries i ++ y.nothing.entries i;
+        grants = λ i. x.nothing.grants i ++ y.nothing.grants i;
+      };
+      quota = omega (arith, x.quota, y.quota);
+      room = omega (arith, ap (λ (gs : List Grant). length gs) y.nothing.grants);
+    }
+
+-- what a pair is ready for
+pub pair_ready : (home : Home) (n at r : ℕ) (left right lanes : Lanes) → IsPair at left right lanes → at ≤ n → n ≤ (whole left).room → AreReady home at left → AreReady home r right → r ≡ n - at
+    → AreReady home n lanes
+pair_ready home n at r left right lanes is less room a b rest =
+    let second : AreReady home (n - at) right = subst (λ (k : ℕ). AreReady home k right) rest b in
+    is.ready home n (both_ready home n at left right less room a second) less a second
+
+pub some_so : {X : Type 0} (P Q : X → Type 0) (o : Option X) → ((x : X) → P x → Q x) → IfSome o P → IfSome o Q
+some_so P Q None f p = search rules
+some_so P Q (Some x) f p = f x p

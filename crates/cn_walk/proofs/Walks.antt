@@ -1,0 +1,282 @@
+-- Walks one after the other, and what one step is to a walk.
+use Rattle.std.proofs.Common.{rules, ◌≡◌, ℕ, zero, suc, ◌+◌, ◌-◌, ◌*◌, ◌%◌, ◌<◌, inl, inr, cond, eqb, List, [], ◌∷◌, ◌++◌, length, get_or, map, sum_by, take, Option, Some, None, sym, refl, ap, ◌∙◌, subst, arith, append-nil}
+use Rattle.std.specs.Prelude.{IsSome}
+use Rattle.std.specs.Map.{lookup}
+use Rattle.std.proofs.lemmas.Bool.{cases_eq, cases_lt, eq-eqb}
+use Rattle.std.proofs.lemmas.List.{append_assoc, get_or_past, map-append, take_more}
+use Rattle.std.proofs.lemmas.List.FromFn.{length-map-range_with_len}
+use Rattle.std.proofs.lemmas.Nat.{mod_below}
+use Rattle.std.proofs.lemmas.List.Sums.{sum_by-append, sum_by-cons}
+use Rattle.cn_spec.specs.Step.{name_of}
+use Rattle.cn_spec.specs.Sums.{sum_below, when}
+use Rattle.cn_spec.proofs.CallerLemmas.{sum_below-one, sum_below-plus, sum_below-same, sum_below-shift, sum_below-zero}
+use Rattle.cn_wiring.specs.declared.end.End.{End}
+use Rattle.cn_wiring.specs.declared.end.End.TheVariants.{Balancer, Exit}
+use Rattle.cn_wiring.specs.Table.{LeadsOn, Stands, Table, end_of, output_wire}
+use Rattle.cn_core.specs.declared.client.Client.{Client}
+use Rattle.cn_core.specs.declared.reply.Moved.{Moved}
+use Rattle.cn_yard.specs.Lists.{IsLowest, IsThere, Lists, first_of, here_or, last_on, on, standing, standing_below, tokens_in, without}
+use Rattle.cn_walk.specs.declared.view.Grant.{Grant}
+use Rattle.cn_walk.specs.declared.view.Start.{Start}
+use Rattle.cn_walk.specs.declared.view.View.{View}
+use Rattle.cn_walk.specs.Lane.{LaneValue, LetsIn, StepsOn}
+use Rattle.cn_walk.specs.Views.{base, entered, gone, on_in}
+use Rattle.cn_walk.specs.Walks.{WalksAll, Walks, inside_by, steps_left}
+use Rattle.cn_walk.proofs.Closings.{inside-yard, none-on}
+use Rattle.cn_walk.proofs.Accounts.{at-none, at-one, weighed-went}
+use Rattle.cn_walk.proofs.Ledgers.{Lands}
+use Rattle.cn_walk.proofs.Lists.{weigh-come, weigh-leave, weigh-pass}
+
+-- nothing happens
+pub stays : (a : LaneValue) → Walks a a []
+stays a = record {
+  home = refl;
+  quota = omega arith;
+  room = omega arith;
+  entries = sym (append-nil a.view.entries);
+  seen = refl;
+  grants = ([], sym (append-nil a.view.grants), λ f. omega arith);
+}
+
+pub length_both : {X : Type 0} (us vs : List X) → length (us ++ vs) ≡ length us + length vs
+length_both [] vs = omega arith
+length_both (u ∷ us) vs = omega (arith, length_both us vs)
+
+-- one walk and then another
+pub walks_on : (a b c : LaneValue) (xs ys : List Client) → Walks a b xs → Walks b c ys → Walks a c (xs ++ ys)
+walks_on a b c xs ys p q =
+    let (more, grants, even) = p.grants in
+    let (later, grants2, even2) = q.grants in
+    let entry : Client → ℕ = λ k. k.entry in
+    record {
+      home = q.home ∙ p.home;
+      quota = omega (arith, p.quota, q.quota, length_both xs ys);
+      room = omega (arith, p.room, q.room, length_both xs ys);
+      entries = q.entries ∙ ap (λ (es : List ℕ). es ++ map entry ys) p.entries ∙ append_assoc a.view.entries (map entry xs) (map entry ys)
+          ∙ ap (λ (es : List ℕ). a.view.entries ++ es) (sym (map-append entry xs ys));
+      seen = q.seen ∙ p.seen;
+      grants = (
+        more ++ later,
+        grants2 ∙ ap (λ (gs : List Grant). gs ++ later) grants ∙ append_assoc a.view.grants more later,
+        λ f. omega (arith, even f, even2 f, sum_by-append (λ (g : Grant). f g.client) more later, sum_by-append (λ (k : Client). f k.id) xs ys),
+      );
+    }
+
+-- what the laws of a lane tell of it
+pub record IsHeld (a : LaneValue) : Type 0 where
+  pub start : a.view.start ≡ a.home.start
+  pub tokens : a.yard.lists ≡ a.view.tokens
+  pub wires : length a.yard.lists ≡ length a.home.start.network.table.ends
+  pub there : (token client wire : ℕ) → standing a.yard.lists token ≡ Some (wire, client) → IsThere a.yard.lists token client wire
+
+-- ---- a client comes in
+
+came_by : (f : ℕ → ℕ) (token client entry : ℕ) (v : View) → entry < length v.tokens → inside_by f (entered token client entry v) ≡ inside_by f v + f client
+came_by f token client entry v inside =
+    let m : ℕ = length v.tokens in
+    let w : View = entered token client entry v in
+    let weight : ℕ → ℕ = λ u. sum_by (λ (e : ℕ × ℕ). f e.1) (on v.tokens u) in
+    let wires : length w.tokens ≡ m = length-map-range_with_len (λ u. on v.tokens u ++ last_on token client entry u) 0 m in
+    let same : sum_below m (λ u. sum_by (λ (e : ℕ × ℕ). f e.1) (on w.tokens u)) ≡ sum_below m (λ u. weight u + when (eqb entry u) (f client)) =
+    sum_below-same m (λ u. sum_by (λ (e : ℕ × ℕ). f e.1) (on w.tokens u)) (λ u. weight u + when (eqb entry u) (f client)) (λ u l. weigh-come v.tokens token client entry inside u (λ e. f e.1)) in
+    ap (λ (k : ℕ). sum_below k (λ u. sum_by (λ (e : ℕ × ℕ). f e.1) (on w.tokens u))) wires ∙ same
+    ∙ omega (arith, sum_below-plus m weight (λ u. when (eqb entry u) (f client)), sum_below-one m entry (f client) inside)
+
+pub comes : (a b : LaneValue) (token client entry : ℕ) → IsHeld a → 0 < a.view.quota → entry < a.home.start.network.table.entries → LetsIn a b token client entry
+    → Walks a b (record { id = client; entry = entry } ∷ [])
+comes a b token client entry held some low is =
+    let formed = is.step.kept_before.began.network.formed in
+    let wire : entry < length a.view.tokens = omega (arith, low, formed.wires, held.wires, ap length held.tokens) in
+    record {
+      home = is.home;
+      quota = omega (arith, some, ap (λ (v : View). v.quota) is.view);
+      room = omega (arith, is.room);
+      entries = ap (λ (v : View). v.entries) is.view;
+      seen = ap (λ (v : View). v.seen) is.view;
+      grants = (
+        [],
+        ap (λ (v : View). v.grants) is.view ∙ sym (append-nil a.view.grants),
+        λ f. omega (arith, ap (λ (v : View). inside_by f v) is.view, came_by f token client entry a.view wire),
+      );
+    }
+
+-- the next client of a list comes in
+pub comes_next : (a b c : LaneValue) (i : ℕ) (d : Client) (xs : List Client) → i < length xs → Walks a b (take i xs)
+    → Walks b c (record { id = (get_or xs i d).id; entry = (get_or xs i d).entry } ∷ []) → Walks a c (take (i + 1) xs)
+comes_next a b c i d xs l p is =
+    subst (λ (ys : List Client). Walks a c ys) (sym (take_more xs i d l)) (walks_on a b c (take i xs) (get_or xs i d ∷ []) p is)
+
+-- ---- a token goes on
+
+module _ (token client wire n : ℕ) (v : View) (is : IsThere v.tokens token client wire) (f : ℕ → ℕ) where
+  long : (end : End) → length (gone token client end n v).tokens ≡ length v.tokens
+  long (Balancer b) = length-map-range_with_len (λ u. without token (get_or v.tokens u []) ++ last_on token client (output_wire v.start.network.table b (n % 2)) u) 0 (length v.tokens)
+  long (Exit i) = length-map-range_with_len (λ u. without token (get_or v.tokens u []) ++ []) 0 (length v.tokens)
+
+  passed_by : (b : ℕ) → Lands n v (Balancer b) → inside_by f (gone token client (Balancer b) n v) ≡ inside_by f v
+  passed_by b lands =
+      let m : ℕ = length v.tokens in
+      let w : View = gone token client (Balancer b) n v in
+      let to : ℕ = output_wire v.start.network.table b (n % 2) in
+      let moved = sum_below-shift m (λ u. sum_by (λ (e : ℕ × ℕ). f e.1) (on w.tokens u)) (λ u. when (eqb wire u) (f client)) (λ u. sum_by (λ (e : ℕ × ℕ). f e.1) (on v.tokens u)) (λ u. when (eqb to u) (f client))
+      (λ u l. weigh-pass v.tokens token client wire to is lands u (λ e. f e.1)) in
+      ap (λ (k : ℕ). sum_below k (λ u. sum_by (λ (e : ℕ × ℕ). f e.1) (on w.tokens u))) (long (Balancer b)) ∙ omega (arith, moved, sum_below-one m wire (f client) is.inside, sum_below-one m to (f client) lands)
+
+  left_by : (i : ℕ) → inside_by f (gone token client (Exit i) n v) + f client ≡ inside_by f v
+  left_by i =
+      let m : ℕ = length v.tokens in
+      let w : View = gone token client (Exit i) n v in
+      let moved = sum_below-shift m (λ u. sum_by (λ (e : ℕ × ℕ). f e.1) (on w.tokens u)) (λ u. when (eqb wire u) (f client)) (λ u. sum_by (λ (e : ℕ × ℕ). f e.1) (on v.tokens u)) (λ u. 0)
+      (λ u l. omega (arith, weigh-leave v.tokens token client wire is u (λ e. f e.1))) in
+      let same = ap (λ (k : ℕ). sum_below k (λ u. sum_by (λ (e : ℕ × ℕ). f e.1) (on w.tokens u))) (long (Exit i)) in
+      omega (arith, same, moved, sum_below-one m wire (f client) is.inside, sum_below-zero m (λ _. 0) (λ _. refl))
+
+-- how much less is left
+module _ (token client wire n : ℕ) (v : View) (is : IsThere v.tokens token client wire) (there : wire < length v.start.network.table.ends) where
+  abbrev g : ℕ → ℕ
+  g u = length v.tokens - u
+
+  left : (end : End) → sum_below (length (gone token client end n v).tokens) (λ u. g u * on_in u (gone token client end n v)) ≡ steps_left (gone token client end n v)
+  left end =
+      let w : View = gone token client end n v in
+      ap (λ (k : ℕ). sum_below (length w.tokens) (λ u. (k - u) * on_in u w)) (sym (long token client wire n v is (λ _. 0) end))
+
+  less_passed : (b : ℕ) → Lands n v (Balancer b) → wire < output_wire v.start.network.table b (n % 2) → steps_left (gone token client (Balancer b) n v) < steps_left v
+  less_passed b lands on =
+      omega (arith, left (Balancer b), weighed-went v.start.network token client wire n v is there refl g (Balancer b) lands, at-one (length v.tokens) (output_wire v.start.network.table b (n % 2)) g lands)
+
+  less_left : (i : ℕ) → steps_left (gone token client (Exit i) n v) < steps_left v
+  less_left i =
+      omega (arith, left (Exit i), weighed-went v.start.network token client wire n v is there refl g (Exit i) tt, at-none (length v.tokens) g, is.inside)
+
+pub goes : (a b : LaneValue) (token client wire n : ℕ) (answer : Moved) → StepsOn a b token client wire n answer → IsHeld a → Walks a b [] × (steps_left b.view < steps_left a.view)
+goes a b token client wire n answer is held = by (end_of a.home.start.network.table wire) refl
+  where
+    v : View
+    v = a.view
+
+    t : Table
+    t = a.home.start.network.table
+
+    at : IsThere v.tokens token client wire
+    at = subst (λ (ls : Lists). IsThere ls token client wire) held.tokens (held.there token client wire is.stood)
+
+    inside : wire < length t.ends
+    inside = omega (arith, at.inside, ap length held.tokens, held.wires)
+
+    here : wire < length v.start.network.table.ends
+    here = omega (arith, inside, ap (λ (s : Start). length s.network.table.ends) held.start)
+
+    by : (e : End) → end_of t wire ≡ e → Walks a b [] × (steps_left b.view < steps_left a.view)
+    by (Balancer c) ends =
+        let view : b.view ≡ gone token client (Balancer c) n v = is.view ∙ ap (λ (e : End). gone token client e n v) ends in
+        let formed = is.step.kept_before.began.network.formed in
+        let stands : c < t.balancers = subst (λ (e : End). Stands t e) ends (formed.stands wire inside) in
+        let forward : wire < t.entries + 2 * c = subst (λ (e : End). LeadsOn t wire e) ends (formed.forward wire inside) in
+        let entries : v.start.network.table.entries ≡ t.entries = ap (λ (s : Start). s.network.table.entries) held.start in
+        let two = mod_below n 2 (omega arith) in
+        let lands : output_wire v.start.network.table c (n % 2) < length v.tokens = omega (arith, stands, entries, two, formed.wires, held.wires, ap length held.tokens) in (
+          record {
+            home = is.home;
+            quota = omega (arith, ap (λ (x : View). x.quota) view);
+            room = omega (arith, is.room);
+            entries = ap (λ (x : View). x.entries) view ∙ sym (append-nil v.entries);
+            seen = ap (λ (x : View). x.seen) view;
+            grants = ([], ap (λ (x : View). x.grants) view ∙ sym (append-nil v.grants), λ f. omega (arith, ap (λ (x : View). inside_by f x) view, passed_by token client wire n v at f c lands));
+          },
+          omega (arith, ap steps_left view, less_passed token client wire n v at here c lands (omega (arith, entries, forward))),
+        )
+    by (Exit i) ends =
+        let view : b.view ≡ gone token client (Exit i) n v = is.view ∙ ap (λ (e : End). gone token client e n v) ends in
+        let grant : Grant = record { client = client; exit = i; visit = n; name = name_of v.start.network.table.width i n - base v.start } in (
+          record {
+            home = is.home;
+            quota = omega (arith, ap (λ (x : View). x.quota) view);
+            room = omega (arith, is.room);
+            entries = ap (λ (x : View). x.entries) view ∙ sym (append-nil v.entries);
+            seen = ap (λ (x : View). x.seen) view;
+            grants = (
+              grant ∷ [],
+              ap (λ (x : View). x.grants) view,
+              λ f. omega (arith, ap (λ (x : View). inside_by f x) view, left_by token client wire n v at f i),
+            );
+          },
+          omega (arith, ap steps_left view, less_left token client wire n v at here i),
+        )
+
+-- ---- whole walks
+
+-- where no token stands, nobody weighs anything
+pub none_by : (a : LaneValue) → IsHeld a → tokens_in a.yard.lists ≡ 0 → (f : ℕ → ℕ) → inside_by f a.view ≡ 0
+none_by a held none f =
+    sum_below-zero (length a.view.tokens) (λ u. sum_by (λ (e : ℕ × ℕ). f e.1) (on a.view.tokens u)) (λ u. empty_by (on a.view.tokens u) (none-on a.view (inside-yard a.yard a.view held.tokens ∙ none) u))
+  where
+    empty_by : (es : List (ℕ × ℕ)) → length es ≡ 0 → sum_by (λ (e : ℕ × ℕ). f e.1) es ≡ 0
+    empty_by [] h = refl
+    empty_by (e ∷ es) h = absurd (omega arith)
+
+each_one : {X : Type 0} (xs : List X) → sum_by (λ (x : X). 1) xs ≡ length xs
+each_one [] = refl
+each_one {X} (x ∷ xs) = omega (arith, each_one xs, sum_by-cons (λ (y : X). 1) x xs)
+
+pub walked : (a b : LaneValue) (xs : List Client) → Walks a b xs → tokens_in b.yard.lists ≡ 0 → ((f : ℕ → ℕ) → inside_by f a.view ≡ 0) → ((f : ℕ → ℕ) → inside_by f b.view ≡ 0)
+    → WalksAll a b xs
+walked a b xs w out before after =
+    let (more, grants, even) = w.grants in
+    let is : ℕ → ℕ → ℕ = λ id d. cond (eqb d id) 1 0 in
+    record {
+      home = w.home;
+      out = out;
+      quota = w.quota;
+      room = w.room;
+      entries = w.entries;
+      seen = w.seen;
+      grants = (
+        more,
+        grants,
+        record {
+          as_many = omega (arith, even (λ _. 1), before (λ _. 1), after (λ _. 1), each_one more, each_one xs);
+          as_often = λ id. omega (arith, even (is id), before (is id), after (is id));
+        },
+      );
+    }
+
+-- ---- the yard of a lane
+
+-- where nobody stands on any wire nobody is inside
+pub nobody-there : (y : Lists) → ((wire : ℕ) → length (on y wire) ≡ 0) → tokens_in y ≡ 0
+nobody-there y none = sum_below-zero (length y) (λ u. length (on y u)) none
+
+-- the lowest wire is a wire of the network
+pub lowest-inside : (y : Lists) (wire : ℕ) → IsLowest y wire → wire < length y
+lowest-inside y wire is = elim (cases_lt wire (length y)) [
+  | inl l ↦ l
+  | inr l ↦ absurd (omega (arith, is.some, ap (λ (es : List (ℕ × ℕ)). length es) (get_or_past y wire [] l)))
+]
+
+found : (es : List (ℕ × ℕ)) (token : ℕ) → first_of es ≡ Some token → IsSome (lookup (eqb token) es)
+found [] token h = cc
+found (e ∷ es) token h = let same : e.0 ≡ token = cc in rw (eq-eqb token e.0 (sym same)) (search rules)
+
+stands-below : (y : Lists) (wire token n : ℕ) → IsSome (lookup (eqb token) (on y wire)) → wire < n → IsSome (standing_below n y token)
+unfolding standing_below
+stands-below y wire token zero some h = absurd (omega arith)
+stands-below y wire token (suc n) some h = by (lookup (eqb token) (on y n)) refl (λ l. stands-below y wire token n some l)
+  where
+    by : (o : Option ℕ) → lookup (eqb token) (on y n) ≡ o → (wire < n → IsSome (standing_below n y token)) → IsSome (here_or n o (standing_below n y token))
+    by (Some c) is rest = search rules
+    by None is rest = elim (cases_eq wire n) [
+      | inl e ↦ absurd (none (on y n) (subst (λ (u : ℕ). IsSome (lookup (eqb token) (on y u))) e some) is)
+      | inr d ↦ rest (omega arith)
+    ]
+      where
+        none : (es : List (ℕ × ℕ)) → IsSome (lookup (eqb token) es) → lookup (eqb token) es ≡ None → ⊥
+        none es a b = cc
+
+-- the first token of a wire stands in the yard
+pub first-stands : (y : Lists) (wire token : ℕ) → wire < length y → first_of (on y wire) ≡ Some token → IsSome (standing y token)
+first-stands y wire token inside first = stands-below y wire token (length y) (found (on y wire) token first) inside
+
+pub none_left : {X : Type 0} (xs : List X) → length xs ≡ 0 → xs ≡ []
+none_left [] h = refl
+none_left (x ∷ xs) h = absurd (omega arith)

@@ -1,0 +1,12 @@
+use Rattle.std.proofs.Common.{◌+◌, ◌*◌}
+use Rattle.cn_walk.specs.Halves.{nodes}
+use Rattle.cn_walk.proofs.forking.+fn-walk_lanes-join+arg2+fn-walk_lanes-join+arg3+walk_lanes.Given as goal
+
+abbrev pub decreases-join+arg2 : goal.decreases-join+arg2
+decreases-join+arg2 g l = 2 * nodes l.left + 1
+
+abbrev pub decreases-join+arg3 : goal.decreases-join+arg3
+decreases-join+arg3 g l = 2 * nodes l.right + 1
+
+abbrev pub decreases-walk_lanes : goal.decreases-walk_lanes
+decreases-walk_lanes g l = 2 * nodes l.lanes

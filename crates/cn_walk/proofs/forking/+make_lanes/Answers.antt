@@ -1,0 +1,105 @@
+use Rattle.std.proofs.Common.{rules, ◌≡◌, ◌+◌, ◌-◌, ◌/◌, ◌≤◌, arith, ℕ, ap, ◌∙◌, subst}
+use Rattle.cn_walk.specs.declared.forking.Lanes.{Lanes}
+use Rattle.cn_walk.specs.Lane.{LaneValue}
+use Rattle.cn_walk.specs.Halves.{AreOf, AreReady, IsPair, first_of}
+use Rattle.cn_walk.proofs.Halves.{first_later, left_nothing, pair_ready, reserved_nothing, right_nothing, some_so}
+use Rattle.cn_walk.proofs.forking.+make_lanes.Goals as goal
+
+pub overflow_sub-own-2 : goal.overflow_sub-own-2
+overflow_sub-own-2 t c =
+    let middle : ℕ = c.args.from + (c.args.to - c.args.from) / 2 in
+    omega (arith, c.first_of-2.ensures.value, c.first_of.ensures.value, first_later c.args.clients c.args.workers middle c.args.to (omega (arith, c.requires.range)) (omega (arith, c.requires.range)))
+
+pub make_lanes-requires : goal.make_lanes-requires
+make_lanes-requires t c =
+    let middle : ℕ = c.args.from + (c.args.to - c.args.from) / 2 in
+    let q : ℕ = c.from-2.result in
+    let range = c.requires.range in
+    let reserved = c.in-Ok.ensures.ok in
+    let low = first_later c.args.clients c.args.workers middle c.args.to (omega (arith, range)) (omega (arith, range)) in (
+      search rules,
+      (
+        ap (λ (l : LaneValue). l.home) c.in-Ok-split.ensures.first ∙ ap (λ (l : LaneValue). l.home) reserved ∙ c.requires.own,
+        (
+          (omega (arith, c.if-to-from-eq1.false, range), omega (arith, range), range.2),
+          (
+            left_nothing q c.reserve.new.self c.in-Ok-split.lane (reserved_nothing _ _ _ c.requires.nothing reserved) c.in-Ok-split.ensures.first,
+            omega (
+              arith,
+              c.from-2.ensures,
+              low,
+              c.requires.quota,
+              c.first_of.ensures.value,
+              c.first_of-first.ensures.value,
+              c.first_of-2.ensures.value,
+              ap (λ (l : LaneValue). l.view.quota) c.in-Ok-split.ensures.first,
+              ap (λ (l : LaneValue). l.view.quota) reserved,
+            ),
+          ),
+        ),
+      ),
+    )
+
+pub make_lanes-requires-2 : goal.make_lanes-requires-2
+make_lanes-requires-2 t c =
+    let middle : ℕ = c.args.from + (c.args.to - c.args.from) / 2 in
+    let q : ℕ = c.from-2.result in
+    let range = c.requires.range in
+    let low = first_later c.args.clients c.args.workers c.args.from middle (omega (arith, range)) (omega (arith, range)) in (
+      search rules,
+      (
+        ap (λ (l : LaneValue). l.home) c.in-Ok-split.ensures.second ∙ ap (λ (l : LaneValue). l.home) c.in-Ok.ensures.ok ∙ c.requires.own,
+        (
+          (omega (arith, c.if-to-from-eq1.false, range), omega (arith, range), range.2),
+          (
+            right_nothing q c.reserve.new.self c.in-Ok-split.other c.in-Ok-split.ensures.second,
+            omega (
+              arith,
+              c.from-2.ensures,
+              low,
+              c.first_of.ensures.value,
+              c.first_of-first.ensures.value,
+              c.first_of-2.ensures.value,
+              ap (λ (l : LaneValue). l.view.quota) c.in-Ok-split.ensures.second,
+            ),
+          ),
+        ),
+      ),
+    )
+
+pub returns-clause-ready : goal.returns-clause-ready
+returns-clause-ready t c =
+    let home = c.args.floor.now in
+    let middle : ℕ = c.args.from + (c.args.to - c.args.from) / 2 in
+    let range = c.requires.range in
+    let k : ℕ = c.args.clients in
+    let w : ℕ = c.args.workers in
+    let n : ℕ = first_of k w c.args.to - first_of k w c.args.from in
+    let at : ℕ = c.first_of-2.result - c.first_of-first.result in
+    let r : ℕ = first_of k w c.args.to - first_of k w middle in
+    let low = first_later k w c.args.from middle (omega (arith, range)) (omega (arith, range)) in
+    let high = first_later k w middle c.args.to (omega (arith, range)) (omega (arith, range)) in
+    let begin = c.first_of-first.ensures.value in
+    let mid = c.first_of-2.ensures.value in
+    let end = c.first_of.ensures.value in
+    let few : at ≤ n = omega (arith, high, mid, begin) in
+    let part : first_of k w middle - first_of k w c.args.from ≡ at = omega (arith, mid, begin) in
+    let rest : r ≡ n - at = omega (arith, low, high, mid, begin) in
+    let reserved : c.first_of.result - c.first_of-first.result ≤ c.reserve.new.self.room = search rules in
+    let room : n ≤ c.in-Ok-split.lane.room = omega (arith, reserved, end, begin, ap (λ (l : LaneValue). l.room) c.in-Ok-split.ensures.first) in
+    let left : AreReady home at c.in_ok-left.left = subst (λ (x : ℕ). AreReady home x c.in_ok-left.left) part c.in_ok-left.ensures.ready in
+    some_so (λ (lanes : Lanes). IsPair at c.in_ok-left.left c.in_ok-right.right lanes) (λ (lanes : Lanes). AreReady home n lanes) c.pair.result
+    (λ lanes is. pair_ready home n at r c.in_ok-left.left c.in_ok-right.right lanes is few (omega (arith, room, c.in_ok-left.ensures.room)) left c.in_ok-right.ensures.ready rest)
+    c.pair.ensures
+
+pub returns-clause-workers : goal.returns-clause-workers
+returns-clause-workers t c =
+    let middle : ℕ = c.args.from + (c.args.to - c.args.from) / 2 in
+    let range = c.requires.range in
+    let k : ℕ = c.args.clients in
+    let w : ℕ = c.args.workers in
+    let at : ℕ = c.first_of-2.result - c.first_of-first.result in
+    let part : at ≡ first_of k w middle - first_of k w c.args.from = omega (arith, c.first_of-2.ensures.value, c.first_of-first.ensures.value) in
+    some_so (λ (lanes : Lanes). IsPair at c.in_ok-left.left c.in_ok-right.right lanes) (λ (lanes : Lanes). AreOf k w c.args.from c.args.to lanes) c.pair.result
+    (λ lanes is. is.of k w c.args.from middle c.args.to (omega (arith, c.if-to-from-eq1.false, range)) (omega (arith, c.if-to-from-eq1.false, range)) part c.in_ok-left.ensures.workers c.in_ok-right.ensures.workers)
+    c.pair.ensures

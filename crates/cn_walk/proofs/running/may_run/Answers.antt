@@ -1,0 +1,22 @@
+use Rattle.std.proofs.Common.{rules, ◌≡◌, ◌<◌, All, ℕ, List, get_or, ◌∙◌, subst}
+use Rattle.std.proofs.lemmas.List.{get_or_default, take_all}
+use Rattle.std.proofs.lemmas.List.Elements.{All-more}
+use Rattle.cn_core.specs.declared.client.Client.{Client}
+use Rattle.cn_walk.proofs.running.may_run.Goals as goal
+
+pub loop-position-preserved : goal.loop-position-preserved
+loop-position-preserved c =
+    let d : Client = record { id = 0; entry = 0 } in
+    let one : (get_or c.args.clients.now c.loop-position.position d).entry < c.from-entries.result = search (rules, get_or_default) in
+    All-more (λ (k : Client). k.entry < c.from-entries.result) c.args.clients.now c.loop-position.position d c.loop-position-test.true c.loop-position.invariant one
+
+pub returns-clause-allowed : goal.returns-clause-allowed
+returns-clause-allowed c =
+    let whole = take_all c.loop-position.position c.args.clients.now (search rules) in
+    let entries : c.from-entries.result ≡ c.args.network.now.table.entries = c.from-entries.ensures ∙ c.entries.ensures.value in
+    record {
+      workers_fit = search rules;
+      hand_fits = search rules;
+      few = search rules;
+      by_entries = subst (λ (n : ℕ). All (λ (k : Client). k.entry < n) c.args.clients.now) entries (subst (λ (ks : List Client). All (λ (k : Client). k.entry < c.from-entries.result) ks) whole c.loop-position.invariant);
+    }

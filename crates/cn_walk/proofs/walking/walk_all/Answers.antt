@@ -1,0 +1,46 @@
+use Rattle.std.proofs.Common.{rules, ◌≡◌, ◌<◌, [], All, List, sym, ◌∙◌, subst, arith}
+use Rattle.std.proofs.lemmas.List.Elements.{All-drop}
+use Rattle.cn_core.specs.declared.client.Client.{Client}
+use Rattle.cn_walk.specs.Walks.{Walks}
+use Rattle.cn_walk.proofs.Walks.{IsHeld, none_by, none_left, stays, walked, walks_on}
+use Rattle.cn_walk.proofs.walking.walk_all.Goals as goal
+
+pub loop-rest-preserved : goal.loop-rest-preserved
+loop-rest-preserved g c =
+    let was = c.loop-rest.invariant in
+    let came = c.walk_in.ensures in
+    let out = c.walk_out.ensures in
+    let cut = c.split_at.ensures in
+    let inside : Client → Type 0 = λ k. k.entry < c.args.floor.now.start.network.table.entries in
+    record {
+      home = out.walked.home ∙ came.home ∙ was.home;
+      out = out.out;
+      nobody = out.nobody;
+      entries = subst (λ (xs : List Client). All inside xs) (sym cut.back) (All-drop inside c.min.result c.loop-rest.rest.now was.entries);
+      quota = omega (arith, was.quota, came.quota, out.walked.quota, cut.front_len, cut.back_len);
+      room = omega (arith, was.room, came.room, out.walked.room, cut.front_len, cut.back_len);
+      walks = λ last w. was.walks last (subst (λ (xs : List Client). Walks c.loop-rest.lane last xs) (sym cut.by_index.0) (walks_on _ _ _ _ _ came (walks_on _ _ _ [] _ out.walked w)));
+    }
+
+pub loop-rest-init : goal.loop-rest-init
+loop-rest-init g c =
+    let laws = c.lane_laws.ensures in
+    let held : IsHeld c.args.lane = record { start = laws.start; tokens = laws.tokens; wires = laws.wires; there = laws.there } in
+    record {
+      home = c.requires.own;
+      out = c.requires.out;
+      nobody = none_by c.args.lane held c.requires.out;
+      entries = c.requires.entries;
+      quota = c.requires.quota;
+      room = c.requires.room;
+      walks = λ last w. w;
+    }
+
+pub returns : goal.returns
+returns g c =
+    let laws = c.lane_laws.ensures in
+    let held : IsHeld c.args.lane = record { start = laws.start; tokens = laws.tokens; wires = laws.wires; there = laws.there } in
+    let was = c.loop-rest.invariant in
+    let none : c.loop-rest.rest.now ≡ [] = none_left c.loop-rest.rest.now (search rules) in
+    walked c.args.lane c.loop-rest.lane c.args.clients.now (was.walks c.loop-rest.lane (subst (λ (xs : List Client). Walks c.loop-rest.lane c.loop-rest.lane xs) (sym none) (stays c.loop-rest.lane))) was.out
+    (none_by c.args.lane held c.requires.out) was.nobody

@@ -1,0 +1,6 @@
+use Rattle.std.proofs.Common.{take}
+use Rattle.cn_walk.specs.Walks.{Walks}
+use Rattle.cn_walk.proofs.walking.walk_in.Given as goal
+
+abbrev pub invariant-loop-client : goal.invariant-loop-client
+invariant-loop-client g l = Walks l.initial.lane l.lane (take l.client-index l.clients)

@@ -1,0 +1,60 @@
+-- What a run of an epoch gives, and why it is refused.
+use Rattle.std.specs.Prelude.{◌≡◌, ℕ, ◌<◌, ◌≤◌, All, List, length, map, slice_index_or}
+use Rattle.std.specs.List.{range_with_len}
+use Rattle.cn_spec.specs.Step.{IsEachBelow, name_of, shares}
+use Rattle.cn_spec.specs.Sums.{times}
+use Rattle.cn_spec.specs.declared.limits.TheConstants.{MOST_CLIENTS, MOST_HAND, MOST_WORKERS}
+use Rattle.cn_wiring.specs.declared.end.End.TheVariants.{Balancer}
+use Rattle.cn_wiring.specs.Faults.{IsFirst, IsWithin}
+use Rattle.cn_wiring.specs.Network.{Network}
+use Rattle.cn_wiring.specs.Table.{IsFullFlow, sum_at}
+use Rattle.cn_core.specs.declared.client.Client.{Client}
+use Rattle.cn_walk.specs.declared.running.RunFault.{RunFault}
+use Rattle.cn_walk.specs.declared.running.RunFault.TheVariants.{Workers, Hand, TooMany, NoSuchEntry, Memory}
+use Rattle.cn_walk.specs.Ends.{QuietValue, counts_of, passes_of}
+use Rattle.cn_walk.specs.Walks.{AreFor}
+
+-- the client at a position comes by an entry that is there
+abbrev pub ComesByOne : ℕ → List Client → ℕ → Type 0
+ComesByOne entries clients k = (d : Client) → (slice_index_or clients k d).entry < entries
+
+-- the numbers of workers, of clients in hand and of clients are within the limits
+abbrev pub WorkersFit : ℕ → Type 0
+WorkersFit workers = IsWithin 1 MOST_WORKERS workers
+
+abbrev pub HandFits : ℕ → Type 0
+HandFits hand = IsWithin 1 MOST_HAND hand
+
+abbrev pub AreFew : List Client → Type 0
+AreFew clients = length clients ≤ MOST_CLIENTS
+
+-- an epoch that may be run
+pub record MayRun (entries : ℕ) (clients : List Client) (workers hand : ℕ) : Type 0 where
+  pub workers_fit : WorkersFit workers
+  pub hand_fits : HandFits hand
+  pub few : AreFew clients
+  pub by_entries : All (λ c. c.entry < entries) clients
+
+-- the fault stands, and no earlier kind of fault does; memory is refused only where the epoch may be run
+abbrev pub IsRefused : ℕ → List Client → ℕ → ℕ → RunFault → Type 0
+IsRefused entries clients workers hand Workers = ¬ WorkersFit workers
+IsRefused entries clients workers hand Hand = WorkersFit workers × ¬ HandFits hand
+IsRefused entries clients workers hand TooMany = WorkersFit workers × HandFits hand × ¬ AreFew clients
+IsRefused entries clients workers hand (NoSuchEntry position) =
+    WorkersFit workers × HandFits hand × AreFew clients × IsFirst (length clients) (ComesByOne entries clients) position
+IsRefused entries clients workers hand Memory = MayRun entries clients workers hand
+
+-- a floor over the network on which these clients walked, and nobody else
+pub record IsRun (network : Network) (clients : List Client) (quiet : QuietValue) : Type 0 where
+  pub over : quiet.start.network ≡ network
+  -- each exit let out its share of them
+  pub counts : counts_of quiet.start quiet.words ≡ shares (length clients) network.table.width
+  -- each balancer passed what the full flow of their entries brings there
+  pub passes : (f : ℕ → ℕ) → IsFullFlow network.table f
+      → ((u : ℕ) → u < network.table.entries → f u ≡ times u (map (λ c. c.entry) clients))
+      → passes_of quiet.start quiet.words ≡ map (λ b. sum_at network.table (Balancer b) f) (range_with_len 0 network.table.balancers)
+  -- the names are those below their number, each once, and each is that of its grant's exit and visit
+  pub names : IsEachBelow (length clients) (map (λ g. g.name) quiet.did.grants)
+  pub named : All (λ g. (g.exit < network.table.width) × (g.name ≡ name_of network.table.width g.exit g.visit)) quiet.did.grants
+  -- and the grants are theirs, to each client as often as it is among them
+  pub theirs : AreFor clients quiet.did.grants

@@ -1,0 +1,44 @@
+-- What a walk of clients makes of a lane.
+use Rattle.std.specs.Prelude.{◌≡◌, ℕ, ◌+◌, ◌-◌, ◌*◌, ◌++◌, ◌==◌, List, count_by, length, map, sum_by}
+use Rattle.cn_spec.specs.Sums.{sum_below}
+use Rattle.cn_core.specs.declared.client.Client.{Client}
+use Rattle.cn_yard.specs.Lists.{on, tokens_in}
+use Rattle.cn_walk.specs.declared.view.Grant.{Grant}
+use Rattle.cn_walk.specs.declared.view.View.{View}
+use Rattle.cn_walk.specs.Lane.{LaneValue}
+use Rattle.cn_walk.specs.Views.{on_in}
+
+-- grants for these clients: as many as they are, and to each client as often as it is among them
+pub record AreFor (clients : List Client) (grants : List Grant) : Type 0 where
+  pub as_many : length grants ≡ length clients
+  pub as_often : (id : ℕ) → count_by (λ g. g.client == id) grants ≡ count_by (λ c. c.id == id) clients
+
+-- the clients came in and went out: the lane has nobody inside, and a grant more for each of them
+pub record WalksAll (old new : LaneValue) (clients : List Client) : Type 0 where
+  pub home : new.home ≡ old.home
+  pub out : tokens_in new.yard.lists ≡ 0
+  pub quota : new.view.quota + length clients ≡ old.view.quota
+  pub room : new.room ≡ old.room - length clients
+  pub entries : new.view.entries ≡ old.view.entries ++ map (λ c. c.entry) clients
+  pub seen : new.view.seen ≡ old.view.seen
+  pub grants : (more : List Grant) × (new.view.grants ≡ old.view.grants ++ more) × AreFor clients more
+
+-- ---- while they walk
+
+-- those inside, each weighed by its client
+abbrev pub inside_by : (ℕ → ℕ) → View → ℕ
+inside_by f v = sum_below (length v.tokens) (λ u. sum_by (λ e. f e.1) (on v.tokens u))
+
+-- a bound on the steps that are left to those inside: each step goes to a greater wire, or out
+abbrev pub steps_left : View → ℕ
+steps_left v = sum_below (length v.tokens) (λ u. (length v.tokens - u) * on_in u v)
+
+-- these clients came in, and some of those inside went out: however clients are weighed, nobody is lost or made
+pub record Walks (old new : LaneValue) (clients : List Client) : Type 0 where
+  pub home : new.home ≡ old.home
+  pub quota : new.view.quota + length clients ≡ old.view.quota
+  pub room : new.room ≡ old.room - length clients
+  pub entries : new.view.entries ≡ old.view.entries ++ map (λ c. c.entry) clients
+  pub seen : new.view.seen ≡ old.view.seen
+  pub grants : (more : List Grant) × (new.view.grants ≡ old.view.grants ++ more)
+      × ((f : ℕ → ℕ) → sum_by (λ g. f g.client) more + inside_by f new.view ≡ inside_by f old.view + sum_by (λ c. f c.id) clients)

@@ -1,0 +1,172 @@
+//! Many workers: their lanes, and the threads that walk them.
+
+ghost use Rattle.std.specs.Prelude.{◌≡◌, ◌+◌, ◌-◌, ◌*◌, ◌/◌, ◌<◌, ◌≤◌, All, IfSome, length};
+ghost use Rattle.cn_spec.specs.declared.limits.TheConstants.{MOST_CLIENTS};
+ghost use Rattle.cn_yard.specs.Lists.{tokens_in};
+ghost use Rattle.cn_walk.specs.Halves.{AreOf, AreReady, HasNothing, IsPair, IsReady, MayWalk, first_of, together, whole};
+ghost use Rattle.cn_walk.specs.Walks.{WalksAll};
+ghost use denote.Param.Send.{IsSync};
+
+use crate::fault::JoinFault;
+use crate::floor::{Floor, Lane};
+use crate::gate::Gate;
+use crate::walking::walk_all;
+use cn_core::Client;
+use std::alloc::Global;
+use std::sync::Wait;
+use std::thread;
+use std::thread::Threads;
+
+/// The lanes of workers whose numbers follow one another.
+#[derive(Drop)]
+pub(crate) enum Lanes {
+    /// One worker's lane, and its number.
+    One(Lane, u32),
+    /// The number of clients of the first half, and the halves.
+    Halves(u32, Box<Lanes>, Box<Lanes>),
+}
+
+/// What lanes are walked on. A closure that captures a `&Floor<'a>` itself promises nothing where threads join: so the
+/// recursion is over a type parameter, and [`Floor`] is the one type that it stands for.
+pub(crate) trait Ground {
+    ghost use Rattle.cn_walk.specs.Lane.{Home};
+
+    ghost home: { Self → Home };
+
+    fn walk<G: Gate, R: Wait>(
+        &self,
+        rt: &R,
+        lane: Lane,
+        clients: &[Client],
+        hand: u32,
+        gate: &G,
+        worker: u32,
+    ) -> Lane
+        requires ready { IsReady (Self.home self.now) (length clients.now) lane }
+        requires entries { All (λ c. c.entry < (Self.home self.now).start.network.table.entries) clients.now }
+        requires hand { 0 < hand }
+        ensures { WalksAll lane result clients.now };
+
+    fn join(&self, lane: Lane, other: Lane) -> Lane
+        requires own { (lane.home ≡ Self.home self.now) × (other.home ≡ Self.home self.now) }
+        requires out { tokens_in other.yard.lists ≡ 0 }
+        requires room { length other.view.grants ≤ lane.room }
+        ensures { result ≡ together lane other };
+}
+
+impl<'a> Ground for Floor<'a> {
+    ghost home = { λ f. f };
+
+    fn walk<G: Gate, R: Wait>(
+        &self,
+        rt: &R,
+        lane: Lane,
+        clients: &[Client],
+        hand: u32,
+        gate: &G,
+        worker: u32,
+    ) -> Lane {
+        walk_all(rt, self, lane, clients, hand, gate, worker)
+    }
+
+    fn join(&self, lane: Lane, other: Lane) -> Lane {
+        match Floor::join(self, lane, other) {
+            Ok(lane) => lane,
+            Err((JoinFault::StillWalking, _lane, _other)) => unreachable!(),
+            Err((JoinFault::Memory, _lane, _other)) => unreachable!(),
+        }
+    }
+}
+
+/// The position of a worker's first client among all; that of the worker after the last is the number of clients.
+fn first_of(clients: u32, workers: u32, worker: u32) -> u32
+    requires { (0 < workers) × (worker ≤ workers) }
+    ensures value { result ≡ first_of clients workers worker }
+    ensures within { result ≤ clients }
+{
+    (u64::from(worker) * u64::from(clients) / u64::from(workers)) as u32
+}
+
+/// Makes the lanes of the workers from `from` up to, not including, `to`, out of one, and reserves their memory: each has
+/// quota and room for its own clients, and the first lane of each half has room for the grants of both. `None` where
+/// memory is refused.
+pub(crate) fn make_lanes<'a>(
+    alloc: Global,
+    floor: &Floor<'a>,
+    mut lane: Lane,
+    clients: u32,
+    workers: u32,
+    from: u32,
+    to: u32,
+) -> Option<Lanes>
+    requires own { lane.home ≡ floor.now }
+    requires range { (from < to) × (to ≤ workers) × (clients ≤ MOST_CLIENTS) }
+    requires nothing { HasNothing lane }
+    requires quota { first_of clients workers to - first_of clients workers from ≤ lane.view.quota }
+    ensures ready { IfSome result (λ lanes. AreReady floor.now (first_of clients workers to - first_of clients workers from) lanes) }
+    ensures workers { IfSome result (λ lanes. AreOf clients workers from to lanes) }
+    ensures room { IfSome result (λ lanes. lane.room ≤ (whole lanes).room) }
+{
+    let first = first_of(clients, workers, from);
+    let own = first_of(clients, workers, to) - first;
+    let Ok(()) = lane.reserve(u64::from(own)) else {
+        return None;
+    };
+    if to - from == 1 {
+        return Some(Lanes::One(lane, from));
+    }
+    let middle = from + (to - from) / 2;
+    let at = first_of(clients, workers, middle) - first;
+    let Ok((lane, other)) = floor.split(lane, u64::from(own - at)) else {
+        return None;
+    };
+    let left = make_lanes(alloc, floor, lane, clients, workers, from, middle)?;
+    let right = make_lanes(alloc, floor, other, clients, workers, middle, to)?;
+    pair(alloc, at, left, right)
+}
+
+/// Two halves.
+fn pair(alloc: Global, at: u32, left: Lanes, right: Lanes) -> Option<Lanes>
+    ensures { IfSome result (λ lanes. IsPair at left right lanes) }
+{
+    let left = Box::new(alloc, left).ok()?;
+    let right = Box::new(alloc, right).ok()?;
+    Some(Lanes::Halves(at, left, right))
+}
+
+/// Walks the clients through the lanes, each half in a thread of its own, and joins the lanes. A half that gets no thread
+/// is walked after the other; one lane alone is walked here.
+pub(crate) fn walk_lanes<F: Ground + Sync, G: Gate + Sync, R: Threads + Wait + Sync>(
+    rt: &R,
+    ground: &F,
+    lanes: Lanes,
+    clients: &[Client],
+    hand: u32,
+    gate: &G,
+) -> Lane
+    requires ready { AreReady (F.home ground.now) (length clients.now) lanes }
+    requires entries { All (λ c. c.entry < (F.home ground.now).start.network.table.entries) clients.now }
+    requires hand { 0 < hand }
+    ensures { WalksAll (whole lanes) result clients.now }
+{
+    match lanes {
+        Lanes::One(lane, worker) => ground.walk(rt, lane, clients, hand, gate, worker),
+        Lanes::Halves(at, left, right) => {
+            let left = Box::into_inner(left);
+            let right = Box::into_inner(right);
+            let (first, second) = clients.split_at(at as usize);
+            let (lane, other) = thread::join(
+                rt,
+                move || -> Lane
+                    requires { IsSync R.row × IsSync F.row × IsSync G.row × MayWalk (F.home ground.now) first.now hand left }
+                    ensures { WalksAll (whole left) result first.entry.now }
+                { walk_lanes(rt, ground, left, first, hand, gate) },
+                move || -> Lane
+                    requires { IsSync R.row × IsSync F.row × IsSync G.row × MayWalk (F.home ground.now) second.now hand right }
+                    ensures { WalksAll (whole right) result second.entry.now }
+                { walk_lanes(rt, ground, right, second, hand, gate) },
+            );
+            ground.join(lane, other)
+        }
+    }
+}

@@ -1,0 +1,27 @@
+//! What a worker asks before each of its atomic steps.
+
+use std::sync::Wait;
+
+/// What a worker is about to do.
+#[derive(Clone, Copy, Debug, PartialEq, Eq)]
+pub enum Moment {
+    /// A client comes in.
+    Enter,
+    /// A token passes a balancer.
+    Pass,
+    /// A token leaves by an exit.
+    Leave,
+}
+
+/// Holds workers up: each asks it before each of its atomic steps.
+pub trait Gate {
+    /// The worker with this number is about to make a step of this kind. It may be made to wait.
+    fn before<R: Wait>(&self, rt: &R, worker: u32, moment: Moment);
+}
+
+/// A gate that lets each worker on at once.
+pub struct OpenGate;
+
+impl Gate for OpenGate {
+    fn before<R: Wait>(&self, _rt: &R, _worker: u32, _moment: Moment) {}
+}

@@ -1,0 +1,101 @@
+//! Epochs that many workers run.
+
+ghost use Rattle.std.specs.Prelude.{◌≡◌, ◌+◌, ◌<◌, ◌≤◌, All, IfErr, IfOk, OnOk, length};
+ghost use Rattle.cn_walk.specs.Runs.{IsRefused, IsRun, MayRun};
+
+use crate::floor::{CloseFault, Floor, Quiet};
+use crate::forking::{make_lanes, walk_lanes};
+use crate::gate::Gate;
+use cn_core::Client;
+use cn_spec::limits::{MOST_CLIENTS, MOST_HAND, MOST_WORKERS};
+use cn_wiring::Counting;
+use std::alloc::Global;
+use std::sync::Wait;
+use std::thread::Threads;
+
+/// Why an epoch is not run; the first cause that stands is told.
+#[derive(Clone, Copy, Debug, PartialEq, Eq)]
+pub enum RunFault {
+    /// There are no workers, or more than [`MOST_WORKERS`].
+    Workers,
+    /// The hand is 0, or more than [`MOST_HAND`].
+    Hand,
+    /// There are more clients than [`MOST_CLIENTS`].
+    TooMany,
+    /// The client at this position, counted from 0, comes by an entry that the network lacks, and none before it does.
+    NoSuchEntry(u64),
+    /// A growth was refused.
+    Memory,
+}
+
+/// Whether an epoch may be run.
+fn may_run(network: &Counting, clients: &[Client], workers: u32, hand: u32) -> Result<(), RunFault>
+    ensures refused { IfErr result (λ fault. IsRefused network.now.table.entries clients.now workers hand fault) }
+    ensures allowed { OnOk result (MayRun network.now.table.entries clients.now workers hand) }
+{
+    if workers == 0 || workers > MOST_WORKERS {
+        return Err(RunFault::Workers);
+    }
+    if hand == 0 || hand > MOST_HAND {
+        return Err(RunFault::Hand);
+    }
+    if clients.len() as u64 > MOST_CLIENTS {
+        return Err(RunFault::TooMany);
+    }
+    let entries = u64::from(network.entries());
+    for position in 0..clients.len() {
+        if clients[position].entry >= entries {
+            return Err(RunFault::NoSuchEntry(position as u64));
+        }
+    }
+    Ok(())
+}
+
+/// Runs an epoch of these clients over the network, by so many workers, each with so many clients in hand
+/// ([`crate::walk_all`]). Of k clients, worker j of n has those at the positions from `j * k / n` up to, not including,
+/// `(j + 1) * k / n`, both rounded down. All memory but the last lists is taken before the first worker starts. One worker
+/// starts no thread, and a fork that gets no thread has its halves walk one after the other.
+///
+/// It returns only if the gate lets each worker on: one that waits for another worker may not, where that one gets no
+/// thread.
+///
+/// # Errors
+/// The first that stands: `Workers`, `Hand`, `TooMany`, `NoSuchEntry`, `Memory`. Then no worker is left running.
+pub fn run_epoch<'a, G: Gate + Sync, R: Threads + Wait + Sync>(
+    rt: &R,
+    alloc: Global,
+    network: &'a Counting,
+    clients: &[Client],
+    workers: u32,
+    hand: u32,
+    gate: &G,
+) -> Result<Quiet<'a>, RunFault>
+    ensures run { IfOk result (λ quiet. IsRun network.now clients.now quiet) }
+    ensures refused { IfErr result (λ fault. IsRefused network.now.table.entries clients.now workers hand fault) }
+    ensures allowed { OnOk result (MayRun network.now.table.entries clients.now workers hand) }
+{
+    may_run(network, clients, workers, hand)?;
+    let many = clients.len() as u32;
+    let Ok((floor, lane)) = Floor::open(alloc, network, u64::from(many)) else {
+        return Err(RunFault::Memory);
+    };
+    let Some(lanes) = make_lanes(alloc, &floor, lane, many, workers, 0, workers) else {
+        return Err(RunFault::Memory);
+    };
+    let lane = walk_lanes(rt, &floor, lanes, clients, hand, gate);
+    match floor.close(lane) {
+        Ok(quiet) => {
+            quiet.quiet_laws();
+            Ok(quiet)
+        }
+        Err(CloseFault::Memory(_floor, _lane)) => Err(RunFault::Memory),
+        Err(CloseFault::StillWalking(_floor, _lane)) => unreachable!(),
+        Err(
+            CloseFault::LanesMissing {
+                entered: _entered,
+                granted: _granted,
+                grants: _grants,
+            },
+        ) => unreachable!(),
+    }
+}

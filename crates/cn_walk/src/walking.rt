@@ -1,0 +1,90 @@
+//! A worker that walks its clients through one lane.
+
+ghost use Rattle.std.specs.Prelude.{◌≡◌, ℕ, ◌<◌, ◌≤◌, [], All, length};
+ghost use Rattle.cn_yard.specs.Lists.{tokens_in};
+ghost use Rattle.cn_walk.specs.Walks.{WalksAll, Walks, inside_by};
+
+use crate::floor::{Floor, Lane};
+use crate::gate::{Gate, Moment};
+use cn_core::Client;
+use cn_wiring::End;
+use std::sync::Wait;
+
+/// Lets the clients in, one after the other.
+fn walk_in<'a, G: Gate, R: Wait>(
+    rt: &R,
+    floor: &Floor<'a>,
+    lane: &mut Lane,
+    clients: &[Client],
+    gate: &G,
+    worker: u32,
+)
+    requires own { lane.old.home ≡ floor.now }
+    requires entries { All (λ c. c.entry < floor.now.start.network.table.entries) clients.now }
+    requires quota { length clients.now ≤ lane.old.view.quota }
+    requires room { length clients.now ≤ lane.old.room }
+    ensures { Walks lane.old lane.new clients.now }
+{
+    for client in clients {
+        lane.lane_laws();
+        gate.before(rt, worker, Moment::Enter);
+        let Ok(_token) = floor.enter(lane, client.id, client.entry) else {
+            unreachable!()
+        };
+    }
+}
+
+/// Steps the first token on the lowest wire that has one, until nobody is inside.
+fn walk_out<'a, G: Gate, R: Wait>(rt: &R, floor: &Floor<'a>, lane: &mut Lane, gate: &G, worker: u32)
+    requires own { lane.old.home ≡ floor.now }
+    ensures walked { Walks lane.old lane.new [] }
+    ensures out { tokens_in lane.new.yard.lists ≡ 0 }
+    ensures nobody { (f : ℕ → ℕ) → inside_by f lane.new.view ≡ 0 }
+{
+    lane.lane_laws();
+    while let Some(wire) = lane.lowest() {
+        let Some(token) = lane.first(wire) else {
+            unreachable!()
+        };
+        let moment = match floor.network().end(wire) {
+            End::Balancer(_) => Moment::Pass,
+            End::Exit(_) => Moment::Leave,
+        };
+        gate.before(rt, worker, moment);
+        floor.step(lane, token);
+        lane.lane_laws();
+    }
+}
+
+/// Walks all clients through the lane, in order: the next come in until `hand` are inside or none is left; then, until
+/// nobody is inside, the first token on the lowest wire that has one makes a step; and so on until no client is left. It
+/// asks the gate before each step, in the worker's name.
+///
+/// It takes no memory and refuses nothing, but returns only if the gate lets it on.
+pub fn walk_all<'a, G: Gate, R: Wait>(
+    rt: &R,
+    floor: &Floor<'a>,
+    mut lane: Lane,
+    clients: &[Client],
+    hand: u32,
+    gate: &G,
+    worker: u32,
+) -> Lane
+    requires own { lane.home ≡ floor.now }
+    requires out { tokens_in lane.yard.lists ≡ 0 }
+    requires entries { All (λ c. c.entry < floor.now.start.network.table.entries) clients.now }
+    requires quota { length clients.now ≤ lane.view.quota }
+    requires room { length clients.now ≤ lane.room }
+    requires hand { 0 < hand }
+    ensures { WalksAll lane result clients.now }
+{
+    lane.lane_laws();
+    let mut rest = clients;
+    while !rest.is_empty() {
+        let (next, later) = rest.split_at(rest.len().min(hand as usize));
+        walk_in(rt, floor, &mut lane, next, gate, worker);
+        walk_out(rt, floor, &mut lane, gate, worker);
+        rest = later;
+    }
+    lane
+}
