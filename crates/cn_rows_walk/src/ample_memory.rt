@@ -51,7 +51,8 @@ fn reserve_all(lane: &mut Lane, rooms: &[u64]) -> bool
     true
 }
 
-/// The room of a lane before and after it is taken, and whether client n has name n, for all clients of a full floor over tree 64.
+/// The room of a lane before and after it is taken and after the walk, and whether client n has name n, for all clients of
+/// a full floor over the tree of width 64.
 fn full_floor(alloc: Global, rooms: &[u64]) -> Option<([u64; 2], u64, bool)> {
     let network = tree(alloc, 64).ok()?;
     let (floor, mut lane) = Floor::open(alloc, &network, CLIENTS).ok()?;

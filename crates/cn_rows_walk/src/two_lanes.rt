@@ -59,7 +59,9 @@ fn ended(floor: Floor<'_>, mut first: Lane, mut second: Lane) -> Option<Outcome>
 fn overtaking(alloc: Global) -> Option<Outcome> {
     let network = tree(alloc, 4).ok()?;
     let (floor, lane) = Floor::open(alloc, &network, 3).ok()?;
-    let (mut first, mut second) = floor.split(lane, 1).ok()?;
+    let Ok((mut first, mut second)) = floor.split(lane, 1) else {
+        return None;
+    };
     let ten = Step::First(floor.enter(&mut first, 10, 0).ok()?);
     let twenty = Step::First(floor.enter(&mut first, 20, 0).ok()?);
     let thirty = Step::Second(floor.enter(&mut second, 30, 0).ok()?);
