@@ -3,8 +3,7 @@
 use cn_bitonic::bitonic;
 use cn_core::Client;
 use cn_tree::tree;
-use cn_walk::{Gate, Moment, OpenGate, RunFault, run_epoch};
-use cn_wiring::Counting;
+use cn_walk::{Gate, Moment, OpenGate, Quiet, RunFault, run_epoch};
 use std::alloc::{AllocError, Global};
 use std::sync::Wait;
 use std::sync::atomic::{AtomicU64, Ordering};
@@ -18,23 +17,23 @@ struct Outcome {
     holders: Vec<u64>,
 }
 
-/// What a run leaves or why it is refused; nothing where another list gets no memory.
-fn run<G: Gate + Sync, R: Threads + Wait + Sync>(
-    rt: &R,
-    alloc: Global,
-    network: &Counting,
-    clients: &[Client],
-    workers: u32,
-    hand: u32,
-    gate: &G,
-) -> Option<Result<Outcome, RunFault>> {
-    match run_epoch(rt, alloc, network, clients, workers, hand, gate) {
-        Ok(quiet) => Some(Ok(Outcome {
-            counts: Vec::from_slice(alloc, quiet.counts()).ok()?,
-            holders: quiet.holders().ok()?,
-        })),
-        Err(fault) => Some(Err(fault)),
+fn outcome_of(alloc: Global, quiet: &Quiet<'_>) -> Option<Outcome> {
+    Some(Outcome {
+        counts: Vec::from_slice(alloc, quiet.counts()).ok()?,
+        holders: quiet.holders().ok()?,
+    })
+}
+
+fn clients_of(alloc: Global, clients: &[(u64, u64)]) -> Option<Vec<Client>> {
+    let mut all = Vec::new(alloc);
+    for (id, entry) in clients {
+        all.push(Client {
+            id: *id,
+            entry: *entry,
+        })
+        .ok()?;
     }
+    Some(all)
 }
 
 /// A run over bitonic 4, of clients with their entries.
@@ -46,16 +45,10 @@ fn run_bitonic<G: Gate + Sync, R: Threads + Wait + Sync>(
     hand: u32,
     gate: &G,
 ) -> Option<Outcome> {
+    let clients = clients_of(alloc, clients)?;
     let network = bitonic(alloc, 4).ok()?;
-    let mut all = Vec::new(alloc);
-    for (id, entry) in clients {
-        all.push(Client {
-            id: *id,
-            entry: *entry,
-        })
-        .ok()?;
-    }
-    run(rt, alloc, &network, all.as_slice(), workers, hand, gate)?.ok()
+    let quiet = run_epoch(rt, alloc, &network, clients.as_slice(), workers, hand, gate).ok()?;
+    outcome_of(alloc, &quiet)
 }
 
 fn wanted(alloc: Global, counts: &[u64], holders: &[u64]) -> Result<Option<Outcome>, AllocError> {
@@ -70,7 +63,10 @@ fn five_on_one_entry(rt: HostRuntime) -> Result<(), Fail> {
     let alloc = rt.alloc();
     let clients = [(17, 3), (5, 3), (99, 3), (23, 3), (42, 3)];
     let outcome = run_bitonic(&rt, alloc, &clients, 1, 1, &OpenGate);
-    assert_eq!(rt; outcome, wanted(alloc, &[2, 1, 1, 1], &[17, 5, 99, 23, 42])?);
+    assert_eq!(rt;
+        outcome,
+        wanted(alloc, &[2, 1, 1, 1], &[17, 5, 99, 23, 42])?
+    );
     Ok(())
 }
 
@@ -99,92 +95,107 @@ impl Gate for Tally {
     }
 }
 
-/// The three clients 5, 6 and 7, on entries of their own: what is left, with the holders in order of their numbers, and
-/// how often each of eight workers asked.
-fn three_clients<R: Threads + Wait + Sync>(
-    rt: &R,
-    alloc: Global,
-    workers: u32,
-) -> Option<(Outcome, [u64; 8])> {
+fn new_tally(alloc: Global) -> Option<Tally> {
     let mut asked = Vec::new(alloc);
     for _ in 0..8 {
         asked.push(AtomicU64::new(0)).ok()?;
     }
-    let gate = Tally { asked };
+    Some(Tally { asked })
+}
+
+fn read(alloc: Global, tally: &Tally) -> Option<Vec<u64>> {
+    let mut asked = Vec::new(alloc);
+    for worker in tally.asked.iter() {
+        asked.push(worker.load(Ordering::SeqCst)).ok()?;
+    }
+    Some(asked)
+}
+
+/// The three clients 5, 6 and 7, on entries of their own: how many left by each exit, the clients with a name in order,
+/// and how often each of eight workers asked.
+fn three_clients<R: Threads + Wait + Sync>(
+    rt: &R,
+    alloc: Global,
+    workers: u32,
+) -> Option<(Outcome, Vec<u64>)> {
+    let gate = new_tally(alloc)?;
     let mut outcome = run_bitonic(rt, alloc, &[(5, 0), (6, 1), (7, 2)], workers, 1, &gate)?;
     outcome.holders.sort().ok()?;
-    let asked = [0, 1, 2, 3, 4, 5, 6, 7].map(|worker| match gate.asked.get(worker) {
-        Some(asked) => asked.load(Ordering::SeqCst),
-        None => 0,
-    });
-    Some((outcome, asked))
+    Some((outcome, read(alloc, &gate)?))
 }
 
 #[test]
 fn idle_workers(rt: HostRuntime) -> Result<(), Fail> {
     let alloc = rt.alloc();
-    let one = three_clients(&rt, alloc, 1);
-    let eight = three_clients(&rt, alloc, 8);
+    let told = [1, 8].map(|workers| three_clients(&rt, alloc, workers));
+    let one = vec![in alloc; 15, 0, 0, 0, 0, 0, 0, 0]?;
+    let eight = vec![in alloc; 0, 0, 5, 0, 0, 5, 0, 5]?;
     let left = wanted(alloc, &[1, 1, 1, 0], &[5, 6, 7])?;
-    assert_eq!(rt; one, left.map(|outcome| (outcome, [15, 0, 0, 0, 0, 0, 0, 0])));
-    let left = wanted(alloc, &[1, 1, 1, 0], &[5, 6, 7])?;
-    assert_eq!(rt; eight, left.map(|outcome| (outcome, [0, 0, 5, 0, 0, 5, 0, 5])));
+    let also = wanted(alloc, &[1, 1, 1, 0], &[5, 6, 7])?;
+    assert_eq!(rt; told, [left.zip(Some(one)), also.zip(Some(eight))]);
     Ok(())
 }
 
-/// Why an epoch of this many clients, numbered from 0, on tree 64 is not run; or whether each exit is left by 1,024, and
-/// client n has name n.
-fn run_tree<R: Threads + Wait + Sync>(
+/// This many clients, numbered from 0, the first on entry 0 and the others on this entry.
+fn many_clients(alloc: Global, clients: u64, entry: u64) -> Option<Vec<Client>> {
+    let mut all = Vec::new(alloc);
+    for id in 0..clients {
+        let entry = if id == 0 { 0 } else { entry };
+        all.push(Client { id, entry }).ok()?;
+    }
+    Some(all)
+}
+
+/// Why an epoch on tree 64 is not run.
+fn refusal<R: Threads + Wait + Sync>(
     rt: &R,
     alloc: Global,
     clients: u64,
-    last_entry: u64,
     workers: u32,
     hand: u32,
-) -> Option<Result<[bool; 2], RunFault>> {
+) -> Option<RunFault> {
+    let clients = many_clients(alloc, clients, 1)?;
     let network = tree(alloc, 64).ok()?;
-    let mut all = Vec::new(alloc);
-    for id in 0..clients {
-        let entry = if id == 0 { 0 } else { last_entry };
-        all.push(Client { id, entry }).ok()?;
-    }
-    match run(rt, alloc, &network, all.as_slice(), workers, hand, &OpenGate)? {
-        Ok(outcome) => {
-            let even = outcome.counts.iter().all(|count| *count == 1_024);
-            let in_order = (0..clients).all(|name| outcome.holders.get(name as usize) == Some(&name));
-            Some(Ok([even, in_order]))
-        }
-        Err(fault) => Some(Err(fault)),
-    }
-}
-
-#[test]
-fn limits(rt: HostRuntime) -> Result<(), Fail> {
-    let alloc = rt.alloc();
-    let full = run_tree(&rt, alloc, 65_536, 0, 1, 1);
-    assert_eq!(rt; full, Some(Ok([true, true])));
-    Ok(())
+    run_epoch(
+        rt,
+        alloc,
+        &network,
+        clients.as_slice(),
+        workers,
+        hand,
+        &OpenGate,
+    )
+    .err()
 }
 
 #[test]
 fn refused_in_order(rt: HostRuntime) -> Result<(), Fail> {
-    let alloc = rt.alloc();
-    let refused = [
-        run_tree(&rt, alloc, 3, 1, 0, 0),
-        run_tree(&rt, alloc, 3, 1, 65, 65),
-        run_tree(&rt, alloc, 3, 1, 64, 0),
-        run_tree(&rt, alloc, 65_537, 1, 1, 65),
-        run_tree(&rt, alloc, 65_537, 1, 1, 64),
-        run_tree(&rt, alloc, 3, 1, 1, 1),
+    let cases = [
+        (3, 0, 0, RunFault::Workers),
+        (3, 65, 65, RunFault::Workers),
+        (65_537, 64, 0, RunFault::Hand),
+        (65_537, 1, 65, RunFault::Hand),
+        (65_537, 1, 64, RunFault::TooMany),
+        (3, 1, 1, RunFault::NoSuchEntry(1)),
     ];
-    let wanted = [
-        RunFault::Workers,
-        RunFault::Workers,
-        RunFault::Hand,
-        RunFault::Hand,
-        RunFault::TooMany,
-        RunFault::NoSuchEntry(1),
-    ];
-    assert_eq!(rt; refused, wanted.map(|fault| Some(Err(fault))));
+    let told = cases.map(|case| refusal(&rt, rt.alloc(), case.0, case.1, case.2));
+    assert_eq!(rt; told, cases.map(|case| Some(case.3)));
+    Ok(())
+}
+
+/// As many clients as an epoch may have, on tree 64: whether each exit is left by 1,024, and client n has name n.
+fn full_epoch<R: Threads + Wait + Sync>(rt: &R, alloc: Global) -> Option<[bool; 2]> {
+    let clients = many_clients(alloc, 65_536, 0)?;
+    let network = tree(alloc, 64).ok()?;
+    let quiet = run_epoch(rt, alloc, &network, clients.as_slice(), 1, 1, &OpenGate).ok()?;
+    let outcome = outcome_of(alloc, &quiet)?;
+    let even = outcome.counts.iter().all(|count| *count == 1_024);
+    let in_order = (0..65_536u64).all(|name| outcome.holders.get(name as usize) == Some(&name));
+    Some([even, in_order])
+}
+
+#[test]
+fn limits(rt: HostRuntime) -> Result<(), Fail> {
+    assert_eq!(rt; full_epoch(&rt, rt.alloc()), Some([true, true]));
     Ok(())
 }

@@ -43,33 +43,69 @@ impl Gate for Meeting {
     }
 }
 
-/// Two clients for each of so many workers, over bitonic 4: whether all met in time, how many flags are set at the end,
-/// and whether the names are those below the number of clients, each once.
-fn meet<R: Threads + Wait + Sync>(rt: &R, alloc: Global, workers: u64) -> Option<(bool, usize, bool)> {
-    let network = bitonic(alloc, 4).ok()?;
+/// A gate for so many workers, of whom none has come.
+fn new_meeting(alloc: Global, workers: u32) -> Option<Meeting> {
     let mut flags = Vec::new(alloc);
-    let mut clients = Vec::new(alloc);
-    for worker in 0..workers {
+    for _ in 0..workers {
         flags.push(AtomicU64::new(0)).ok()?;
-        for id in [worker, workers + worker] {
-            clients.push(Client { id, entry: id % 4 }).ok()?;
-        }
     }
-    let gate = Meeting {
+    Some(Meeting {
         flags,
         late: AtomicU64::new(0),
-    };
-    let quiet = run_epoch(rt, alloc, &network, clients.as_slice(), workers as u32, 1, &gate).ok()?;
-    let mut holders = quiet.holders().ok()?;
+    })
+}
+
+/// Two clients for each of so many workers, numbered from 0, over all entries.
+fn two_each(alloc: Global, workers: u32) -> Option<Vec<Client>> {
+    let mut clients = Vec::new(alloc);
+    for id in 0..u64::from(workers) * 2 {
+        clients.push(Client { id, entry: id % 4 }).ok()?;
+    }
+    Some(clients)
+}
+
+/// The clients by name, after a run of bitonic 4.
+fn run<R: Threads + Wait + Sync>(
+    rt: &R,
+    alloc: Global,
+    clients: &[Client],
+    workers: u32,
+    gate: &Meeting,
+) -> Option<Vec<u64>> {
+    let network = bitonic(alloc, 4).ok()?;
+    let quiet = run_epoch(rt, alloc, &network, clients, workers, 1, gate).ok()?;
+    quiet.holders().ok()
+}
+
+/// Whether all met in time and each set its flag, and the clients with a name, in order.
+fn meet<R: Threads + Wait + Sync>(
+    rt: &R,
+    alloc: Global,
+    workers: u32,
+) -> Option<([bool; 2], Vec<u64>)> {
+    let gate = new_meeting(alloc, workers)?;
+    let clients = two_each(alloc, workers)?;
+    let mut holders = run(rt, alloc, clients.as_slice(), workers, &gate)?;
     holders.sort().ok()?;
-    let each = (0..2 * workers).all(|name| holders.get(name as usize) == Some(&name));
-    let set = gate.flags.iter().filter(|flag| flag.load(Ordering::SeqCst) == 1).count();
-    Some((gate.late.load(Ordering::SeqCst) == 0, set, each))
+    let in_time = gate.late.load(Ordering::SeqCst) == 0;
+    let all = gate
+        .flags
+        .iter()
+        .all(|flag| flag.load(Ordering::SeqCst) == 1);
+    Some(([in_time, all], holders))
 }
 
 #[test]
 fn meeting_gate(rt: HostRuntime) -> Result<(), Fail> {
-    let met = [2, 8].map(|workers| meet(&rt, rt.alloc(), workers));
-    assert_eq!(rt; met, [Some((true, 2, true)), Some((true, 8, true))]);
+    let alloc = rt.alloc();
+    let met = [2, 8].map(|workers| meet(&rt, alloc, workers));
+    let wanted = [
+        Some(([true, true], vec![in alloc; 0, 1, 2, 3]?)),
+        Some((
+            [true, true],
+            vec![in alloc; 0, 1, 2, 3, 4, 5, 6, 7, 8, 9, 10, 11, 12, 13, 14, 15]?,
+        )),
+    ];
+    assert_eq!(rt; met, wanted);
     Ok(())
 }
