@@ -7,6 +7,7 @@ pub mod Faults
 pub mod Gathered
 pub mod Granted
 pub mod Grants
+pub mod Marks
 pub mod Number
 pub mod Numbers
 pub mod Records

@@ -7,6 +7,7 @@ mod command;
 mod gathering;
 mod grant;
 mod granting;
+mod marks;
 mod number;
 mod numbers;
 mod rows;

@@ -4,14 +4,17 @@ ghost use Rattle.std.specs.Prelude.{◌≡◌, ◌==◌, ◌||◌, ℕ, IfOk, fa
 ghost use Rattle.cn_report.specs.Reading.Numbers.{has};
 ghost use Rattle.cn_report.specs.Reading.Grants.{IsLeastMissing};
 
+use crate::reading::marks::Marks;
 use cn_spec::limits::MOST_RECORDS;
 use std::alloc::{AllocError, Global};
 use std::collections::BTreeSet;
 
-/// A set of numbers. Those that come in order from 0 on are counted, and only the others stand in an ordered set.
+/// A set of numbers. Those that come in order from 0 on are counted, the others below [`MOST_RECORDS`] are marked, and
+/// only those from it on stand in an ordered set.
 #[derive(Drop)]
 pub(crate) struct Numbers {
     run: u64,
+    marks: Marks,
     others: BTreeSet<u64>,
 }
 
@@ -21,6 +24,7 @@ impl Numbers {
     {
         Numbers {
             run: 0,
+            marks: Marks::new(alloc),
             others: BTreeSet::new(alloc),
         }
     }
@@ -29,7 +33,20 @@ impl Numbers {
         ensures { (n : ℕ) → has self.new n ≡ false }
     {
         self.run = 0;
+        self.marks.clear();
         self.others.clear();
+    }
+
+    fn has(&self, number: u64) -> bool
+        ensures { result ≡ has self.now number }
+    {
+        if number < self.run {
+            true
+        } else if number < MOST_RECORDS {
+            self.marks.has(number)
+        } else {
+            self.others.contains(&number)
+        }
     }
 
     /// Adds a number, and tells whether it is new.
@@ -40,14 +57,17 @@ impl Numbers {
         if number < self.run {
             return Ok(false);
         }
-        if number == self.run && number < MOST_RECORDS && self.others.is_empty() {
+        if number >= MOST_RECORDS {
+            return match self.others.insert(number) {
+                Ok(added) => Ok(added),
+                Err(_) => Err(AllocError),
+            };
+        }
+        if number == self.run && !self.marks.has(number) {
             self.run += 1;
             return Ok(true);
         }
-        match self.others.insert(number) {
-            Ok(added) => Ok(added),
-            Err(_) => Err(AllocError),
-        }
+        self.marks.add(number)
     }
 
     /// The least number below the count that is missing.
@@ -55,7 +75,7 @@ impl Numbers {
         ensures { IsLeastMissing (has self.now) count result }
     {
         for number in self.run..count {
-            if !self.others.contains(&number) {
+            if !self.has(number) {
                 return Some(number);
             }
         }

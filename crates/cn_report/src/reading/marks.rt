@@ -1,0 +1,66 @@
+//! Sets of small numbers.
+
+ghost use Rattle.std.specs.Prelude.{◌<◌, ◌≤◌, ℕ, slice_index};
+
+use std::alloc::{AllocError, Global};
+
+/// A set of numbers below [`cn_spec::limits::MOST_RECORDS`], with a place for each up to the greatest so far: a number is in
+/// the set where its place has the current stamp. So one step adds a number, and one step clears the set.
+#[derive(Drop)]
+pub(crate) struct Marks {
+    stamps: Vec<u32>,
+    stamp: u32,
+    ghost begun: { 0 < stamp },
+    ghost current: { (n : ℕ) → slice_index stamps.items n ≤ stamp },
+}
+
+impl Marks {
+    ghost use Rattle.std.specs.Prelude.{◌≡◌, ◌==◌, ◌||◌, ◌<◌, ℕ, IfOk, OnErr, OnOk, false, not};
+    ghost use Rattle.cn_report.specs.Reading.Marks.{is_marked};
+    ghost use Rattle.cn_spec.specs.declared.limits.TheConstants.{MOST_RECORDS};
+
+    pub(crate) fn new(alloc: Global) -> Self
+        ensures { (n : ℕ) → is_marked result n ≡ false }
+    {
+        Marks {
+            stamps: Vec::new(alloc),
+            stamp: 1,
+        }
+    }
+
+    pub(crate) fn clear(&mut self)
+        ensures { (n : ℕ) → is_marked self.new n ≡ false }
+    {
+        if self.stamp == u32::MAX {
+            self.stamps.clear();
+            self.stamp = 0;
+        }
+        self.stamp += 1;
+    }
+
+    pub(crate) fn has(&self, number: u64) -> bool
+        ensures { result ≡ is_marked self.now number }
+    {
+        match self.stamps.get(number as usize) {
+            Some(stamp) => *stamp == self.stamp,
+            None => false,
+        }
+    }
+
+    /// Adds a number, and tells whether it is new. Where it gets no memory the set stays.
+    pub(crate) fn add(&mut self, number: u64) -> Result<bool, AllocError>
+        requires { number < MOST_RECORDS }
+        ensures added { IfOk result (λ added. added ≡ not (is_marked self.old number)) }
+        ensures more { OnOk result ((n : ℕ) → is_marked self.new n ≡ ((n == number) || is_marked self.old n)) }
+        ensures same { OnErr result ((n : ℕ) → is_marked self.new n ≡ is_marked self.old n) }
+    {
+        let at = number as usize;
+        if self.stamps.len() <= at {
+            // Twice the room, so that rising numbers seldom ask for more.
+            self.stamps.resize(2 * at + 1, 0)?;
+        }
+        let added = self.stamps[at] != self.stamp;
+        self.stamps[at] = self.stamp;
+        Ok(added)
+    }
+}
