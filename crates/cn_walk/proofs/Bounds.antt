@@ -14,7 +14,6 @@ use Rattle.cn_walk.specs.Views.{base}
 use Rattle.cn_walk.specs.Words.{clients_in, count_in, entered_in}
 use Rattle.cn_walk.proofs.Totals.{total_le, total_same}
 use Rattle.cn_spec.proofs.CallerLemmas.{name-below, sum_below-plus, sum_below-same, sum_below-total, times-below}
-use Rattle.cn_wiring.proofs.CallerLemmas.{full_flow-exists}
 use Rattle.cn_ledger.proofs.CallerLemmas.{counts-few, tight}
 
 module _ (start : Start) (s : State (Unit {0}) View) (kept : IsKept start s) where

@@ -1,18 +1,17 @@
 -- A lane whose grants number all that entered did all that was done.
-use Rattle.std.proofs.Common.{◌≡◌, ℕ, zero, suc, ◌+◌, ◌/◌, ◌%◌, ◌≤◌, ◌<◌, ◌↔◌, ◌&&◌, inl, inr, cond, eqb, ltb, List, [], ◌∷◌, length, get_or, sum_by, count_by, sym, refl, ap, ◌∙◌, subst, arith, ◌-◌, map}
+use Rattle.std.proofs.Common.{◌≡◌, ℕ, zero, suc, ◌+◌, ◌≤◌, ◌<◌, ◌&&◌, inl, inr, cond, eqb, ltb, List, [], ◌∷◌, length, get_or, sum_by, count_by, sym, refl, ap, ◌∙◌, subst, arith, ◌-◌, map}
 use mathlib.Core.Option.{some, some-injective, some-ne-none}
 use lib.ListN.{get_elem?}
-use Rattle.std.proofs.lemmas.Bool.{cases_eq, cases_lt, eq-eqb, le-ltb, lt-ltb, ne_eqb}
+use Rattle.std.proofs.lemmas.Bool.{cases_lt, eq-eqb}
 use Rattle.std.proofs.lemmas.List.{get_or_past}
 use Rattle.std.proofs.lemmas.List.Sums.{count_by-le-length, get_or-le-sum_by, sum_by-cons}
-use Rattle.std.proofs.lemmas.Nat.{mod_below}
 use Rattle.atomic_table.specs.Table.{Final, Seen, State}
 use Rattle.std.specs.List.{range_with_len}
 use Rattle.cn_spec.specs.Step.{IsEachBelow, name_of, share}
 use Rattle.cn_spec.specs.Sums.{once_below, sum_below, when, times}
 use Rattle.cn_wiring.specs.declared.end.End.{End}
 use Rattle.cn_wiring.specs.declared.end.End.TheVariants.{Exit}
-use Rattle.cn_wiring.specs.Table.{Stands, Table}
+use Rattle.cn_wiring.specs.Table.{Stands}
 use Rattle.cn_yard.specs.Lists.{Yard, tokens_in}
 use Rattle.cn_ledger.proofs.CallerLemmas.{names-each}
 use Rattle.cn_ledger.specs.Ledger.{IsSound, IsTight, Ledger}
@@ -20,7 +19,7 @@ use Rattle.cn_walk.specs.declared.view.Grant.{Grant}
 use Rattle.cn_walk.specs.declared.view.Start.{Start}
 use Rattle.cn_walk.specs.declared.view.View.{View}
 use Rattle.cn_ledger.specs.Grants.{Grant as Listed, ListsGrants, is_grant}
-use Rattle.cn_walk.specs.Closing.{IsEnding, IsMoment}
+use Rattle.cn_walk.specs.Closing.{IsEnding}
 use Rattle.cn_walk.specs.Ends.{IsQuiet, NobodyInside, counts_of}
 use Rattle.cn_walk.specs.Rule.{IsKept, ledger_of}
 use Rattle.cn_walk.specs.Views.{base, given_in, granted_in, inside_in, on_in, standing_in}
@@ -29,9 +28,9 @@ use Rattle.cn_walk.proofs.Bounds.{all_came, count_risen, few_came}
 use Rattle.cn_walk.proofs.Ends.{carried-after, tight-after, tight-before}
 use Rattle.cn_walk.proofs.Fresh.{heard_few}
 use Rattle.cn_walk.proofs.Sole.{none_given}
-use Rattle.cn_walk.proofs.Raised.{count-word, entered-word}
-use Rattle.cn_walk.proofs.Totals.{mine_alone, part_le, total_add, total_same}
-use Rattle.cn_spec.proofs.CallerLemmas.{exit_of-name_of, name-below, name_of-exit_of, sum_below-part, sum_below-same, times-nil}
+use Rattle.cn_walk.proofs.Raised.{count-word}
+use Rattle.cn_walk.proofs.Totals.{mine_alone, part_le}
+use Rattle.cn_spec.proofs.CallerLemmas.{sum_below-part, times-nil}
 
 -- at a place of a list
 pub at_get : (xs : List ℕ) (i x : ℕ) → get_elem? xs i ≡ some x → (i < length xs) × (get_or xs i 0 ≡ x)

@@ -1,10 +1,9 @@
 -- Where nobody is inside, the names of a floor are tight, and its words can be carried.
-use Rattle.std.proofs.Common.{◌≡◌, ◌≢◌, ℕ, ◌+◌, ◌/◌, ◌%◌, ◌<◌, ◌≤◌, ◌&&◌, inl, inr, Bool, true, false, cond, eqb, ltb, List, [], length, sym, refl, ap, ◌∙◌, arith}
+use Rattle.std.proofs.Common.{◌≡◌, ◌≢◌, ℕ, ◌+◌, ◌<◌, ◌≤◌, ◌&&◌, inl, inr, Bool, true, false, eqb, ltb, List, [], length, sym, refl, ap, arith}
 use Rattle.std.proofs.lemmas.Bool.{cases_lt, eq-eqb, eqb-true, lt-ltb, le-ltb, ltb-true, ne_eqb}
-use Rattle.std.proofs.lemmas.Nat.{mod_below}
 use Rattle.atomic_table.specs.Table.{State}
-use Rattle.cn_spec.specs.Step.{name_of, share}
-use Rattle.cn_spec.specs.Sums.{once_below, when}
+use Rattle.cn_spec.specs.Step.{name_of}
+use Rattle.cn_spec.specs.Sums.{when}
 use Rattle.cn_wiring.specs.declared.end.End.{End}
 use Rattle.cn_wiring.specs.declared.end.End.TheVariants.{Balancer, Exit}
 use Rattle.cn_wiring.specs.Table.{Stands, Table, is_end, sum_at}
@@ -14,9 +13,8 @@ use Rattle.cn_walk.specs.declared.view.Start.{Start}
 use Rattle.cn_walk.specs.declared.view.View.{View}
 use Rattle.cn_walk.specs.Ends.{NobodyInside}
 use Rattle.cn_walk.specs.Rule.{IsCarried, IsKept, IsStart, ledger_of}
-use Rattle.cn_walk.specs.Views.{base}
-use Rattle.cn_walk.specs.Words.{clients_in, count_in, word_count}
-use Rattle.cn_spec.proofs.CallerLemmas.{name-below, name_of-exit_of, sum_below-zero, total_where-agree}
+use Rattle.cn_walk.specs.Words.{count_in, word_count}
+use Rattle.cn_spec.proofs.CallerLemmas.{sum_below-zero, total_where-agree}
 use Rattle.cn_ledger.proofs.CallerLemmas.{tight}
 
 -- ---- the ledger of words alone

@@ -1,17 +1,14 @@
 -- The tokens of a lane on their wires, where one comes or goes.
-use Rattle.std.proofs.Common.{◌≡◌, ◌≢◌, ℕ, zero, suc, ◌+◌, ◌<◌, ◌≤◌, inl, inr, Bool, true, false, cond, eqb, List, [], ◌∷◌, ◌++◌, length, get_or, map, sum_by, sym, refl, ap, ◌∙◌, arith, Option, Some, None}
-use Rattle.std.specs.Prelude.{count_by}
+use Rattle.std.proofs.Common.{◌≡◌, ℕ, ◌+◌, ◌<◌, ◌≤◌, inl, inr, eqb, List, [], ◌∷◌, ◌++◌, length, get_or, map, sum_by, refl, ap, ◌∙◌, arith}
 use Rattle.std.specs.List.{range_with_len}
-use Rattle.std.specs.Map.{lookup}
-use Rattle.std.proofs.lemmas.Bool.{cases_eq, cases_lt, ne_eqb, eq-eqb, eqb-true}
+use Rattle.std.proofs.lemmas.Bool.{cases_lt, ne_eqb}
 use Rattle.std.proofs.lemmas.List.{get_or_past}
 use Rattle.std.proofs.lemmas.List.FromFn.{get_or-map-range_with_len, length-map-range_with_len, fill_by_all}
 use Rattle.std.proofs.lemmas.List.Sums.{sum_by-append, sum_by-cons}
-use Rattle.cn_spec.specs.Sums.{when, sum_below}
+use Rattle.cn_spec.specs.Sums.{when}
 use Rattle.cn_yard.specs.Lists.{IsThere, last_on, without}
 use Rattle.cn_yard.proofs.CallerLemmas.{last_on-sum}
 use Rattle.cn_walk.specs.Views.{relisted}
-use Rattle.cn_spec.proofs.CallerLemmas.{sum_below-part}
 
 pub ones : (es : List (ℕ × ℕ)) → sum_by (λ _. 1) es ≡ length es
 ones [] = refl

@@ -14,12 +14,12 @@ use Rattle.cn_walk.specs.declared.view.Passage.{Passage}
 use Rattle.cn_walk.specs.declared.view.Start.{Start}
 use Rattle.cn_walk.specs.declared.view.View.{View}
 use Rattle.cn_walk.specs.Rule.{IsKept}
-use Rattle.cn_walk.specs.Views.{given_in, on_in, own_count}
+use Rattle.cn_walk.specs.Views.{given_in, own_count}
 use Rattle.cn_walk.specs.Words.{count_in}
 use Rattle.cn_walk.proofs.Bounds.{count_risen}
 use Rattle.cn_walk.proofs.Walked.{no-levels}
 use Rattle.cn_walk.proofs.Totals.{mine_alone, part_le, total_same}
-use Rattle.cn_spec.proofs.CallerLemmas.{sum_below-one, sum_below-part, sum_below-plus, sum_below-same, sum_below-total, sum_below-zero}
+use Rattle.cn_spec.proofs.CallerLemmas.{sum_below-one, sum_below-plus, sum_below-same, sum_below-total, sum_below-zero}
 use Rattle.cn_wiring.proofs.CallerLemmas.{levels}
 
 -- the numbers below c, of those below n

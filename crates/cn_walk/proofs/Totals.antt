@@ -1,11 +1,9 @@
 -- Sums over all views, where one of them changes.
-use Rattle.std.proofs.Common.{◌≡◌, ℕ, zero, suc, ◌+◌, ◌≤◌, ◌<◌, List, [], ◌∷◌, length, set, sum_by, All, sym, refl, ap, ◌∙◌, arith, eqb, inl, inr}
+use Rattle.std.proofs.Common.{◌≡◌, ℕ, zero, suc, ◌+◌, ◌≤◌, List, [], ◌∷◌, set, sum_by, sym, refl, ap, arith}
 use mathlib.Core.Option.{some, some-injective, some-ne-none}
 use lib.ListN.{get_elem?}
-use Rattle.std.proofs.lemmas.Bool.{cases_eq}
 use Rattle.std.proofs.lemmas.List.Sums.{sum_by-cons}
-use Rattle.cn_spec.specs.Sums.{sum_below, times, when}
-use Rattle.cn_spec.proofs.CallerLemmas.{sum_below-pick, sum_below-same, sum_below-zero}
+use Rattle.cn_spec.specs.Sums.{sum_below}
 
 module _ {X : Type 0} where
   -- the total where one view changes

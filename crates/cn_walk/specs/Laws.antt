@@ -10,7 +10,7 @@ use Rattle.cn_ledger.specs.Ledger.{Ledger}
 use Rattle.cn_walk.specs.declared.view.Start.{Start}
 use Rattle.cn_walk.specs.declared.view.View.{View}
 use Rattle.cn_walk.specs.Rule.{IsKept, ledger_of}
-use Rattle.cn_walk.specs.Views.{base, given_in, inside_in, levels_in}
+use Rattle.cn_walk.specs.Views.{given_in, inside_in, levels_in}
 use Rattle.cn_walk.specs.Words.{clients_in, count_in}
 
 -- the words and the views of a floor

@@ -1,6 +1,5 @@
-use Rattle.std.proofs.Common.{rules, sym, ap, ◌∙◌, arith}
+use Rattle.std.proofs.Common.{rules, arith}
 use Rattle.cn_walk.specs.Rule.{start_of}
-use Rattle.cn_walk.specs.Words.{word_count}
 use Rattle.cn_walk.proofs.Sharing.{joins, looks}
 use Rattle.cn_walk.proofs.floor.counters.Counters.merge.Goals as goal
 

@@ -1,4 +1,4 @@
-use Rattle.std.proofs.Common.{◌≡◌, ℕ, ◌+◌, ◌<◌, List, length, get_or, map, set, sym, ap, ◌∙◌, subst, arith}
+use Rattle.std.proofs.Common.{◌≡◌, ◌+◌, ◌<◌, List, length, get_or, map, set, sym, ap, ◌∙◌, subst, arith}
 use Rattle.std.specs.Prelude.{vec_len}
 use Rattle.cn_spec.specs.Step.{IsEachBelow}
 use Rattle.cn_walk.specs.declared.view.Grant.{Grant}
