@@ -53,8 +53,8 @@ fn may_run(network: &Counting, clients: &[Client], workers: u32, hand: u32) -> R
 
 /// Runs an epoch of these clients over the network, by so many workers, each with so many clients in hand
 /// ([`crate::walk_all`]). Of k clients, worker j of n has those at the positions from `j * k / n` up to, not including,
-/// `(j + 1) * k / n`, both rounded down. All memory but the last lists is taken before the first worker starts. One worker
-/// starts no thread, and a fork that gets no thread has its halves walk one after the other.
+/// `(j + 1) * k / n`, both rounded down. All lanes are made, and their memory is reserved, before the first worker starts.
+/// One worker starts no thread, and a fork that gets no thread has its halves walk one after the other.
 ///
 /// It returns only if the gate lets each worker on: one that waits for another worker may not, where that one gets no
 /// thread.
