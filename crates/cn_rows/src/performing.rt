@@ -141,12 +141,52 @@ type Row = (Asked, Kind, u32, Given, &'static [u8], u8, &'static [u8]);
 
 /// Only a run and a replay ask for random words; and a flush that fails is a write that fails.
 const ROWS: [Row; 16] = [
-    (Asked::Replay, Kind::Bitonic, 4, Given::All, ONE_CLIENT_ON_BITONIC_FOUR, 0, b""),
-    (Asked::Replay, Kind::Periodic, 2, Given::All, ONE_CLIENT_ON_PERIODIC_TWO, 0, b""),
-    (Asked::Replay, Kind::Tree, 4, Given::All, ONE_CLIENT_ON_TREE_FOUR, 0, b""),
+    (
+        Asked::Replay,
+        Kind::Bitonic,
+        4,
+        Given::All,
+        ONE_CLIENT_ON_BITONIC_FOUR,
+        0,
+        b"",
+    ),
+    (
+        Asked::Replay,
+        Kind::Periodic,
+        2,
+        Given::All,
+        ONE_CLIENT_ON_PERIODIC_TWO,
+        0,
+        b"",
+    ),
+    (
+        Asked::Replay,
+        Kind::Tree,
+        4,
+        Given::All,
+        ONE_CLIENT_ON_TREE_FOUR,
+        0,
+        b"",
+    ),
     (Asked::Show, Kind::Tree, 2, Given::All, TREE_TWO, 0, b""),
-    (Asked::Run, Kind::Bitonic, 2, Given::All, BATCH_ON_BITONIC_TWO, 0, b""),
-    (Asked::Check, Kind::Bitonic, 2, Given::All, GRANTS_OF_WIDTH_TWO, 0, b""),
+    (
+        Asked::Run,
+        Kind::Bitonic,
+        2,
+        Given::All,
+        BATCH_ON_BITONIC_TWO,
+        0,
+        b"",
+    ),
+    (
+        Asked::Check,
+        Kind::Bitonic,
+        2,
+        Given::All,
+        GRANTS_OF_WIDTH_TWO,
+        0,
+        b"",
+    ),
     (
         Asked::Replay,
         Kind::Tree,
@@ -174,7 +214,15 @@ const ROWS: [Row; 16] = [
         3,
         b"renamer: runtime\n",
     ),
-    (Asked::Show, Kind::Tree, 2, Given::NoWords(io::ErrorKind::Unsupported), TREE_TWO, 0, b""),
+    (
+        Asked::Show,
+        Kind::Tree,
+        2,
+        Given::NoWords(io::ErrorKind::Unsupported),
+        TREE_TWO,
+        0,
+        b"",
+    ),
     (
         Asked::Check,
         Kind::Bitonic,
@@ -193,7 +241,15 @@ const ROWS: [Row; 16] = [
         3,
         b"renamer: write after 124 bytes\n",
     ),
-    (Asked::Show, Kind::Tree, 2, Given::NoFlush, TREE_TWO, 3, b"renamer: write after 99 bytes\n"),
+    (
+        Asked::Show,
+        Kind::Tree,
+        2,
+        Given::NoFlush,
+        TREE_TWO,
+        3,
+        b"renamer: write after 99 bytes\n",
+    ),
     (
         Asked::Run,
         Kind::Bitonic,
@@ -260,13 +316,7 @@ fn jobs_write_their_texts_and_end(rt: HostRuntime) {
 fn ran(alloc: Global, line: &str, input: &[u8]) -> Option<(Vec<u8>, u8, Vec<u8>)> {
     let words = words(alloc, line).ok()?;
     let mut writer = writer_of(alloc, Given::All);
-    let done = run(
-        alloc,
-        words,
-        input,
-        &mut writer,
-        &source_of(Given::All),
-    );
+    let done = run(alloc, words, input, &mut writer, &source_of(Given::All));
     let mut errors = Narrow::new(alloc, 1_000, Then::TakesNothing);
     let status = end(&done, &mut errors);
     Some((writer.taken, status, errors.taken))
