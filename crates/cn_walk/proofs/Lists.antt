@@ -10,9 +10,9 @@ use Rattle.cn_yard.specs.Lists.{IsThere, last_on, without}
 use Rattle.cn_yard.proofs.CallerLemmas.{last_on-sum}
 use Rattle.cn_walk.specs.Views.{relisted}
 
-pub ones : (es : List (ℕ × ℕ)) → sum_by (λ _. 1) es ≡ length es
+pub ones : {X : Type 0} (xs : List X) → sum_by (λ (_ : X). 1) xs ≡ length xs
 ones [] = refl
-ones (e ∷ es) = omega (arith, ones es, sum_by-cons (λ (x : ℕ × ℕ). 1) e es)
+ones {X} (x ∷ xs) = omega (arith, ones xs, sum_by-cons (λ (_ : X). 1) x xs)
 
 -- ---- lists that are made anew
 

@@ -25,7 +25,7 @@ use Rattle.cn_walk.specs.Walks.{WalksAll, Walks, inside_by, steps_left}
 use Rattle.cn_walk.proofs.Closings.{inside-yard, none-on}
 use Rattle.cn_walk.proofs.Accounts.{at-none, at-one, weighed-went}
 use Rattle.cn_walk.proofs.Ledgers.{Lands}
-use Rattle.cn_walk.proofs.Lists.{weigh-come, weigh-leave, weigh-pass}
+use Rattle.cn_walk.proofs.Lists.{ones, weigh-come, weigh-leave, weigh-pass}
 
 -- nothing happens
 pub stays : (a : LaneValue) → Walks a a []
@@ -215,10 +215,6 @@ none_by a held none f =
     empty_by [] h = refl
     empty_by (e ∷ es) h = absurd (omega arith)
 
-each_one : {X : Type 0} (xs : List X) → sum_by (λ (x : X). 1) xs ≡ length xs
-each_one [] = refl
-each_one {X} (x ∷ xs) = omega (arith, each_one xs, sum_by-cons (λ (y : X). 1) x xs)
-
 pub walked : (a b : LaneValue) (xs : List Client) → Walks a b xs → tokens_in b.yard.lists ≡ 0 → ((f : ℕ → ℕ) → inside_by f a.view ≡ 0) → ((f : ℕ → ℕ) → inside_by f b.view ≡ 0)
     → WalksAll a b xs
 walked a b xs w out before after =
@@ -235,7 +231,7 @@ walked a b xs w out before after =
         more,
         grants,
         record {
-          as_many = omega (arith, even (λ _. 1), before (λ _. 1), after (λ _. 1), each_one more, each_one xs);
+          as_many = omega (arith, even (λ _. 1), before (λ _. 1), after (λ _. 1), ones more, ones xs);
           as_often = λ id. omega (arith, even (is id), before (is id), after (is id));
         },
       );
