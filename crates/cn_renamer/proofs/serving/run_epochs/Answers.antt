@@ -1,4 +1,4 @@
-use Rattle.std.proofs.Common.{◌≡◌, ◌∷◌, ◌++◌, [], List, arith, rules, subst, take}
+use Rattle.std.proofs.Common.{◌∷◌, ◌++◌, [], List, arith, rules, subst, take}
 use Rattle.std.specs.List.{AllZip}
 use Rattle.std.proofs.lemmas.Grind.{common_steps}
 use Rattle.cn_renamer.specs.Serve.{IsServed}
