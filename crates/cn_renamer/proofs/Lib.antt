@@ -1,3 +1,4 @@
 pub mod OneText
 pub mod Reports
 pub mod Walks
+pub mod Served

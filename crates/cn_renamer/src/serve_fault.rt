@@ -7,6 +7,7 @@ ghost use Rattle.cn_renamer.specs.Serve.{fault_of_batch, fault_of_output, status
 use crate::output_fault::OutputFault;
 use cn_report::{BatchCause, BatchFault};
 use cn_wiring::BuildFault;
+use std::alloc::AllocError;
 use thiserror::Error;
 
 /// Why a run did not end well. Its text is the line that the program prints.
@@ -52,6 +53,14 @@ impl From<BuildFault> for ServeFault {
     ghost from_gives = { λ _ fault. fault ≡ Memory };
 
     fn from(_fault: BuildFault) -> Self {
+        ServeFault::Memory
+    }
+}
+
+impl From<AllocError> for ServeFault {
+    ghost from_gives = { λ _ fault. fault ≡ Memory };
+
+    fn from(_error: AllocError) -> Self {
         ServeFault::Memory
     }
 }

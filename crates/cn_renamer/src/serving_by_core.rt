@@ -5,19 +5,16 @@ ghost use Rattle.std.specs.List.{AllZip};
 ghost use Rattle.cn_spec.specs.declared.limits.TheConstants.{MOST_HAND};
 ghost use Rattle.cn_core.specs.State.{inside_in, start};
 ghost use Rattle.cn_yard.specs.Lists.{on};
-ghost use Rattle.cn_words.specs.Net.{IsNetworkOf};
 ghost use Rattle.cn_report.specs.Reading.Batch.{AreServable, MayCome};
 ghost use Rattle.cn_report.specs.Writing.Written.{HasWritten, written_by};
-ghost use Rattle.cn_renamer.specs.Outputs.{until_output};
-ghost use Rattle.cn_renamer.specs.Serve.{IsReportOfEpochs, IsReportOfKnown, IsServeFault, IsServed, until_serve};
+ghost use Rattle.cn_renamer.specs.Serve.{IsReportOfKnown, IsServeFault, IsServed, until_serve};
 ghost use Rattle.cn_renamer.specs.Walk.{Comes, IsInYard, MayFollow, ahead_in};
 
-use crate::output_fault::OutputFault;
+use crate::reporting::write_report;
 use crate::serve_fault::ServeFault;
-use crate::writing::write_text;
 use cn_core::{Client, EnterFault, Moved};
 use cn_epoch::{EpochRecord, Epochs, TurnFault};
-use cn_report::{BatchEpoch, read_batch, render_report};
+use cn_report::{BatchEpoch, read_batch};
 use cn_wiring::Counting;
 use cn_words::Options;
 use cn_yard::Yard;
@@ -177,25 +174,6 @@ fn serve_epochs(
     Ok(records)
 }
 
-/// Writes the report of epochs on a network, served with at most so many clients inside at a time as the options have.
-fn report_epochs<W: Write>(
-    alloc: Global,
-    writer: &mut W,
-    options: &Options,
-    network: &Counting,
-    epochs: &[BatchEpoch],
-    state: RandomState,
-) -> Result<(), OutputFault>
-    requires built { IsNetworkOf options.now.net network.now }
-    requires servable { AreServable network.now.table.entries epochs.now }
-    ensures { let Is = IsReportOfEpochs options.now.net epochs.now in
-        HasWritten W.contents Is (written_by until_output result) writer.old writer.new }
-{
-    let records = serve_epochs(alloc, network, options.hand(), epochs, state)?;
-    let text = render_report(alloc, network, &records)?;
-    write_text(writer, &text)
-}
-
 /// Reads a batch, serves its epochs one after another by the core, and writes the report: the network, each epoch's number
 /// and its number of clients, how many left by each exit, who holds which name, and how many epochs and grants there are.
 /// Each epoch has at most as many clients inside at a time as the options have in hand, and one worker: neither the
@@ -222,6 +200,7 @@ pub fn serve_by_core<R: Read + Drop, W: Write>(
 {
     let network = options.net().build(alloc)?;
     let batch = read_batch(alloc, reader, network.entries(), state)?;
-    report_epochs(alloc, writer, options, &network, &batch.epochs, names_state)?;
+    let records = serve_epochs(alloc, &network, options.hand(), &batch.epochs, names_state)?;
+    write_report(alloc, writer, &network, &records)?;
     Ok(())
 }

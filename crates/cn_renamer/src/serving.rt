@@ -1,0 +1,101 @@
+//! A batch, served by many workers.
+
+ghost use Rattle.std.specs.Prelude.{◌≤◌, IfErr, IfOk, length, take, vec_capacity, vec_len};
+ghost use Rattle.std.specs.List.{AllZip};
+ghost use Rattle.cn_report.specs.Reading.Batch.{AreServable, MayCome};
+ghost use Rattle.cn_report.specs.Writing.Written.{HasWritten, written_by};
+ghost use Rattle.cn_renamer.specs.Serve.{IsReportOfKnown, IsServeFault, IsServed, until_serve};
+
+use crate::reporting::write_report;
+use crate::serve_fault::ServeFault;
+use cn_epoch::EpochRecord;
+use cn_report::{BatchEpoch, read_batch};
+use cn_walk::{Gate, RunFault, run_epoch};
+use cn_wiring::Counting;
+use cn_words::Options;
+use std::alloc::{AllocError, Global};
+use std::hash::RandomState;
+use std::io::{Read, Write};
+use std::sync::Wait;
+use std::thread::Threads;
+
+/// Runs an epoch of a batch by as many workers as the options have: its record, with the batch's number for it.
+fn run_one<G: Gate + Sync, R: Threads + Wait + Sync>(
+    rt: &R,
+    alloc: Global,
+    network: &Counting,
+    options: &Options,
+    epoch: &BatchEpoch,
+    gate: &G,
+) -> Result<EpochRecord, AllocError>
+    requires { MayCome network.now.table.entries epoch.now.clients.items }
+    ensures { IfOk result (IsServed network.now.table.width epoch.now) }
+{
+    let (workers, hand) = (options.workers(), options.hand());
+    match run_epoch(rt, alloc, network, &epoch.clients, workers, hand, gate) {
+        Ok(quiet) => Ok(EpochRecord {
+            number: epoch.number,
+            clients: epoch.clients.len() as u64,
+            counts: Vec::from_slice(alloc, quiet.counts())?,
+            holders: quiet.holders()?,
+        }),
+        Err(fault) => {
+            // An epoch of a batch is refused for want of memory alone.
+            prove!(matches!(fault, RunFault::Memory));
+            Err(AllocError)
+        }
+    }
+}
+
+/// Runs epochs of a batch, one after another: their records.
+fn run_epochs<G: Gate + Sync, R: Threads + Wait + Sync>(
+    rt: &R,
+    alloc: Global,
+    network: &Counting,
+    options: &Options,
+    epochs: &[BatchEpoch],
+    gate: &G,
+) -> Result<Vec<EpochRecord>, AllocError>
+    requires { AreServable network.now.table.entries epochs.now }
+    ensures { IfOk result (λ records. AllZip (IsServed network.now.table.width) epochs.now records.items) }
+{
+    let mut records = Vec::with_capacity(alloc, epochs.len())?;
+    for epoch in epochs {
+        let served = run_one(rt, alloc, network, options, epoch, gate)?;
+        records.push_reserved(served);
+    }
+    Ok(records)
+}
+
+/// Reads a batch, runs its epochs one after another, and writes the report: the network, each epoch's number and its number
+/// of clients, how many left by each exit, who holds which name, and how many epochs and grants there are. Each epoch has
+/// as many workers as the options have, each with so many clients in hand ([`cn_walk::run_epoch`]). The options' form is
+/// not looked at.
+///
+/// What is promised holds of every interleaving of the workers' steps; which client holds which name is theirs to settle.
+/// The gate is asked before each step, and `serve` returns only if it lets each worker on. The random state is for the
+/// clients of a batch's epoch as they are read. Nothing is written before every epoch has ended.
+///
+/// # Errors
+/// `Batch` with the first record that has a cause, and its first cause; `Memory` where any growth was refused; `Write`
+/// where a write failed or the flush at the end, with the number of bytes that were written: they are the first of the
+/// text. On any other fault nothing was written.
+pub fn serve<I: Read + Drop, W: Write, G: Gate + Sync, R: Threads + Wait + Sync>(
+    rt: &R,
+    alloc: Global,
+    reader: I,
+    writer: &mut W,
+    options: &Options,
+    state: RandomState,
+    gate: &G,
+) -> Result<(), ServeFault>
+    ensures written { let Is = IsReportOfKnown options.now.net (I.remaining reader) in
+        HasWritten W.contents Is (written_by until_serve result) writer.old writer.new }
+    ensures refused { IfErr result (IsServeFault options.now.net (I.remaining reader)) }
+{
+    let network = options.net().build(alloc)?;
+    let batch = read_batch(alloc, reader, network.entries(), state)?;
+    let records = run_epochs(rt, alloc, &network, options, &batch.epochs, gate)?;
+    write_report(alloc, writer, &network, &records)?;
+    Ok(())
+}
