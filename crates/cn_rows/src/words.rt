@@ -241,13 +241,31 @@ fn help_tells_the_limits(rt: HostRuntime) {
 /// What the help of each subcommand shows.
 const SHOWN: [(&str, &str); 8] = [
     ("renamer run --help", "    epoch,client,entry\n    1,17,3\n"),
-    ("renamer run --help", "    name 4 client 42\n    end epochs 1 grants 5\n"),
+    (
+        "renamer run --help",
+        "    name 4 client 42\n    end epochs 1 grants 5\n",
+    ),
     ("renamer run --help", "\n  1  the batch is refused\n"),
-    ("renamer replay --help", "    op,client,wire\n    enter,7,0\n"),
-    ("renamer replay --help", "    end epoch 1 entered 0 inside 0\n"),
-    ("renamer check --help", "    epoch,client,name\n    1,17,0\n"),
-    ("renamer check --help", "    epoch 1 clients 5 counts 2 1 1 1\n"),
-    ("renamer show --help", "    wire 6 exit 3\n    end wires 7\n"),
+    (
+        "renamer replay --help",
+        "    op,client,wire\n    enter,7,0\n",
+    ),
+    (
+        "renamer replay --help",
+        "    end epoch 1 entered 0 inside 0\n",
+    ),
+    (
+        "renamer check --help",
+        "    epoch,client,name\n    1,17,0\n",
+    ),
+    (
+        "renamer check --help",
+        "    epoch 1 clients 5 counts 2 1 1 1\n",
+    ),
+    (
+        "renamer show --help",
+        "    wire 6 exit 3\n    end wires 7\n",
+    ),
 ];
 
 /// What the first help that lacks it should show.
