@@ -8,39 +8,42 @@ use crate::checking::check;
 use crate::fault::Fault;
 use crate::output_fault::OutputFault;
 use crate::replaying::replay;
-use crate::serving_by_core::serve_by_core;
+use crate::serving::serve;
 use crate::showing::show;
 use crate::writing::write_text;
+use cn_walk::OpenGate;
 use cn_words::{Job, WordsFault, parse_words};
 use std::alloc::Global;
 use std::hash::RandomState;
 use std::io::{Read, Write};
 use std::random::RandomSource;
+use std::sync::Wait;
+use std::thread::Threads;
 
-/// Does a job: reads what it reads, and writes its text. Random words are asked for only by a job that keeps clients.
+/// Does a job: reads what it reads, and writes its text. Random words are asked for only by a job that keeps clients,
+/// and threads only by a run of more than one worker.
 ///
 /// The width of a check is one that networks have ([`cn_wiring::is_width`]), as [`parse_words`] answers it.
 ///
 /// # Errors
 /// That of the job's own call; or that of the source of random words, and then nothing was written.
-pub fn perform<R: Read + Drop, W: Write, S: RandomSource>(
+pub fn perform<I: Read + Drop, W: Write, S: RandomSource, R: Threads + Wait + Sync>(
+    rt: &R,
     alloc: Global,
     job: Job,
-    reader: R,
+    reader: I,
     writer: &mut W,
     source: &S,
 ) -> Result<(), Fault>
     requires { IsBuiltFor job }
-    ensures written { let Is = IsTextOf job (R.remaining reader) in
+    ensures written { let Is = IsTextOf job (I.remaining reader) in
         HasWritten W.contents Is (written_by until_fault result) writer.old writer.new }
-    ensures ends { IfErr result (MayEnd job (R.remaining reader)) }
+    ensures ends { IfErr result (MayEnd job (I.remaining reader)) }
 {
     match job {
         Job::Run(options) => {
             let state = RandomState::new(source)?;
-            let names_state = RandomState::new(source)?;
-            let served = serve_by_core(alloc, reader, writer, &options, state, names_state);
-            Ok(served?)
+            Ok(serve(rt, alloc, reader, writer, &options, state, &OpenGate)?)
         }
         Job::Replay(net) => {
             let state = RandomState::new(source)?;
@@ -55,18 +58,19 @@ pub fn perform<R: Read + Drop, W: Write, S: RandomSource>(
 ///
 /// # Errors
 /// `Refused` where the words ask for no job, and then nothing was written; else that of the job, or of writing the help.
-pub fn run<R: Read + Drop, W: Write, S: RandomSource>(
+pub fn run<I: Read + Drop, W: Write, S: RandomSource, R: Threads + Wait + Sync>(
+    rt: &R,
     alloc: Global,
     words: Vec<String>,
-    reader: R,
+    reader: I,
     writer: &mut W,
     source: &S,
 ) -> Result<(), Fault>
     ensures { let texts = map string_bytes words.items in
-        HasRun texts (R.remaining reader) W.contents writer.old writer.new result }
+        HasRun texts (I.remaining reader) W.contents writer.old writer.new result }
 {
     match parse_words(alloc, words) {
-        Ok(job) => perform(alloc, job, reader, writer, source),
+        Ok(job) => perform(rt, alloc, job, reader, writer, source),
         Err(WordsFault::Help(help)) => Ok(write_text(writer, help.as_bytes())?),
         Err(WordsFault::Refused(text)) => Err(Fault::Refused(text)),
         Err(WordsFault::Memory) => Err(Fault::Output(OutputFault::Memory)),

@@ -13,6 +13,8 @@ use cn_wiring::{Kind, is_width};
 use std::alloc::Global;
 use std::io;
 use std::random::RandomSource;
+use std::sync::Wait;
+use std::thread::Threads;
 
 const ONE_CLIENT: &[u8] = b"op,client,wire\n\
       enter,7,0\n\
@@ -285,7 +287,7 @@ fn ends_with(alloc: Global, done: &Result<(), Fault>, line: &[u8], status: u8) -
     end(done, &mut errors) == status && errors.taken.as_slice() == line
 }
 
-fn is_performed(alloc: Global, row: &Row) -> Option<bool> {
+fn is_performed<R: Threads + Wait + Sync>(rt: &R, alloc: Global, row: &Row) -> Option<bool> {
     let (asked, kind, width, given, text, status, line) = *row;
     let job = job(asked, kind, width)?;
     if !is_built(&job) {
@@ -293,14 +295,14 @@ fn is_performed(alloc: Global, row: &Row) -> Option<bool> {
     }
     let input = input_of(&job);
     let mut writer = writer_of(alloc, given);
-    let done = perform(alloc, job, input, &mut writer, &source_of(given));
+    let done = perform(rt, alloc, job, input, &mut writer, &source_of(given));
     Some(writer.taken.as_slice() == text && ends_with(alloc, &done, line, status))
 }
 
 /// The place of the first row that is done otherwise.
-fn wrong_row(alloc: Global) -> Option<usize> {
+fn wrong_row<R: Threads + Wait + Sync>(rt: &R, alloc: Global) -> Option<usize> {
     for (place, row) in ROWS.iter().enumerate() {
-        if is_performed(alloc, row) != Some(true) {
+        if is_performed(rt, alloc, row) != Some(true) {
             return Some(place);
         }
     }
@@ -309,22 +311,33 @@ fn wrong_row(alloc: Global) -> Option<usize> {
 
 #[test]
 fn jobs_write_their_texts_and_end(rt: HostRuntime) {
-    assert_eq!(rt; wrong_row(rt.alloc()), None);
+    assert_eq!(rt; wrong_row(&rt, rt.alloc()), None);
 }
 
 /// What the words of a line write of an input, the status, and what is printed of the fault.
-fn ran(alloc: Global, line: &str, input: &[u8]) -> Option<(Vec<u8>, u8, Vec<u8>)> {
+fn ran<R: Threads + Wait + Sync>(
+    rt: &R,
+    alloc: Global,
+    line: &str,
+    input: &[u8],
+) -> Option<(Vec<u8>, u8, Vec<u8>)> {
     let words = words(alloc, line).ok()?;
     let mut writer = writer_of(alloc, Given::All);
-    let done = run(alloc, words, input, &mut writer, &source_of(Given::All));
+    let done = run(rt, alloc, words, input, &mut writer, &source_of(Given::All));
     let mut errors = Narrow::new(alloc, 1_000, Then::TakesNothing);
     let status = end(&done, &mut errors);
     Some((writer.taken, status, errors.taken))
 }
 
 /// Whether the words of a line write this text of an input, and end with status 0 and nothing printed.
-fn writes(alloc: Global, line: &str, input: &[u8], wanted: &[u8]) -> bool {
-    match ran(alloc, line, input) {
+fn writes<R: Threads + Wait + Sync>(
+    rt: &R,
+    alloc: Global,
+    line: &str,
+    input: &[u8],
+    wanted: &[u8],
+) -> bool {
+    match ran(rt, alloc, line, input) {
         Some((written, status, errors)) => {
             written.as_slice() == wanted && status == 0 && errors.is_empty()
         }
@@ -357,9 +370,9 @@ const LINES: [(&str, &[u8], &[u8]); 5] = [
 ];
 
 /// The first line that writes something else.
-fn wrong_line(alloc: Global) -> Option<&'static str> {
+fn wrong_line<R: Threads + Wait + Sync>(rt: &R, alloc: Global) -> Option<&'static str> {
     for (line, input, text) in &LINES {
-        if !writes(alloc, line, input, text) {
+        if !writes(rt, alloc, line, input, text) {
             return Some(*line);
         }
     }
@@ -368,12 +381,16 @@ fn wrong_line(alloc: Global) -> Option<&'static str> {
 
 #[test]
 fn words_are_done(rt: HostRuntime) {
-    assert_eq!(rt; wrong_line(rt.alloc()), None);
+    assert_eq!(rt; wrong_line(&rt, rt.alloc()), None);
 }
 
 /// Whether something is written, and whether something is printed of a fault, each ended by a line feed; and the status.
-fn told(alloc: Global, line: &str) -> Option<(Option<bool>, Option<bool>, u8)> {
-    let (written, status, errors) = ran(alloc, line, ONE_CLIENT)?;
+fn told<R: Threads + Wait + Sync>(
+    rt: &R,
+    alloc: Global,
+    line: &str,
+) -> Option<(Option<bool>, Option<bool>, u8)> {
+    let (written, status, errors) = ran(rt, alloc, line, ONE_CLIENT)?;
     Some((is_ended(&written), is_ended(&errors), status))
 }
 
@@ -385,9 +402,9 @@ fn is_ended(text: &[u8]) -> Option<bool> {
 
 #[test]
 fn help_is_written_and_a_refusal_is_told(rt: HostRuntime) {
-    let help = told(rt.alloc(), "renamer help show");
+    let help = told(&rt, rt.alloc(), "renamer help show");
     assert_eq!(rt; help, Some((Some(true), None, 0)));
-    let refusal = told(rt.alloc(), "renamer show --network tree --width 3");
+    let refusal = told(&rt, rt.alloc(), "renamer show --network tree --width 3");
     assert_eq!(rt; refusal, Some((None, Some(true), 2)));
 }
 

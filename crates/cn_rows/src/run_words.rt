@@ -6,31 +6,42 @@ use cn_wiring::{Kind, width_of};
 use cn_words::{Form, Job, Net, OptionFault, Options, WordsFault, parse_words};
 use std::alloc::Global;
 
-/// The words of runs, and the hand of each.
-const RUNS: [(&str, u32); 7] = [
-    ("renamer run --network periodic --width 4", 1),
-    ("renamer run --network periodic --width 4 --hand 1", 1),
-    ("renamer run --network periodic --width 4 --hand 9", 9),
-    ("renamer run --network periodic --width 4 --hand=64", 64),
-    ("renamer run --network periodic --width 4 --workers 1", 1),
-    ("renamer run --network periodic --width 4 --form report", 1),
+/// The words of runs, and the workers and the hand of each.
+const RUNS: [(&str, u32, u32); 9] = [
+    ("renamer run --network periodic --width 4", 1, 1),
+    ("renamer run --network periodic --width 4 --hand 1", 1, 1),
+    ("renamer run --network periodic --width 4 --hand 9", 1, 9),
+    ("renamer run --network periodic --width 4 --hand=64", 1, 64),
+    ("renamer run --network periodic --width 4 --workers 1", 1, 1),
+    ("renamer run --network periodic --width 4 --workers 2", 2, 1),
     (
-        "renamer run --hand 2 --form report --width 4 --workers 1 --network periodic",
+        "renamer run --workers=64 --network periodic --width 4",
+        64,
+        1,
+    ),
+    (
+        "renamer run --network periodic --width 4 --form report",
+        1,
+        1,
+    ),
+    (
+        "renamer run --hand 2 --form report --width 4 --workers 3 --network periodic",
+        3,
         2,
     ),
 ];
 
-/// Whether the words of a line ask for a run on the periodic network of width 4 with this hand.
-fn is_run(alloc: Global, line: &str, hand: u32) -> Option<bool> {
+/// Whether the words of a line ask for a run on the periodic network of width 4 with these workers and this hand.
+fn is_run(alloc: Global, line: &str, workers: u32, hand: u32) -> Option<bool> {
     let net = Net::new(Kind::Periodic, 4).ok()?;
-    let options = Options::new(net, 1, hand, Form::Report).ok()?;
+    let options = Options::new(net, workers, hand, Form::Report).ok()?;
     Some(is_asked(alloc, line, Job::Run(options)))
 }
 
 /// The first line that asks for another job.
 fn wrong_run(alloc: Global) -> Option<&'static str> {
-    for (line, hand) in &RUNS {
-        if is_run(alloc, line, *hand) != Some(true) {
+    for (line, workers, hand) in &RUNS {
+        if is_run(alloc, line, *workers, *hand) != Some(true) {
             return Some(*line);
         }
     }
@@ -43,10 +54,8 @@ fn runs(rt: HostRuntime) {
 }
 
 /// What follows the words of a run whose network is built, where all of it is refused.
-const REFUSED_RUNS: [&str; 20] = [
+const REFUSED_RUNS: [&str; 18] = [
     "--workers 0",
-    "--workers 2",
-    "--workers 64",
     "--workers 65",
     "--workers 01",
     "--workers +1",
@@ -88,11 +97,10 @@ fn refused_runs(rt: HostRuntime) {
 }
 
 /// What follows the words of a run, and the text that it is refused with.
-const REFUSALS: [(&str, &str); 5] = [
+const REFUSALS: [(&str, &str); 4] = [
     ("--workers 65", "renamer: workers out of range\n"),
     ("--hand 0", "renamer: hand out of range\n"),
     ("--form x", "renamer: no such form\n"),
-    ("--workers 2", "renamer: this build walks with one worker\n"),
     (
         "--form grants",
         "renamer: this build writes the report alone\n",

@@ -3,8 +3,8 @@ use Rattle.std.proofs.Common.{◌≡◌, ◌<◌, ◌^◌, ◌↔◌, ℕ, List,
 use Rattle.std.specs.Prelude.{IsErr, IsErrOf}
 use Rattle.clap.specs.Words.{Row}
 use Rattle.cn_spec.specs.declared.limits.TheConstants.{MOST_HAND, MOST_WORKERS}
-use Rattle.cn_words.specs.Choices.{GivesNumber, NamesNoRun, NamesRun}
-use Rattle.cn_words.specs.Options.{IsHand, IsWithin, IsWorkers, Settings}
+use Rattle.cn_words.specs.Choices.{GivesNumber, NamesNoRun}
+use Rattle.cn_words.specs.Options.{IsHand, IsWorkers, Settings}
 use Rattle.cn_words.specs.declared.options.OptionFault.{OptionFault}
 use Rattle.cn_words.specs.declared.options.OptionFault.TheVariants.{Hand, Workers}
 use Rattle.cn_words.proofs.WordNumbers.{one_number}
@@ -35,8 +35,3 @@ refused_numbers given workers hand answer Hand gives_workers gives_hand few smal
 pub refused : {T E : Type 0} (Is : T → Type 0) (Unless : E → Type 0) (Nothing : Type 0) (r : Result T E) → IsErr r → Nothing → MatchResult r Is (λ e. Unless e → Nothing)
 refused Is Unless Nothing (Ok x) is nothing = cc
 refused Is Unless Nothing (Err e) is nothing = λ unless. nothing
-
-pub one_count : (given : List Row) (one other : Settings) → NamesRun given one → IsWithin one → NamesRun given other → IsWithin other → one.workers ≡ other.workers
-one_count given one other names within names_other within_other =
-    one_number given (codes "workers") one.workers other.workers
-    (names.workers, few_workers one.workers within.1) (names_other.workers, few_workers other.workers within_other.1)

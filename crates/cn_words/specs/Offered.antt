@@ -5,9 +5,9 @@ use Rattle.cn_words.specs.Choices.{NamesRun}
 use Rattle.cn_words.specs.Options.{IsWithin, Settings}
 use Rattle.cn_words.specs.declared.options.Form.TheVariants.{Report}
 
--- one worker, and the report
+-- the report
 abbrev pub IsOffered : Settings → Type 0
-IsOffered settings = (settings.workers ≡ 1) × (settings.form ≡ Report)
+IsOffered settings = settings.form ≡ Report
 
 -- the options name nothing that this build runs
 abbrev pub NamesNoOffer : List Row → Type 0

@@ -1,4 +1,4 @@
-//! What this build runs of all that may be asked for: one worker, and the report.
+//! What this build runs of all that may be asked for: runs that write the report.
 
 ghost use Rattle.std.specs.Prelude.{◌≢◌, MatchResult};
 ghost use Rattle.clap.specs.Words.{found_of, rows_of};
@@ -15,15 +15,12 @@ use thiserror::Error;
 
 /// What the help of a run says of it.
 pub(crate) const OFFER_HELP: &str = "
-This build takes `--workers 1` and `--form report` alone.
+This build takes `--form report` alone.
 ";
 
 /// What this build does not run.
 #[derive(Clone, Copy, Debug, PartialEq, Eq, Error)]
 pub enum OfferFault {
-    /// More than one worker.
-    #[error("renamer: this build walks with one worker")]
-    Workers,
     /// Another form than the report.
     #[error("renamer: this build writes the report alone")]
     Form,
@@ -39,9 +36,7 @@ pub(crate) fn offered_options(
         (λ fault. fault ≢ choice.Memory → NamesNoOffer given) }
 {
     let asked = chosen_options(alloc, options)?;
-    if asked.workers() != 1 {
-        Err(ChoiceFault::Offer(OfferFault::Workers))
-    } else if asked.form() != Form::Report {
+    if asked.form() != Form::Report {
         Err(ChoiceFault::Offer(OfferFault::Form))
     } else {
         Ok(asked)

@@ -7,13 +7,15 @@ use std::env::{self, Env};
 use std::io;
 use std::process::ExitCode;
 use std::random::RandomSource;
+use std::sync::Wait;
+use std::thread::Threads;
 
 fn run_words(
-    rt: &(impl Alloc<A = Global> + Env + Input + Print + RandomSource),
+    rt: &(impl Alloc<A = Global> + Env + Input + Print + RandomSource + Threads + Wait + Sync),
 ) -> Result<(), Fault> {
     let alloc = rt.alloc();
     let words: Vec<String> = env::args(rt)?.collect(alloc)?;
-    run(alloc, words, rt.reader(), &mut io::writer(rt), rt)
+    run(rt, alloc, words, rt.reader(), &mut io::writer(rt), rt)
 }
 
 fn main(rt: HostRuntime) -> ExitCode {
