@@ -1,6 +1,6 @@
 //! The peers of the jobs that read CSV, in plain Rust without contracts: `readers check` reads a grant list of width 4 and
 //! prints the tight text, `readers run` reads a batch for the tree of width 2, walks each client straight through, and
-//! prints the report.
+//! prints the report. `readers add` adds to an atomic word a hundred million times.
 
 use csv::{ByteRecord, Reader, ReaderBuilder};
 use indexmap::IndexSet;
@@ -186,11 +186,21 @@ fn run() -> Result<String, Refused> {
     Ok(text)
 }
 
+/// What an atomic add costs where nobody else adds.
+fn add() -> Result<String, Refused> {
+    let word = AtomicU64::new(0);
+    for _ in 0..100_000_000 {
+        word.fetch_add(1, Ordering::AcqRel);
+    }
+    Ok(format!("{}\n", word.into_inner()))
+}
+
 fn main() -> ExitCode {
     let done = match std::env::args().nth(1).as_deref() {
         Some("check") => check(),
         Some("run") => run(),
-        _ => Err("readers check | run".to_string()),
+        Some("add") => add(),
+        _ => Err("readers check | run | add".to_string()),
     };
     match done {
         Ok(text) => {
