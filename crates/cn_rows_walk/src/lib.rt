@@ -9,8 +9,6 @@ mod epochs;
 #[cfg(test)]
 mod meeting;
 #[cfg(test)]
-mod missing_lane;
-#[cfg(test)]
 mod one_lane;
 #[cfg(test)]
 mod refusals;
