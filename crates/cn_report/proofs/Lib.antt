@@ -1,3 +1,4 @@
 pub mod CallerLemmas
+pub mod ReadBack
 pub mod ReadingLemmas
 pub mod WritingLemmas

@@ -1,4 +1,5 @@
 -- What is written: the lines of each text.
+pub mod Grants
 pub mod Outcome
 pub mod Replay
 pub mod Report

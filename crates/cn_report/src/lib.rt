@@ -9,4 +9,6 @@ pub use reading::{
     Batch, BatchCause, BatchEpoch, BatchFault, Flaw, ScheduleCause, ScheduleFault, Tight,
     TightEpoch, check_grants, read_batch, read_schedule,
 };
-pub use writing::{EmitFault, emit, render_replay, render_report, render_tight, render_wiring};
+pub use writing::{
+    EmitFault, emit, render_grants, render_replay, render_report, render_tight, render_wiring,
+};

@@ -1,6 +1,7 @@
 //! What is written: the text of each job, and the loop that writes it.
 
 mod emitting;
+mod grants;
 mod heading;
 mod outcome;
 mod replay;
@@ -9,6 +10,7 @@ mod tight;
 mod wiring;
 
 pub use emitting::{EmitFault, emit};
+pub use grants::render_grants;
 pub use replay::render_replay;
 pub use report::render_report;
 pub use tight::render_tight;

@@ -1,0 +1,6 @@
+-- Lemmas on what is written and read again.
+pub mod Epochs
+pub mod Fields
+pub mod Form
+pub mod Rows
+pub mod Tight
