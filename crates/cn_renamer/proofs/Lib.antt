@@ -1,4 +1,4 @@
+pub mod Accepted
+pub mod Headline
 pub mod OneText
-pub mod Reports
-pub mod Walks
 pub mod Served

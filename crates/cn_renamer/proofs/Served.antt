@@ -1,12 +1,11 @@
 -- The record of an epoch that was run.
-use Rattle.std.proofs.Common.{◌≡◌, ◌≢◌, ℕ, ◌≤◌, ◌<◌, cond, eqb, List, [], ◌∷◌, ◌++◌, get_or, length, map, sym, ap, ◌∙◌, subst, arith}
+use Rattle.std.proofs.Common.{◌≡◌, ℕ, ◌≤◌, cond, eqb, List, [], ◌∷◌, ◌++◌, length, map, sym, ap, ◌∙◌, subst, arith}
 use Rattle.std.specs.List.Sorted.{IsPermutation}
 use Rattle.std.proofs.lemmas.List.{map-id}
-use Rattle.std.proofs.lemmas.List.FromFn.{length-map-range_with_len}
 use Rattle.std.proofs.lemmas.List.Sorted.{IsPermutation-cons, IsPermutation-middle, IsPermutation-refl, IsPermutation-sym, IsPermutation-trans, sum_by-IsPermutation}
-use Rattle.cn_spec.specs.Step.{share, shares}
+use Rattle.cn_spec.specs.Step.{shares}
 use Rattle.cn_spec.specs.Sums.{times}
-use Rattle.cn_spec.proofs.CallerLemmas.{get_or-shares, times-append, times-cons, times-map, times-member, times-nil, times-parts, times-two}
+use Rattle.cn_spec.proofs.CallerLemmas.{times-append, times-cons, times-map, times-member, times-nil, times-parts}
 use Rattle.cn_wiring.specs.Network.{Network}
 use Rattle.cn_core.specs.declared.client.Client.{Client}
 use Rattle.cn_epoch.specs.declared.record.EpochRecord.{EpochRecord}
@@ -16,7 +15,7 @@ use Rattle.cn_walk.specs.Runs.{IsRun}
 use Rattle.cn_walk.specs.Walks.{AreFor}
 use Rattle.cn_report.specs.Reading.Batch.{MayCome}
 use Rattle.cn_report.specs.declared.reading.gathering.BatchEpoch.{BatchEpoch}
-use Rattle.cn_renamer.specs.Serve.{IsServed}
+use Rattle.cn_renamer.specs.Headline.{IsServed}
 
 -- lists in which each number stands as often are orders of one another
 same_counts : (xs ys : List ℕ) → ((n : ℕ) → times n xs ≡ times n ys) → IsPermutation xs ys
@@ -51,27 +50,20 @@ module _ (clients : List Client) (grants : List Grant) (theirs : AreFor clients 
       let same : IsPermutation ids granted = same_counts ids granted (λ n. times-map (λ (c : Client). c.id) n clients ∙ sym (theirs.as_often n) ∙ sym (times-map (λ (g : Grant). g.client) n grants)) in
       IsPermutation-trans ids granted holders same lists.own
 
-  pub apart : ((client : ℕ) → times client ids ≤ 1) → (m n : ℕ) → m < n → n < length holders → get_or holders m 0 ≢ get_or holders n 0
-  apart once m n less below same =
-      let who : ℕ = get_or holders n 0 in
-      omega (arith, times-two holders m n less below same, times_order ids holders who own, once who)
+  -- and where no client came twice, none holds two
+  pub once : ((client : ℕ) → times client ids ≤ 1) → (client : ℕ) → times client holders ≤ 1
+  once come client = omega (arith, times_order ids holders client own, come client)
 
--- the record of a run is that of its epoch, served tight
+-- the record of a run is that of its epoch, served
 pub served : (network : Network) (epoch : BatchEpoch) (quiet : QuietValue) (r : EpochRecord) → IsRun network epoch.clients.items quiet → MayCome network.table.entries epoch.clients.items
     → r.number ≡ epoch.number → r.clients ≡ length epoch.clients.items → r.counts.items ≡ counts_of quiet.start quiet.words → ListsHolders quiet.did.grants r.holders.items → IsServed network.table.width epoch r
 served network epoch quiet r run come number many counts lists =
     let clients : List Client = epoch.clients.items in
     let width : ℕ = network.table.width in
-    let shared : r.counts.items ≡ shares (length clients) width = counts ∙ run.counts in
-    let all : length r.holders.items ≡ r.clients = lists.all ∙ run.theirs.as_many ∙ sym many in
     record {
       number = number;
       clients = many;
-      tight = record {
-        exits = ap length shared ∙ length-map-range_with_len (share (length clients) width) 0 width;
-        counts = λ i below. ap (λ (l : List ℕ). get_or l i 0) shared ∙ get_or-shares (length clients) width i below ∙ ap (λ (k : ℕ). share k width i) (sym many);
-        names = all;
-        distinct = λ m n less below. apart clients quiet.did.grants run.theirs r.holders.items lists come.once m n less (omega (arith, all));
-      };
-      own = own clients quiet.did.grants run.theirs r.holders.items lists;
+      counts = counts ∙ run.counts ∙ ap (λ (k : ℕ). shares k width) (sym many);
+      holders = own clients quiet.did.grants run.theirs r.holders.items lists;
+      once = once clients quiet.did.grants run.theirs r.holders.items lists come.once;
     }

@@ -1,7 +1,7 @@
 pub mod Check
+pub mod Headline
 pub mod Outputs
 pub mod Performing
 pub mod Replay
 pub mod Serve
 pub mod Show
-pub mod Walk

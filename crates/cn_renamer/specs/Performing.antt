@@ -14,7 +14,8 @@ use Rattle.cn_renamer.specs.declared.output_fault.OutputFault.TheVariants as out
 use Rattle.cn_renamer.specs.Check.{IsCheckFault, IsCheckOfKnown, status_of_check, until_check}
 use Rattle.cn_renamer.specs.Outputs.{until_output}
 use Rattle.cn_renamer.specs.Replay.{IsReplayFault, IsReplayOfKnown, status_of_replay, until_replay}
-use Rattle.cn_renamer.specs.Serve.{IsReportOfKnown, IsServeFault, status_of_serve, until_serve}
+use Rattle.cn_renamer.specs.Headline.{IsRunOfKnown}
+use Rattle.cn_renamer.specs.Serve.{IsServeFault, status_of_serve, until_serve}
 use Rattle.cn_renamer.specs.Show.{IsWiringOf}
 
 -- networks are built of the width that a job has; those of a replay, a run and a wiring that is shown are by themselves
@@ -24,7 +25,7 @@ IsBuiltFor other = Unit {0}
 
 -- the text of a job, by the bytes that its reader has left, where they are known
 abbrev pub IsTextOf : Job → Option (List ℕ) → List ℕ → Type 0
-IsTextOf (job.Run options) known text = IsReportOfKnown options.net known text
+IsTextOf (job.Run options) known text = IsRunOfKnown options.net options.form known text
 IsTextOf (job.Replay net) known text = IsReplayOfKnown net known text
 IsTextOf (job.Check width) known text = IsCheckOfKnown width known text
 IsTextOf (job.Show net) known text = IsWiringOf net text

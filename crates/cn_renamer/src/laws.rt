@@ -1,9 +1,16 @@
 //! The laws of what jobs write. Each function does nothing: its contract is the law, and a caller opens it by a call.
 
-ghost use Rattle.std.specs.Prelude.{◌≡◌, ℕ, List};
+ghost use Rattle.std.specs.Prelude.{◌≡◌, ℕ, List, map};
 ghost use Rattle.cn_wiring.specs.Network.{Network, IsNetwork};
 ghost use Rattle.cn_epoch.specs.declared.command.Command.{Command};
-ghost use Rattle.cn_words.specs.Net.{Description};
+ghost use Rattle.cn_report.specs.Reading.Batch.{IsBatch};
+ghost use Rattle.cn_report.specs.Reading.Grants.{IsTightList};
+ghost use Rattle.cn_report.specs.Reading.Records.{records_of};
+ghost use Rattle.cn_report.specs.Reading.Told.{told_epochs};
+ghost use Rattle.cn_report.specs.declared.reading.gathering.BatchEpoch.{BatchEpoch};
+ghost use Rattle.cn_words.specs.Net.{Description, entries_of};
+ghost use Rattle.cn_words.specs.declared.options.Form.TheVariants.{Grants};
+ghost use Rattle.cn_renamer.specs.Headline.{IsRunOf, served_epoch};
 ghost use Rattle.cn_renamer.specs.Replay.{IsReplayOf, IsReplayOfCommands, IsReplayText};
 ghost use Rattle.cn_renamer.specs.Show.{IsWiringOf};
 
@@ -21,4 +28,14 @@ pub fn a_replay_has_one_text()
 /// A network told by its kind and width has one text of its wiring.
 pub fn a_wiring_has_one_text()
     ensures { (net : Description) (text other : List ℕ) → IsWiringOf net text → IsWiringOf net other → text ≡ other }
+{}
+
+/// What a run writes in the grants form is a list that a check takes for tight; and a check by any width tells the epochs
+/// of the batch, with as many names `n` of `n mod w = i` as the share of exit i.
+pub fn written_grants_are_accepted()
+    ensures tight { (net : Description) (bytes text : List ℕ) → IsRunOf net Grants bytes text
+        → IsTightList (records_of text) }
+    ensures told { (net : Description) (bytes text : List ℕ) → IsRunOf net Grants bytes text
+        → (epochs : List BatchEpoch) × IsBatch (entries_of net.kind net.width) (records_of bytes) epochs
+        × ((w : ℕ) → told_epochs w (records_of text) ≡ map (served_epoch w) epochs) }
 {}

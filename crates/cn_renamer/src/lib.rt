@@ -3,15 +3,14 @@
 
 mod checking;
 mod fault;
+mod forms;
 pub mod laws;
 mod output_fault;
 mod performing;
 mod replaying;
-mod reporting;
 mod runtime;
 mod serve_fault;
 mod serving;
-mod serving_by_core;
 mod showing;
 mod writing;
 
@@ -25,5 +24,4 @@ pub use replaying::{ReplayFault, replay};
 pub use runtime::RuntimeFault;
 pub use serve_fault::ServeFault;
 pub use serving::serve;
-pub use serving_by_core::serve_by_core;
 pub use showing::{ShowFault, show};

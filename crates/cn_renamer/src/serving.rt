@@ -4,9 +4,10 @@ ghost use Rattle.std.specs.Prelude.{◌≤◌, IfErr, IfOk, length, take, vec_ca
 ghost use Rattle.std.specs.List.{AllZip};
 ghost use Rattle.cn_report.specs.Reading.Batch.{AreServable, MayCome};
 ghost use Rattle.cn_report.specs.Writing.Written.{HasWritten, written_by};
-ghost use Rattle.cn_renamer.specs.Serve.{IsReportOfKnown, IsServeFault, IsServed, until_serve};
+ghost use Rattle.cn_renamer.specs.Headline.{IsRunOfKnown, IsServed};
+ghost use Rattle.cn_renamer.specs.Serve.{IsServeFault, until_serve};
 
-use crate::reporting::write_report;
+use crate::forms::write_epochs;
 use crate::serve_fault::ServeFault;
 use cn_epoch::EpochRecord;
 use cn_report::{BatchEpoch, read_batch};
@@ -67,12 +68,17 @@ fn run_epochs<G: Gate + Sync, R: Threads + Wait + Sync>(
     Ok(records)
 }
 
-/// Reads a batch, runs its epochs one after another, and writes the report: the network, each epoch's number and its number
-/// of clients, how many left by each exit, who holds which name, and how many epochs and grants there are. Each epoch has
-/// as many workers as the options have, each with so many clients in hand ([`cn_walk::run_epoch`]). The options' form is
-/// not looked at.
+/// Reads a batch, runs its epochs one after another, and writes what came of them in the options' form: the report, which
+/// tells the network, each epoch's number and its number of clients, how many left by each exit, who holds which name, and
+/// how many epochs and grants there are; or the grant list, which `check` takes
+/// ([`crate::laws::written_grants_are_accepted`]). Each epoch has as many workers as the options have, each with so many
+/// clients in hand ([`cn_walk::run_epoch`]).
 ///
-/// What is promised holds of every interleaving of the workers' steps; which client holds which name is theirs to settle.
+/// **The headline.** Of each epoch of k clients exit i of w has the count ceiling((k - i) / w), and the clients have the
+/// names 0 to k-1, each once (Aspnes, Herlihy, Shavit, *Counting Networks*, JACM 1994, section 2; renaming by Attiya,
+/// Bar-Noy, Dolev, Peleg, Reischuk, JACM 1990). It holds of every interleaving of the workers' steps; which client holds
+/// which name is theirs to settle.
+///
 /// The gate is asked before each step, and `serve` returns only if it lets each worker on. The random state is for the
 /// clients of a batch's epoch as they are read. Nothing is written before every epoch has ended.
 ///
@@ -89,13 +95,13 @@ pub fn serve<I: Read + Drop, W: Write, G: Gate + Sync, R: Threads + Wait + Sync>
     state: RandomState,
     gate: &G,
 ) -> Result<(), ServeFault>
-    ensures written { let Is = IsReportOfKnown options.now.net (I.remaining reader) in
+    ensures headline { let Is = IsRunOfKnown options.now.net options.now.form (I.remaining reader) in
         HasWritten W.contents Is (written_by until_serve result) writer.old writer.new }
     ensures refused { IfErr result (IsServeFault options.now.net (I.remaining reader)) }
 {
     let network = options.net().build(alloc)?;
     let batch = read_batch(alloc, reader, network.entries(), state)?;
     let records = run_epochs(rt, alloc, &network, options, &batch.epochs, gate)?;
-    write_report(alloc, writer, &network, &records)?;
+    write_epochs(alloc, writer, &network, options.form(), &records)?;
     Ok(())
 }

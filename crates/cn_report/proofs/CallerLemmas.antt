@@ -6,6 +6,11 @@ pub use Rattle.cn_report.proofs.WritingLemmas.Replies.{fits_all, whole_all}
 pub use Rattle.cn_report.proofs.WritingLemmas.SameLines.{lines-same}
 -- what follows of bytes that are known
 pub use Rattle.cn_report.proofs.ReadingLemmas.FirstFaults.{known_map}
+-- a batch's numbers, and how many clients it has
+pub use Rattle.cn_report.proofs.ReadBack.Batches.{IsSmallEpoch, batch_numbers}
+-- a grant list that is written of tight epochs is tight, and what a check tells of it
+pub use Rattle.cn_report.proofs.ReadBack.Tight.{written_tight}
+pub use Rattle.cn_report.proofs.ReadBack.Told.{told_back}
 -- records spell one list of commands
 pub use Rattle.cn_report.proofs.ReadingLemmas.OneSchedule.{one-schedule}
 -- what was written of a text

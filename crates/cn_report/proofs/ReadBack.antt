@@ -1,6 +1,8 @@
 -- Lemmas on what is written and read again.
+pub mod Batches
 pub mod Epochs
 pub mod Fields
 pub mod Form
 pub mod Rows
 pub mod Tight
+pub mod Told

@@ -1,12 +1,14 @@
 //! Laws of the texts that are read. Each function does nothing: its contract is the law.
 
-ghost use Rattle.std.specs.Prelude.{◌≡◌, ℕ, List, map};
+ghost use Rattle.std.specs.Prelude.{◌≡◌, ◌<◌, ℕ, List, map};
+ghost use Rattle.std.specs.List.{AllByRecursion};
 ghost use Rattle.cn_report.specs.declared.reading.gathering.BatchEpoch.{BatchEpoch};
 ghost use Rattle.cn_report.specs.Reading.Batch.{IsBatch, plain_epoch};
 ghost use Rattle.cn_epoch.specs.declared.record.EpochRecord.{EpochRecord};
 ghost use Rattle.cn_report.specs.Reading.Grants.{IsTightList};
 ghost use Rattle.cn_report.specs.Reading.Records.{Record, records_of};
-ghost use Rattle.cn_report.specs.Writing.Grants.{AreTight, grants_text};
+ghost use Rattle.cn_report.specs.Reading.Told.{told_epochs};
+ghost use Rattle.cn_report.specs.Writing.Grants.{AreTight, checked_epoch, grants_text};
 
 /// The records of a text tell its batch: two batches that they are have the same epochs.
 pub fn batch_is_one()
@@ -15,7 +17,11 @@ pub fn batch_is_one()
 {}
 
 /// The grant list of tight epochs, read again, is a tight list: [`crate::check_grants`] finds no flaw in what
-/// [`crate::render_grants`] wrote of them.
+/// [`crate::render_grants`] wrote of them. Where each epoch has some client, a check tells of each its number, its number
+/// of clients, and as many names for each exit as its share: how many are `i` modulo the width.
 pub fn written_grants_are_tight()
-    ensures { (records : List EpochRecord) → AreTight records → IsTightList (records_of (grants_text records)) }
+    ensures tight { (records : List EpochRecord) → AreTight records → IsTightList (records_of (grants_text records)) }
+    ensures told { (width : ℕ) (records : List EpochRecord) → AreTight records
+        → AllByRecursion (λ r. 0 < r.clients) records
+        → told_epochs width (records_of (grants_text records)) ≡ map (checked_epoch width) records }
 {}

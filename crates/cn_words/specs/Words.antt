@@ -6,7 +6,6 @@ use Rattle.clap.specs.declared.error.ErrorKind.TheVariants.{DisplayHelp, OutOfMe
 use Rattle.cn_wiring.specs.Widths.{IsWidth}
 use Rattle.cn_words.specs.Choices.{Names, NamesRun, NamesWidth}
 use Rattle.cn_words.specs.CommandLine.{command_line}
-use Rattle.cn_words.specs.Offered.{IsOffered}
 use Rattle.cn_words.specs.Options.{IsWithin}
 use Rattle.cn_words.specs.declared.choices.ChoiceFault.{ChoiceFault}
 use Rattle.cn_words.specs.declared.choices.ChoiceFault.TheVariants as choice
@@ -26,7 +25,7 @@ status_of Memory = 3
 abbrev pub Asks : Option (Text × List Row) → Job → Type 0
 Asks None job = ⊥
 Asks (Some (name, options)) (Run settings) =
-    (name ≡ codes "run") × NamesRun options settings × IsWithin settings × IsOffered settings
+    (name ≡ codes "run") × NamesRun options settings × IsWithin settings
 Asks (Some (name, options)) (Replay net) =
     (name ≡ codes "replay") × Names options net × IsWidth net.width
 Asks (Some (name, options)) (Check width) =

@@ -13,7 +13,6 @@ ghost use Rattle.cn_words.specs.declared.choices.ChoiceFault.TheVariants as choi
 ghost use Rattle.cn_words.specs.declared.options.Form.{Form};
 
 use crate::net::{Net, NetFault};
-use crate::offered::OfferFault;
 use crate::options::{Form, OptionFault, Options};
 use clap::ArgMatches;
 use cn_wiring::{Kind, is_width};
@@ -35,9 +34,6 @@ pub enum ChoiceFault {
     /// They name no form.
     #[error("renamer: no such form")]
     Form,
-    /// They name what this build does not run.
-    #[error("{0}")]
-    Offer(OfferFault),
     /// There is not the memory to read them.
     #[error("renamer: memory")]
     Memory,

@@ -1,6 +1,5 @@
 //! What the help tells of the formats of each subcommand, its limits and its statuses.
 
-use crate::offered::OFFER_HELP;
 use cn_spec::limits::{MOST_CLIENTS, MOST_HAND, MOST_LEVEL, MOST_RECORDS, MOST_WORKERS};
 use cn_wiring::width_of;
 use std::alloc::{AllocError, Global};
@@ -74,8 +73,6 @@ entry 0 alone. An epoch has at most {MOST_CLIENTS} clients, and a batch at most
 "
     )?;
     text.push_str(RUN_OUTPUT)?;
-    text.push_str(OFFER_HELP)?;
-    text.push_str(RUN_END)?;
     Ok(text)
 }
 
@@ -109,11 +106,9 @@ its next clients until it has H tokens in hand, walks them all out, and goes on
 so. With one worker the batch and H settle the output; with several it is open
 which client gets which name.
 
-The report is held whole before it is written: a run that does not end well
+Either form is held whole before it is written: a run that does not end well
 prints nothing.
-";
 
-const RUN_END: &str = "
 A batch is refused at its first wrong record, by a line on standard error:
 
     renamer: record 2: Duplicate

@@ -6,7 +6,6 @@ mod command_line;
 mod help;
 pub mod laws;
 mod net;
-mod offered;
 mod options;
 mod words;
 

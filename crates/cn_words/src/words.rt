@@ -7,11 +7,10 @@ ghost use Rattle.cn_words.specs.Words.{IsRefusalOf, status_of};
 ghost use Rattle.cn_words.specs.declared.choices.ChoiceFault.TheVariants as choice;
 ghost use Rattle.cn_words.specs.declared.words.WordsFault.TheVariants.{Memory};
 
-use crate::choices::{ChoiceFault, chosen_net, chosen_width};
+use crate::choices::{ChoiceFault, chosen_net, chosen_options, chosen_width};
 use crate::command_line::command;
 use crate::help::HelpTexts;
 use crate::net::Net;
-use crate::offered::offered_options;
 use crate::options::Options;
 use clap::error::ErrorKind;
 use clap::{ArgMatches, Command};
@@ -93,7 +92,7 @@ fn chosen_job(alloc: Global, matches: &ArgMatches<'_>) -> Result<Job, ChoiceFaul
         MatchResult result (Asks asked) (λ fault. fault ≢ choice.Memory → AsksNone asked) }
 {
     match matches.subcommand() {
-        Some(("run", options)) => Ok(Job::Run(offered_options(alloc, options)?)),
+        Some(("run", options)) => Ok(Job::Run(chosen_options(alloc, options)?)),
         Some(("replay", options)) => Ok(Job::Replay(chosen_net(alloc, options)?)),
         Some(("check", options)) => Ok(Job::Check(chosen_width(alloc, options)?)),
         Some(("show", options)) => Ok(Job::Show(chosen_net(alloc, options)?)),
@@ -130,7 +129,7 @@ fn read_words<'a>(
 /// program's name.
 ///
 /// `WordsFault::Help` answers a request for help, and `WordsFault::Refused` words that clap does not
-/// take, or that name what is not built, is outside its limits, or is not run by this build.
+/// take, or that name what is not built or is outside its limits.
 pub fn parse_words(alloc: Global, words: Vec<String>) -> Result<Job, WordsFault>
     ensures ok { IfOk result (IsJobOf (map string_bytes words.items)) }
     ensures err { IfErr result (IsFaultOf (map string_bytes words.items)) }

@@ -3,6 +3,7 @@ use Rattle.std.proofs.Common.{◌≡◌, ◌<◌, ◌≤◌, ◌+◌, ◌^◌, �
 use Rattle.std.specs.Prelude.{◌≢◌, ◌⊎◌}
 use Rattle.std.specs.List.{AllByRecursion, range_with_len}
 use Rattle.std.proofs.lemmas.Bool.Decides.{eqb_tells}
+use Rattle.std.proofs.lemmas.List.Elements.{recursion_from_All}
 use Rattle.std.proofs.lemmas.List.FromFn.{length-map-range_with_len}
 use Rattle.std.proofs.lemmas.List.Sorted.{IsPermutation-refl}
 use Rattle.std.proofs.Math.Dec.{eqb}
@@ -44,7 +45,7 @@ each_tight (r ∷ records) rising own e = by (eqb_tells r.number e) (each_tight 
     by (inr w) later = rw (later_epoch e r records w.1) later
 
 -- all numbers are of 64 bits
-small_at : (holders : List ℕ) (n : ℕ) → AllByRecursion (λ c. c < 2 ^ 64) holders → get_or holders n 0 < 2 ^ 64
+small_at : (holders : List ℕ) (n : ℕ) → AllByRecursion (λ client. client < 2 ^ 64) holders → get_or holders n 0 < 2 ^ 64
 small_at [] n all = omega arith
 small_at (h ∷ holders) zero all = all.0
 small_at (h ∷ holders) (suc n) all = small_at holders n all.1
@@ -58,7 +59,7 @@ small_names : (r : EpochRecord) (from n : ℕ) → HasOwnNames r → from + n �
 unfolding AllSmall
 small_names r from zero own few = tt
 small_names r from (suc n) own few = (
-  record { epoch = own.number; client = small_at r.holders.items from own.clients; name = omega (arith, few) },
+  record { epoch = own.number; client = small_at r.holders.items from (recursion_from_All (λ client. client < 2 ^ 64) r.holders.items own.clients); name = omega (arith, few) },
   small_names r (from + 1) n own (omega (arith, few)),
 )
 
@@ -98,15 +99,18 @@ all_small (r ∷ records) own few =
     (small_names r 0 r.clients own.0 (omega (arith, few, size, length-map-range_with_len (grant_at r) 0 r.clients)))
     (all_small records own.1 (omega (arith, few, size)))
 
+pub small_grants : (records : List EpochRecord) → AreTight records → AllSmall (all_grants records)
+small_grants records tight = all_small records tight.names (omega (arith, tight.few, grants_many records))
+
 -- the records of the written list, and the grants that they spell
 pub records_back : (records : List EpochRecord) → AreTight records → records_of (grants_text records) ≡ header_row ∷ map row_of (all_grants records)
 records_back records tight =
-    let small = all_small records tight.names (omega (arith, tight.few, grants_many records)) in
-    ap (λ (more : List ℕ). records_of (grants_header ++ more)) (lines_of_all records) ∙ grants_back (all_grants records) small
+    ap (λ (more : List ℕ). records_of (grants_header ++ more)) (lines_of_all records)
+    ∙ grants_back (all_grants records) (small_grants records tight)
 
 pub written_tight : (records : List EpochRecord) → AreTight records → IsTightList (records_of (grants_text records))
 written_tight records tight =
-    let small = all_small records tight.names (omega (arith, tight.few, grants_many records)) in
+    let small = small_grants records tight in
     let falls = all_fall 0 records (any_number records) tight.rising in
     rw (records_back records tight) (record {
       form = form_clean (all_grants records) small falls (omega (arith, tight.few, grants_many records));

@@ -16,7 +16,7 @@ use Rattle.cn_report.proofs.ReadingLemmas.RecordLists.{read_first}
 
 module _ {C : Type 0} (header : Record → Option C) (later : List Record → Record → Option C) where
   -- the cause of a record after the header
-  cause_later : (rows : List Record) (n : ℕ) → 0 < n → n < length rows → cause_by header later rows n ≡ later (take n rows) (get_or rows n [])
+  pub cause_later : (rows : List Record) (n : ℕ) → 0 < n → n < length rows → cause_by header later rows n ≡ later (take n rows) (get_or rows n [])
   unfolding cause_by
   cause_later rows n some h =
       let nonzero : (n == 0) ≡ false = ne_eqb n 0 (λ e. omega (arith, e)) in

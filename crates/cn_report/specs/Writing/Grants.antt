@@ -1,7 +1,8 @@
 -- The text of a grant list: the header, and for each epoch its names upward, each with its holder. It is what
 -- `specs/Reading/Grants.antt` calls a tight list.
-use Rattle.std.specs.Prelude.{ℕ, ◌≡◌, ◌<◌, ◌≤◌, ◌^◌, List, [], ◌∷◌, ◌++◌, ⊤, length, slice_index, codes, decimal}
+use Rattle.std.specs.Prelude.{ℕ, All, ◌≡◌, ◌<◌, ◌≤◌, ◌^◌, List, [], ◌∷◌, ◌++◌, ⊤, length, slice_index, codes, decimal}
 use Rattle.std.specs.List.{AllByRecursion, flat_map, range_with_len}
+use Rattle.cn_spec.specs.Step.{shares}
 use Rattle.cn_spec.specs.Sums.{times}
 use Rattle.cn_spec.specs.declared.limits.TheConstants.{MOST_RECORDS}
 use Rattle.cn_epoch.specs.declared.record.EpochRecord.{EpochRecord}
@@ -31,7 +32,7 @@ grants_text records = grants_header ++ flat_map (λ r. grant_lines r.number r.cl
 -- an epoch's clients hold its names, one each, and its numbers are of 64 bits
 pub record HasOwnNames (r : EpochRecord) : Type 0 where
   pub number : r.number < 2 ^ 64
-  pub clients : AllByRecursion (λ client. client < 2 ^ 64) r.holders.items
+  pub clients : All (λ client. client < 2 ^ 64) r.holders.items
   pub holders : HasHolders r
   pub once : (client : ℕ) → times client r.holders.items ≤ 1
 
@@ -45,3 +46,7 @@ pub record AreTight (records : List EpochRecord) : Type 0 where
   pub rising : AreRisingRecords records
   pub names : AllByRecursion HasOwnNames records
   pub few : clients_of records ≤ MOST_RECORDS
+
+-- what a check tells of an epoch: its number, its number of clients, and how many of its names are those of each exit
+abbrev pub checked_epoch : ℕ → EpochRecord → ℕ × ℕ × List ℕ
+checked_epoch width r = (r.number, r.clients, shares r.clients width)

@@ -1,9 +1,9 @@
 use Rattle.std.proofs.Common.{◌∷◌, ◌++◌, [], List, arith, rules, subst, take}
 use Rattle.std.specs.List.{AllZip}
 use Rattle.std.proofs.lemmas.Grind.{common_steps}
-use Rattle.cn_renamer.specs.Serve.{IsServed}
+use Rattle.cn_renamer.specs.Headline.{IsServed}
 use Rattle.cn_report.specs.declared.reading.gathering.BatchEpoch.{BatchEpoch}
-use Rattle.cn_renamer.proofs.Walks.{served-more}
+use Rattle.cn_renamer.proofs.Headline.{served-more}
 use Rattle.cn_renamer.proofs.serving.run_epochs.Goals as goal
 
 pub loop-epoch-preserved : goal.loop-epoch-preserved

@@ -1,6 +1,6 @@
 use Rattle.std.proofs.Common.{◌≡◌, ◌≤◌, length, take, vec_capacity, vec_len}
 use Rattle.std.specs.List.{AllZip}
-use Rattle.cn_renamer.specs.Serve.{IsServed}
+use Rattle.cn_renamer.specs.Headline.{IsServed}
 use Rattle.cn_renamer.proofs.serving.run_epochs.Given as goal
 
 abbrev pub invariant-loop-epoch : goal.invariant-loop-epoch

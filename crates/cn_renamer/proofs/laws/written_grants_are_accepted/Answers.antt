@@ -1,0 +1,8 @@
+use Rattle.cn_renamer.proofs.Accepted.{accepted, told}
+use Rattle.cn_renamer.proofs.laws.written_grants_are_accepted.Goals as goal
+
+pub returns-clause-tight : goal.returns-clause-tight
+returns-clause-tight c = accepted
+
+pub returns-clause-told : goal.returns-clause-told
+returns-clause-told c = λ net bytes text run. (run.epochs, run.batch, told net bytes text run)
