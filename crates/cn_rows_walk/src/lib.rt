@@ -9,6 +9,8 @@ mod epochs;
 #[cfg(test)]
 mod meeting;
 #[cfg(test)]
+mod missing_lane;
+#[cfg(test)]
 mod one_lane;
 #[cfg(test)]
 mod refusals;
