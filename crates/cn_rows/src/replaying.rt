@@ -256,7 +256,7 @@ const ROWS: [Row; 10] = [
 ];
 
 /// The parts, one after another.
-fn joined(alloc: Global, parts: &[&[u8]]) -> Result<Vec<u8>, AllocError> {
+pub(crate) fn joined(alloc: Global, parts: &[&[u8]]) -> Result<Vec<u8>, AllocError> {
     let mut text = Vec::new(alloc);
     for part in parts {
         text.extend_from_slice(part)?;
