@@ -3,7 +3,7 @@
 use crate::serving::served;
 use cn_bitonic::bitonic;
 use cn_core::Client;
-use cn_walk::{Gate, Moment, run_epoch};
+use cn_walk::{Gate, Moment, Quiet, run_epoch};
 use cn_wiring::Kind;
 use std::alloc::Global;
 use std::hash::RandomState;
@@ -77,19 +77,24 @@ fn two_each(alloc: Global, workers: u32) -> Option<Vec<Client>> {
     Some(clients)
 }
 
-/// The clients with a name, in order, after a run of bitonic 4.
-fn run<R: Threads + Wait + Sync>(
+/// Whether the clients with a name are those from 0 to below so many.
+fn are_named(quiet: &Quiet<'_>, clients: u64) -> Option<bool> {
+    let mut named = quiet.holders().ok()?;
+    named.sort().ok()?;
+    Some(named.iter().copied().eq(0..clients))
+}
+
+/// Runs clients over bitonic 4: whether all have names.
+fn are_run<R: Threads + Wait + Sync>(
     rt: &R,
     alloc: Global,
     clients: &[Client],
     workers: u32,
     gate: &Meeting,
-) -> Option<Vec<u64>> {
+) -> Option<bool> {
     let network = bitonic(alloc, 4).ok()?;
     let quiet = run_epoch(rt, alloc, &network, clients, workers, 1, gate).ok()?;
-    let mut holders = quiet.holders().ok()?;
-    holders.sort().ok()?;
-    Some(holders)
+    are_named(&quiet, clients.len() as u64)
 }
 
 /// Whether the workers of a run of an epoch meet, and all their clients have names.
@@ -100,62 +105,67 @@ fn meet_in_an_epoch<R: Threads + Wait + Sync>(
 ) -> Option<([bool; 2], bool)> {
     let gate = new_meeting(alloc, workers)?;
     let clients = two_each(alloc, workers)?;
-    let holders = run(rt, alloc, &clients, workers, &gate)?;
-    let all: Vec<u64> = (0..u64::from(workers) * 2).collect(alloc).ok()?;
-    Some((have_met(&gate), holders == all))
+    let are_named = are_run(rt, alloc, &clients, workers, &gate)?;
+    Some((have_met(&gate), are_named))
 }
 
 #[test]
 fn meeting_gate(rt: HostRuntime) {
-    let met = [2, 8].map(|workers| meet_in_an_epoch(&rt, rt.alloc(), workers));
+    let two = meet_in_an_epoch(&rt, rt.alloc(), 2);
+    let eight = meet_in_an_epoch(&rt, rt.alloc(), 8);
     let wanted = Some(([true, true], true));
-    assert_eq!(rt; met, [wanted, wanted]);
+    assert_eq!(rt; [two, eight], [wanted, wanted]);
 }
 
-/// The clients of an epoch as a batch.
-fn batch_of(alloc: Global, clients: &[Client]) -> Option<Vec<u8>> {
-    let mut batch = String::new(alloc);
-    batch.push_str("epoch,client,entry\n").ok()?;
-    for client in clients {
-        writeln!(batch, "1,{},{}", client.id, client.entry).ok()?;
-    }
-    Some(batch.into_bytes())
-}
+/// A number of workers, two clients for each as a batch, and how its report on bitonic 4 begins.
+type Row = (u32, &'static [u8], &'static [u8]);
 
-/// How the report of such a batch begins: of all clients each exit lets out as many as another.
-fn counts_of(alloc: Global, workers: u32) -> Option<Vec<u8>> {
-    let clients = u64::from(workers) * 2;
-    let mut counts = String::new(alloc);
-    counts
-        .push_str("network bitonic width 4 balancers 6 depth 3\n")
-        .ok()?;
-    writeln!(counts, "epoch 1 clients {clients}").ok()?;
-    for exit in 0..4 {
-        writeln!(counts, "exit {exit} count {}", clients / 4).ok()?;
-    }
-    Some(counts.into_bytes())
-}
+const TWO: Row = (
+    2,
+    b"epoch,client,entry\n1,0,0\n1,1,1\n1,2,2\n1,3,3\n",
+    b"network bitonic width 4 balancers 6 depth 3\n\
+      epoch 1 clients 4\n\
+      exit 0 count 1\n\
+      exit 1 count 1\n\
+      exit 2 count 1\n\
+      exit 3 count 1\n",
+);
 
-/// Whether the workers of a run of a batch meet, and its report has these counts.
+const EIGHT: Row = (
+    8,
+    b"epoch,client,entry\n\
+      1,0,0\n1,1,1\n1,2,2\n1,3,3\n\
+      1,4,0\n1,5,1\n1,6,2\n1,7,3\n\
+      1,8,0\n1,9,1\n1,10,2\n1,11,3\n\
+      1,12,0\n1,13,1\n1,14,2\n1,15,3\n",
+    b"network bitonic width 4 balancers 6 depth 3\n\
+      epoch 1 clients 16\n\
+      exit 0 count 4\n\
+      exit 1 count 4\n\
+      exit 2 count 4\n\
+      exit 3 count 4\n",
+);
+
+/// Whether the workers of a run of a batch meet, and its report begins so.
 fn meet_in_a_batch<R: Threads + Wait + Sync>(
     rt: &R,
     alloc: Global,
     state: RandomState,
-    workers: u32,
+    row: &Row,
 ) -> Option<([bool; 2], bool)> {
+    let (workers, batch, counts) = *row;
     let gate = new_meeting(alloc, workers)?;
-    let batch = batch_of(alloc, &two_each(alloc, workers)?)?;
     let asked = (Kind::Bitonic, 4, workers, 1);
-    let text = served(rt, alloc, state, asked, &batch, &gate)?;
-    let counts = counts_of(alloc, workers)?;
-    Some((have_met(&gate), text.starts_with(&counts)))
+    let text = served(rt, alloc, state, asked, batch, &gate)?;
+    Some((have_met(&gate), text.starts_with(counts)))
 }
 
 #[test]
 fn meeting_gate_of_a_batch(rt: HostRuntime) -> Result<(), Fail> {
     let (alloc, state) = (rt.alloc(), RandomState::new(&rt)?);
-    let met = [2, 8].map(|workers| meet_in_a_batch(&rt, alloc, state, workers));
+    let two = meet_in_a_batch(&rt, alloc, state, &TWO);
+    let eight = meet_in_a_batch(&rt, alloc, state, &EIGHT);
     let wanted = Some(([true, true], true));
-    assert_eq!(rt; met, [wanted, wanted]);
+    assert_eq!(rt; [two, eight], [wanted, wanted]);
     Ok(())
 }

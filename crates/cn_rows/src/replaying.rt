@@ -316,37 +316,56 @@ fn three_epochs(alloc: Global) -> Option<Vec<u8>> {
     Some(text.into_bytes())
 }
 
-/// What answers them: the client at a place passes with its place for number, and its name is its place too.
+/// What answers the enters of an epoch.
+fn push_enters(text: &mut String, epoch: u32) -> Option<()> {
+    for place in 0..COMERS {
+        writeln!(text, "enter {} wire {}", comer(epoch, place), place % 2).ok()?;
+    }
+    Some(())
+}
+
+/// What answers its first steps: the client at a place passes with its place for number.
+fn push_passes(text: &mut String, epoch: u32) -> Option<()> {
+    for place in 0..COMERS {
+        let (client, wire) = (comer(epoch, place), 2 + place % 2);
+        writeln!(text, "pass {client} balancer 0 number {place} wire {wire}").ok()?;
+    }
+    Some(())
+}
+
+/// What answers its last steps: the name of a client is its place too.
+fn push_leaves(text: &mut String, epoch: u32) -> Option<()> {
+    for place in 0..COMERS {
+        let (client, exit, visit) = (comer(epoch, place), place % 2, place / 2);
+        writeln!(
+            text,
+            "leave {client} exit {exit} visit {visit} name {place}"
+        )
+        .ok()?;
+    }
+    Some(())
+}
+
+/// What answers its turn.
+fn push_turn(text: &mut String, epoch: u32) -> Option<()> {
+    writeln!(text, "turn epoch {epoch} clients 12").ok()?;
+    text.push_str("exit 0 count 6\nexit 1 count 6\n").ok()?;
+    for place in 0..COMERS {
+        writeln!(text, "name {place} client {}", comer(epoch, place)).ok()?;
+    }
+    Some(())
+}
+
+/// What answers the three epochs.
 fn three_epochs_replayed(alloc: Global) -> Option<Vec<u8>> {
     let mut text = String::new(alloc);
     text.push_str("network bitonic width 2 balancers 1 depth 1\n")
         .ok()?;
     for epoch in 0..3_u32 {
-        for place in 0..COMERS {
-            writeln!(text, "enter {} wire {}", comer(epoch, place), place % 2).ok()?;
-        }
-        for place in 0..COMERS {
-            let client = comer(epoch, place);
-            let wire = 2 + place % 2;
-            writeln!(text, "pass {client} balancer 0 number {place} wire {wire}").ok()?;
-        }
-        for place in 0..COMERS {
-            let client = comer(epoch, place);
-            let (exit, visit) = (place % 2, place / 2);
-            writeln!(
-                text,
-                "leave {client} exit {exit} visit {visit} name {place}"
-            )
-            .ok()?;
-        }
-        writeln!(
-            text,
-            "turn epoch {epoch} clients 12\nexit 0 count 6\nexit 1 count 6"
-        )
-        .ok()?;
-        for place in 0..COMERS {
-            writeln!(text, "name {place} client {}", comer(epoch, place)).ok()?;
-        }
+        push_enters(&mut text, epoch)?;
+        push_passes(&mut text, epoch)?;
+        push_leaves(&mut text, epoch)?;
+        push_turn(&mut text, epoch)?;
     }
     text.push_str("end epoch 3 entered 0 inside 0\n").ok()?;
     Some(text.into_bytes())
@@ -402,8 +421,10 @@ fn refusal(
 ) -> Option<(ReplayFault, usize)> {
     let net = Net::new(Kind::Bitonic, 2).ok()?;
     let mut written = Vec::new(alloc);
-    let fault = replay(alloc, input, &mut written, &net, state).err()?;
-    Some((fault, written.len()))
+    match replay(alloc, input, &mut written, &net, state) {
+        Ok(()) => None,
+        Err(fault) => Some((fault, written.len())),
+    }
 }
 
 /// Schedules that are refused, each with its fault line.

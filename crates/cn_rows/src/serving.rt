@@ -318,9 +318,9 @@ fn refusal<I: io::Read + Drop, R: Threads + Wait + Sync>(
 }
 
 /// What a run is asked for, its input, the record at which it is refused, and why.
-type Refused = (Asked, &'static [u8], u64, BatchCause);
+type Refused<'a> = (Asked, &'a [u8], u64, BatchCause);
 
-const REFUSED: [Refused; 11] = [
+const REFUSED: [Refused<'static>; 11] = [
     (
         BITONIC_TWO,
         b"epoch,client,entry\n1,18446744073709551616,0\n",
@@ -389,7 +389,7 @@ fn is_refused<R: Threads + Wait + Sync>(
     rt: &R,
     alloc: Global,
     state: RandomState,
-    row: &Refused,
+    row: &Refused<'_>,
 ) -> bool {
     let (asked, input, at, cause) = *row;
     refusal(rt, alloc, state, asked, input) == Some(ServeFault::Batch(BatchFault { at, cause }))
@@ -448,22 +448,28 @@ fn is_cut<R: Threads + Wait + Sync>(
     Some(done == Err(ServeFault::Write { written }) && writer.taken.as_slice() == wanted)
 }
 
-const ENDS: [Then; 3] = [
-    Then::Fails(io::ErrorKind::BrokenPipe),
-    Then::FailsOnce,
-    Then::TakesNothing,
+/// Ways to fail, each with the room that a writer has before.
+const ENDS: [(Then, usize); 9] = [
+    (Then::Fails(io::ErrorKind::BrokenPipe), 0),
+    (Then::Fails(io::ErrorKind::BrokenPipe), 10),
+    (Then::Fails(io::ErrorKind::BrokenPipe), 130),
+    (Then::FailsOnce, 0),
+    (Then::FailsOnce, 10),
+    (Then::FailsOnce, 130),
+    (Then::TakesNothing, 0),
+    (Then::TakesNothing, 10),
+    (Then::TakesNothing, 130),
 ];
 
-/// The first room of a writer at which serving to it fails otherwise.
+/// The first writer to which serving fails otherwise.
 fn wrong_write<R: Threads + Wait + Sync>(
     rt: &R,
     alloc: Global,
     state: RandomState,
-    then: Then,
-) -> Option<usize> {
-    for room in [0, 10, SINGLE_CLIENT_SERVED.len() - 1] {
-        if is_cut(rt, alloc, state, room, then) != Some(true) {
-            return Some(room);
+) -> Option<(Then, usize)> {
+    for (then, room) in &ENDS {
+        if is_cut(rt, alloc, state, *room, *then) != Some(true) {
+            return Some((*then, *room));
         }
     }
     None
@@ -471,10 +477,8 @@ fn wrong_write<R: Threads + Wait + Sync>(
 
 #[test]
 fn failing_writer(rt: HostRuntime) -> Result<(), Fail> {
-    let (alloc, state) = (rt.alloc(), RandomState::new(&rt)?);
-    let wrong = ENDS.map(|then| wrong_write(&rt, alloc, state, then));
-    assert_eq!(rt; wrong, [None, None, None]);
-    assert_eq!(rt; &SINGLE_CLIENT_SERVED[..10], b"network bi".as_slice());
+    let wrong = wrong_write(&rt, rt.alloc(), RandomState::new(&rt)?);
+    assert_eq!(rt; wrong, None);
     Ok(())
 }
 
@@ -488,20 +492,32 @@ fn batch_of(alloc: Global, clients: u64) -> Option<Vec<u8>> {
     Some(batch.into_bytes())
 }
 
-/// Its report on a tree of 64 exits, as by the shares: client n has name n.
+/// How many of so many clients leave by each of 64 exits, as by the shares.
+fn push_counts(report: &mut String, clients: u64) -> Option<()> {
+    for exit in 0..64 {
+        let count = (clients.saturating_add(63) - exit) / 64;
+        writeln!(report, "exit {exit} count {count}").ok()?;
+    }
+    Some(())
+}
+
+/// Client n has name n.
+fn push_names(report: &mut String, clients: u64) -> Option<()> {
+    for client in 0..clients {
+        writeln!(report, "name {client} client {client}").ok()?;
+    }
+    Some(())
+}
+
+/// Its report on a tree of 64 exits.
 fn report_of(alloc: Global, clients: u64) -> Option<Vec<u8>> {
     let mut report = String::new(alloc);
     report
         .push_str("network tree width 64 balancers 63 depth 6\n")
         .ok()?;
     writeln!(report, "epoch 1 clients {clients}").ok()?;
-    for exit in 0..64 {
-        let count = (clients.saturating_add(63) - exit) / 64;
-        writeln!(report, "exit {exit} count {count}").ok()?;
-    }
-    for client in 0..clients {
-        writeln!(report, "name {client} client {client}").ok()?;
-    }
+    push_counts(&mut report, clients)?;
+    push_names(&mut report, clients)?;
     writeln!(report, "end epochs 1 grants {clients}").ok()?;
     Some(report.into_bytes())
 }
@@ -519,25 +535,28 @@ fn is_in_order<R: Threads + Wait + Sync>(
     Some(text == wanted)
 }
 
-/// The fault of such a batch of one client more than an epoch may have.
-fn one_too_many<R: Threads + Wait + Sync>(
+/// Whether such a batch of one client more than an epoch may have is refused there.
+fn is_one_too_many<R: Threads + Wait + Sync>(
     rt: &R,
     alloc: Global,
     state: RandomState,
-) -> Option<ServeFault> {
+) -> Option<bool> {
     let batch = batch_of(alloc, 65_537)?;
-    refusal(rt, alloc, state, TREE_SIXTY_FOUR, batch.as_slice())
+    let row = (
+        TREE_SIXTY_FOUR,
+        batch.as_slice(),
+        65_537,
+        BatchCause::EpochFull,
+    );
+    Some(is_refused(rt, alloc, state, &row))
 }
 
 #[test]
 fn limits(rt: HostRuntime) -> Result<(), Fail> {
     let (alloc, state) = (rt.alloc(), RandomState::new(&rt)?);
-    let in_order = [3_000, 65_536].map(|clients| is_in_order(&rt, alloc, state, clients));
-    assert_eq!(rt; in_order, [Some(true), Some(true)]);
-    let cause = BatchCause::EpochFull;
-    assert_eq!(rt;
-        one_too_many(&rt, alloc, state),
-        Some(ServeFault::Batch(BatchFault { at: 65_537, cause }))
-    );
+    let some = is_in_order(&rt, alloc, state, 3_000);
+    let most = is_in_order(&rt, alloc, state, 65_536);
+    let more = is_one_too_many(&rt, alloc, state);
+    assert_eq!(rt; [some, most, more], [Some(true), Some(true), Some(true)]);
     Ok(())
 }

@@ -214,32 +214,33 @@ fn help_words(rt: HostRuntime) {
     assert_eq!(rt; unhelped(rt.alloc()), None);
 }
 
-/// The limits that the help of a run tells.
-fn limits(alloc: Global) -> Option<[String; 3]> {
-    let most = width_of(MOST_LEVEL);
-    Some([
-        format!(in alloc; "a power of two from 2 to {most}\n").ok()?,
-        format!(in alloc; "1 to {MOST_WORKERS} [default: 1]\n").ok()?,
-        format!(in alloc; "1 to {MOST_HAND} [default: 1]\n").ok()?,
-    ])
+/// Whether the words of a line ask for help, and are shown a range of numbers from 1 with 1 for default.
+fn is_range_told(alloc: Global, line: &str, most: u32) -> Option<bool> {
+    let range = format!(in alloc; "1 to {most} [default: 1]\n").ok()?;
+    Some(is_helped(alloc, line, &range))
 }
 
-/// Whether the help of a run tells its limits, and that of showing a wiring the widths.
-fn are_limits_told(alloc: Global) -> Option<bool> {
-    let [widths, workers, hand] = limits(alloc)?;
-    let run = help(alloc, "renamer run --help")?;
-    let told = run.contains(widths.as_str()) && run.contains(workers.as_str());
-    let held = run.contains(hand.as_str()) && run.contains("[default: report]\n");
-    Some(told && held && is_helped(alloc, "renamer show --help", widths.as_str()))
+/// Whether the words of a line ask for help, and are shown the widths.
+fn are_widths_told(alloc: Global, line: &str) -> Option<bool> {
+    let most = width_of(MOST_LEVEL);
+    let widths = format!(in alloc; "a power of two from 2 to {most}\n").ok()?;
+    Some(is_helped(alloc, line, &widths))
 }
 
 #[test]
 fn help_tells_the_limits(rt: HostRuntime) {
-    assert_eq!(rt; are_limits_told(rt.alloc()), Some(true));
+    let told = [
+        are_widths_told(rt.alloc(), "renamer run --help"),
+        are_widths_told(rt.alloc(), "renamer show --help"),
+        is_range_told(rt.alloc(), "renamer run --help", MOST_WORKERS),
+        is_range_told(rt.alloc(), "renamer run --help", MOST_HAND),
+    ];
+    assert_eq!(rt; told, [Some(true), Some(true), Some(true), Some(true)]);
 }
 
 /// What the help of each subcommand shows.
-const SHOWN: [(&str, &str); 8] = [
+const SHOWN: [(&str, &str); 9] = [
+    ("renamer run --help", "[default: report]\n"),
     ("renamer run --help", "    epoch,client,entry\n    1,17,3\n"),
     (
         "renamer run --help",

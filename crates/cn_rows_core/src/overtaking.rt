@@ -125,8 +125,17 @@ fn tree_overtaking(alloc: Global) -> Result<Outcome, AllocError> {
     })
 }
 
+fn name_of(core: &Core<'_>, client: u64) -> Option<u64> {
+    core.name(client)
+}
+
 fn names_of(core: &Core<'_>) -> [Option<u64>; 4] {
-    [10, 20, 30, 40].map(|client| core.name(client))
+    [
+        name_of(core, 10),
+        name_of(core, 20),
+        name_of(core, 30),
+        name_of(core, 40),
+    ]
 }
 
 fn outcome_of(
@@ -206,8 +215,20 @@ fn wanted_answers(alloc: Global) -> Result<Vec<Answer>, AllocError> {
 /// The answers, and how many epochs ended, and how many clients entered and are inside.
 type Answered = (Vec<Answer>, [u64; 3]);
 
+fn number_of(epochs: &Epochs<'_>) -> u64 {
+    epochs.number()
+}
+
+fn entered_in(epochs: &Epochs<'_>) -> u64 {
+    epochs.entered()
+}
+
+fn inside_of(epochs: &Epochs<'_>) -> u64 {
+    epochs.inside()
+}
+
 fn stand_of(epochs: &Epochs<'_>) -> [u64; 3] {
-    [epochs.number(), epochs.entered(), epochs.inside()]
+    [number_of(epochs), entered_in(epochs), inside_of(epochs)]
 }
 
 fn answered(
@@ -238,19 +259,26 @@ fn tree_overtaking_then_turn(rt: HostRuntime) -> Result<(), Fail> {
     Ok(())
 }
 
+/// Why a client is not let in, if it is not.
+fn refusal(core: &mut Core<'_>, client: u64, entry: u64) -> Option<EnterFault> {
+    core.enter(client, entry).err()
+}
+
 /// As many clients enter as can.
 fn fill(core: &mut Core<'_>) -> Option<()> {
     for client in 0..65_536 {
-        core.enter(client, 0).ok()?;
+        if refusal(core, client, 0).is_some() {
+            return None;
+        }
     }
     Some(())
 }
 
 /// What is told to another client at an entry and at none, and to one that has entered.
 fn refusals_of(core: &mut Core<'_>) -> [Option<EnterFault>; 3] {
-    let full = core.enter(65_536, 0).err();
-    let nowhere = core.enter(65_536, 1).err();
-    let again = core.enter(0, 0).err();
+    let full = refusal(core, 65_536, 0);
+    let nowhere = refusal(core, 65_536, 1);
+    let again = refusal(core, 0, 0);
     [full, nowhere, again]
 }
 

@@ -43,6 +43,18 @@ fn told_by(core: &Core<'_>, network: &Counting) -> Told
     )
 }
 
+fn outcome_on(
+    alloc: Global,
+    network: &Counting,
+    state: RandomState,
+    events: &[Event],
+    calls: Calls,
+) -> Option<(Vec<Reply>, Told)> {
+    let mut core = Core::new(alloc, network, state).ok()?;
+    let replies = replies_to(&mut core, alloc, events, calls).ok()?;
+    Some((replies, told_by(&core, network)))
+}
+
 /// The replies of a new core to events, and what it tells then.
 fn outcome_of(
     alloc: Global,
@@ -51,9 +63,7 @@ fn outcome_of(
     calls: Calls,
 ) -> Option<(Vec<Reply>, Told)> {
     let network = bitonic(alloc, 2).ok()?;
-    let mut core = Core::new(alloc, &network, state).ok()?;
-    let replies = replies_to(&mut core, alloc, events, calls).ok()?;
-    Some((replies, told_by(&core, &network)))
+    outcome_on(alloc, &network, state, events, calls)
 }
 
 const TWO_CLIENTS: [Event; 6] = [
@@ -221,7 +231,7 @@ fn are(replies: Result<Vec<Reply>, AllocError>, wanted: &[Reply]) -> bool {
 fn clear(core: &mut Core<'_>) -> Option<()>
     ensures { core.new.network ≡ core.old.network }
 {
-    if !core.is_quiet() {
+    if core.inside() > 0 {
         return None;
     }
     core.clear();
@@ -249,10 +259,12 @@ fn a_cleared_core_answers_anew(rt: HostRuntime) -> Result<(), Fail> {
 
 /// The holders, where nobody is inside.
 pub(crate) fn holders_of(core: &Core<'_>) -> Option<Vec<u64>> {
-    if core.is_quiet() {
-        core.holders().ok()
-    } else {
-        None
+    if core.inside() > 0 {
+        return None;
+    }
+    match core.holders() {
+        Ok(holders) => Some(holders),
+        Err(_) => None,
     }
 }
 

@@ -61,13 +61,19 @@ fn network_of(alloc: Global, built: Built, width: u32) -> Result<Counting, Build
     }
 }
 
+fn is_let_in(core: &mut Core<'_>, client: u64, entry: u64) -> bool {
+    core.enter(client, entry).is_ok()
+}
+
 /// The clients enter, on entries that change.
 fn enter_all(core: &mut Core<'_>, clients: u32, entries: u64) -> Option<()>
     requires { 0 < entries }
 {
     for client in 0..u64::from(clients) {
         let entry = client.wrapping_mul(7) / 3 % entries;
-        core.enter(client, entry).ok()?;
+        if !is_let_in(core, client, entry) {
+            return None;
+        }
     }
     Some(())
 }

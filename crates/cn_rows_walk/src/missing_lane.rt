@@ -2,7 +2,8 @@
 
 ghost use Rattle.std.specs.Prelude.{◌≡◌, IfSome};
 
-use crate::walks::step;
+use crate::one_lane::step;
+use crate::walks::{enter, entered, open, split};
 use cn_bitonic::bitonic;
 use cn_core::Moved;
 use cn_walk::{CloseFault, Floor, Grant, JoinFault, Lane, LaneFault, SplitFault};
@@ -22,22 +23,26 @@ struct Outcome {
     grant: Grant,
 }
 
-/// Tries to split off more than the lane has, and splits off one client.
-fn split(floor: &Floor<'_>, lane: Lane) -> Option<(SplitFault, Lane, Lane)>
+/// More than the lane has cannot be split off; what is told then, and the lane.
+fn not_split(floor: &Floor<'_>, lane: Lane) -> Option<(SplitFault, Lane)>
     requires { lane.home ≡ floor.now }
-    ensures { IfSome result (λ r. (r.1.home ≡ floor.now) × (r.2.home ≡ floor.now)) }
+    ensures { IfSome result (λ r. r.1.home ≡ floor.now) }
 {
-    let (fault, lane) = floor.split(lane, 3).err()?;
-    let (first, second) = floor.split(lane, 1).ok()?;
-    Some((fault, first, second))
+    match floor.split(lane, 3) {
+        Ok(_) => None,
+        Err(refused) => Some(refused),
+    }
 }
 
-/// What a client is refused with, if it is.
-fn refusal(floor: &Floor<'_>, lane: &mut Lane, client: u64, entry: u64) -> Option<LaneFault>
-    requires { lane.old.home ≡ floor.now }
-    ensures { lane.new.home ≡ lane.old.home }
+/// The second lane, with a client inside, cannot be joined; what is told then, and the first lane.
+fn not_joined(floor: &Floor<'_>, first: Lane, second: Lane) -> Option<(JoinFault, Lane)>
+    requires { (first.home ≡ floor.now) × (second.home ≡ floor.now) }
+    ensures { IfSome result (λ r. r.1.home ≡ floor.now) }
 {
-    floor.enter(lane, client, entry).err()
+    match floor.join(first, second) {
+        Ok(_) => None,
+        Err((fault, first, _second)) => Some((fault, first)),
+    }
 }
 
 /// What a lane that lacks a client's grant is told when the floor is closed.
@@ -69,20 +74,18 @@ fn one_walks_out(
 ) -> Option<Outcome>
     requires { (first.home ≡ floor) × (second.home ≡ floor) }
 {
-    let token = floor.enter(&mut first, 7, 0).ok()?;
-    floor.enter(&mut second, 9, 1).ok()?;
-    let told = floor.entered(&mut first);
+    let token = enter(&floor, &mut first, 7, 0).ok()?;
+    enter(&floor, &mut second, 9, 1).ok()?;
+    let told = entered(&floor, &mut first);
     let refused = [
-        refusal(&floor, &mut first, 8, 2),
-        refusal(&floor, &mut first, 8, 0),
+        enter(&floor, &mut first, 8, 2).err(),
+        enter(&floor, &mut first, 8, 0).err(),
     ];
     let moves = [
         step(&floor, &mut first, token),
         step(&floor, &mut first, token),
     ];
-    let Err((joined, first, _second)) = floor.join(first, second) else {
-        return None;
-    };
+    let (joined, first) = not_joined(&floor, first, second)?;
     let (entered, granted, grant) = missed(floor, first)?;
     Some(Outcome {
         split,
@@ -98,8 +101,9 @@ fn one_walks_out(
 
 fn one_dropped(alloc: Global) -> Option<Outcome> {
     let network = bitonic(alloc, 2).ok()?;
-    let (floor, lane) = Floor::open(alloc, &network, 2).ok()?;
-    let (fault, first, second) = split(&floor, lane)?;
+    let (floor, lane) = open(alloc, &network, 2)?;
+    let (fault, lane) = not_split(&floor, lane)?;
+    let (first, second) = split(&floor, lane, 1)?;
     one_walks_out(floor, first, second, fault)
 }
 
