@@ -23,18 +23,6 @@ fn run<'a, G: Gate + Sync, R: Threads + Wait + Sync>(
     run_epoch(rt, alloc, network, clients, workers, hand, gate)
 }
 
-fn clients_of(alloc: Global, clients: &[(u64, u64)]) -> Option<Vec<Client>> {
-    let mut all = Vec::new(alloc);
-    for (id, entry) in clients {
-        all.push(Client {
-            id: *id,
-            entry: *entry,
-        })
-        .ok()?;
-    }
-    Some(all)
-}
-
 /// Whether so many left by each exit, and these are the clients by name.
 fn are_left(quiet: &Quiet<'_>, counts: &[u64], holders: &[u64]) -> [bool; 2] {
     let are_holders = match quiet.holders() {
@@ -44,19 +32,26 @@ fn are_left(quiet: &Quiet<'_>, counts: &[u64], holders: &[u64]) -> [bool; 2] {
     [quiet.counts() == counts, are_holders]
 }
 
-/// Clients with their entries, by a hand of one worker; how many leave by each exit of bitonic 4, and the clients by name.
-type Row = (&'static [(u64, u64)], u32, [u64; 4], &'static [u64]);
+/// Clients, and the hand of one worker; how many leave by each exit of bitonic 4, and the clients by name.
+type Row = (&'static [Client], u32, [u64; 4], &'static [u64]);
 
 fn is_run<R: Threads + Wait + Sync>(rt: &R, alloc: Global, row: &Row) -> Option<[bool; 2]> {
     let (clients, hand, counts, holders) = *row;
-    let clients = clients_of(alloc, clients)?;
     let network = bitonic(alloc, 4).ok()?;
-    let quiet = run(rt, alloc, &network, &clients, 1, hand, &OpenGate).ok()?;
-    Some(are_left(&quiet, &counts, holders))
+    match run(rt, alloc, &network, clients, 1, hand, &OpenGate) {
+        Ok(quiet) => Some(are_left(&quiet, &counts, holders)),
+        Err(_) => None,
+    }
 }
 
 const FIVE_ON_ONE_ENTRY: Row = (
-    &[(17, 3), (5, 3), (99, 3), (23, 3), (42, 3)],
+    &[
+        Client { id: 17, entry: 3 },
+        Client { id: 5, entry: 3 },
+        Client { id: 99, entry: 3 },
+        Client { id: 23, entry: 3 },
+        Client { id: 42, entry: 3 },
+    ],
     1,
     [2, 1, 1, 1],
     &[17, 5, 99, 23, 42],
@@ -68,9 +63,11 @@ fn five_on_one_entry(rt: HostRuntime) {
     assert_eq!(rt; is_told, Some([true, true]));
 }
 
-const HAND_OF_ONE: Row = (&[(100, 2), (200, 0)], 1, [1, 1, 0, 0], &[100, 200]);
+const TWO_CLIENTS: &[Client] = &[Client { id: 100, entry: 2 }, Client { id: 200, entry: 0 }];
 
-const HAND_OF_TWO: Row = (&[(100, 2), (200, 0)], 2, [1, 1, 0, 0], &[200, 100]);
+const HAND_OF_ONE: Row = (TWO_CLIENTS, 1, [1, 1, 0, 0], &[100, 200]);
+
+const HAND_OF_TWO: Row = (TWO_CLIENTS, 2, [1, 1, 0, 0], &[200, 100]);
 
 #[test]
 fn hand_decides_order(rt: HostRuntime) {
@@ -116,17 +113,24 @@ fn are_named(quiet: &Quiet<'_>, counts: &[u64], clients: &[u64]) -> Option<[bool
     Some([quiet.counts() == counts, named.as_slice() == clients])
 }
 
-/// The three clients 5, 6 and 7, on entries of their own: whether one leaves by each of the first exits, and all have names.
+const THREE_CLIENTS: [Client; 3] = [
+    Client { id: 5, entry: 0 },
+    Client { id: 6, entry: 1 },
+    Client { id: 7, entry: 2 },
+];
+
+/// Whether of the three one leaves by each of the first exits, and all have names.
 fn three_clients<R: Threads + Wait + Sync>(
     rt: &R,
     alloc: Global,
     workers: u32,
     gate: &Tally,
 ) -> Option<[bool; 2]> {
-    let clients = clients_of(alloc, &[(5, 0), (6, 1), (7, 2)])?;
     let network = bitonic(alloc, 4).ok()?;
-    let quiet = run(rt, alloc, &network, &clients, workers, 1, gate).ok()?;
-    are_named(&quiet, &[1, 1, 1, 0], &[5, 6, 7])
+    match run(rt, alloc, &network, &THREE_CLIENTS, workers, 1, gate) {
+        Ok(quiet) => are_named(&quiet, &[1, 1, 1, 0], &[5, 6, 7]),
+        Err(_) => None,
+    }
 }
 
 /// The same, and whether eight workers ask so often.
@@ -207,12 +211,23 @@ fn are_in_order(quiet: &Quiet<'_>) -> [bool; 2] {
     [quiet.counts() == [1_024; 64].as_slice(), in_order]
 }
 
-/// As many clients as an epoch may have, on tree 64.
+/// Runs clients over tree 64.
+fn is_full<R: Threads + Wait + Sync>(
+    rt: &R,
+    alloc: Global,
+    clients: &[Client],
+) -> Option<[bool; 2]> {
+    let network = tree(alloc, 64).ok()?;
+    match run(rt, alloc, &network, clients, 1, 1, &OpenGate) {
+        Ok(quiet) => Some(are_in_order(&quiet)),
+        Err(_) => None,
+    }
+}
+
+/// As many clients as an epoch may have.
 fn full_epoch<R: Threads + Wait + Sync>(rt: &R, alloc: Global) -> Option<[bool; 2]> {
     let clients = many_clients(alloc, 65_536, 0)?;
-    let network = tree(alloc, 64).ok()?;
-    let quiet = run(rt, alloc, &network, &clients, 1, 1, &OpenGate).ok()?;
-    Some(are_in_order(&quiet))
+    is_full(rt, alloc, &clients)
 }
 
 #[test]

@@ -65,6 +65,27 @@ fn missed(floor: Floor<'_>, lane: Lane) -> Option<(u64, u64, Grant)>
     Some((entered, granted, *grant))
 }
 
+/// What the first lane is told while both have a client inside.
+type Seen = (u64, [Option<LaneFault>; 2], [Option<Moved>; 2]);
+
+/// A client comes in by each lane, and that of the first walks out.
+fn told(floor: &Floor<'_>, first: &mut Lane, second: &mut Lane) -> Option<Seen>
+    requires first { first.old.home ≡ floor.now }
+    requires second { second.old.home ≡ floor.now }
+    ensures first { first.new.home ≡ first.old.home }
+    ensures second { second.new.home ≡ second.old.home }
+{
+    let token = enter(floor, first, 7, 0).ok()?;
+    enter(floor, second, 9, 1).ok()?;
+    let told = entered(floor, first);
+    let refused = [
+        enter(floor, first, 8, 2).err(),
+        enter(floor, first, 8, 0).err(),
+    ];
+    let moves = [step(floor, first, token), step(floor, first, token)];
+    Some((told, refused, moves))
+}
+
 /// The client of the first lane walks out; the second lane, whose client stays inside, is dropped.
 fn one_walks_out(
     floor: Floor<'_>,
@@ -74,17 +95,7 @@ fn one_walks_out(
 ) -> Option<Outcome>
     requires { (first.home ≡ floor) × (second.home ≡ floor) }
 {
-    let token = enter(&floor, &mut first, 7, 0).ok()?;
-    enter(&floor, &mut second, 9, 1).ok()?;
-    let told = entered(&floor, &mut first);
-    let refused = [
-        enter(&floor, &mut first, 8, 2).err(),
-        enter(&floor, &mut first, 8, 0).err(),
-    ];
-    let moves = [
-        step(&floor, &mut first, token),
-        step(&floor, &mut first, token),
-    ];
+    let (told, refused, moves) = told(&floor, &mut first, &mut second)?;
     let (joined, first) = not_joined(&floor, first, second)?;
     let (entered, granted, grant) = missed(floor, first)?;
     Some(Outcome {

@@ -57,6 +57,21 @@ fn come_in(floor: &Floor<'_>, lane: &mut Lane) -> Option<[Token; 3]>
     Some([ten, twenty, thirty])
 }
 
+/// The three come in, and walk: how many came in, and each answer.
+fn walk_three(alloc: Global, floor: &Floor<'_>, lane: &mut Lane) -> Option<(u64, Vec<Moved>)>
+    requires { lane.old.home ≡ floor.now }
+    ensures { lane.new.home ≡ lane.old.home }
+{
+    let [ten, twenty, thirty] = come_in(floor, lane)?;
+    let entered = floor.entered(lane);
+    let order = [
+        ten, twenty, thirty, thirty, thirty, ten, ten, twenty, twenty,
+    ];
+    let mut moves = Vec::new(alloc);
+    walk(floor, lane, &order, &mut moves)?;
+    Some((entered, moves))
+}
+
 /// What a closed floor tells.
 fn told_by(alloc: Global, quiet: &Quiet<'_>, entered: u64, moves: Vec<Moved>) -> Option<Told> {
     Some(Told {
@@ -68,19 +83,20 @@ fn told_by(alloc: Global, quiet: &Quiet<'_>, entered: u64, moves: Vec<Moved>) ->
     })
 }
 
-/// The three come in, and walk.
-fn three_clients(alloc: Global) -> Option<Told> {
-    let network = tree(alloc, 4).ok()?;
-    let (floor, mut lane) = Floor::open(alloc, &network, 3).ok()?;
-    let [ten, twenty, thirty] = come_in(&floor, &mut lane)?;
-    let entered = floor.entered(&mut lane);
-    let order = [
-        ten, twenty, thirty, thirty, thirty, ten, ten, twenty, twenty,
-    ];
-    let mut moves = Vec::new(alloc);
-    walk(&floor, &mut lane, &order, &mut moves)?;
+/// What the floor tells when they have walked.
+fn walked(alloc: Global, floor: Floor<'_>, mut lane: Lane) -> Option<Told>
+    requires { lane.home ≡ floor }
+{
+    let (entered, moves) = walk_three(alloc, &floor, &mut lane)?;
     let quiet = floor.close(lane).ok()?;
     told_by(alloc, &quiet, entered, moves)
+}
+
+/// The same, on a floor of their own.
+fn three_clients(alloc: Global) -> Option<Told> {
+    let network = tree(alloc, 4).ok()?;
+    let (floor, lane) = Floor::open(alloc, &network, 3).ok()?;
+    walked(alloc, floor, lane)
 }
 
 /// A passage, with its balancer, number and wire.

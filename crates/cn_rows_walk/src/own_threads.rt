@@ -105,7 +105,7 @@ fn name_by_two<G: Ground + Sync, R: Threads + Wait>(
 }
 
 /// Names clients in two threads, of which the second has a quota of 2. The lanes come back as one.
-fn name_at_once<R: Threads + Wait>(rt: &R, floor: &Floor<'_>, lane: Lane) -> Option<Lane>
+fn name_at_once(rt: &(impl Threads + Wait), floor: &Floor<'_>, lane: Lane) -> Option<Lane>
     requires { lane.home ≡ floor.now }
     ensures { IfSome result (λ lane. lane.home ≡ floor.now) }
 {
@@ -126,17 +126,29 @@ fn left_by(alloc: Global, quiet: &Quiet<'_>) -> Option<(Vec<u64>, Vec<u64>)> {
     Some((counts, holders))
 }
 
-/// Two threads name five clients.
-fn two_threads<R: Threads + Wait>(rt: &R, alloc: Global) -> Option<(Vec<u64>, Vec<u64>)> {
-    let network = bitonic(alloc, 4).ok()?;
-    let (floor, lane) = Floor::open(alloc, &network, 5).ok()?;
+/// Two threads name clients, and the floor is closed.
+fn named(
+    rt: &(impl Threads + Wait),
+    alloc: Global,
+    floor: Floor<'_>,
+    lane: Lane,
+) -> Option<(Vec<u64>, Vec<u64>)>
+    requires { lane.home ≡ floor }
+{
     let lane = name_at_once(rt, &floor, lane)?;
     let quiet = floor.close(lane).ok()?;
     left_by(alloc, &quiet)
 }
 
+/// They name five clients.
+fn two_threads(rt: &(impl Threads + Wait), alloc: Global) -> Option<(Vec<u64>, Vec<u64>)> {
+    let network = bitonic(alloc, 4).ok()?;
+    let (floor, lane) = Floor::open(alloc, &network, 5).ok()?;
+    named(rt, alloc, floor, lane)
+}
+
 /// The same, with the clients in order, and whether there are such.
-fn named_in_order<R: Threads + Wait>(rt: &R, alloc: Global) -> Option<[bool; 2]> {
+fn named_in_order(rt: &(impl Threads + Wait), alloc: Global) -> Option<[bool; 2]> {
     let (counts, mut clients) = two_threads(rt, alloc)?;
     clients.sort().ok()?;
     Some([

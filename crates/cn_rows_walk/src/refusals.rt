@@ -7,6 +7,7 @@ use crate::walks::{close, enter, open};
 use cn_bitonic::bitonic;
 use cn_core::Moved;
 use cn_walk::{CloseFault, Floor, Lane, LaneFault, OpenFault, Quiet};
+use cn_yard::Token;
 use std::alloc::Global;
 use std::test::Fail;
 
@@ -73,23 +74,39 @@ fn left_by(quiet: &Quiet<'_>) -> Option<([u64; 2], u64, usize)> {
     Some(([*first, *second], *passes, quiet.grants().len()))
 }
 
+/// What a lane tells before a client comes in and after, its token, and what others are refused with.
+type Entered = ([Told; 2], Token, [Option<LaneFault>; 2]);
+
+fn let_in(floor: &Floor<'_>, lane: &mut Lane) -> Option<Entered>
+    requires { lane.old.home ≡ floor.now }
+    ensures { lane.new.home ≡ lane.old.home }
+{
+    let before = readings(lane);
+    let token = enter(floor, lane, 7, 0).ok()?;
+    let entered = readings(lane);
+    let refused = [
+        enter(floor, lane, 8, 2).err(),
+        enter(floor, lane, 8, 1).err(),
+    ];
+    Some(([before, entered], token, refused))
+}
+
+/// What a lane tells, and then the last two steps of its token.
+fn let_out(floor: &Floor<'_>, lane: &mut Lane, token: Token) -> (Told, [Option<Moved>; 2])
+    requires { lane.old.home ≡ floor.now }
+    ensures { lane.new.home ≡ lane.old.home }
+{
+    let still = readings(lane);
+    (still, [step(floor, lane, token), step(floor, lane, token)])
+}
+
 /// A client comes in, and is alone.
 fn walked(floor: Floor<'_>, mut lane: Lane) -> Option<Outcome>
     requires { lane.home ≡ floor }
 {
-    let before = readings(&lane);
-    let token = enter(&floor, &mut lane, 7, 0).ok()?;
-    let entered = readings(&lane);
-    let refused = [
-        enter(&floor, &mut lane, 8, 2).err(),
-        enter(&floor, &mut lane, 8, 1).err(),
-    ];
+    let ([before, entered], token, refused) = let_in(&floor, &mut lane)?;
     let (floor, mut lane) = not_closed(floor, lane)?;
-    let still = readings(&lane);
-    let moves = [
-        step(&floor, &mut lane, token),
-        step(&floor, &mut lane, token),
-    ];
+    let (still, moves) = let_out(&floor, &mut lane, token);
     let quiet = close(floor, lane)?;
     let (counts, passes, grants) = left_by(&quiet)?;
     Some(Outcome {

@@ -106,16 +106,6 @@ fn are_ended(quiet: &Quiet<'_>) -> [bool; 3] {
     ]
 }
 
-/// The lanes become one again, and the floor is closed.
-fn ended(floor: Floor<'_>, mut first: Lane, mut second: Lane, moves: Moves) -> Option<Outcome>
-    requires { (first.home ≡ floor) × (second.home ≡ floor) }
-{
-    let entered = [entered(&floor, &mut first), entered(&floor, &mut second)];
-    let lane = join(&floor, first, second)?;
-    let quiet = close(floor, lane)?;
-    Some((entered, moves, are_ended(&quiet)))
-}
-
 /// One steps twice.
 fn step_twice(floor: &Floor<'_>, lane: &mut Lane, token: Token) -> [Option<Moved>; 2]
     requires { lane.old.home ≡ floor.now }
@@ -125,43 +115,66 @@ fn step_twice(floor: &Floor<'_>, lane: &mut Lane, token: Token) -> [Option<Moved
 }
 
 /// The three walk, the last before the others.
-fn walked(
-    floor: Floor<'_>,
-    mut first: Lane,
-    mut second: Lane,
-    tokens: [Token; 3],
-) -> Option<Outcome>
-    requires { (first.home ≡ floor) × (second.home ≡ floor) }
+fn walk(floor: &Floor<'_>, first: &mut Lane, second: &mut Lane, tokens: [Token; 3]) -> Moves
+    requires first { first.old.home ≡ floor.now }
+    requires second { second.old.home ≡ floor.now }
+    ensures first { first.new.home ≡ first.old.home }
+    ensures second { second.new.home ≡ second.old.home }
 {
     let [ten, twenty, thirty] = tokens;
     let once = [
-        step(&floor, &mut first, ten),
-        step(&floor, &mut first, twenty),
-        step(&floor, &mut second, thirty),
+        step(floor, first, ten),
+        step(floor, first, twenty),
+        step(floor, second, thirty),
     ];
     let twice = [
-        step_twice(&floor, &mut second, thirty),
-        step_twice(&floor, &mut first, ten),
-        step_twice(&floor, &mut first, twenty),
+        step_twice(floor, second, thirty),
+        step_twice(floor, first, ten),
+        step_twice(floor, first, twenty),
     ];
-    ended(floor, first, second, (once, twice))
+    (once, twice)
 }
 
-/// The three come in.
-fn come_in(floor: Floor<'_>, mut first: Lane, mut second: Lane) -> Option<Outcome>
+/// The three come in: their tokens.
+fn come_in(floor: &Floor<'_>, first: &mut Lane, second: &mut Lane) -> Option<[Token; 3]>
+    requires first { first.old.home ≡ floor.now }
+    requires second { second.old.home ≡ floor.now }
+    ensures first { first.new.home ≡ first.old.home }
+    ensures second { second.new.home ≡ second.old.home }
+{
+    let ten = enter(floor, first, 10, 0).ok()?;
+    let twenty = enter(floor, first, 20, 0).ok()?;
+    let thirty = enter(floor, second, 30, 0).ok()?;
+    Some([ten, twenty, thirty])
+}
+
+/// What both lanes are told of how many entered, and where the steps lead.
+fn told(floor: &Floor<'_>, first: &mut Lane, second: &mut Lane) -> Option<([u64; 2], Moves)>
+    requires first { first.old.home ≡ floor.now }
+    requires second { second.old.home ≡ floor.now }
+    ensures first { first.new.home ≡ first.old.home }
+    ensures second { second.new.home ≡ second.old.home }
+{
+    let tokens = come_in(floor, first, second)?;
+    let moves = walk(floor, first, second, tokens);
+    Some(([entered(floor, first), entered(floor, second)], moves))
+}
+
+/// The lanes become one again, and the floor is closed.
+fn walked(floor: Floor<'_>, mut first: Lane, mut second: Lane) -> Option<Outcome>
     requires { (first.home ≡ floor) × (second.home ≡ floor) }
 {
-    let ten = enter(&floor, &mut first, 10, 0).ok()?;
-    let twenty = enter(&floor, &mut first, 20, 0).ok()?;
-    let thirty = enter(&floor, &mut second, 30, 0).ok()?;
-    walked(floor, first, second, [ten, twenty, thirty])
+    let (entered, moves) = told(&floor, &mut first, &mut second)?;
+    let lane = join(&floor, first, second)?;
+    let quiet = close(floor, lane)?;
+    Some((entered, moves, are_ended(&quiet)))
 }
 
 fn overtaking(alloc: Global) -> Option<Outcome> {
     let network = tree(alloc, 4).ok()?;
     let (floor, lane) = open(alloc, &network, 3)?;
     let (first, second) = split(&floor, lane, 1)?;
-    come_in(floor, first, second)
+    walked(floor, first, second)
 }
 
 #[test]
