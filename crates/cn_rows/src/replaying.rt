@@ -298,21 +298,37 @@ fn comer(epoch: u32, place: u32) -> u64 {
     100 * epoch + (5 * place + epoch) % u64::from(COMERS)
 }
 
+/// All clients of an epoch enter, on two wires.
+fn push_comers(text: &mut String, epoch: u32) -> Option<()> {
+    for place in 0..COMERS {
+        writeln!(text, "enter,{},{}", comer(epoch, place), place % 2).ok()?;
+    }
+    Some(())
+}
+
+/// All of them step once.
+fn push_steps(text: &mut String, epoch: u32) -> Option<()> {
+    for place in 0..COMERS {
+        writeln!(text, "step,{},", comer(epoch, place)).ok()?;
+    }
+    Some(())
+}
+
+fn push_epochs(text: &mut String) -> Option<()> {
+    text.push_str("op,client,wire\n").ok()?;
+    for epoch in 0..3_u32 {
+        push_comers(text, epoch)?;
+        push_steps(text, epoch)?;
+        push_steps(text, epoch)?;
+        text.push_str("turn,,\n").ok()?;
+    }
+    Some(())
+}
+
 /// Three epochs on two wires: all enter, pass and leave, and a turn.
 fn three_epochs(alloc: Global) -> Option<Vec<u8>> {
     let mut text = String::new(alloc);
-    text.push_str("op,client,wire\n").ok()?;
-    for epoch in 0..3_u32 {
-        for place in 0..COMERS {
-            writeln!(text, "enter,{},{}", comer(epoch, place), place % 2).ok()?;
-        }
-        for _ in 0..2 {
-            for place in 0..COMERS {
-                writeln!(text, "step,{},", comer(epoch, place)).ok()?;
-            }
-        }
-        writeln!(text, "turn,,").ok()?;
-    }
+    push_epochs(&mut text)?;
     Some(text.into_bytes())
 }
 
@@ -356,18 +372,22 @@ fn push_turn(text: &mut String, epoch: u32) -> Option<()> {
     Some(())
 }
 
-/// What answers the three epochs.
-fn three_epochs_replayed(alloc: Global) -> Option<Vec<u8>> {
-    let mut text = String::new(alloc);
+fn push_answers(text: &mut String) -> Option<()> {
     text.push_str("network bitonic width 2 balancers 1 depth 1\n")
         .ok()?;
     for epoch in 0..3_u32 {
-        push_enters(&mut text, epoch)?;
-        push_passes(&mut text, epoch)?;
-        push_leaves(&mut text, epoch)?;
-        push_turn(&mut text, epoch)?;
+        push_enters(text, epoch)?;
+        push_passes(text, epoch)?;
+        push_leaves(text, epoch)?;
+        push_turn(text, epoch)?;
     }
-    text.push_str("end epoch 3 entered 0 inside 0\n").ok()?;
+    text.push_str("end epoch 3 entered 0 inside 0\n").ok()
+}
+
+/// What answers the three epochs.
+fn three_epochs_replayed(alloc: Global) -> Option<Vec<u8>> {
+    let mut text = String::new(alloc);
+    push_answers(&mut text)?;
     Some(text.into_bytes())
 }
 

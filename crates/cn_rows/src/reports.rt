@@ -15,14 +15,25 @@ fn record(alloc: Global, number: u64, counts: &[u64], holders: &[u64]) -> Option
     })
 }
 
-/// The report of one epoch, whose record is whole.
-fn reported(alloc: Global, network: &Counting, epoch: EpochRecord) -> Option<Vec<u8>> {
+/// Whether this is the report of one epoch, whose record is whole.
+fn is_reported(alloc: Global, network: &Counting, epoch: EpochRecord, wanted: &[u8]) -> bool {
     let counts = epoch.counts.len();
     let holders = epoch.holders.len() as u64;
     if counts != network.width() as usize || holders != epoch.clients {
-        return None;
+        return false;
     }
-    render_report(alloc, network, &[epoch]).ok()
+    match render_report(alloc, network, &[epoch]) {
+        Ok(text) => text.as_slice() == wanted,
+        Err(_) => false,
+    }
+}
+
+/// Whether this is the report of no epoch.
+fn is_none_reported(alloc: Global, network: &Counting, wanted: &[u8]) -> bool {
+    match render_report(alloc, network, &[]) {
+        Ok(text) => text.as_slice() == wanted,
+        Err(_) => false,
+    }
 }
 
 /// An epoch on the bitonic network of a width, with its number, counts and holders, its report, and that of no epoch.
@@ -73,11 +84,12 @@ const ROWS: [Row; 2] = [
 /// Whether the reports of an epoch and of none are these.
 fn are_reported(alloc: Global, row: &Row) -> Option<[bool; 2]> {
     let (width, number, counts, holders, some, none) = *row;
-    let epoch = record(alloc, number, counts, holders)?;
     let network = bitonic(alloc, width).ok()?;
-    let empty = render_report(alloc, &network, &[]).ok()?;
-    let text = reported(alloc, &network, epoch)?;
-    Some([text.as_slice() == some, empty.as_slice() == none])
+    let is_some = match record(alloc, number, counts, holders) {
+        Some(epoch) => is_reported(alloc, &network, epoch, some),
+        None => false,
+    };
+    Some([is_some, is_none_reported(alloc, &network, none)])
 }
 
 /// The place of the first epoch that has another report.

@@ -416,10 +416,18 @@ fn batch_refusals(rt: HostRuntime) -> Result<(), Fail> {
     Ok(())
 }
 
+/// The fault of a first read that fails.
+fn first_fault<R: Threads + Wait + Sync>(
+    rt: &R,
+    alloc: Global,
+    state: RandomState,
+) -> Option<ServeFault> {
+    refusal(rt, alloc, state, BITONIC_TWO, Broken { left: b"" })
+}
+
 #[test]
 fn failing_first_read(rt: HostRuntime) -> Result<(), Fail> {
-    let (alloc, state) = (rt.alloc(), RandomState::new(&rt)?);
-    let fault = refusal(&rt, alloc, state, BITONIC_TWO, Broken { left: b"" });
+    let fault = first_fault(&rt, rt.alloc(), RandomState::new(&rt)?);
     let cause = BatchCause::Read;
     assert_eq!(rt; fault, Some(ServeFault::Batch(BatchFault { at: 0, cause })));
     Ok(())
@@ -432,7 +440,7 @@ fn is_cut<R: Threads + Wait + Sync>(
     state: RandomState,
     room: usize,
     then: Then,
-) -> Option<bool> {
+) -> bool {
     let mut writer = Narrow::new(alloc, room, then);
     let done = serve_to(
         rt,
@@ -442,10 +450,10 @@ fn is_cut<R: Threads + Wait + Sync>(
         SINGLE_CLIENT,
         &mut writer,
         &OpenGate,
-    )?;
+    );
     let written = room as u64;
-    let wanted = SINGLE_CLIENT_SERVED.get(..room)?;
-    Some(done == Err(ServeFault::Write { written }) && writer.taken.as_slice() == wanted)
+    let is_taken = Some(writer.taken.as_slice()) == SINGLE_CLIENT_SERVED.get(..room);
+    done == Some(Err(ServeFault::Write { written })) && is_taken
 }
 
 /// Ways to fail, each with the room that a writer has before.
@@ -468,7 +476,7 @@ fn wrong_write<R: Threads + Wait + Sync>(
     state: RandomState,
 ) -> Option<(Then, usize)> {
     for (then, room) in &ENDS {
-        if is_cut(rt, alloc, state, *room, *then) != Some(true) {
+        if !is_cut(rt, alloc, state, *room, *then) {
             return Some((*then, *room));
         }
     }
@@ -522,6 +530,11 @@ fn report_of(alloc: Global, clients: u64) -> Option<Vec<u8>> {
     Some(report.into_bytes())
 }
 
+fn is_report(alloc: Global, text: &[u8], clients: u64) -> Option<bool> {
+    let wanted = report_of(alloc, clients)?;
+    Some(text == wanted.as_slice())
+}
+
 /// Whether such a batch of so many clients has its report.
 fn is_in_order<R: Threads + Wait + Sync>(
     rt: &R,
@@ -530,9 +543,10 @@ fn is_in_order<R: Threads + Wait + Sync>(
     clients: u64,
 ) -> Option<bool> {
     let batch = batch_of(alloc, clients)?;
-    let wanted = report_of(alloc, clients)?;
-    let text = served(rt, alloc, state, TREE_SIXTY_FOUR, &batch, &OpenGate)?;
-    Some(text == wanted)
+    match served(rt, alloc, state, TREE_SIXTY_FOUR, &batch, &OpenGate) {
+        Some(text) => is_report(alloc, &text, clients),
+        None => None,
+    }
 }
 
 /// Whether such a batch of one client more than an epoch may have is refused there.
@@ -551,12 +565,22 @@ fn is_one_too_many<R: Threads + Wait + Sync>(
     Some(is_refused(rt, alloc, state, &row))
 }
 
+/// Whether such batches of some clients and of as many as can be have their reports, and one more is refused.
+fn are_limits<R: Threads + Wait + Sync>(
+    rt: &R,
+    alloc: Global,
+    state: RandomState,
+) -> [Option<bool>; 3] {
+    [
+        is_in_order(rt, alloc, state, 3_000),
+        is_in_order(rt, alloc, state, 65_536),
+        is_one_too_many(rt, alloc, state),
+    ]
+}
+
 #[test]
 fn limits(rt: HostRuntime) -> Result<(), Fail> {
-    let (alloc, state) = (rt.alloc(), RandomState::new(&rt)?);
-    let some = is_in_order(&rt, alloc, state, 3_000);
-    let most = is_in_order(&rt, alloc, state, 65_536);
-    let more = is_one_too_many(&rt, alloc, state);
-    assert_eq!(rt; [some, most, more], [Some(true), Some(true), Some(true)]);
+    let told = are_limits(&rt, rt.alloc(), RandomState::new(&rt)?);
+    assert_eq!(rt; told, [Some(true), Some(true), Some(true)]);
     Ok(())
 }

@@ -120,13 +120,18 @@ fn refused_words(rt: HostRuntime) {
     assert_eq!(rt; unrefused(rt.alloc()), None);
 }
 
+/// Whether the words of a job on a network ask for it.
+fn is_job_asked(alloc: Global, words: &str, network: &str, width: u32, job: Job) -> Option<bool> {
+    let line = format!(in alloc; "renamer {words} --network {network} --width {width}").ok()?;
+    Some(is_asked(alloc, &line, job))
+}
+
 /// Whether the words of a replay and of a show of a network ask for these jobs.
 fn are_asked(alloc: Global, network: &str, kind: Kind, width: u32) -> Option<bool> {
     let net = Net::new(kind, width).ok()?;
-    let options = format!(in alloc; "--network {network} --width {width}").ok()?;
-    let replay = format!(in alloc; "renamer replay {options}").ok()?;
-    let show = format!(in alloc; "renamer show {options}").ok()?;
-    Some(is_asked(alloc, &replay, Job::Replay(net)) && is_asked(alloc, &show, Job::Show(net)))
+    let is_replay = is_job_asked(alloc, "replay", network, width, Job::Replay(net))?;
+    let is_show = is_job_asked(alloc, "show", network, width, Job::Show(net))?;
+    Some(is_replay && is_show)
 }
 
 /// The first width at which they do not.
@@ -227,14 +232,19 @@ fn are_widths_told(alloc: Global, line: &str) -> Option<bool> {
     Some(is_helped(alloc, line, &widths))
 }
 
+/// Whether help tells the widths, and those of a run the limits.
+fn are_limits_told(alloc: Global) -> [Option<bool>; 4] {
+    [
+        are_widths_told(alloc, "renamer run --help"),
+        are_widths_told(alloc, "renamer show --help"),
+        is_range_told(alloc, "renamer run --help", MOST_WORKERS),
+        is_range_told(alloc, "renamer run --help", MOST_HAND),
+    ]
+}
+
 #[test]
 fn help_tells_the_limits(rt: HostRuntime) {
-    let told = [
-        are_widths_told(rt.alloc(), "renamer run --help"),
-        are_widths_told(rt.alloc(), "renamer show --help"),
-        is_range_told(rt.alloc(), "renamer run --help", MOST_WORKERS),
-        is_range_told(rt.alloc(), "renamer run --help", MOST_HAND),
-    ];
+    let told = are_limits_told(rt.alloc());
     assert_eq!(rt; told, [Some(true), Some(true), Some(true), Some(true)]);
 }
 
