@@ -1,171 +1,248 @@
 //! Batches, read.
 
 use crate::writers::Broken;
-use cn_report::{BatchCause, BatchFault, read_batch};
+use cn_report::{Batch, BatchCause, BatchEpoch, BatchFault, read_batch};
 use std::alloc::Global;
 use std::hash::RandomState;
 use std::io;
 use std::test::Fail;
 
-const FIVE_ON_ONE_ENTRY: &[u8] = b"epoch,client,entry\n1,17,3\n1,5,3\n1,99,3\n1,23,3\n1,42,3\n";
+const FIVE_ON_ONE_ENTRY: &[u8] = b"epoch,client,entry\n\
+      1,17,3\n\
+      1,5,3\n\
+      1,99,3\n\
+      1,23,3\n\
+      1,42,3\n";
 
 /// A client that comes: its epoch's number, its own and its entry's.
 type Arrival = (u64, u64, u64);
 
-/// The arrivals of a batch on four entries, or its fault.
-fn read<R: io::Read + Drop>(
-    rt: &HostRuntime,
-    reader: R,
-) -> Result<Result<Vec<Arrival>, BatchFault>, Fail> {
-    let batch = match read_batch(rt.alloc(), reader, 4, RandomState::new(rt)?) {
-        Ok(batch) => batch,
-        Err(fault) => return Ok(Err(fault)),
-    };
-    let mut arrivals = Vec::new(rt.alloc());
+fn push_all(arrivals: &mut Vec<Arrival>, epoch: &BatchEpoch) -> Option<()> {
+    for client in &epoch.clients {
+        arrivals.push((epoch.number, client.id, client.entry)).ok()?;
+    }
+    Some(())
+}
+
+fn arrivals_of(alloc: Global, batch: &Batch) -> Option<Vec<Arrival>> {
+    let mut arrivals = Vec::new(alloc);
     for epoch in &batch.epochs {
-        for client in &epoch.clients {
-            arrivals.push((epoch.number, client.id, client.entry))?;
+        push_all(&mut arrivals, epoch)?;
+    }
+    Some(arrivals)
+}
+
+fn has_arrivals(alloc: Global, batch: &Batch, wanted: &[Arrival]) -> bool {
+    match arrivals_of(alloc, batch) {
+        Some(arrivals) => arrivals.as_slice() == wanted,
+        None => false,
+    }
+}
+
+/// Whether these are the arrivals of a batch on four entries.
+fn is_read(alloc: Global, state: RandomState, text: &[u8], wanted: &[Arrival]) -> bool {
+    match read_batch(alloc, text, 4, state) {
+        Ok(batch) => has_arrivals(alloc, &batch, wanted),
+        Err(_) => false,
+    }
+}
+
+/// The fault of a batch on four entries, if it is refused.
+fn fault_of<I: io::Read + Drop>(
+    alloc: Global,
+    state: RandomState,
+    reader: I,
+) -> Option<BatchFault> {
+    match read_batch(alloc, reader, 4, state) {
+        Ok(_) => None,
+        Err(fault) => Some(fault),
+    }
+}
+
+/// Batches and their arrivals: one of five clients, only a header, and the records that csv reads.
+const READ: [(&[u8], &[Arrival]); 8] = [
+    (
+        FIVE_ON_ONE_ENTRY,
+        &[(1, 17, 3), (1, 5, 3), (1, 99, 3), (1, 23, 3), (1, 42, 3)],
+    ),
+    (b"epoch,client,entry\n", &[]),
+    (
+        b"epoch,client,entry\n1,7,0\n3,7,1\n",
+        &[(1, 7, 0), (3, 7, 1)],
+    ),
+    (
+        b"epoch,client,entry\r\n1,7,0\r\n3,7,1\r\n",
+        &[(1, 7, 0), (3, 7, 1)],
+    ),
+    (b"epoch,client,entry\n1,7,0\n3,7,1", &[(1, 7, 0), (3, 7, 1)]),
+    (
+        b"\n\nepoch,client,entry\n\n1,7,0\n\r\n\n3,7,1\n\n",
+        &[(1, 7, 0), (3, 7, 1)],
+    ),
+    (
+        b"\xef\xbb\xbfepoch,client,entry\n1,7,0\n3,7,1\n",
+        &[(1, 7, 0), (3, 7, 1)],
+    ),
+    (
+        b"\"epoch\",\"client\",\"entry\"\n\"1\",\"7\",\"0\"\n03,\"00\"7,\"1\"\n",
+        &[(1, 7, 0), (3, 7, 1)],
+    ),
+];
+
+/// The place of the first batch that has other arrivals.
+fn wrong_arrivals(alloc: Global, state: RandomState) -> Option<usize> {
+    for (place, row) in READ.iter().enumerate() {
+        if !is_read(alloc, state, row.0, row.1) {
+            return Some(place);
         }
     }
-    Ok(Ok(arrivals))
-}
-
-// The header and these records.
-fn with_header(alloc: Global, records: &[u8]) -> Result<Vec<u8>, Fail> {
-    let mut text = Vec::new(alloc);
-    text.extend_from_slice(b"epoch,client,entry\n")?;
-    text.extend_from_slice(records)?;
-    text.extend_from_slice(b"\n")?;
-    Ok(text)
-}
-
-fn accepted(rt: &HostRuntime, text: &[u8], wanted: &[Arrival]) -> Result<bool, Fail> {
-    Ok(match read(rt, text)? {
-        Ok(arrivals) => arrivals.as_slice() == wanted,
-        Err(_) => false,
-    })
-}
-
-fn fault_of(rt: &HostRuntime, text: &[u8]) -> Result<Option<BatchFault>, Fail> {
-    Ok(read(rt, text)?.err())
-}
-
-#[test]
-fn five_on_one_entry(rt: HostRuntime) -> Result<(), Fail> {
-    let wanted = [(1, 17, 3), (1, 5, 3), (1, 99, 3), (1, 23, 3), (1, 42, 3)];
-    assert!(rt; accepted(&rt, FIVE_ON_ONE_ENTRY, wanted.as_slice())?);
-    Ok(())
+    None
 }
 
 #[test]
 fn records_are_those_of_csv(rt: HostRuntime) -> Result<(), Fail> {
-    let texts: [&[u8]; 6] = [
-        b"epoch,client,entry\n1,7,0\n3,7,1\n",
-        b"epoch,client,entry\r\n1,7,0\r\n3,7,1\r\n",
-        b"epoch,client,entry\n1,7,0\n3,7,1",
-        b"\n\nepoch,client,entry\n\n1,7,0\n\r\n\n3,7,1\n\n",
-        b"\xef\xbb\xbfepoch,client,entry\n1,7,0\n3,7,1\n",
-        b"\"epoch\",\"client\",\"entry\"\n\"1\",\"7\",\"0\"\n03,\"00\"7,\"1\"\n",
-    ];
-    for (place, text) in texts.iter().enumerate() {
-        let told = accepted(&rt, *text, [(1, 7, 0), (3, 7, 1)].as_slice())?;
-        assert!(rt; told, "at {place}");
-    }
+    let wrong = wrong_arrivals(rt.alloc(), RandomState::new(&rt)?);
+    assert_eq!(rt; wrong, None);
     Ok(())
+}
+
+/// Batches of one client, and its number where that is one.
+const CLIENTS: [(&[u8], Option<u64>); 9] = [
+    (
+        b"epoch,client,entry\n1,18446744073709551615,0\n",
+        Some(18_446_744_073_709_551_615),
+    ),
+    (b"epoch,client,entry\n1,007,0\n", Some(7)),
+    (b"epoch,client,entry\n1,\"17\",0\n", Some(17)),
+    (b"epoch,client,entry\n1,18446744073709551616,0\n", None),
+    (b"epoch,client,entry\n1,+7,0\n", None),
+    (b"epoch,client,entry\n1,,0\n", None),
+    (b"epoch,client,entry\n1,000000000000000000007,0\n", None),
+    (b"epoch,client,entry\n1, 7,0\n", None),
+    (b"epoch,client,entry\n1,7\xff,0\n", None),
+];
+
+/// Whether a batch of one client tells this number, or is refused where there is none.
+fn is_number(alloc: Global, state: RandomState, text: &[u8], number: Option<u64>) -> bool {
+    match number {
+        Some(client) => is_read(alloc, state, text, &[(1, client, 0)]),
+        None => is_refused(alloc, state, text, 1, BatchCause::ClientNumber),
+    }
+}
+
+/// The place of the first batch of one client that tells another number.
+fn wrong_number(alloc: Global, state: RandomState) -> Option<usize> {
+    for (place, row) in CLIENTS.iter().enumerate() {
+        if !is_number(alloc, state, row.0, row.1) {
+            return Some(place);
+        }
+    }
+    None
 }
 
 #[test]
 fn identity_fields(rt: HostRuntime) -> Result<(), Fail> {
-    let alloc = rt.alloc();
-    let fields: [(&[u8], Option<u64>); 9] = [
-        (b"18446744073709551615", Some(18_446_744_073_709_551_615)),
-        (b"007", Some(7)),
-        (b"\"17\"", Some(17)),
-        (b"18446744073709551616", None),
-        (b"+7", None),
-        (b"", None),
-        (b"000000000000000000007", None),
-        (b" 7", None),
-        (b"7\xff", None),
-    ];
-    for (field, number) in fields {
-        let mut record = Vec::new(alloc);
-        record.extend_from_slice(b"1,")?;
-        record.extend_from_slice(field)?;
-        record.extend_from_slice(b",0")?;
-        let text = with_header(alloc, record.as_slice())?;
-        let client = match read(&rt, text.as_slice())? {
-            Ok(arrivals) => arrivals.first().map(|arrival| arrival.1),
-            Err(fault) if fault.at == 1 && fault.cause == BatchCause::ClientNumber => None,
-            Err(_) => Some(0),
-        };
-        assert_eq!(rt; client, number);
-    }
+    let wrong = wrong_number(rt.alloc(), RandomState::new(&rt)?);
+    assert_eq!(rt; wrong, None);
     Ok(())
 }
 
-#[test]
-fn empty_input(rt: HostRuntime) -> Result<(), Fail> {
-    let texts: [&[u8]; 6] = [
-        b"",
-        b"\n\n",
-        b"1,17,0\n",
-        b"epoch,client\n",
-        b"epoch,client,name\n",
-        b"\"epoch,client,entry\"\n",
-    ];
-    let cause = BatchCause::Header;
-    for (place, text) in texts.iter().enumerate() {
-        assert_eq!(rt;
-            fault_of(&rt, *text)?,
-            Some(BatchFault { at: 0, cause }),
-            "at {place}"
-        );
+/// Inputs, at which record each is refused, and why.
+const REFUSED: [(&[u8], u64, BatchCause); 22] = [
+    (b"", 0, BatchCause::Header),
+    (b"\n\n", 0, BatchCause::Header),
+    (b"1,17,0\n", 0, BatchCause::Header),
+    (b"epoch,client\n", 0, BatchCause::Header),
+    (b"epoch,client,name\n", 0, BatchCause::Header),
+    (b"\"epoch,client,entry\"\n", 0, BatchCause::Header),
+    (b"epoch,client,entry\n1,17\n", 1, BatchCause::FieldCount),
+    (b"epoch,client,entry\n1\n", 1, BatchCause::FieldCount),
+    (b"epoch,client,entry\n1,17,0,0\n", 1, BatchCause::FieldCount),
+    (b"epoch,client,entry\nx,y\n", 1, BatchCause::FieldCount),
+    (b"epoch,client,entry\nx,y,z\n", 1, BatchCause::EpochNumber),
+    (
+        b"epoch,client,entry\n1\xff,y,z\n",
+        1,
+        BatchCause::EpochNumber,
+    ),
+    (b"epoch,client,entry\n-1,17,0\n", 1, BatchCause::EpochNumber),
+    (b"epoch,client,entry\n1,y,z\n", 1, BatchCause::ClientNumber),
+    (b"epoch,client,entry\n1,17,z\n", 1, BatchCause::EntryNumber),
+    (b"epoch,client,entry\n1,17,\n", 1, BatchCause::EntryNumber),
+    (b"epoch,client,entry\n1,17,4\n", 1, BatchCause::EntryRange),
+    (
+        b"epoch,client,entry\n2,17,0\n1,18,9\n",
+        2,
+        BatchCause::EpochBackwards,
+    ),
+    (
+        b"epoch,client,entry\n2,17,0\n2,17,4\n",
+        2,
+        BatchCause::EntryRange,
+    ),
+    (
+        b"epoch,client,entry\n1,17,0\n1,17,1\n",
+        2,
+        BatchCause::Duplicate,
+    ),
+    (
+        b"epoch,client,entry\n1,007,0\n1,7,1\n",
+        2,
+        BatchCause::Duplicate,
+    ),
+    (
+        b"epoch,client,entry\n1,17,0\n\n1,18,0\n1,18,0\n0,0\n",
+        3,
+        BatchCause::Duplicate,
+    ),
+];
+
+/// Whether an input is refused at this record, for this cause.
+fn is_refused(alloc: Global, state: RandomState, text: &[u8], at: u64, cause: BatchCause) -> bool {
+    fault_of(alloc, state, text) == Some(BatchFault { at, cause })
+}
+
+/// The place of the first input that is not refused so.
+fn wrong_refusal(alloc: Global, state: RandomState) -> Option<usize> {
+    for (place, row) in REFUSED.iter().enumerate() {
+        if !is_refused(alloc, state, row.0, row.1, row.2) {
+            return Some(place);
+        }
     }
-    assert!(rt; accepted(&rt, b"epoch,client,entry\n", &[])?);
-    Ok(())
+    None
 }
 
 #[test]
 fn batch_refusals(rt: HostRuntime) -> Result<(), Fail> {
-    let records: [(&[u8], u64, BatchCause); 16] = [
-        (b"1,17", 1, BatchCause::FieldCount),
-        (b"1", 1, BatchCause::FieldCount),
-        (b"1,17,0,0", 1, BatchCause::FieldCount),
-        (b"x,y", 1, BatchCause::FieldCount),
-        (b"x,y,z", 1, BatchCause::EpochNumber),
-        (b"1\xff,y,z", 1, BatchCause::EpochNumber),
-        (b"-1,17,0", 1, BatchCause::EpochNumber),
-        (b"1,y,z", 1, BatchCause::ClientNumber),
-        (b"1,17,z", 1, BatchCause::EntryNumber),
-        (b"1,17,", 1, BatchCause::EntryNumber),
-        (b"1,17,4", 1, BatchCause::EntryRange),
-        (b"2,17,0\n1,18,9", 2, BatchCause::EpochBackwards),
-        (b"2,17,0\n2,17,4", 2, BatchCause::EntryRange),
-        (b"1,17,0\n1,17,1", 2, BatchCause::Duplicate),
-        (b"1,007,0\n1,7,1", 2, BatchCause::Duplicate),
-        (b"1,17,0\n\n1,18,0\n1,18,0\n0,0", 3, BatchCause::Duplicate),
-    ];
-    for (record, at, cause) in records {
-        let text = with_header(rt.alloc(), record)?;
-        let fault = fault_of(&rt, text.as_slice())?;
-        assert_eq!(rt; fault, Some(BatchFault { at, cause }), "{cause}");
-    }
+    let wrong = wrong_refusal(rt.alloc(), RandomState::new(&rt)?);
+    assert_eq!(rt; wrong, None);
     Ok(())
+}
+
+/// Whether a read that fails after this text is told at this record.
+fn is_broken(alloc: Global, state: RandomState, left: &[u8], at: u64) -> bool {
+    let cause = BatchCause::Read;
+    fault_of(alloc, state, Broken { left }) == Some(BatchFault { at, cause })
+}
+
+/// The first number of bytes after which a read that fails is told otherwise, and how many lines were read before it.
+fn wrong_read(alloc: Global, state: RandomState) -> (Option<usize>, u64) {
+    let mut lines = 0u64;
+    for end in 0..=FIVE_ON_ONE_ENTRY.len() {
+        let left = &FIVE_ON_ONE_ENTRY[..end];
+        if left.ends_with(b"\n") {
+            lines = lines.saturating_add(1);
+        }
+        if !is_broken(alloc, state, left, lines) {
+            return (Some(end), lines);
+        }
+    }
+    (None, lines)
 }
 
 #[test]
 fn read_cut_anywhere(rt: HostRuntime) -> Result<(), Fail> {
-    let mut lines = 0u64;
-    for end in 0..=FIVE_ON_ONE_ENTRY.len() {
-        let text = &FIVE_ON_ONE_ENTRY[..end];
-        if text.last() == Some(&b'\n') {
-            lines = lines.saturating_add(1);
-        }
-        let cause = BatchCause::Read;
-        let fault = read(&rt, Broken { left: text })?.err();
-        assert_eq!(rt; fault, Some(BatchFault { at: lines, cause }), "at {end}");
-    }
-    assert_eq!(rt; lines, 6);
+    let wrong = wrong_read(rt.alloc(), RandomState::new(&rt)?);
+    assert_eq!(rt; wrong, (None, 6));
     Ok(())
 }

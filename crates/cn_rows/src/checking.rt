@@ -5,7 +5,6 @@ use cn_renamer::{CheckFault, Flaw, check};
 use cn_wiring::is_width;
 use std::alloc::Global;
 use std::io;
-use std::test::Fail;
 
 const TWO_EPOCHS: &[u8] = b"epoch,client,name\n\
       1,11,1\n\
@@ -16,93 +15,118 @@ const TWO_EPOCHS_TIGHT: &[u8] = b"epoch 1 clients 2 counts 1 1 0 0\n\
       epoch 2 clients 1 counts 1 0 0 0\n\
       tight epochs 2 grants 3\n";
 
-/// Checks a list for this width.
-fn checked<R: io::Read + Drop>(
+/// Checks a list for width 4.
+fn checked<I: io::Read + Drop>(
     alloc: Global,
-    reader: R,
+    reader: I,
     writer: &mut Narrow,
-    width: u32,
-) -> Result<Result<(), CheckFault>, Fail> {
-    if !is_width(width) {
-        return Err("no such width".into());
+) -> Option<Result<(), CheckFault>> {
+    if is_width(4) {
+        Some(check(alloc, reader, writer, 4))
+    } else {
+        None
     }
-    Ok(check(alloc, reader, writer, width))
 }
 
-/// What a check for width 4 writes, its fault, and how often the writer was flushed.
-fn outcome<R: io::Read + Drop>(
-    alloc: Global,
-    reader: R,
-    mut writer: Narrow,
-) -> Result<(Vec<u8>, Option<CheckFault>, usize), Fail> {
-    let fault = checked(alloc, reader, &mut writer, 4)?.err();
-    Ok((writer.taken, fault, writer.flushes))
+/// Whether this is written of a list, and flushed once.
+fn is_tight(alloc: Global, list: &[u8], wanted: &[u8]) -> bool {
+    let mut writer = Narrow::new(alloc, usize::MAX, Then::TakesNothing);
+    let done = checked(alloc, list, &mut writer);
+    done == Some(Ok(())) && writer.flushes == 1 && writer.taken.as_slice() == wanted
 }
 
-fn wide(alloc: Global) -> Narrow {
-    Narrow::new(alloc, usize::MAX, Then::TakesNothing)
-}
+/// Lists and what is written of them.
+const TIGHT: [(&[u8], &[u8]); 3] = [
+    (TWO_EPOCHS, TWO_EPOCHS_TIGHT),
+    (b"epoch,client,name\n", b"tight epochs 0 grants 0\n"),
+    (
+        b"epoch,client,name\n1,17,0\n1,5,1\n1,99,2\n1,23,3\n1,42,4\n",
+        b"epoch 1 clients 5 counts 2 1 1 1\ntight epochs 1 grants 5\n",
+    ),
+];
 
-// The header and these records.
-fn with_header(alloc: Global, records: &[u8]) -> Result<Vec<u8>, Fail> {
-    let mut text = Vec::new(alloc);
-    text.extend_from_slice(b"epoch,client,name\n")?;
-    text.extend_from_slice(records)?;
-    Ok(text)
+/// The first list of which another text is written.
+fn wrong_list(alloc: Global) -> Option<&'static [u8]> {
+    for row in &TIGHT {
+        if !is_tight(alloc, row.0, row.1) {
+            return Some(row.0);
+        }
+    }
+    None
 }
 
 #[test]
-fn tight_lists_are_told(rt: HostRuntime) -> Result<(), Fail> {
-    let lists: [(&[u8], &[u8]); 3] = [
-        (TWO_EPOCHS, TWO_EPOCHS_TIGHT),
-        (b"epoch,client,name\n", b"tight epochs 0 grants 0\n"),
-        (
-            b"epoch,client,name\n1,17,0\n1,5,1\n1,99,2\n1,23,3\n1,42,4\n",
-            b"epoch 1 clients 5 counts 2 1 1 1\ntight epochs 1 grants 5\n",
-        ),
-    ];
-    for (list, wanted) in lists {
-        let (text, fault, flushes) = outcome(rt.alloc(), list, wide(rt.alloc()))?;
-        assert_eq!(rt; text.as_slice(), wanted);
-        assert_eq!(rt; (fault, flushes), (None, 1));
+fn tight_lists_are_told(rt: HostRuntime) {
+    assert_eq!(rt; wrong_list(rt.alloc()), None);
+}
+
+/// Whether a list has this flaw, and nothing is written.
+fn has_flaw<I: io::Read + Drop>(alloc: Global, reader: I, flaw: Flaw) -> bool {
+    let mut writer = Narrow::new(alloc, usize::MAX, Then::TakesNothing);
+    let done = checked(alloc, reader, &mut writer);
+    done == Some(Err(CheckFault::Flaw(flaw))) && writer.taken.is_empty() && writer.flushes == 0
+}
+
+/// Lists and their flaws.
+const FLAWS: [(&[u8], Flaw); 4] = [
+    (
+        b"epoch,client,name\n1,10,0\n1,11,1\n1,12,3\n",
+        Flaw::Gap { epoch: 1, name: 2 },
+    ),
+    (
+        b"epoch,client,name\n1,10,0\n1,11,1\n1,12,1\n",
+        Flaw::DuplicateName(3),
+    ),
+    (
+        b"epoch,client,name\n1,10,0\n1,10,0\n",
+        Flaw::DuplicateClient(2),
+    ),
+    (b"epoch,client,name\n1,10,0\n2,11,x\n", Flaw::Form(2)),
+];
+
+/// The first flaw that is not told.
+fn wrong_flaw(alloc: Global) -> Option<Flaw> {
+    for row in &FLAWS {
+        if !has_flaw(alloc, row.0, row.1) {
+            return Some(row.1);
+        }
     }
-    Ok(())
+    None
 }
 
 #[test]
-fn grant_list_verdicts(rt: HostRuntime) -> Result<(), Fail> {
-    let lists: [(&[u8], Flaw); 4] = [
-        (b"1,10,0\n1,11,1\n1,12,3\n", Flaw::Gap { epoch: 1, name: 2 }),
-        (b"1,10,0\n1,11,1\n1,12,1\n", Flaw::DuplicateName(3)),
-        (b"1,10,0\n1,10,0\n", Flaw::DuplicateClient(2)),
-        (b"1,10,0\n2,11,x\n", Flaw::Form(2)),
-    ];
-    for (records, flaw) in lists {
-        let list = with_header(rt.alloc(), records)?;
-        let (text, fault, flushes) = outcome(rt.alloc(), list.as_slice(), wide(rt.alloc()))?;
-        assert_eq!(rt; fault, Some(CheckFault::Flaw(flaw)), "{flaw}");
-        assert_eq!(rt; (text.len(), flushes), (0, 0), "{flaw}");
-    }
-    Ok(())
+fn grant_list_verdicts(rt: HostRuntime) {
+    assert_eq!(rt; wrong_flaw(rt.alloc()), None);
 }
 
 #[test]
-fn failing_reads_and_writes(rt: HostRuntime) -> Result<(), Fail> {
-    let alloc = rt.alloc();
-    for (at, left) in [(0, b"".as_slice()), (2, &TWO_EPOCHS[..25])] {
-        let (text, fault, flushes) = outcome(alloc, Broken { left }, wide(alloc))?;
-        assert_eq!(rt; fault, Some(CheckFault::Flaw(Flaw::Read(at))));
-        assert_eq!(rt; (text.len(), flushes), (0, 0));
-    }
+fn failing_reads(rt: HostRuntime) {
+    let first = has_flaw(rt.alloc(), Broken { left: b"" }, Flaw::Read(0));
+    let left = &TWO_EPOCHS[..25];
+    let third = has_flaw(rt.alloc(), Broken { left }, Flaw::Read(2));
+    assert_eq!(rt; (first, third), (true, true));
+}
+
+/// Whether a check to a writer with this room fails after as many bytes, which the writer has taken.
+fn is_cut(alloc: Global, room: usize) -> bool {
+    let mut writer = Narrow::new(alloc, room, Then::FailsOnce);
+    let done = checked(alloc, TWO_EPOCHS, &mut writer);
+    let written = room as u64;
+    let is_taken = Some(writer.taken.as_slice()) == TWO_EPOCHS_TIGHT.get(..room);
+    done == Some(Err(CheckFault::Write { written })) && is_taken
+}
+
+/// The first room of a writer at which a check to it fails otherwise.
+fn wrong_write(alloc: Global) -> Option<usize> {
     for room in [0, 10, TWO_EPOCHS_TIGHT.len() - 1] {
-        let (text, fault, _) = outcome(
-            alloc,
-            TWO_EPOCHS,
-            Narrow::new(alloc, room, Then::FailsOnce),
-        )?;
-        let written = room as u64;
-        assert_eq!(rt; fault, Some(CheckFault::Write { written }));
-        assert_eq!(rt; text.as_slice(), &TWO_EPOCHS_TIGHT[..room]);
+        if !is_cut(alloc, room) {
+            return Some(room);
+        }
     }
-    Ok(())
+    None
+}
+
+#[test]
+fn failing_writes(rt: HostRuntime) {
+    assert_eq!(rt; wrong_write(rt.alloc()), None);
 }

@@ -39,10 +39,19 @@ const ENDS: [Then; 4] = [
     Then::FailsOnce,
 ];
 
+/// The first way to fail, and room, at which writing ends otherwise.
+fn wrong_end(alloc: Global) -> Option<(Then, usize)> {
+    for then in &ENDS {
+        if let Some(room) = wrong_write(alloc, *then) {
+            return Some((*then, room));
+        }
+    }
+    None
+}
+
 #[test]
 fn write_cut_anywhere(rt: HostRuntime) {
-    let wrong = ENDS.map(|then| wrong_write(rt.alloc(), then));
-    assert_eq!(rt; wrong, [None, None, None, None]);
+    assert_eq!(rt; wrong_end(rt.alloc()), None);
 }
 
 #[test]

@@ -287,16 +287,24 @@ fn ends_with(alloc: Global, done: &Result<(), Fault>, line: &[u8], status: u8) -
     end(done, &mut errors) == status && errors.taken.as_slice() == line
 }
 
-fn is_performed<R: Threads + Wait + Sync>(rt: &R, alloc: Global, row: &Row) -> Option<bool> {
-    let (asked, kind, width, given, text, status, line) = *row;
-    let job = job(asked, kind, width)?;
-    if !is_built(&job) {
-        return None;
-    }
+/// Whether a job is done as its row tells.
+fn is_done<R: Threads + Wait + Sync>(rt: &R, alloc: Global, job: Job, row: &Row) -> bool
+    requires { IsBuiltFor job }
+{
+    let (_, _, _, given, text, status, line) = *row;
     let input = input_of(&job);
     let mut writer = writer_of(alloc, given);
     let done = perform(rt, alloc, job, input, &mut writer, &source_of(given));
-    Some(writer.taken.as_slice() == text && ends_with(alloc, &done, line, status))
+    writer.taken.as_slice() == text && ends_with(alloc, &done, line, status)
+}
+
+fn is_performed<R: Threads + Wait + Sync>(rt: &R, alloc: Global, row: &Row) -> Option<bool> {
+    let job = job(row.0, row.1, row.2)?;
+    if is_built(&job) {
+        Some(is_done(rt, alloc, job, row))
+    } else {
+        None
+    }
 }
 
 /// The place of the first row that is done otherwise.
@@ -403,9 +411,9 @@ fn is_ended(text: &[u8]) -> Option<bool> {
 #[test]
 fn help_is_written_and_a_refusal_is_told(rt: HostRuntime) {
     let help = told(&rt, rt.alloc(), "renamer help show");
-    assert_eq!(rt; help, Some((Some(true), None, 0)));
     let refusal = told(&rt, rt.alloc(), "renamer show --network tree --width 3");
-    assert_eq!(rt; refusal, Some((None, Some(true), 2)));
+    let wanted = [Some((Some(true), None, 0)), Some((None, Some(true), 2))];
+    assert_eq!(rt; [help, refusal], wanted);
 }
 
 /// Whether a fault is printed with this line, and ends with this status, also where nothing can be printed.
@@ -554,6 +562,6 @@ fn wrong_fault(alloc: Global) -> Option<&'static [u8]> {
 
 #[test]
 fn each_fault_has_its_line_and_its_status(rt: HostRuntime) {
-    assert_eq!(rt; wrong_fault(rt.alloc()), None);
-    assert_eq!(rt; are_told(rt.alloc()), Some([true, true]));
+    let told = (wrong_fault(rt.alloc()), are_told(rt.alloc()));
+    assert_eq!(rt; told, (None, Some([true, true])));
 }

@@ -256,7 +256,7 @@ const ROWS: [Row; 10] = [
 ];
 
 /// The parts, one after another.
-fn joined(alloc: Global, parts: &[&[u8]]) -> Result<Vec<u8>, AllocError> {
+pub(crate) fn joined(alloc: Global, parts: &[&[u8]]) -> Result<Vec<u8>, AllocError> {
     let mut text = Vec::new(alloc);
     for part in parts {
         text.extend_from_slice(part)?;
@@ -298,57 +298,96 @@ fn comer(epoch: u32, place: u32) -> u64 {
     100 * epoch + (5 * place + epoch) % u64::from(COMERS)
 }
 
+/// All clients of an epoch enter, on two wires.
+fn push_comers(text: &mut String, epoch: u32) -> Option<()> {
+    for place in 0..COMERS {
+        writeln!(text, "enter,{},{}", comer(epoch, place), place % 2).ok()?;
+    }
+    Some(())
+}
+
+/// All of them step once.
+fn push_steps(text: &mut String, epoch: u32) -> Option<()> {
+    for place in 0..COMERS {
+        writeln!(text, "step,{},", comer(epoch, place)).ok()?;
+    }
+    Some(())
+}
+
+fn push_epochs(text: &mut String) -> Option<()> {
+    text.push_str("op,client,wire\n").ok()?;
+    for epoch in 0..3_u32 {
+        push_comers(text, epoch)?;
+        push_steps(text, epoch)?;
+        push_steps(text, epoch)?;
+        text.push_str("turn,,\n").ok()?;
+    }
+    Some(())
+}
+
 /// Three epochs on two wires: all enter, pass and leave, and a turn.
 fn three_epochs(alloc: Global) -> Option<Vec<u8>> {
     let mut text = String::new(alloc);
-    text.push_str("op,client,wire\n").ok()?;
-    for epoch in 0..3_u32 {
-        for place in 0..COMERS {
-            writeln!(text, "enter,{},{}", comer(epoch, place), place % 2).ok()?;
-        }
-        for _ in 0..2 {
-            for place in 0..COMERS {
-                writeln!(text, "step,{},", comer(epoch, place)).ok()?;
-            }
-        }
-        writeln!(text, "turn,,").ok()?;
-    }
+    push_epochs(&mut text)?;
     Some(text.into_bytes())
 }
 
-/// What answers them: the client at a place passes with its place for number, and its name is its place too.
-fn three_epochs_replayed(alloc: Global) -> Option<Vec<u8>> {
-    let mut text = String::new(alloc);
+/// What answers the enters of an epoch.
+fn push_enters(text: &mut String, epoch: u32) -> Option<()> {
+    for place in 0..COMERS {
+        writeln!(text, "enter {} wire {}", comer(epoch, place), place % 2).ok()?;
+    }
+    Some(())
+}
+
+/// What answers its first steps: the client at a place passes with its place for number.
+fn push_passes(text: &mut String, epoch: u32) -> Option<()> {
+    for place in 0..COMERS {
+        let (client, wire) = (comer(epoch, place), 2 + place % 2);
+        writeln!(text, "pass {client} balancer 0 number {place} wire {wire}").ok()?;
+    }
+    Some(())
+}
+
+/// What answers its last steps: the name of a client is its place too.
+fn push_leaves(text: &mut String, epoch: u32) -> Option<()> {
+    for place in 0..COMERS {
+        let (client, exit, visit) = (comer(epoch, place), place % 2, place / 2);
+        writeln!(
+            text,
+            "leave {client} exit {exit} visit {visit} name {place}"
+        )
+        .ok()?;
+    }
+    Some(())
+}
+
+/// What answers its turn.
+fn push_turn(text: &mut String, epoch: u32) -> Option<()> {
+    writeln!(text, "turn epoch {epoch} clients 12").ok()?;
+    text.push_str("exit 0 count 6\nexit 1 count 6\n").ok()?;
+    for place in 0..COMERS {
+        writeln!(text, "name {place} client {}", comer(epoch, place)).ok()?;
+    }
+    Some(())
+}
+
+fn push_answers(text: &mut String) -> Option<()> {
     text.push_str("network bitonic width 2 balancers 1 depth 1\n")
         .ok()?;
     for epoch in 0..3_u32 {
-        for place in 0..COMERS {
-            writeln!(text, "enter {} wire {}", comer(epoch, place), place % 2).ok()?;
-        }
-        for place in 0..COMERS {
-            let client = comer(epoch, place);
-            let wire = 2 + place % 2;
-            writeln!(text, "pass {client} balancer 0 number {place} wire {wire}").ok()?;
-        }
-        for place in 0..COMERS {
-            let client = comer(epoch, place);
-            let (exit, visit) = (place % 2, place / 2);
-            writeln!(
-                text,
-                "leave {client} exit {exit} visit {visit} name {place}"
-            )
-            .ok()?;
-        }
-        writeln!(
-            text,
-            "turn epoch {epoch} clients 12\nexit 0 count 6\nexit 1 count 6"
-        )
-        .ok()?;
-        for place in 0..COMERS {
-            writeln!(text, "name {place} client {}", comer(epoch, place)).ok()?;
-        }
+        push_enters(text, epoch)?;
+        push_passes(text, epoch)?;
+        push_leaves(text, epoch)?;
+        push_turn(text, epoch)?;
     }
-    text.push_str("end epoch 3 entered 0 inside 0\n").ok()?;
+    text.push_str("end epoch 3 entered 0 inside 0\n").ok()
+}
+
+/// What answers the three epochs.
+fn three_epochs_replayed(alloc: Global) -> Option<Vec<u8>> {
+    let mut text = String::new(alloc);
+    push_answers(&mut text)?;
     Some(text.into_bytes())
 }
 
@@ -402,8 +441,10 @@ fn refusal(
 ) -> Option<(ReplayFault, usize)> {
     let net = Net::new(Kind::Bitonic, 2).ok()?;
     let mut written = Vec::new(alloc);
-    let fault = replay(alloc, input, &mut written, &net, state).err()?;
-    Some((fault, written.len()))
+    match replay(alloc, input, &mut written, &net, state) {
+        Ok(()) => None,
+        Err(fault) => Some((fault, written.len())),
+    }
 }
 
 /// Schedules that are refused, each with its fault line.

@@ -1,6 +1,6 @@
 //! Words of runs and checks, and what a run is asked for.
 
-use crate::words::{is_asked, status};
+use crate::words::{is_asked, status, words};
 use cn_spec::limits::MOST_LEVEL;
 use cn_wiring::{Kind, width_of};
 use cn_words::{Form, Job, Net, OptionFault, Options, WordsFault, parse_words};
@@ -107,13 +107,21 @@ const REFUSALS: [(&str, &str); 4] = [
     ),
 ];
 
+/// Whether a line is refused with this text.
+fn is_line_refused(alloc: Global, line: &str, told: &str) -> bool {
+    let Ok(words) = words(alloc, line) else {
+        return false;
+    };
+    match parse_words(alloc, words) {
+        Err(WordsFault::Refused(text)) => text.as_str() == told,
+        _ => false,
+    }
+}
+
 /// Whether a run with these words is refused with this text.
 fn is_refused_with(alloc: Global, rest: &str, told: &str) -> Option<bool> {
     let line = format!(in alloc; "renamer run --network tree --width 2 {rest}").ok()?;
-    match parse_words(alloc, crate::words::words(alloc, &line).ok()?) {
-        Err(WordsFault::Refused(text)) => Some(text.as_str() == told),
-        _ => None,
-    }
+    Some(is_line_refused(alloc, &line, told))
 }
 
 /// The first words whose refusal has another text.

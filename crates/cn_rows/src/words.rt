@@ -120,13 +120,18 @@ fn refused_words(rt: HostRuntime) {
     assert_eq!(rt; unrefused(rt.alloc()), None);
 }
 
+/// Whether the words of a job on a network ask for it.
+fn is_job_asked(alloc: Global, words: &str, network: &str, width: u32, job: Job) -> Option<bool> {
+    let line = format!(in alloc; "renamer {words} --network {network} --width {width}").ok()?;
+    Some(is_asked(alloc, &line, job))
+}
+
 /// Whether the words of a replay and of a show of a network ask for these jobs.
 fn are_asked(alloc: Global, network: &str, kind: Kind, width: u32) -> Option<bool> {
     let net = Net::new(kind, width).ok()?;
-    let options = format!(in alloc; "--network {network} --width {width}").ok()?;
-    let replay = format!(in alloc; "renamer replay {options}").ok()?;
-    let show = format!(in alloc; "renamer show {options}").ok()?;
-    Some(is_asked(alloc, &replay, Job::Replay(net)) && is_asked(alloc, &show, Job::Show(net)))
+    let is_replay = is_job_asked(alloc, "replay", network, width, Job::Replay(net))?;
+    let is_show = is_job_asked(alloc, "show", network, width, Job::Show(net))?;
+    Some(is_replay && is_show)
 }
 
 /// The first width at which they do not.
@@ -214,32 +219,38 @@ fn help_words(rt: HostRuntime) {
     assert_eq!(rt; unhelped(rt.alloc()), None);
 }
 
-/// The limits that the help of a run tells.
-fn limits(alloc: Global) -> Option<[String; 3]> {
-    let most = width_of(MOST_LEVEL);
-    Some([
-        format!(in alloc; "a power of two from 2 to {most}\n").ok()?,
-        format!(in alloc; "1 to {MOST_WORKERS} [default: 1]\n").ok()?,
-        format!(in alloc; "1 to {MOST_HAND} [default: 1]\n").ok()?,
-    ])
+/// Whether the words of a line ask for help, and are shown a range of numbers from 1 with 1 for default.
+fn is_range_told(alloc: Global, line: &str, most: u32) -> Option<bool> {
+    let range = format!(in alloc; "1 to {most} [default: 1]\n").ok()?;
+    Some(is_helped(alloc, line, &range))
 }
 
-/// Whether the help of a run tells its limits, and that of showing a wiring the widths.
-fn are_limits_told(alloc: Global) -> Option<bool> {
-    let [widths, workers, hand] = limits(alloc)?;
-    let run = help(alloc, "renamer run --help")?;
-    let told = run.contains(widths.as_str()) && run.contains(workers.as_str());
-    let held = run.contains(hand.as_str()) && run.contains("[default: report]\n");
-    Some(told && held && is_helped(alloc, "renamer show --help", widths.as_str()))
+/// Whether the words of a line ask for help, and are shown the widths.
+fn are_widths_told(alloc: Global, line: &str) -> Option<bool> {
+    let most = width_of(MOST_LEVEL);
+    let widths = format!(in alloc; "a power of two from 2 to {most}\n").ok()?;
+    Some(is_helped(alloc, line, &widths))
+}
+
+/// Whether help tells the widths, and those of a run the limits.
+fn are_limits_told(alloc: Global) -> [Option<bool>; 4] {
+    [
+        are_widths_told(alloc, "renamer run --help"),
+        are_widths_told(alloc, "renamer show --help"),
+        is_range_told(alloc, "renamer run --help", MOST_WORKERS),
+        is_range_told(alloc, "renamer run --help", MOST_HAND),
+    ]
 }
 
 #[test]
 fn help_tells_the_limits(rt: HostRuntime) {
-    assert_eq!(rt; are_limits_told(rt.alloc()), Some(true));
+    let told = are_limits_told(rt.alloc());
+    assert_eq!(rt; told, [Some(true), Some(true), Some(true), Some(true)]);
 }
 
 /// What the help of each subcommand shows.
-const SHOWN: [(&str, &str); 8] = [
+const SHOWN: [(&str, &str); 9] = [
+    ("renamer run --help", "[default: report]\n"),
     ("renamer run --help", "    epoch,client,entry\n    1,17,3\n"),
     (
         "renamer run --help",

@@ -5,6 +5,7 @@ use crate::two_wide::has_holders;
 use cn_core::{Core, Event};
 use cn_epoch::{Answer, Command, EpochRecord, Epochs};
 use cn_tree::tree;
+use cn_wiring::Counting;
 use std::alloc::{AllocError, Global};
 use std::hash::RandomState;
 use std::test::Fail;
@@ -37,17 +38,35 @@ fn events(alloc: Global, clients: &[u64]) -> Result<Vec<Event>, AllocError> {
 /// clients.
 type Outcome = (usize, u64, Option<u64>, bool);
 
+fn outcome_by(core: &mut Core<'_>, events: &[Event], clients: &[u64]) -> Option<Outcome> {
+    let replies = core.run(events).ok()?.len();
+    let are_holders = has_holders(core, clients);
+    Some((replies, core.entered(), core.name(u64::MAX), are_holders))
+}
+
+fn outcome_on(
+    alloc: Global,
+    network: &Counting,
+    state: RandomState,
+    events: &[Event],
+    clients: &[u64],
+) -> Option<Outcome> {
+    match Core::new(alloc, network, state) {
+        Ok(mut core) => outcome_by(&mut core, events, clients),
+        Err(_) => None,
+    }
+}
+
 fn outcome_of(
     alloc: Global,
     state: RandomState,
     events: &[Event],
     clients: &[u64],
 ) -> Option<Outcome> {
-    let network = tree(alloc, 4).ok()?;
-    let mut core = Core::new(alloc, &network, state).ok()?;
-    let replies = core.run(events).ok()?.len();
-    let are_holders = has_holders(&core, clients);
-    Some((replies, core.entered(), core.name(u64::MAX), are_holders))
+    match tree(alloc, 4) {
+        Ok(network) => outcome_on(alloc, &network, state, events, clients),
+        Err(_) => None,
+    }
 }
 
 fn outcome_of_many(alloc: Global, state: RandomState) -> Option<Outcome> {
@@ -79,46 +98,65 @@ fn commands(alloc: Global, events: &[Event]) -> Result<Vec<Command>, AllocError>
     Ok(commands)
 }
 
+/// Whether there are answers, and the last is that of a turn after all clients.
+fn are_ended(answers: Option<Vec<Answer>>, clients: &[u64]) -> bool {
+    match answers {
+        Some(answers) => is_ended(answers.last(), clients),
+        None => false,
+    }
+}
+
+fn is_ended(answer: Option<&Answer>, clients: &[u64]) -> bool {
+    match answer {
+        Some(Answer::Turned(record)) => is_of_all(record, clients),
+        _ => false,
+    }
+}
+
+fn is_of_all(record: &EpochRecord, clients: &[u64]) -> bool {
+    record.number == 0
+        && record.clients == MANY
+        && record.counts.as_slice() == [750; 4].as_slice()
+        && record.holders.as_slice() == clients
+}
+
+fn answers_on(
+    alloc: Global,
+    network: &Counting,
+    state: RandomState,
+    commands: &[Command],
+    calls: Calls,
+) -> Option<Vec<Answer>> {
+    match Epochs::new(alloc, network, state) {
+        Ok(mut epochs) => answers_to(&mut epochs, alloc, commands, calls),
+        Err(_) => None,
+    }
+}
+
 fn answers_of(
     alloc: Global,
     state: RandomState,
     commands: &[Command],
     calls: Calls,
 ) -> Option<Vec<Answer>> {
-    let network = tree(alloc, 4).ok()?;
-    let mut epochs = Epochs::new(alloc, &network, state).ok()?;
-    answers_to(&mut epochs, alloc, commands, calls)
-}
-
-/// Whether there are answers, and this is the last of them.
-fn end_with(answers: Option<Vec<Answer>>, wanted: &Answer) -> bool {
-    match answers {
-        Some(answers) => answers.last() == Some(wanted),
-        None => false,
+    match tree(alloc, 4) {
+        Ok(network) => answers_on(alloc, &network, state, commands, calls),
+        Err(_) => None,
     }
 }
 
-/// The answer to a turn after all clients.
-fn ended(alloc: Global) -> Result<Answer, AllocError> {
-    Ok(Answer::Turned(EpochRecord {
-        number: 0,
-        clients: MANY,
-        counts: vec![in alloc; 750; 4]?,
-        holders: clients(alloc)?,
-    }))
+fn all_commands(alloc: Global, clients: &[u64]) -> Option<Vec<Command>> {
+    let events = events(alloc, clients).ok()?;
+    commands(alloc, &events).ok()
 }
 
-fn all_commands(alloc: Global) -> Result<Vec<Command>, AllocError> {
-    commands(alloc, &events(alloc, &clients(alloc)?)?)
-}
-
-/// Whether single calls and a run end with the wanted answer.
+/// Whether single calls and a run end with the record of all clients.
 fn both_end(alloc: Global, state: RandomState) -> Option<[bool; 2]> {
-    let commands = all_commands(alloc).ok()?;
-    let wanted = ended(alloc).ok()?;
+    let clients = clients(alloc).ok()?;
+    let commands = all_commands(alloc, &clients)?;
     let single = answers_of(alloc, state, &commands, Calls::Single);
     let run = answers_of(alloc, state, &commands, Calls::Run);
-    Some([end_with(single, &wanted), end_with(run, &wanted)])
+    Some([are_ended(single, &clients), are_ended(run, &clients)])
 }
 
 #[test]

@@ -1,264 +1,295 @@
 //! The core and epochs on the counting tree of width 4, where a client overtakes two others; and a core that is full.
 
 use crate::calls::{Calls, answers_to, replies_to};
-use crate::two_wide::holders_of;
+use crate::two_wide::has_holders;
 use cn_core::{Core, EnterFault, Event, Moved, Reply};
 use cn_epoch::{Answer, Command, EpochRecord, Epochs};
 use cn_tree::tree;
-use std::alloc::{AllocError, Global};
+use cn_wiring::Counting;
+use std::alloc::Global;
 use std::hash::RandomState;
 use std::test::Fail;
 
-/// What each of three clients that enter a tree of width 4 together meets, in the order of their steps.
-const OVERTAKING: [(u64, Moved); 9] = [
-    (
-        10,
-        Moved::On {
-            balancer: 0,
-            number: 0,
-            wire: 1,
-        },
-    ),
-    (
-        20,
-        Moved::On {
-            balancer: 0,
-            number: 1,
-            wire: 2,
-        },
-    ),
-    (
-        30,
-        Moved::On {
-            balancer: 0,
-            number: 2,
-            wire: 1,
-        },
-    ),
-    (
-        30,
-        Moved::On {
-            balancer: 1,
-            number: 0,
-            wire: 3,
-        },
-    ),
-    (
-        30,
-        Moved::Out {
-            exit: 0,
-            visit: 0,
-            name: 0,
-        },
-    ),
-    (
-        10,
-        Moved::On {
-            balancer: 1,
-            number: 1,
-            wire: 4,
-        },
-    ),
-    (
-        10,
-        Moved::Out {
-            exit: 2,
-            visit: 0,
-            name: 2,
-        },
-    ),
-    (
-        20,
-        Moved::On {
-            balancer: 2,
-            number: 0,
-            wire: 5,
-        },
-    ),
-    (
-        20,
-        Moved::Out {
-            exit: 1,
-            visit: 0,
-            name: 1,
-        },
-    ),
+/// The clients enter one after another, and walk.
+const EVENTS: [Event; 12] = [
+    Event::Enter {
+        client: 10,
+        entry: 0,
+    },
+    Event::Enter {
+        client: 20,
+        entry: 0,
+    },
+    Event::Enter {
+        client: 30,
+        entry: 0,
+    },
+    Event::Step { client: 10 },
+    Event::Step { client: 20 },
+    Event::Step { client: 30 },
+    Event::Step { client: 30 },
+    Event::Step { client: 30 },
+    Event::Step { client: 10 },
+    Event::Step { client: 10 },
+    Event::Step { client: 20 },
+    Event::Step { client: 20 },
 ];
 
-/// What a core replied, and how it stands after it.
-#[derive(Drop, PartialEq, Eq)]
-struct Outcome {
-    replies: Vec<Reply>,
-    entered: u64,
-    inside: u64,
-    /// The names of the clients 10, 20, 30 and 40.
-    names: [Option<u64>; 4],
-    holders: Vec<u64>,
+/// The reply to each.
+const REPLIES: [Reply; 12] = [
+    Reply::Entered,
+    Reply::Entered,
+    Reply::Entered,
+    Reply::Stepped(Moved::On {
+        balancer: 0,
+        number: 0,
+        wire: 1,
+    }),
+    Reply::Stepped(Moved::On {
+        balancer: 0,
+        number: 1,
+        wire: 2,
+    }),
+    Reply::Stepped(Moved::On {
+        balancer: 0,
+        number: 2,
+        wire: 1,
+    }),
+    Reply::Stepped(Moved::On {
+        balancer: 1,
+        number: 0,
+        wire: 3,
+    }),
+    Reply::Stepped(Moved::Out {
+        exit: 0,
+        visit: 0,
+        name: 0,
+    }),
+    Reply::Stepped(Moved::On {
+        balancer: 1,
+        number: 1,
+        wire: 4,
+    }),
+    Reply::Stepped(Moved::Out {
+        exit: 2,
+        visit: 0,
+        name: 2,
+    }),
+    Reply::Stepped(Moved::On {
+        balancer: 2,
+        number: 0,
+        wire: 5,
+    }),
+    Reply::Stepped(Moved::Out {
+        exit: 1,
+        visit: 0,
+        name: 1,
+    }),
+];
+
+/// How many entered and are inside, and the names of the clients 10, 20, 30 and 40.
+type Told = ([u64; 2], [Option<u64>; 4]);
+
+fn told_by(core: &Core<'_>) -> Told {
+    let names = [core.name(10), core.name(20), core.name(30), core.name(40)];
+    ([core.entered(), core.inside()], names)
 }
 
-/// The clients enter one after another, and walk.
-fn events(alloc: Global) -> Result<Vec<Event>, AllocError> {
-    let mut events = Vec::new(alloc);
-    for client in [10, 20, 30] {
-        events.push(Event::Enter { client, entry: 0 })?;
-    }
-    for (client, _) in OVERTAKING {
-        events.push(Event::Step { client })?;
-    }
-    Ok(events)
+/// Whether a new core replies so, what it tells then, and whether the holders are 30, 20 and 10.
+type Outcome = (bool, Told, bool);
+
+fn outcome_of(core: &mut Core<'_>, alloc: Global, calls: Calls) -> Option<Outcome> {
+    let replies = replies_to(core, alloc, &EVENTS, calls).ok()?;
+    let are_replies = replies.as_slice() == REPLIES.as_slice();
+    Some((are_replies, told_by(core), has_holders(core, &[30, 20, 10])))
 }
 
-fn tree_overtaking(alloc: Global) -> Result<Outcome, AllocError> {
-    let mut replies = Vec::new(alloc);
-    for _ in 0..3 {
-        replies.push(Reply::Entered)?;
-    }
-    for (_, moved) in OVERTAKING {
-        replies.push(Reply::Stepped(moved))?;
-    }
-    Ok(Outcome {
-        replies,
-        entered: 3,
-        inside: 0,
-        names: [Some(2), Some(1), Some(0), None],
-        holders: vec![in alloc; 30, 20, 10]?,
-    })
-}
-
-fn names_of(core: &Core<'_>) -> [Option<u64>; 4] {
-    [10, 20, 30, 40].map(|client| core.name(client))
-}
-
-fn outcome_of(
+fn outcome_on(
     alloc: Global,
+    network: &Counting,
     state: RandomState,
-    events: &[Event],
     calls: Calls,
 ) -> Option<Outcome> {
-    let network = tree(alloc, 4).ok()?;
-    let mut core = Core::new(alloc, &network, state).ok()?;
-    let replies = replies_to(&mut core, alloc, events, calls).ok()?;
-    let holders = holders_of(&core)?;
-    let names = names_of(&core);
-    Some(Outcome {
-        replies,
-        entered: core.entered(),
-        inside: core.inside(),
-        names,
-        holders,
-    })
+    match Core::new(alloc, network, state) {
+        Ok(mut core) => outcome_of(&mut core, alloc, calls),
+        Err(_) => None,
+    }
 }
 
-/// Whether a core overtakes so.
-fn overtakes(alloc: Global, state: RandomState, calls: Calls) -> Option<bool> {
-    let events = events(alloc).ok()?;
-    let outcome = outcome_of(alloc, state, &events, calls)?;
-    Some(outcome == tree_overtaking(alloc).ok()?)
+fn outcome(alloc: Global, state: RandomState, calls: Calls) -> Option<Outcome> {
+    match tree(alloc, 4) {
+        Ok(network) => outcome_on(alloc, &network, state, calls),
+        Err(_) => None,
+    }
 }
 
 #[test]
 fn tree_overtaking_of_a_core(rt: HostRuntime) -> Result<(), Fail> {
     let (alloc, state) = (rt.alloc(), RandomState::new(&rt)?);
-    let told = [Calls::Single, Calls::Run].map(|calls| overtakes(alloc, state, calls));
-    assert_eq!(rt; told, [Some(true), Some(true)]);
+    let single = outcome(alloc, state, Calls::Single);
+    let run = outcome(alloc, state, Calls::Run);
+    let wanted = Some((true, ([3, 0], [Some(2), Some(1), Some(0), None]), true));
+    assert_eq!(rt; [single, run], [wanted, wanted]);
     Ok(())
 }
 
 /// The clients enter and walk as above, and the epoch is turned; and all of this once more.
-fn commands(alloc: Global) -> Result<Vec<Command>, AllocError> {
-    let mut commands = Vec::new(alloc);
-    for _ in 0..2 {
-        for client in [10, 20, 30] {
-            commands.push(Command::Enter { client, entry: 0 })?;
-        }
-        for (client, _) in OVERTAKING {
-            commands.push(Command::Step { client })?;
-        }
-        commands.push(Command::Turn)?;
+const COMMANDS: [Command; 26] = [
+    Command::Enter {
+        client: 10,
+        entry: 0,
+    },
+    Command::Enter {
+        client: 20,
+        entry: 0,
+    },
+    Command::Enter {
+        client: 30,
+        entry: 0,
+    },
+    Command::Step { client: 10 },
+    Command::Step { client: 20 },
+    Command::Step { client: 30 },
+    Command::Step { client: 30 },
+    Command::Step { client: 30 },
+    Command::Step { client: 10 },
+    Command::Step { client: 10 },
+    Command::Step { client: 20 },
+    Command::Step { client: 20 },
+    Command::Turn,
+    Command::Enter {
+        client: 10,
+        entry: 0,
+    },
+    Command::Enter {
+        client: 20,
+        entry: 0,
+    },
+    Command::Enter {
+        client: 30,
+        entry: 0,
+    },
+    Command::Step { client: 10 },
+    Command::Step { client: 20 },
+    Command::Step { client: 30 },
+    Command::Step { client: 30 },
+    Command::Step { client: 30 },
+    Command::Step { client: 10 },
+    Command::Step { client: 10 },
+    Command::Step { client: 20 },
+    Command::Step { client: 20 },
+    Command::Turn,
+];
+
+/// Whether this is the record of the epoch with this number.
+fn is_ended(record: &EpochRecord, number: u64) -> bool {
+    record.number == number
+        && record.clients == 3
+        && record.counts.as_slice() == [1, 1, 1, 0].as_slice()
+        && record.holders.as_slice() == [30, 20, 10].as_slice()
+}
+
+/// Whether this is the answer at a place of the epoch with this number.
+fn is_answer(answer: &Answer, number: u64, place: usize) -> bool {
+    match (answer, REPLIES.get(place)) {
+        (Answer::Replied(told), Some(reply)) => *told == *reply,
+        (Answer::Turned(record), None) => is_ended(record, number),
+        _ => false,
     }
-    Ok(commands)
 }
 
-/// The record of the epoch with this number.
-fn ended(alloc: Global, number: u64) -> Result<EpochRecord, AllocError> {
-    Ok(EpochRecord {
-        number,
-        clients: 3,
-        counts: vec![in alloc; 1, 1, 1, 0]?,
-        holders: vec![in alloc; 30, 20, 10]?,
-    })
-}
-
-fn wanted_answers(alloc: Global) -> Result<Vec<Answer>, AllocError> {
-    let mut answers = Vec::new(alloc);
-    for number in 0..2 {
-        for _ in 0..3 {
-            answers.push(Answer::Replied(Reply::Entered))?;
+/// The place of the first answer that is another.
+fn wrong_answer(answers: &[Answer]) -> Option<usize> {
+    for (place, answer) in answers.iter().enumerate() {
+        if !is_answer(answer, place as u64 / 13, place % 13) {
+            return Some(place);
         }
-        for (_, moved) in OVERTAKING {
-            answers.push(Answer::Replied(Reply::Stepped(moved)))?;
-        }
-        answers.push(Answer::Turned(ended(alloc, number)?))?;
     }
-    Ok(answers)
+    None
 }
 
-/// The answers, and how many epochs ended, and how many clients entered and are inside.
-type Answered = (Vec<Answer>, [u64; 3]);
+/// How many answers there are, the place of the first that is another, and how many epochs ended, and how many clients
+/// entered and are inside.
+type Answered = (usize, Option<usize>, [u64; 3]);
 
 fn stand_of(epochs: &Epochs<'_>) -> [u64; 3] {
     [epochs.number(), epochs.entered(), epochs.inside()]
 }
 
-fn answered(
-    alloc: Global,
-    state: RandomState,
-    commands: &[Command],
-    calls: Calls,
-) -> Option<Answered> {
-    let network = tree(alloc, 4).ok()?;
-    let mut epochs = Epochs::new(alloc, &network, state).ok()?;
-    let answers = answers_to(&mut epochs, alloc, commands, calls)?;
-    Some((answers, stand_of(&epochs)))
+fn answered_by(epochs: &mut Epochs<'_>, alloc: Global, calls: Calls) -> Option<Answered> {
+    let answers = answers_to(epochs, alloc, &COMMANDS, calls)?;
+    Some((answers.len(), wrong_answer(&answers), stand_of(epochs)))
 }
 
-/// Whether epochs answer so, and how they stand after it.
-fn turned(alloc: Global, state: RandomState, calls: Calls) -> Option<(bool, [u64; 3])> {
-    let commands = commands(alloc).ok()?;
-    let (answers, stand) = answered(alloc, state, &commands, calls)?;
-    Some((answers == wanted_answers(alloc).ok()?, stand))
+fn answered_on(
+    alloc: Global,
+    network: &Counting,
+    state: RandomState,
+    calls: Calls,
+) -> Option<Answered> {
+    match Epochs::new(alloc, network, state) {
+        Ok(mut epochs) => answered_by(&mut epochs, alloc, calls),
+        Err(_) => None,
+    }
+}
+
+fn answered(alloc: Global, state: RandomState, calls: Calls) -> Option<Answered> {
+    match tree(alloc, 4) {
+        Ok(network) => answered_on(alloc, &network, state, calls),
+        Err(_) => None,
+    }
 }
 
 #[test]
 fn tree_overtaking_then_turn(rt: HostRuntime) -> Result<(), Fail> {
     let (alloc, state) = (rt.alloc(), RandomState::new(&rt)?);
-    let told = [Calls::Single, Calls::Run].map(|calls| turned(alloc, state, calls));
-    let wanted = Some((true, [2, 0, 0]));
-    assert_eq!(rt; told, [wanted, wanted]);
+    let single = answered(alloc, state, Calls::Single);
+    let run = answered(alloc, state, Calls::Run);
+    let wanted = Some((26, None, [2, 0, 0]));
+    assert_eq!(rt; [single, run], [wanted, wanted]);
     Ok(())
 }
 
-/// As many clients enter as can.
-fn fill(core: &mut Core<'_>) -> Option<()> {
+/// Why a client is not let in, if it is not.
+fn refusal(core: &mut Core<'_>, client: u64, entry: u64) -> Option<EnterFault> {
+    core.enter(client, entry).err()
+}
+
+/// Whether as many clients enter as can.
+fn is_filled(core: &mut Core<'_>) -> bool {
     for client in 0..65_536 {
-        core.enter(client, 0).ok()?;
+        if refusal(core, client, 0).is_some() {
+            return false;
+        }
     }
-    Some(())
+    true
 }
 
-/// What is told to another client at an entry and at none, and to one that has entered.
-fn refusals_of(core: &mut Core<'_>) -> [Option<EnterFault>; 3] {
-    let full = core.enter(65_536, 0).err();
-    let nowhere = core.enter(65_536, 1).err();
-    let again = core.enter(0, 0).err();
-    [full, nowhere, again]
+/// Whether a core is full, and what is told to another client at an entry and at none, and to one that has entered.
+type Full = (bool, [Option<EnterFault>; 3]);
+
+fn full(core: &mut Core<'_>) -> Full {
+    let is_filled = is_filled(core);
+    let refused = [
+        refusal(core, 65_536, 0),
+        refusal(core, 65_536, 1),
+        refusal(core, 0, 0),
+    ];
+    (is_filled, refused)
 }
 
-fn refused_by_the_full(alloc: Global, state: RandomState) -> Option<[Option<EnterFault>; 3]> {
-    let network = tree(alloc, 64).ok()?;
-    let mut core = Core::new(alloc, &network, state).ok()?;
-    fill(&mut core)?;
-    Some(refusals_of(&mut core))
+fn full_on(alloc: Global, network: &Counting, state: RandomState) -> Option<Full> {
+    match Core::new(alloc, network, state) {
+        Ok(mut core) => Some(full(&mut core)),
+        Err(_) => None,
+    }
+}
+
+fn full_tree(alloc: Global, state: RandomState) -> Option<Full> {
+    match tree(alloc, 64) {
+        Ok(network) => full_on(alloc, &network, state),
+        Err(_) => None,
+    }
 }
 
 const FAULTS: [Option<EnterFault>; 3] = [
@@ -269,7 +300,7 @@ const FAULTS: [Option<EnterFault>; 3] = [
 
 #[test]
 fn core_at_its_limit(rt: HostRuntime) -> Result<(), Fail> {
-    let refused = refused_by_the_full(rt.alloc(), RandomState::new(&rt)?);
-    assert_eq!(rt; refused, Some(FAULTS));
+    let told = full_tree(rt.alloc(), RandomState::new(&rt)?);
+    assert_eq!(rt; told, Some((true, FAULTS)));
     Ok(())
 }

@@ -43,17 +43,46 @@ fn told_by(core: &Core<'_>, network: &Counting) -> Told
     )
 }
 
-/// The replies of a new core to events, and what it tells then.
+/// The replies of a core to events, and what it tells then.
+type Outcome = (Vec<Reply>, Told);
+
+fn outcome_by(
+    core: &mut Core<'_>,
+    network: &Counting,
+    alloc: Global,
+    events: &[Event],
+    calls: Calls,
+) -> Option<Outcome>
+    requires { core.old.network ≡ network.now }
+{
+    let replies = replies_to(core, alloc, events, calls).ok()?;
+    Some((replies, told_by(core, network)))
+}
+
+fn outcome_on(
+    alloc: Global,
+    network: &Counting,
+    state: RandomState,
+    events: &[Event],
+    calls: Calls,
+) -> Option<Outcome> {
+    match Core::new(alloc, network, state) {
+        Ok(mut core) => outcome_by(&mut core, network, alloc, events, calls),
+        Err(_) => None,
+    }
+}
+
+/// Those of a new core.
 fn outcome_of(
     alloc: Global,
     state: RandomState,
     events: &[Event],
     calls: Calls,
-) -> Option<(Vec<Reply>, Told)> {
-    let network = bitonic(alloc, 2).ok()?;
-    let mut core = Core::new(alloc, &network, state).ok()?;
-    let replies = replies_to(&mut core, alloc, events, calls).ok()?;
-    Some((replies, told_by(&core, &network)))
+) -> Option<Outcome> {
+    match bitonic(alloc, 2) {
+        Ok(network) => outcome_on(alloc, &network, state, events, calls),
+        Err(_) => None,
+    }
 }
 
 const TWO_CLIENTS: [Event; 6] = [
@@ -221,38 +250,21 @@ fn are(replies: Result<Vec<Reply>, AllocError>, wanted: &[Reply]) -> bool {
 fn clear(core: &mut Core<'_>) -> Option<()>
     ensures { core.new.network ≡ core.old.network }
 {
-    if !core.is_quiet() {
+    if core.inside() > 0 {
         return None;
     }
     core.clear();
     Some(())
 }
 
-/// What a core tells once it is cleared, and whether it replies to the same events as before.
-fn anew(alloc: Global, state: RandomState) -> Option<(Told, bool)> {
-    let network = bitonic(alloc, 2).ok()?;
-    let mut core = Core::new(alloc, &network, state).ok()?;
-    core.run(&TWO_CLIENTS).ok()?;
-    clear(&mut core)?;
-    let told = told_by(&core, &network);
-    Some((told, are(core.run(&TWO_CLIENTS), &TWO_CLIENTS_REPLIES)))
-}
-
-const CLEARED: Told = ((0, 0, true), Some((0, 0, 0)), (None, None));
-
-#[test]
-fn a_cleared_core_answers_anew(rt: HostRuntime) -> Result<(), Fail> {
-    let told = anew(rt.alloc(), RandomState::new(&rt)?);
-    assert_eq!(rt; told, Some((CLEARED, true)));
-    Ok(())
-}
-
 /// The holders, where nobody is inside.
-pub(crate) fn holders_of(core: &Core<'_>) -> Option<Vec<u64>> {
-    if core.is_quiet() {
-        core.holders().ok()
-    } else {
-        None
+fn holders_of(core: &Core<'_>) -> Option<Vec<u64>> {
+    if core.inside() > 0 {
+        return None;
+    }
+    match core.holders() {
+        Ok(holders) => Some(holders),
+        Err(_) => None,
     }
 }
 
@@ -264,17 +276,45 @@ pub(crate) fn has_holders(core: &Core<'_>, wanted: &[u64]) -> bool {
     }
 }
 
-/// Whether these are the holders after two clients.
-fn are_holders(alloc: Global, state: RandomState, wanted: &[u64]) -> Option<bool> {
-    let network = bitonic(alloc, 2).ok()?;
-    let mut core = Core::new(alloc, &network, state).ok()?;
-    core.run(&TWO_CLIENTS).ok()?;
-    Some(has_holders(&core, wanted))
+/// Whether the two clients hold names, what a core tells once it is cleared, and whether it replies to the same events as
+/// before.
+type Anew = (bool, Told, bool);
+
+fn anew_by(core: &mut Core<'_>, network: &Counting) -> Option<Anew>
+    requires { core.old.network ≡ network.now }
+{
+    if core.run(&TWO_CLIENTS).is_err() {
+        return None;
+    }
+    let are_holders = has_holders(core, &[9, 7]);
+    clear(core)?;
+    let told = told_by(core, network);
+    Some((
+        are_holders,
+        told,
+        are(core.run(&TWO_CLIENTS), &TWO_CLIENTS_REPLIES),
+    ))
 }
 
+fn anew_on(alloc: Global, network: &Counting, state: RandomState) -> Option<Anew> {
+    match Core::new(alloc, network, state) {
+        Ok(mut core) => anew_by(&mut core, network),
+        Err(_) => None,
+    }
+}
+
+fn anew(alloc: Global, state: RandomState) -> Option<Anew> {
+    match bitonic(alloc, 2) {
+        Ok(network) => anew_on(alloc, &network, state),
+        Err(_) => None,
+    }
+}
+
+const CLEARED: Told = ((0, 0, true), Some((0, 0, 0)), (None, None));
+
 #[test]
-fn the_holders_of_two_clients(rt: HostRuntime) -> Result<(), Fail> {
-    let are_told = are_holders(rt.alloc(), RandomState::new(&rt)?, &[9, 7]);
-    assert_eq!(rt; are_told, Some(true));
+fn a_core_has_its_holders_and_once_cleared_answers_anew(rt: HostRuntime) -> Result<(), Fail> {
+    let told = anew(rt.alloc(), RandomState::new(&rt)?);
+    assert_eq!(rt; told, Some((true, CLEARED, true)));
     Ok(())
 }

@@ -61,32 +61,41 @@ fn network_of(alloc: Global, built: Built, width: u32) -> Result<Counting, Build
     }
 }
 
+fn is_let_in(core: &mut Core<'_>, client: u64, entry: u64) -> bool {
+    core.enter(client, entry).is_ok()
+}
+
 /// The clients enter, on entries that change.
 fn enter_all(core: &mut Core<'_>, clients: u32, entries: u64) -> Option<()>
     requires { 0 < entries }
 {
     for client in 0..u64::from(clients) {
         let entry = client.wrapping_mul(7) / 3 % entries;
-        core.enter(client, entry).ok()?;
+        if !is_let_in(core, client, entry) {
+            return None;
+        }
     }
     Some(())
 }
 
-/// The counts of the exits after a batch, and whether nobody is inside.
-fn batch(
-    alloc: Global,
-    state: RandomState,
-    network: &Counting,
-    clients: u32,
-) -> Option<(Vec<u64>, bool)> {
-    let entries = u64::from(network.entries());
-    let mut core = Core::new(alloc, network, state).ok()?;
-    enter_all(&mut core, clients, entries)?;
-    let counts = walked(alloc, &mut core, clients, network.width() as usize).ok()?;
-    Some((counts, core.is_quiet()))
+/// Whether each exit lets out its share of a batch, and nobody stays inside.
+fn leaves_by_shares(core: &mut Core<'_>, alloc: Global, clients: u32, width: u32) -> Option<bool> {
+    let counts = walked(alloc, core, clients, width as usize).ok()?;
+    let wanted = shares(alloc, u64::from(clients), u64::from(width)).ok()?;
+    Some(core.inside() == 0 && counts.as_slice() == wanted.as_slice())
 }
 
-/// Whether each exit lets out its share of a batch, and nobody stays inside.
+fn agrees_on(alloc: Global, state: RandomState, network: &Counting, clients: u32) -> Option<bool> {
+    let entries = u64::from(network.entries());
+    let width = network.width();
+    let Ok(mut core) = Core::new(alloc, network, state) else {
+        return None;
+    };
+    enter_all(&mut core, clients, entries)?;
+    leaves_by_shares(&mut core, alloc, clients, width)
+}
+
+/// The same, on a network that is built.
 fn agrees(
     alloc: Global,
     state: RandomState,
@@ -94,10 +103,10 @@ fn agrees(
     width: u32,
     clients: u32,
 ) -> Option<bool> {
-    let network = network_of(alloc, built, width).ok()?;
-    let (counts, is_quiet) = batch(alloc, state, &network, clients)?;
-    let wanted = shares(alloc, u64::from(clients), u64::from(width)).ok()?;
-    Some(is_quiet && counts.as_slice() == wanted.as_slice())
+    match network_of(alloc, built, width) {
+        Ok(network) => agrees_on(alloc, state, &network, clients),
+        Err(_) => None,
+    }
 }
 
 /// The first number of clients of which the exits of a network do not let out their shares.

@@ -2,10 +2,11 @@
 
 ghost use Rattle.std.specs.Prelude.{◌≡◌};
 
-use crate::walks::step;
+use crate::one_lane::step;
+use crate::walks::{close, enter, open};
 use cn_spec::limits::MOST_ROOM;
 use cn_tree::tree;
-use cn_walk::{Floor, Lane};
+use cn_walk::{Floor, Lane, Quiet};
 use std::alloc::Global;
 use std::test::Fail;
 
@@ -17,7 +18,7 @@ fn walk_out(floor: &Floor<'_>, lane: &mut Lane, client: u64) -> bool
     requires { lane.old.home ≡ floor.now }
     ensures { lane.new.home ≡ lane.old.home }
 {
-    let Ok(token) = floor.enter(lane, client, 0) else {
+    let Ok(token) = enter(floor, lane, client, 0) else {
         return false;
     };
     for _ in 0..7 {
@@ -39,34 +40,57 @@ fn walk_all_out(floor: &Floor<'_>, lane: &mut Lane, clients: u64) -> bool
     true
 }
 
+/// Takes room for a lane.
+fn reserve(lane: &mut Lane, room: u64) -> bool
+    ensures { lane.new.home ≡ lane.old.home }
+{
+    room <= MOST_ROOM && lane.reserve(room).is_ok()
+}
+
 /// Takes room after room for a lane.
 fn reserve_all(lane: &mut Lane, rooms: &[u64]) -> bool
     ensures { lane.new.home ≡ lane.old.home }
 {
     for room in rooms {
-        if *room > MOST_ROOM || lane.reserve(*room).is_err() {
+        if !reserve(lane, *room) {
             return false;
         }
     }
     true
 }
 
+/// Whether client n has name n, for all clients of a full floor.
+fn are_in_order(quiet: &Quiet<'_>) -> bool {
+    match quiet.holders() {
+        Ok(holders) => holders.iter().copied().eq(0..CLIENTS),
+        Err(_) => false,
+    }
+}
+
 /// The room of a lane before and after it is taken and after the walk, and whether client n has name n, for all clients of
 /// a full floor over the tree of width 64.
-fn full_floor(alloc: Global, rooms: &[u64]) -> Option<([u64; 2], u64, bool)> {
-    let network = tree(alloc, 64).ok()?;
-    let (floor, mut lane) = Floor::open(alloc, &network, CLIENTS).ok()?;
+type Outcome = ([u64; 3], bool);
+
+fn walked(floor: Floor<'_>, mut lane: Lane, rooms: &[u64]) -> Option<Outcome>
+    requires { lane.home ≡ floor }
+{
     let none = lane.room();
-    let reserved = reserve_all(&mut lane, rooms);
+    if !reserve_all(&mut lane, rooms) {
+        return None;
+    }
     let some = lane.room();
-    if !reserved || !walk_all_out(&floor, &mut lane, CLIENTS) {
+    if !walk_all_out(&floor, &mut lane, CLIENTS) {
         return None;
     }
     let left = lane.room();
-    let quiet = floor.close(lane).ok()?;
-    let holders = quiet.holders().ok()?;
-    let in_order = (0..CLIENTS).all(|name| holders.get(name as usize) == Some(&name));
-    Some(([none, some], left, in_order))
+    let quiet = close(floor, lane)?;
+    Some(([none, some, left], are_in_order(&quiet)))
+}
+
+fn full_floor(alloc: Global, rooms: &[u64]) -> Option<Outcome> {
+    let network = tree(alloc, 64).ok()?;
+    let (floor, lane) = open(alloc, &network, CLIENTS)?;
+    walked(floor, lane, rooms)
 }
 
 #[test]
@@ -75,9 +99,9 @@ fn always_memory(rt: HostRuntime) -> Result<(), Fail> {
     let with = full_floor(rt.alloc(), &[1, 65_536, 300]);
     let most = full_floor(rt.alloc(), &[MOST_ROOM]);
     let wanted = [
-        Some(([0, 0], 0, true)),
-        Some(([0, 65_536], 0, true)),
-        Some(([0, MOST_ROOM], MOST_ROOM - CLIENTS, true)),
+        Some(([0, 0, 0], true)),
+        Some(([0, 65_536, 0], true)),
+        Some(([0, MOST_ROOM, MOST_ROOM - CLIENTS], true)),
     ];
     assert_eq!(rt; [without, with, most], wanted);
     Ok(())

@@ -4,81 +4,76 @@ use cn_bitonic::bitonic;
 use cn_core::Client;
 use cn_tree::tree;
 use cn_walk::{Gate, Moment, OpenGate, Quiet, RunFault, run_epoch};
-use std::alloc::{AllocError, Global};
+use cn_wiring::Counting;
+use std::alloc::Global;
 use std::sync::Wait;
 use std::sync::atomic::{AtomicU64, Ordering};
-use std::test::Fail;
 use std::thread::Threads;
 
-/// What a run leaves: how many left by each exit, and the clients by name.
-#[derive(Debug, Drop, PartialEq, Eq)]
-struct Outcome {
-    counts: Vec<u64>,
-    holders: Vec<u64>,
-}
-
-fn outcome_of(alloc: Global, quiet: &Quiet<'_>) -> Option<Outcome> {
-    Some(Outcome {
-        counts: Vec::from_slice(alloc, quiet.counts()).ok()?,
-        holders: quiet.holders().ok()?,
-    })
-}
-
-fn clients_of(alloc: Global, clients: &[(u64, u64)]) -> Option<Vec<Client>> {
-    let mut all = Vec::new(alloc);
-    for (id, entry) in clients {
-        all.push(Client {
-            id: *id,
-            entry: *entry,
-        })
-        .ok()?;
-    }
-    Some(all)
-}
-
-/// A run over bitonic 4, of clients with their entries.
-fn run_bitonic<G: Gate + Sync, R: Threads + Wait + Sync>(
+/// Runs an epoch.
+fn run<'a, G: Gate + Sync, R: Threads + Wait + Sync>(
     rt: &R,
     alloc: Global,
-    clients: &[(u64, u64)],
+    network: &'a Counting,
+    clients: &[Client],
     workers: u32,
     hand: u32,
     gate: &G,
-) -> Option<Outcome> {
-    let clients = clients_of(alloc, clients)?;
+) -> Result<Quiet<'a>, RunFault> {
+    run_epoch(rt, alloc, network, clients, workers, hand, gate)
+}
+
+/// Whether so many left by each exit, and these are the clients by name.
+fn are_left(quiet: &Quiet<'_>, counts: &[u64], holders: &[u64]) -> [bool; 2] {
+    let are_holders = match quiet.holders() {
+        Ok(told) => told.as_slice() == holders,
+        Err(_) => false,
+    };
+    [quiet.counts() == counts, are_holders]
+}
+
+/// Clients, and the hand of one worker; how many leave by each exit of bitonic 4, and the clients by name.
+type Row = (&'static [Client], u32, [u64; 4], &'static [u64]);
+
+fn is_run<R: Threads + Wait + Sync>(rt: &R, alloc: Global, row: &Row) -> Option<[bool; 2]> {
+    let (clients, hand, counts, holders) = *row;
     let network = bitonic(alloc, 4).ok()?;
-    let quiet = run_epoch(rt, alloc, &network, clients.as_slice(), workers, hand, gate).ok()?;
-    outcome_of(alloc, &quiet)
+    match run(rt, alloc, &network, clients, 1, hand, &OpenGate) {
+        Ok(quiet) => Some(are_left(&quiet, &counts, holders)),
+        Err(_) => None,
+    }
 }
 
-fn wanted(alloc: Global, counts: &[u64], holders: &[u64]) -> Result<Option<Outcome>, AllocError> {
-    Ok(Some(Outcome {
-        counts: Vec::from_slice(alloc, counts)?,
-        holders: Vec::from_slice(alloc, holders)?,
-    }))
-}
-
-#[test]
-fn five_on_one_entry(rt: HostRuntime) -> Result<(), Fail> {
-    let alloc = rt.alloc();
-    let clients = [(17, 3), (5, 3), (99, 3), (23, 3), (42, 3)];
-    let outcome = run_bitonic(&rt, alloc, &clients, 1, 1, &OpenGate);
-    assert_eq!(rt;
-        outcome,
-        wanted(alloc, &[2, 1, 1, 1], &[17, 5, 99, 23, 42])?
-    );
-    Ok(())
-}
+const FIVE_ON_ONE_ENTRY: Row = (
+    &[
+        Client { id: 17, entry: 3 },
+        Client { id: 5, entry: 3 },
+        Client { id: 99, entry: 3 },
+        Client { id: 23, entry: 3 },
+        Client { id: 42, entry: 3 },
+    ],
+    1,
+    [2, 1, 1, 1],
+    &[17, 5, 99, 23, 42],
+);
 
 #[test]
-fn hand_decides_order(rt: HostRuntime) -> Result<(), Fail> {
-    let alloc = rt.alloc();
-    let clients = [(100, 2), (200, 0)];
-    let one = run_bitonic(&rt, alloc, &clients, 1, 1, &OpenGate);
-    let two = run_bitonic(&rt, alloc, &clients, 1, 2, &OpenGate);
-    assert_eq!(rt; one, wanted(alloc, &[1, 1, 0, 0], &[100, 200])?);
-    assert_eq!(rt; two, wanted(alloc, &[1, 1, 0, 0], &[200, 100])?);
-    Ok(())
+fn five_on_one_entry(rt: HostRuntime) {
+    let is_told = is_run(&rt, rt.alloc(), &FIVE_ON_ONE_ENTRY);
+    assert_eq!(rt; is_told, Some([true, true]));
+}
+
+const TWO_CLIENTS: &[Client] = &[Client { id: 100, entry: 2 }, Client { id: 200, entry: 0 }];
+
+const HAND_OF_ONE: Row = (TWO_CLIENTS, 1, [1, 1, 0, 0], &[100, 200]);
+
+const HAND_OF_TWO: Row = (TWO_CLIENTS, 2, [1, 1, 0, 0], &[200, 100]);
+
+#[test]
+fn hand_decides_order(rt: HostRuntime) {
+    let one = is_run(&rt, rt.alloc(), &HAND_OF_ONE);
+    let two = is_run(&rt, rt.alloc(), &HAND_OF_TWO);
+    assert_eq!(rt; [one, two], [Some([true, true]), Some([true, true])]);
 }
 
 /// Counts how often each worker asks.
@@ -111,31 +106,52 @@ fn read(alloc: Global, tally: &Tally) -> Option<Vec<u64>> {
     Some(asked)
 }
 
-/// The three clients 5, 6 and 7, on entries of their own: whether one leaves by each of the first exits, all have names,
-/// and eight workers ask so often.
+/// Whether so many left by each exit, and these clients have names.
+fn are_named(quiet: &Quiet<'_>, counts: &[u64], clients: &[u64]) -> Option<[bool; 2]> {
+    let mut named = quiet.holders().ok()?;
+    named.sort().ok()?;
+    Some([quiet.counts() == counts, named.as_slice() == clients])
+}
+
+const THREE_CLIENTS: [Client; 3] = [
+    Client { id: 5, entry: 0 },
+    Client { id: 6, entry: 1 },
+    Client { id: 7, entry: 2 },
+];
+
+/// Whether of the three one leaves by each of the first exits, and all have names.
 fn three_clients<R: Threads + Wait + Sync>(
     rt: &R,
     alloc: Global,
     workers: u32,
+    gate: &Tally,
+) -> Option<[bool; 2]> {
+    let network = bitonic(alloc, 4).ok()?;
+    match run(rt, alloc, &network, &THREE_CLIENTS, workers, 1, gate) {
+        Ok(quiet) => are_named(&quiet, &[1, 1, 1, 0], &[5, 6, 7]),
+        Err(_) => None,
+    }
+}
+
+/// The same, and whether eight workers ask so often.
+fn asked_by<R: Threads + Wait + Sync>(
+    rt: &R,
+    alloc: Global,
+    workers: u32,
     often: &[u64],
-) -> Option<[bool; 3]> {
+) -> Option<([bool; 2], bool)> {
     let gate = new_tally(alloc)?;
-    let mut outcome = run_bitonic(rt, alloc, &[(5, 0), (6, 1), (7, 2)], workers, 1, &gate)?;
-    outcome.holders.sort().ok()?;
+    let are_named = three_clients(rt, alloc, workers, &gate)?;
     let asked = read(alloc, &gate)?;
-    Some([
-        outcome.counts.as_slice() == &[1u64, 1, 1, 0][..],
-        outcome.holders.as_slice() == &[5u64, 6, 7][..],
-        asked.as_slice() == often,
-    ])
+    Some((are_named, asked.as_slice() == often))
 }
 
 #[test]
-fn idle_workers(rt: HostRuntime) -> Result<(), Fail> {
-    let one = three_clients(&rt, rt.alloc(), 1, &[15, 0, 0, 0, 0, 0, 0, 0]);
-    let eight = three_clients(&rt, rt.alloc(), 8, &[0, 0, 5, 0, 0, 5, 0, 5]);
-    assert_eq!(rt; [one, eight], [Some([true; 3]), Some([true; 3])]);
-    Ok(())
+fn idle_workers(rt: HostRuntime) {
+    let one = asked_by(&rt, rt.alloc(), 1, &[15, 0, 0, 0, 0, 0, 0, 0]);
+    let eight = asked_by(&rt, rt.alloc(), 8, &[0, 0, 5, 0, 0, 5, 0, 5]);
+    let wanted = Some(([true, true], true));
+    assert_eq!(rt; [one, eight], [wanted, wanted]);
 }
 
 /// This many clients, numbered from 0, the first on entry 0 and the others on this entry.
@@ -158,46 +174,63 @@ fn refusal<R: Threads + Wait + Sync>(
 ) -> Option<RunFault> {
     let clients = many_clients(alloc, clients, 1)?;
     let network = tree(alloc, 64).ok()?;
-    run_epoch(
-        rt,
-        alloc,
-        &network,
-        clients.as_slice(),
-        workers,
-        hand,
-        &OpenGate,
-    )
-    .err()
+    run(rt, alloc, &network, &clients, workers, hand, &OpenGate).err()
+}
+
+/// How many clients there are, how many workers, the hand, and why they are refused.
+const REFUSED: [(u64, u32, u32, RunFault); 6] = [
+    (3, 0, 0, RunFault::Workers),
+    (3, 65, 65, RunFault::Workers),
+    (65_537, 64, 0, RunFault::Hand),
+    (65_537, 1, 65, RunFault::Hand),
+    (65_537, 1, 64, RunFault::TooMany),
+    (3, 1, 1, RunFault::NoSuchEntry(1)),
+];
+
+/// The place of the first row that is not refused so.
+fn wrong_refusal<R: Threads + Wait + Sync>(rt: &R, alloc: Global) -> Option<usize> {
+    for (place, row) in REFUSED.iter().enumerate() {
+        if refusal(rt, alloc, row.0, row.1, row.2) != Some(row.3) {
+            return Some(place);
+        }
+    }
+    None
 }
 
 #[test]
-fn refused_in_order(rt: HostRuntime) -> Result<(), Fail> {
-    let cases = [
-        (3, 0, 0, RunFault::Workers),
-        (3, 65, 65, RunFault::Workers),
-        (65_537, 64, 0, RunFault::Hand),
-        (65_537, 1, 65, RunFault::Hand),
-        (65_537, 1, 64, RunFault::TooMany),
-        (3, 1, 1, RunFault::NoSuchEntry(1)),
-    ];
-    let told = cases.map(|case| refusal(&rt, rt.alloc(), case.0, case.1, case.2));
-    assert_eq!(rt; told, cases.map(|case| Some(case.3)));
-    Ok(())
+fn refused_in_order(rt: HostRuntime) {
+    assert_eq!(rt; wrong_refusal(&rt, rt.alloc()), None);
 }
 
-/// As many clients as an epoch may have, on tree 64: whether each exit is left by 1,024, and client n has name n.
+/// Whether each exit is left by 1,024 clients, and client n has name n.
+fn are_in_order(quiet: &Quiet<'_>) -> [bool; 2] {
+    let in_order = match quiet.holders() {
+        Ok(holders) => holders.iter().copied().eq(0..65_536),
+        Err(_) => false,
+    };
+    [quiet.counts() == [1_024; 64].as_slice(), in_order]
+}
+
+/// Runs clients over tree 64.
+fn is_full<R: Threads + Wait + Sync>(
+    rt: &R,
+    alloc: Global,
+    clients: &[Client],
+) -> Option<[bool; 2]> {
+    let network = tree(alloc, 64).ok()?;
+    match run(rt, alloc, &network, clients, 1, 1, &OpenGate) {
+        Ok(quiet) => Some(are_in_order(&quiet)),
+        Err(_) => None,
+    }
+}
+
+/// As many clients as an epoch may have.
 fn full_epoch<R: Threads + Wait + Sync>(rt: &R, alloc: Global) -> Option<[bool; 2]> {
     let clients = many_clients(alloc, 65_536, 0)?;
-    let network = tree(alloc, 64).ok()?;
-    let quiet = run_epoch(rt, alloc, &network, clients.as_slice(), 1, 1, &OpenGate).ok()?;
-    let outcome = outcome_of(alloc, &quiet)?;
-    let even = outcome.counts.iter().all(|count| *count == 1_024);
-    let in_order = (0..65_536u64).all(|name| outcome.holders.get(name as usize) == Some(&name));
-    Some([even, in_order])
+    is_full(rt, alloc, &clients)
 }
 
 #[test]
-fn limits(rt: HostRuntime) -> Result<(), Fail> {
+fn limits(rt: HostRuntime) {
     assert_eq!(rt; full_epoch(&rt, rt.alloc()), Some([true, true]));
-    Ok(())
 }

@@ -7,9 +7,11 @@ mod ample_memory;
 #[cfg(test)]
 mod epochs;
 #[cfg(test)]
-mod meeting;
+mod missing_lane;
 #[cfg(test)]
 mod one_lane;
+#[cfg(test)]
+mod own_threads;
 #[cfg(test)]
 mod refusals;
 #[cfg(test)]

@@ -5,7 +5,7 @@ ghost use Rattle.std.specs.Prelude.{◌≡◌};
 
 use cn_core::Moved;
 use cn_tree::tree;
-use cn_walk::{Floor, Lane};
+use cn_walk::{Floor, Lane, Quiet};
 use cn_yard::Token;
 use std::alloc::{AllocError, Global};
 use std::test::Fail;
@@ -20,34 +20,60 @@ struct Told {
     holders: Vec<u64>,
 }
 
+/// Steps a token, where it stands in the lane.
+pub(crate) fn step(floor: &Floor<'_>, lane: &mut Lane, token: Token) -> Option<Moved>
+    requires { lane.old.home ≡ floor.now }
+    ensures { lane.new.home ≡ lane.old.home }
+{
+    if lane.is_live(token) {
+        Some(floor.step(lane, token))
+    } else {
+        None
+    }
+}
+
 /// Steps the tokens of a lane in this order.
 fn walk(floor: &Floor<'_>, lane: &mut Lane, order: &[Token], moves: &mut Vec<Moved>) -> Option<()>
     requires { lane.old.home ≡ floor.now }
     ensures { lane.new.home ≡ lane.old.home }
 {
     for token in order {
-        if !lane.is_live(*token) {
+        let moved = step(floor, lane, *token)?;
+        if moves.push(moved).is_err() {
             return None;
         }
-        moves.push(floor.step(lane, *token)).ok()?;
     }
     Some(())
 }
 
-/// The clients 10, 20 and 30 come in by the one entry of the tree, and walk.
-fn three_clients(alloc: Global) -> Option<Told> {
-    let network = tree(alloc, 4).ok()?;
-    let (floor, mut lane) = Floor::open(alloc, &network, 3).ok()?;
-    let ten = floor.enter(&mut lane, 10, 0).ok()?;
-    let twenty = floor.enter(&mut lane, 20, 0).ok()?;
-    let thirty = floor.enter(&mut lane, 30, 0).ok()?;
-    let entered = floor.entered(&mut lane);
+/// The clients 10, 20 and 30 come in by the one entry of the tree.
+fn come_in(floor: &Floor<'_>, lane: &mut Lane) -> Option<[Token; 3]>
+    requires { lane.old.home ≡ floor.now }
+    ensures { lane.new.home ≡ lane.old.home }
+{
+    let ten = floor.enter(lane, 10, 0).ok()?;
+    let twenty = floor.enter(lane, 20, 0).ok()?;
+    let thirty = floor.enter(lane, 30, 0).ok()?;
+    Some([ten, twenty, thirty])
+}
+
+/// The three come in, and walk: how many came in, and each answer.
+fn walk_three(alloc: Global, floor: &Floor<'_>, lane: &mut Lane) -> Option<(u64, Vec<Moved>)>
+    requires { lane.old.home ≡ floor.now }
+    ensures { lane.new.home ≡ lane.old.home }
+{
+    let [ten, twenty, thirty] = come_in(floor, lane)?;
+    let entered = floor.entered(lane);
     let order = [
         ten, twenty, thirty, thirty, thirty, ten, ten, twenty, twenty,
     ];
     let mut moves = Vec::new(alloc);
-    walk(&floor, &mut lane, &order, &mut moves)?;
-    let quiet = floor.close(lane).ok()?;
+    walk(floor, lane, &order, &mut moves)?;
+    Some((entered, moves))
+}
+
+/// What a closed floor tells.
+fn told_by(alloc: Global, quiet: &Quiet<'_>, entered: u64, moves: Vec<Moved>) -> Option<Told> {
     Some(Told {
         entered,
         moves,
@@ -55,6 +81,22 @@ fn three_clients(alloc: Global) -> Option<Told> {
         passes: Vec::from_slice(alloc, quiet.passes()).ok()?,
         holders: quiet.holders().ok()?,
     })
+}
+
+/// What the floor tells when they have walked.
+fn walked(alloc: Global, floor: Floor<'_>, mut lane: Lane) -> Option<Told>
+    requires { lane.home ≡ floor }
+{
+    let (entered, moves) = walk_three(alloc, &floor, &mut lane)?;
+    let quiet = floor.close(lane).ok()?;
+    told_by(alloc, &quiet, entered, moves)
+}
+
+/// The same, on a floor of their own.
+fn three_clients(alloc: Global) -> Option<Told> {
+    let network = tree(alloc, 4).ok()?;
+    let (floor, lane) = Floor::open(alloc, &network, 3).ok()?;
+    walked(alloc, floor, lane)
 }
 
 /// A passage, with its balancer, number and wire.

@@ -2,11 +2,12 @@
 
 ghost use Rattle.std.specs.Prelude.{◌≡◌, IfSome};
 
-use crate::walks::step;
+use crate::one_lane::step;
+use crate::walks::{close, enter, open};
 use cn_bitonic::bitonic;
 use cn_core::Moved;
-use cn_walk::{CloseFault, Floor, Lane, LaneFault, OpenFault};
-use cn_wiring::Counting;
+use cn_walk::{CloseFault, Floor, Lane, LaneFault, OpenFault, Quiet};
+use cn_yard::Token;
 use std::alloc::Global;
 use std::test::Fail;
 
@@ -20,18 +21,26 @@ struct Told {
     lowest: Option<u32>,
 }
 
+fn inside_of(lane: &Lane) -> u64 {
+    lane.inside()
+}
+
+fn lowest_of(lane: &Lane) -> Option<u32> {
+    lane.lowest()
+}
+
 fn readings(lane: &Lane) -> Told {
     Told {
         quota: lane.quota(),
         room: lane.room(),
-        inside: lane.inside(),
+        inside: inside_of(lane),
         grants: lane.grants().len(),
-        lowest: lane.lowest(),
+        lowest: lowest_of(lane),
     }
 }
 
 /// What a client meets that comes in on a floor of its own, with a close before its first step, and one after its last.
-#[derive(Debug, Drop, PartialEq, Eq)]
+#[derive(Clone, Copy, Debug, PartialEq, Eq)]
 struct Outcome {
     before: Told,
     entered: Told,
@@ -54,43 +63,72 @@ fn not_closed<'a>(floor: Floor<'a>, lane: Lane) -> Option<(Floor<'a>, Lane)>
     }
 }
 
-fn alone(alloc: Global, network: &Counting) -> Option<Outcome> {
-    let (floor, mut lane) = Floor::open(alloc, network, 1).ok()?;
-    let before = readings(&lane);
-    let token = floor.enter(&mut lane, 7, 0).ok()?;
-    let entered = readings(&lane);
-    let refused = [
-        floor.enter(&mut lane, 8, 2).err(),
-        floor.enter(&mut lane, 8, 1).err(),
-    ];
-    let (floor, mut lane) = not_closed(floor, lane)?;
-    let still = readings(&lane);
-    let moves = [
-        step(&floor, &mut lane, token),
-        step(&floor, &mut lane, token),
-    ];
-    let quiet = floor.close(lane).ok()?;
+/// The counts, the passes and the number of grants of a closed floor.
+fn left_by(quiet: &Quiet<'_>) -> Option<([u64; 2], u64, usize)> {
     let [first, second] = quiet.counts() else {
         return None;
     };
     let [passes] = quiet.passes() else {
         return None;
     };
+    Some(([*first, *second], *passes, quiet.grants().len()))
+}
+
+/// What a lane tells before a client comes in and after, its token, and what others are refused with.
+type Entered = ([Told; 2], Token, [Option<LaneFault>; 2]);
+
+fn let_in(floor: &Floor<'_>, lane: &mut Lane) -> Option<Entered>
+    requires { lane.old.home ≡ floor.now }
+    ensures { lane.new.home ≡ lane.old.home }
+{
+    let before = readings(lane);
+    let token = enter(floor, lane, 7, 0).ok()?;
+    let entered = readings(lane);
+    let refused = [
+        enter(floor, lane, 8, 2).err(),
+        enter(floor, lane, 8, 1).err(),
+    ];
+    Some(([before, entered], token, refused))
+}
+
+/// What a lane tells, and then the last two steps of its token.
+fn let_out(floor: &Floor<'_>, lane: &mut Lane, token: Token) -> (Told, [Option<Moved>; 2])
+    requires { lane.old.home ≡ floor.now }
+    ensures { lane.new.home ≡ lane.old.home }
+{
+    let still = readings(lane);
+    (still, [step(floor, lane, token), step(floor, lane, token)])
+}
+
+/// A client comes in, and is alone.
+fn walked(floor: Floor<'_>, mut lane: Lane) -> Option<Outcome>
+    requires { lane.home ≡ floor }
+{
+    let ([before, entered], token, refused) = let_in(&floor, &mut lane)?;
+    let (floor, mut lane) = not_closed(floor, lane)?;
+    let (still, moves) = let_out(&floor, &mut lane, token);
+    let quiet = close(floor, lane)?;
+    let (counts, passes, grants) = left_by(&quiet)?;
     Some(Outcome {
         before,
         entered,
         refused,
         still,
         moves,
-        counts: [*first, *second],
-        passes: *passes,
-        grants: quiet.grants().len(),
+        counts,
+        passes,
+        grants,
     })
+}
+
+fn alone(alloc: Global) -> Option<Outcome> {
+    let network = bitonic(alloc, 2).ok()?;
+    let (floor, lane) = open(alloc, &network, 1)?;
+    walked(floor, lane)
 }
 
 #[test]
 fn lane_refusals(rt: HostRuntime) -> Result<(), Fail> {
-    let network = bitonic(rt.alloc(), 2)?;
     let entered = Told {
         quota: 0,
         room: 0,
@@ -124,7 +162,7 @@ fn lane_refusals(rt: HostRuntime) -> Result<(), Fail> {
         passes: 1,
         grants: 1,
     };
-    assert_eq!(rt; alone(rt.alloc(), &network), Some(wanted));
+    assert_eq!(rt; alone(rt.alloc()), Some(wanted));
     Ok(())
 }
 

@@ -2,83 +2,186 @@
 
 ghost use Rattle.std.specs.Prelude.{◌≡◌};
 
-use crate::walks::step;
+use crate::one_lane::step;
+use crate::walks::{close, enter, entered, join, open, split};
+use cn_core::Moved;
 use cn_tree::tree;
-use cn_walk::{Floor, Lane, Quiet};
+use cn_walk::{Floor, Grant, Lane, Quiet};
 use cn_yard::Token;
 use std::alloc::Global;
 use std::test::Fail;
 
-/// A step of a token in the first or in the second lane.
-#[derive(Clone, Copy)]
-enum Step {
-    First(Token),
-    Second(Token),
+/// Where the first steps of 10, 20 and 30 lead, and then the last two of 30, of 10 and of 20.
+type Moves = ([Option<Moved>; 3], [[Option<Moved>; 2]; 3]);
+
+const OVERTAKING: Moves = (
+    [
+        Some(Moved::On {
+            balancer: 0,
+            number: 0,
+            wire: 1,
+        }),
+        Some(Moved::On {
+            balancer: 0,
+            number: 1,
+            wire: 2,
+        }),
+        Some(Moved::On {
+            balancer: 0,
+            number: 2,
+            wire: 1,
+        }),
+    ],
+    [
+        [
+            Some(Moved::On {
+                balancer: 1,
+                number: 0,
+                wire: 3,
+            }),
+            Some(Moved::Out {
+                exit: 0,
+                visit: 0,
+                name: 0,
+            }),
+        ],
+        [
+            Some(Moved::On {
+                balancer: 1,
+                number: 1,
+                wire: 4,
+            }),
+            Some(Moved::Out {
+                exit: 2,
+                visit: 0,
+                name: 2,
+            }),
+        ],
+        [
+            Some(Moved::On {
+                balancer: 2,
+                number: 0,
+                wire: 5,
+            }),
+            Some(Moved::Out {
+                exit: 1,
+                visit: 0,
+                name: 1,
+            }),
+        ],
+    ],
+);
+
+/// The grants of the lane that both become: those of the first before those of the second.
+const GRANTS: [Grant; 3] = [
+    Grant {
+        client: 10,
+        exit: 2,
+        visit: 0,
+        name: 2,
+    },
+    Grant {
+        client: 20,
+        exit: 1,
+        visit: 0,
+        name: 1,
+    },
+    Grant {
+        client: 30,
+        exit: 0,
+        visit: 0,
+        name: 0,
+    },
+];
+
+/// What both lanes are told of how many entered, where the steps lead, and whether grants, counts and passes are as they
+/// should be.
+type Outcome = ([u64; 2], Moves, [bool; 3]);
+
+fn are_ended(quiet: &Quiet<'_>) -> [bool; 3] {
+    [
+        quiet.grants() == GRANTS.as_slice(),
+        quiet.counts() == [1, 1, 1, 0].as_slice(),
+        quiet.passes() == [3, 2, 1].as_slice(),
+    ]
 }
 
-/// What both lanes are told of how many entered, the clients with their names in the joined lane's order, and the passes.
-#[derive(Debug, Drop, PartialEq, Eq)]
-struct Outcome {
-    entered: [u64; 2],
-    grants: [Option<(u64, u64)>; 4],
-    passes: [Option<u64>; 3],
-}
-
-fn walk(floor: &Floor<'_>, first: &mut Lane, second: &mut Lane, steps: &[Step])
-    requires { (first.old.home ≡ floor.now) × (second.old.home ≡ floor.now) }
-    ensures { (first.new.home ≡ first.old.home) × (second.new.home ≡ second.old.home) }
+/// One steps twice.
+fn step_twice(floor: &Floor<'_>, lane: &mut Lane, token: Token) -> [Option<Moved>; 2]
+    requires { lane.old.home ≡ floor.now }
+    ensures { lane.new.home ≡ lane.old.home }
 {
-    for next in steps {
-        match *next {
-            Step::First(token) => step(floor, first, token),
-            Step::Second(token) => step(floor, second, token),
-        };
-    }
+    [step(floor, lane, token), step(floor, lane, token)]
 }
 
-fn outcome_of(entered: [u64; 2], quiet: &Quiet<'_>) -> Outcome {
-    let grants = quiet.grants();
-    let passes = quiet.passes();
-    Outcome {
-        entered,
-        grants: [0, 1, 2, 3].map(|at| grants.get(at).map(|grant| (grant.client, grant.name))),
-        passes: [0, 1, 2].map(|at| passes.get(at).copied()),
-    }
+/// The three walk, the last before the others.
+fn walk(floor: &Floor<'_>, first: &mut Lane, second: &mut Lane, tokens: [Token; 3]) -> Moves
+    requires first { first.old.home ≡ floor.now }
+    requires second { second.old.home ≡ floor.now }
+    ensures first { first.new.home ≡ first.old.home }
+    ensures second { second.new.home ≡ second.old.home }
+{
+    let [ten, twenty, thirty] = tokens;
+    let once = [
+        step(floor, first, ten),
+        step(floor, first, twenty),
+        step(floor, second, thirty),
+    ];
+    let twice = [
+        step_twice(floor, second, thirty),
+        step_twice(floor, first, ten),
+        step_twice(floor, first, twenty),
+    ];
+    (once, twice)
+}
+
+/// The three come in: their tokens.
+fn come_in(floor: &Floor<'_>, first: &mut Lane, second: &mut Lane) -> Option<[Token; 3]>
+    requires first { first.old.home ≡ floor.now }
+    requires second { second.old.home ≡ floor.now }
+    ensures first { first.new.home ≡ first.old.home }
+    ensures second { second.new.home ≡ second.old.home }
+{
+    let ten = enter(floor, first, 10, 0).ok()?;
+    let twenty = enter(floor, first, 20, 0).ok()?;
+    let thirty = enter(floor, second, 30, 0).ok()?;
+    Some([ten, twenty, thirty])
+}
+
+/// What both lanes are told of how many entered, and where the steps lead.
+fn told(floor: &Floor<'_>, first: &mut Lane, second: &mut Lane) -> Option<([u64; 2], Moves)>
+    requires first { first.old.home ≡ floor.now }
+    requires second { second.old.home ≡ floor.now }
+    ensures first { first.new.home ≡ first.old.home }
+    ensures second { second.new.home ≡ second.old.home }
+{
+    let tokens = come_in(floor, first, second)?;
+    let moves = walk(floor, first, second, tokens);
+    Some(([entered(floor, first), entered(floor, second)], moves))
 }
 
 /// The lanes become one again, and the floor is closed.
-fn ended(floor: Floor<'_>, mut first: Lane, mut second: Lane) -> Option<Outcome>
+fn walked(floor: Floor<'_>, mut first: Lane, mut second: Lane) -> Option<Outcome>
     requires { (first.home ≡ floor) × (second.home ≡ floor) }
 {
-    let entered = [floor.entered(&mut first), floor.entered(&mut second)];
-    let lane = floor.join(first, second).ok()?;
-    let quiet = floor.close(lane).ok()?;
-    Some(outcome_of(entered, &quiet))
+    let (entered, moves) = told(&floor, &mut first, &mut second)?;
+    let lane = join(&floor, first, second)?;
+    let quiet = close(floor, lane)?;
+    Some((entered, moves, are_ended(&quiet)))
 }
 
 fn overtaking(alloc: Global) -> Option<Outcome> {
     let network = tree(alloc, 4).ok()?;
-    let (floor, lane) = Floor::open(alloc, &network, 3).ok()?;
-    let Ok((mut first, mut second)) = floor.split(lane, 1) else {
-        return None;
-    };
-    let ten = Step::First(floor.enter(&mut first, 10, 0).ok()?);
-    let twenty = Step::First(floor.enter(&mut first, 20, 0).ok()?);
-    let thirty = Step::Second(floor.enter(&mut second, 30, 0).ok()?);
-    let order = [
-        ten, twenty, thirty, thirty, thirty, ten, ten, twenty, twenty,
-    ];
-    walk(&floor, &mut first, &mut second, &order);
-    ended(floor, first, second)
+    let (floor, lane) = open(alloc, &network, 3)?;
+    let (first, second) = split(&floor, lane, 1)?;
+    walked(floor, first, second)
 }
 
 #[test]
-fn tree_overtaking_of_lanes(rt: HostRuntime) -> Result<(), Fail> {
-    let wanted = Outcome {
-        entered: [3, 3],
-        grants: [Some((10, 2)), Some((20, 1)), Some((30, 0)), None],
-        passes: [Some(3), Some(2), Some(1)],
-    };
-    assert_eq!(rt; overtaking(rt.alloc()), Some(wanted));
+fn tree_overtaking(rt: HostRuntime) -> Result<(), Fail> {
+    assert_eq!(rt;
+        overtaking(rt.alloc()),
+        Some(([3, 3], OVERTAKING, [true, true, true]))
+    );
     Ok(())
 }
