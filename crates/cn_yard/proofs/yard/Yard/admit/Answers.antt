@@ -1,65 +1,118 @@
-use Rattle.std.proofs.Common.{◌≡◌, ◌∙◌, ◌<◌, ◌-◌, ◌∷◌, [], ℕ, List, length, refl, ap, sym, rules, arith, vec_len}
-use Rattle.cn_yard.proofs.Moved.{tokens-seen}
-use Rattle.cn_yard.proofs.Standings.{wires-seen}
-use Rattle.cn_yard.proofs.Kept.{HasNumber, admits-of, admitted, length-last, number-freed, number-made}
-use Rattle.cn_yard.proofs.yard.Yard.admit.Goals.{in-Some, in-None+in_ok-reserve-in-None+in_ok-reserve-in-None-2}
+use Rattle.std.proofs.Common.{◌≡◌, ◌∙◌, ◌<◌, ◌≤◌, ◌+◌, length, refl, arith}
+use Rattle.std.proofs.lemmas.List.{with_items_is}
+use Rattle.std.specs.Vec.{with_items}
+use Rattle.cn_spec.specs.declared.limits.TheConstants.{MOST_TOKENS}
+use Rattle.cn_yard.specs.declared.yard.Yard.TheInside.{Inside}
+use Rattle.cn_yard.specs.Chains.{moved}
+use Rattle.cn_yard.specs.Lines.{count_of}
+use Rattle.cn_yard.specs.Lists.{tokens_in}
+use Rattle.cn_yard.specs.InsideYard.{lists_of}
+use Rattle.cn_yard.proofs.Bodies.{admits-renamed, after, filled, filled-by, free-read, keeps-relinked, keeps-renamed, relinked-by, renamed-by, with_records}
+use Rattle.cn_yard.proofs.Wires.{wires-are}
 use Rattle.cn_yard.proofs.yard.Yard.admit.Goals as goal
 
-nil : (xs : List ℕ) → length xs ≡ 0 → xs ≡ []
-nil [] e = refl
-nil (x ∷ xs) e = absurd (omega arith)
-
--- the number is free, and there is room for it
-numbered : (c : goal.After-push_reserved) → HasNumber c.match-pop.self-inside c.match-pop.number
-numbered c =
+pub invariant_of-self : goal.invariant_of-self
+invariant_of-self c =
     let y = c.self.inside in
-    let counted : vec_len y.live ≡ length y.live.items = search rules in
-    let counted' : vec_len y.free ≡ length y.free.items = search rules in
-    elim c.match-pop.branch [
-      | in-Some w ↦ rw (w.self-inside-is, w.number-is)
-          (number-freed y (record { wires = y.wires; live = y.live; free = c.pop.new.self }) w.in-Some.number c.self.invariant refl refl w.in-Some.ensures.items c.pop.ensures.capacity)
-      | in-None+in_ok-reserve-in-None+in_ok-reserve-in-None-2 w ↦
-          let none : y.free.items ≡ [] = nil y.free.items (let e = w.in-None.ensures.cases.0 in omega arith) in
-          let popped : c.pop.new.self.items ≡ [] = nil c.pop.new.self.items (let e = ap length (sym w.in-None.ensures.items) in let f = ap length none in omega arith) in
-          let few = rw (← c.self.view_is, tokens-seen y.wires y.live.items c.self.invariant.on_wires) at c.requires.room in
-          let same = w.reserve.ensures.len in
-          let number : w.len-in-None.result ≡ length y.live.items = w.len-in-None.ensures ∙ same ∙ counted in
-          let room = w.in_ok-reserve-in-None.ensures.ok in
-          let room' = w.in_ok-reserve-in-None-2.ensures.ok in
-          let len = w.len.ensures in
-          rw (w.self-inside-is, w.number-is)
-          (number-made y (record { wires = y.wires; live = w.reserve.new.self; free = w.reserve-in-None.new.self }) w.len-in-None.result c.self.invariant refl w.reserve.ensures.items none
-          (w.reserve-in-None.ensures.items ∙ popped) number few (omega arith) (omega arith))
-    ]
+    let k = c.self.invariant.keeps in
+    let z : Inside = record { wires = y.wires; records = c.fill.new.records; lines = with_items y.lines c.fill.new.lines; marks = with_items y.marks c.fill.new.marks } in
+    let fi = filled-by y c.deref_mut.result.now c.deref_mut-2.result.now c.fill.new.records c.fill.new.lines c.fill.new.marks 1
+    c.deref_mut.ensures.value c.deref_mut.ensures.len c.deref_mut-2.ensures.len c.deref_mut-2.ensures.value c.fill.ensures.kept c.fill.ensures.most c.fill.ensures.linked c.fill.ensures.words c.fill.ensures.marks in
+    let room : tokens_in (lists_of y) + 1 ≤ MOST_TOKENS = (let h = rw (← c.self.view_is) at c.requires.room in omega arith) in
+    let (order, keeps, same) = filled y z c.self.invariant.order 1 k fi room in
+    record { order = order; keeps = keeps }
 
--- the wires and the tokens are those of before
-before : (c : goal.After-push_reserved) → (c.self.inside.wires ≡ c.match-pop.self-inside.wires) × (c.self.inside.live.items ≡ c.match-pop.self-inside.live.items)
-before c = elim c.match-pop.branch [
-  | in-Some w ↦ rw w.self-inside-is (refl, refl)
-  | in-None+in_ok-reserve-in-None+in_ok-reserve-in-None-2 w ↦ rw w.self-inside-is (refl, sym w.reserve.ensures.items)
-]
+pub relink-requires-clause-number : goal.relink-requires-clause-number
+relink-requires-clause-number c =
+    let y = c.self.inside in
+    let k = c.self.invariant.keeps in
+    let z : Inside = record { wires = y.wires; records = c.fill.new.records; lines = with_items y.lines c.fill.new.lines; marks = with_items y.marks c.fill.new.marks } in
+    let fi = filled-by y c.deref_mut.result.now c.deref_mut-2.result.now c.fill.new.records c.fill.new.lines c.fill.new.marks 1
+    c.deref_mut.ensures.value c.deref_mut.ensures.len c.deref_mut-2.ensures.len c.deref_mut-2.ensures.value c.fill.ensures.kept c.fill.ensures.most c.fill.ensures.linked c.fill.ensures.words c.fill.ensures.marks in
+    let room : tokens_in (lists_of y) + 1 ≤ MOST_TOKENS = (let h = rw (← c.self.view_is) at c.requires.room in omega arith) in
+    let (order, keeps, same) = filled y z c.self.invariant.order 1 k fi room in
+    let rows = k.wires in
+    let lines : z.lines.items ≡ c.fill.new.lines = with_items_is y.lines c.fill.new.lines (c.fill.ensures.kept.rows ∙ c.deref_mut.ensures.len) in
+    let some : 1 ≤ count_of z.lines.items y.wires = rw lines (let o = c.in_ok-fill.ensures.ok in grind arith) in
+    let (within, free) = free-read z order c.index.result.now keeps some c.index.ensures in
+    rw c.deref_mut-3.ensures.value within
 
--- one free record fewer, where there is one
-spare : (c : goal.After-push_reserved) → length c.match-pop.self-inside.free.items ≡ length c.self.inside.free.items - 1
-spare c =
-    let counted : vec_len c.self.inside.free ≡ length c.self.inside.free.items = search rules in
-    elim c.match-pop.branch [
-      | in-Some w ↦ rw w.self-inside-is (let all = ap length w.in-Some.ensures.items ∙ length-last w.in-Some.number c.pop.new.self.items in omega arith)
-      | in-None+in_ok-reserve-in-None+in_ok-reserve-in-None-2 w ↦ rw (w.self-inside-is, w.reserve-in-None.ensures.items) (let e = ap length (sym w.in-None.ensures.items) in let z = w.in-None.ensures.cases.0 in omega arith)
-    ]
+pub relink-requires-clause-wire : goal.relink-requires-clause-wire
+relink-requires-clause-wire c =
+    let y = c.self.inside in
+    let k = c.self.invariant.keeps in
+    let z : Inside = record { wires = y.wires; records = c.fill.new.records; lines = with_items y.lines c.fill.new.lines; marks = with_items y.marks c.fill.new.marks } in
+    let fi = filled-by y c.deref_mut.result.now c.deref_mut-2.result.now c.fill.new.records c.fill.new.lines c.fill.new.marks 1
+    c.deref_mut.ensures.value c.deref_mut.ensures.len c.deref_mut-2.ensures.len c.deref_mut-2.ensures.value c.fill.ensures.kept c.fill.ensures.most c.fill.ensures.linked c.fill.ensures.words c.fill.ensures.marks in
+    let room : tokens_in (lists_of y) + 1 ≤ MOST_TOKENS = (let h = rw (← c.self.view_is) at c.requires.room in omega arith) in
+    let (order, keeps, same) = filled y z c.self.invariant.order 1 k fi room in
+    let h : c.args.wire < y.wires = rw (← c.self.view_is, wires-are y c.self.invariant.order k) at c.requires.wire in
+    let rows : length z.lines.items ≡ y.wires + 1 = keeps.wires in
+    rw c.deref_mut-4.ensures.value (omega arith)
 
-within : (c : goal.After-push_reserved) → c.args.wire < c.match-pop.self-inside.wires
-within c = rw (← (before c).0) (rw (← c.self.view_is, wires-seen c.self.inside.wires c.self.inside.live.items) at c.requires.wire)
+pub set_client-requires : goal.set_client-requires
+set_client-requires c =
+    let y = c.self.inside in
+    let k = c.self.invariant.keeps in
+    let z : Inside = record { wires = y.wires; records = c.fill.new.records; lines = with_items y.lines c.fill.new.lines; marks = with_items y.marks c.fill.new.marks } in
+    let fi = filled-by y c.deref_mut.result.now c.deref_mut-2.result.now c.fill.new.records c.fill.new.lines c.fill.new.marks 1
+    c.deref_mut.ensures.value c.deref_mut.ensures.len c.deref_mut-2.ensures.len c.deref_mut-2.ensures.value c.fill.ensures.kept c.fill.ensures.most c.fill.ensures.linked c.fill.ensures.words c.fill.ensures.marks in
+    let room : tokens_in (lists_of y) + 1 ≤ MOST_TOKENS = (let h = rw (← c.self.view_is) at c.requires.room in omega arith) in
+    let (order, keeps, same) = filled y z c.self.invariant.order 1 k fi room in
+    let rows = k.wires in
+    let lines : z.lines.items ≡ c.fill.new.lines = with_items_is y.lines c.fill.new.lines (c.fill.ensures.kept.rows ∙ c.deref_mut.ensures.len) in
+    let some : 1 ≤ count_of z.lines.items y.wires = rw lines (let o = c.in_ok-fill.ensures.ok in grind arith) in
+    let (within, free) = free-read z order c.index.result.now keeps some c.index.ensures in
+    let h : c.args.wire < y.wires = rw (← c.self.view_is, wires-are y c.self.invariant.order k) at c.requires.wire in
+    let m = after z c.relink.new.records c.relink.new.lines c.relink.new.marks in
+    let re = relinked-by z c.deref_mut-3.result.now c.deref_mut-4.result.now c.deref_mut-5.result.now c.relink.new.records c.relink.new.lines c.relink.new.marks c.index.result.now.last c.index.result.now.last c.args.wire refl
+    c.deref_mut-3.ensures.value c.deref_mut-4.ensures.value c.deref_mut-3.ensures.len c.deref_mut-4.ensures.len c.deref_mut-5.ensures.len c.deref_mut-5.ensures.value
+    c.relink.ensures.kept c.relink.ensures.linked c.relink.ensures.words c.relink.ensures.marks in
+    let len : length m.records.items ≡ length z.records.items = re.move.len in
+    rw c.deref_mut-6.ensures.value (omega arith)
 
 pub invariant_of-self-2 : goal.invariant_of-self-2
 invariant_of-self-2 c =
-    let z = c.match-pop.self-inside in
-    admitted z (record { wires = z.wires; live = c.push_reserved.new.self; free = z.free }) c.match-pop.number (record { token = c.of-token.result; client = c.args.client; wire = c.args.wire })
-    (numbered c) c.of-token.ensures (within c) refl c.push_reserved.ensures.items c.push_reserved.ensures.capacity refl
+    let y = c.self.inside in
+    let k = c.self.invariant.keeps in
+    let z : Inside = record { wires = y.wires; records = c.fill.new.records; lines = with_items y.lines c.fill.new.lines; marks = with_items y.marks c.fill.new.marks } in
+    let fi = filled-by y c.deref_mut.result.now c.deref_mut-2.result.now c.fill.new.records c.fill.new.lines c.fill.new.marks 1
+    c.deref_mut.ensures.value c.deref_mut.ensures.len c.deref_mut-2.ensures.len c.deref_mut-2.ensures.value c.fill.ensures.kept c.fill.ensures.most c.fill.ensures.linked c.fill.ensures.words c.fill.ensures.marks in
+    let room : tokens_in (lists_of y) + 1 ≤ MOST_TOKENS = (let h = rw (← c.self.view_is) at c.requires.room in omega arith) in
+    let (order, keeps, same) = filled y z c.self.invariant.order 1 k fi room in
+    let rows = k.wires in
+    let lines : z.lines.items ≡ c.fill.new.lines = with_items_is y.lines c.fill.new.lines (c.fill.ensures.kept.rows ∙ c.deref_mut.ensures.len) in
+    let some : 1 ≤ count_of z.lines.items y.wires = rw lines (let o = c.in_ok-fill.ensures.ok in grind arith) in
+    let (within, free) = free-read z order c.index.result.now keeps some c.index.ensures in
+    let h : c.args.wire < y.wires = rw (← c.self.view_is, wires-are y c.self.invariant.order k) at c.requires.wire in
+    let m = after z c.relink.new.records c.relink.new.lines c.relink.new.marks in
+    let re = relinked-by z c.deref_mut-3.result.now c.deref_mut-4.result.now c.deref_mut-5.result.now c.relink.new.records c.relink.new.lines c.relink.new.marks c.index.result.now.last c.index.result.now.last c.args.wire refl
+    c.deref_mut-3.ensures.value c.deref_mut-4.ensures.value c.deref_mut-3.ensures.len c.deref_mut-4.ensures.len c.deref_mut-5.ensures.len c.deref_mut-5.ensures.value
+    c.relink.ensures.kept c.relink.ensures.linked c.relink.ensures.words c.relink.ensures.marks in
+    let na = renamed-by m c.deref_mut-6.result.now c.set_client.new.records c.index.result.now.last c.args.client c.deref_mut-6.ensures.value c.deref_mut-6.ensures.len c.set_client.ensures in
+    let w = with_records m c.set_client.new.records in
+    let at = moved order c.index.result.now.last c.args.wire in
+    record { order = at; keeps = keeps-renamed m w at c.index.result.now.last c.args.client (keeps-relinked z m order c.index.result.now.last c.args.wire keeps re) na }
 
 pub returns-clause-ok : goal.returns-clause-ok
 returns-clause-ok c =
-    let z = c.match-pop.self-inside in
-    rw (← c.self.view_is)
-    (admits-of c.self.inside z (record { wires = z.wires; live = c.push_reserved.new.self; free = z.free }) c.match-pop.number (record { token = c.of-token.result; client = c.args.client; wire = c.args.wire })
-    (numbered c) c.of-token.ensures (within c) (before c).0 (before c).1 refl c.push_reserved.ensures.items (spare c))
+    let y = c.self.inside in
+    let k = c.self.invariant.keeps in
+    let z : Inside = record { wires = y.wires; records = c.fill.new.records; lines = with_items y.lines c.fill.new.lines; marks = with_items y.marks c.fill.new.marks } in
+    let fi = filled-by y c.deref_mut.result.now c.deref_mut-2.result.now c.fill.new.records c.fill.new.lines c.fill.new.marks 1
+    c.deref_mut.ensures.value c.deref_mut.ensures.len c.deref_mut-2.ensures.len c.deref_mut-2.ensures.value c.fill.ensures.kept c.fill.ensures.most c.fill.ensures.linked c.fill.ensures.words c.fill.ensures.marks in
+    let room : tokens_in (lists_of y) + 1 ≤ MOST_TOKENS = (let h = rw (← c.self.view_is) at c.requires.room in omega arith) in
+    let (order, keeps, same) = filled y z c.self.invariant.order 1 k fi room in
+    let rows = k.wires in
+    let lines : z.lines.items ≡ c.fill.new.lines = with_items_is y.lines c.fill.new.lines (c.fill.ensures.kept.rows ∙ c.deref_mut.ensures.len) in
+    let some : 1 ≤ count_of z.lines.items y.wires = rw lines (let o = c.in_ok-fill.ensures.ok in grind arith) in
+    let (within, free) = free-read z order c.index.result.now keeps some c.index.ensures in
+    let h : c.args.wire < y.wires = rw (← c.self.view_is, wires-are y c.self.invariant.order k) at c.requires.wire in
+    let m = after z c.relink.new.records c.relink.new.lines c.relink.new.marks in
+    let re = relinked-by z c.deref_mut-3.result.now c.deref_mut-4.result.now c.deref_mut-5.result.now c.relink.new.records c.relink.new.lines c.relink.new.marks c.index.result.now.last c.index.result.now.last c.args.wire refl
+    c.deref_mut-3.ensures.value c.deref_mut-4.ensures.value c.deref_mut-3.ensures.len c.deref_mut-4.ensures.len c.deref_mut-5.ensures.len c.deref_mut-5.ensures.value
+    c.relink.ensures.kept c.relink.ensures.linked c.relink.ensures.words c.relink.ensures.marks in
+    let na = renamed-by m c.deref_mut-6.result.now c.set_client.new.records c.index.result.now.last c.args.client c.deref_mut-6.ensures.value c.deref_mut-6.ensures.len c.set_client.ensures in
+    let w = with_records m c.set_client.new.records in
+    rw (← c.self.view_is, c.of.ensures)
+    (admits-renamed y z m w c.self.invariant.order order c.index.result.now.last c.args.wire c.args.client k keeps fi same some re na free h)

@@ -1,42 +1,40 @@
-use Rattle.std.proofs.Common.{◌≡◌, ◌∙◌, ◌+◌, ◌-◌, ◌++◌, length, refl, rules, arith, vec_len}
-use Rattle.std.specs.List.{range_with_len}
-use Rattle.std.proofs.lemmas.List.{length-append}
-use Rattle.std.proofs.lemmas.List.FromFn.{length-range_with_len}
-use Rattle.std.proofs.lemmas.Bool.Decides.{nat_tests}
-use Rattle.cn_yard.proofs.Moved.{tokens-seen}
-use Rattle.cn_yard.proofs.Kept.{reserved}
+use Rattle.std.proofs.Common.{◌≤◌, ◌+◌}
+use Rattle.std.specs.Vec.{with_items}
+use Rattle.cn_spec.specs.declared.limits.TheConstants.{MOST_TOKENS}
+use Rattle.cn_yard.specs.Lists.{tokens_in}
+use Rattle.cn_yard.specs.declared.yard.Yard.TheInside.{Inside}
+use Rattle.cn_yard.specs.InsideYard.{lists_of}
+use Rattle.cn_yard.proofs.Bodies.{filled, filled-by, filled-lists}
+use Rattle.cn_yard.proofs.Changes.{tokens-same}
 use Rattle.cn_yard.proofs.yard.Yard.reserve.Goals as goal
 
--- the numbers that are added are the next ones
-numbers : (c : goal.After-push_numbers) → c.push_numbers.new.numbers.items ≡ c.self.inside.free.items ++ range_with_len (length c.self.inside.live.items + length c.self.inside.free.items) (c.args.records - length c.self.inside.free.items)
-numbers c =
+pub invariant_of-self : goal.invariant_of-self
+invariant_of-self c =
     let y = c.self.inside in
-    let used : c.len-used.result ≡ length y.live.items = c.len-used.ensures ∙ search rules in
-    let spare : c.len-spare.result ≡ length y.free.items = c.len-spare.ensures ∙ search rules in
-    let more : (length y.live.items + c.args.records) - (length y.live.items + length y.free.items) ≡ c.args.records - length y.free.items = omega arith in
-    rw (c.reserve-2.ensures.items, used, spare, more) at c.push_numbers.ensures.items
+    let k = c.self.invariant.keeps in
+    let z : Inside = record { wires = y.wires; records = c.fill.new.records; lines = with_items y.lines c.fill.new.lines; marks = with_items y.marks c.fill.new.marks } in
+    let fi = filled-by y c.deref_mut.result.now c.deref_mut-2.result.now c.fill.new.records c.fill.new.lines c.fill.new.marks c.args.records
+    c.deref_mut.ensures.value c.deref_mut.ensures.len c.deref_mut-2.ensures.len c.deref_mut-2.ensures.value c.fill.ensures.kept c.fill.ensures.most c.fill.ensures.linked c.fill.ensures.words c.fill.ensures.marks in
+    let room : tokens_in (lists_of y) + c.args.records ≤ MOST_TOKENS = rw (← c.self.view_is) at c.requires in
+    let (order, keeps, same) = filled y z c.self.invariant.order c.args.records k fi room in
+    record { order = order; keeps = keeps }
 
-pub invariant_of-self-2 : goal.invariant_of-self-2
-invariant_of-self-2 c =
+pub returns-clause-lists : goal.returns-clause-lists
+returns-clause-lists c =
     let y = c.self.inside in
-    let counted : vec_len y.live ≡ length y.live.items = search rules in
-    let counted' : vec_len y.free ≡ length y.free.items = search rules in
-    let few = rw (← c.self.view_is, tokens-seen y.wires y.live.items c.self.invariant.on_wires) at c.requires in
-    let room = c.in_ok-reserve.ensures.ok in
-    let room' = c.in_ok-reserve-2.ensures.ok in
-    let same = c.reserve.ensures.len in
-    let same' = c.reserve-2.ensures.len in
-    let capacity = c.push_numbers.ensures.capacity in
-    let used = c.len-used.ensures in
-    let spare = c.len-spare.ensures in
-    let more = c.if-records-spare.false in
-    reserved y (record { wires = y.wires; live = c.reserve.new.self; free = c.push_numbers.new.numbers }) (c.args.records - length y.free.items) c.self.invariant refl c.reserve.ensures.items (numbers c)
-    (grind arith) (grind arith) (grind arith)
+    let k = c.self.invariant.keeps in
+    let z : Inside = record { wires = y.wires; records = c.fill.new.records; lines = with_items y.lines c.fill.new.lines; marks = with_items y.marks c.fill.new.marks } in
+    let fi = filled-by y c.deref_mut.result.now c.deref_mut-2.result.now c.fill.new.records c.fill.new.lines c.fill.new.marks c.args.records
+    c.deref_mut.ensures.value c.deref_mut.ensures.len c.deref_mut-2.ensures.len c.deref_mut-2.ensures.value c.fill.ensures.kept c.fill.ensures.most c.fill.ensures.linked c.fill.ensures.words c.fill.ensures.marks in
+    let room : tokens_in (lists_of y) + c.args.records ≤ MOST_TOKENS = rw (← c.self.view_is) at c.requires in
+    rw (← c.self.view_is) (filled-lists y z c.self.invariant.order c.args.records k fi room)
 
-pub returns-clause-ok : goal.returns-clause-ok
-returns-clause-ok c =
+pub returns-clause-tokens : goal.returns-clause-tokens
+returns-clause-tokens c =
     let y = c.self.inside in
-    let n = c.args.records - length y.free.items in
-    let spare : c.len-spare.result ≡ length y.free.items = c.len-spare.ensures ∙ search rules in
-    let more = c.if-records-spare.false in
-    rw (← c.self.view_is, numbers c, length-append y.free.items (range_with_len (length y.live.items + length y.free.items) n), length-range_with_len (length y.live.items + length y.free.items) n) (grind (arith, nat_tests))
+    let k = c.self.invariant.keeps in
+    let z : Inside = record { wires = y.wires; records = c.fill.new.records; lines = with_items y.lines c.fill.new.lines; marks = with_items y.marks c.fill.new.marks } in
+    let fi = filled-by y c.deref_mut.result.now c.deref_mut-2.result.now c.fill.new.records c.fill.new.lines c.fill.new.marks c.args.records
+    c.deref_mut.ensures.value c.deref_mut.ensures.len c.deref_mut-2.ensures.len c.deref_mut-2.ensures.value c.fill.ensures.kept c.fill.ensures.most c.fill.ensures.linked c.fill.ensures.words c.fill.ensures.marks in
+    let room : tokens_in (lists_of y) + c.args.records ≤ MOST_TOKENS = rw (← c.self.view_is) at c.requires in
+    rw (← c.self.view_is) (tokens-same (lists_of y) (lists_of z) (filled-lists y z c.self.invariant.order c.args.records k fi room))

@@ -1,0 +1,37 @@
+use Rattle.std.proofs.Common.{◌≡◌, length, ◌∙◌, arith, true, rules}
+use Rattle.std.proofs.lemmas.Bool.Decides.{nat_tests}
+use Rattle.std.proofs.lemmas.List.{take_at}
+use Rattle.cn_yard.proofs.AllLines.{added, added-kept, count-le, marks-one, new-one}
+use Rattle.cn_yard.proofs.moves.add.Goals as goal
+
+pub append-requires-clause-count : goal.append-requires-clause-count
+append-requires-clause-count c =
+    let (order, is) = c.requires.linked in
+    let most = count-le c.args.records.now.items c.args.lines.now order is c.args.wire c.requires.wire in
+    let few = c.requires.few in
+    omega arith
+
+pub append-requires-clause-linked : goal.append-requires-clause-linked
+append-requires-clause-linked c =
+    let (order, is) = c.requires.linked in
+    let t = new-one c.args.records.now.items c.args.lines.now order (record { prev = 0; next = 0; wire = c.args.wire; client = 0 }) is in
+    let number : c.len-number.result ≡ length c.args.records.now.items = c.len-number.ensures ∙ search rules in
+    rw (c.deref_mut.ensures.value, c.push_reserved.ensures.items, number) (order, t.linked, t.off)
+
+pub returns-clause-linked : goal.returns-clause-linked
+returns-clause-linked c order is =
+    let number : c.len-number.result ≡ length c.args.records.now.items = c.len-number.ensures ∙ search rules in
+    rw (take_at c.append.new.records _ c.push_reserved.new.self.len (c.append.ensures.kept.len ∙ c.deref_mut.ensures.len))
+    (added c.args.records.now.items c.args.lines.now c.deref_mut.result.now c.append.new.records c.append.new.lines order (record { prev = 0; next = 0; wire = c.args.wire; client = 0 }) c.len-number.result c.args.wire
+    is (c.deref_mut.ensures.value ∙ c.push_reserved.ensures.items) number c.requires.wire c.append.ensures.kept (c.append.ensures.linked order))
+
+pub returns-clause-kept : goal.returns-clause-kept
+returns-clause-kept c =
+    rw (take_at c.append.new.records _ c.push_reserved.new.self.len (c.append.ensures.kept.len ∙ c.deref_mut.ensures.len))
+    (added-kept c.args.records.now.items c.args.lines.now c.deref_mut.result.now c.append.new.records c.append.new.lines (record { prev = 0; next = 0; wire = c.args.wire; client = 0 }) c.len-number.result c.args.wire
+    (c.deref_mut.ensures.value ∙ c.push_reserved.ensures.items) c.append.ensures.kept)
+
+pub returns-clause-marks : goal.returns-clause-marks
+returns-clause-marks c =
+    marks-one c.args.lines.now c.append.new.lines c.args.marks.now c.mark.new.words c.args.wire true
+    c.requires.marks c.mark.ensures.marks c.append.ensures.kept.rows (λ u o. let k = c.append.ensures.kept.count u in grind (arith, nat_tests)) (let k = c.append.ensures.kept.count c.args.wire in grind (arith, nat_tests))
