@@ -105,7 +105,7 @@ lists-same y z order order' k k' wires same clients =
     (λ u h. let l : u < y.wires = omega (arith, rows', wires) in
     on-wire z order' k' u (omega (arith, wires))
     ∙ ap (λ xs. with_clients (client_of z.records.items) xs) (same u (λ e. absurd (omega arith)))
-    ∙ clients-same (client_of y.records.items) (client_of z.records.items) (order u) (λ n i. clients n (k.links.linked.below n u (omega arith) i))
+    ∙ clients-same (client_of y.records.items) (client_of z.records.items) (order u) (λ n i. clients n (k.lined.links.linked.below n u (omega arith) i))
     ∙ sym (on-wire y order k u l))
 
 pub tokens-same : (old new : Lists) → new ≡ old → tokens_in new ≡ tokens_in old
@@ -146,7 +146,7 @@ admits-of x y z order order' t to i k k' wires wires' same clients h free len co
     lists u = elim (cases_lt u x.wires) [
       | inl l ↦
           let rows = k.wires in
-          let once = k.links.linked.once t u (omega (arith, wires)) in
+          let once = k.lined.links.linked.once t u (omega (arith, wires)) in
           let none : times t (order' u) ≡ 0 = grind (arith, nat_tests) in
           let l' : u < y.wires = omega (arith, wires) in
           let at = on-wire y order' k u l' in

@@ -14,8 +14,7 @@ use Rattle.cn_yard.specs.Lines.{Ends, count_of, line_of, no_line}
 use Rattle.cn_yard.specs.Records.{client_of, next_of, no_record, prev_of, wire_of}
 use Rattle.cn_yard.specs.Marks.{marked}
 use Rattle.cn_yard.specs.InsideYard.{Keeps, with_clients, lists_of}
-use Rattle.cn_yard.proofs.Wires.{after-clients, length-on, live, on-beyond, on-wire, standing-live, times-most}
-use Rattle.cn_yard.proofs.There.{there}
+use Rattle.cn_yard.proofs.Wires.{after-clients, length-on, live, on-beyond, on-wire, standing-live, there-live}
 
 module _ (y : Inside) (order : ℕ → List ℕ) (k : Keeps y order) where
   line-read : (u : ℕ) (line : Line) → u ≤ y.wires → line ≡ get_or y.lines.items u line → line ≡ line_of y.lines.items u
@@ -28,7 +27,7 @@ module _ (y : Inside) (order : ℕ → List ℕ) (k : Keeps y order) where
   first-told u line h at =
       let w = k.wires in
       let e = line-read u line (omega arith) at in
-      rw (on-wire y order k u h) (by line (order u) (subst (λ (l : Line). Ends l (order u)) (sym e) (k.links.linked.ends u (omega arith))))
+      rw (on-wire y order k u h) (by line (order u) (subst (λ (l : Line). Ends l (order u)) (sym e) (k.lined.links.linked.ends u (omega arith))))
     where
       by : (line : Line) (xs : List ℕ) → Ends line xs → first_of (with_clients (client_of y.records.items) xs) ≡ cond (eqb line.count 0) None (Some line.first)
       by line [] e = let c = e.count in let f : eqb line.count 0 ≡ true = grind (arith, nat_tests) in rw f refl
@@ -42,9 +41,11 @@ module _ (y : Inside) (order : ℕ → List ℕ) (k : Keeps y order) where
       let (h, on') = live y order k t stands in
       standing-live y order k t h on' ∙ ap (λ (s : Record). Some (s.wire, s.client)) (sym (record-told t r h at))
 
-  -- a token stands where its record says
+  -- a token is where its record says
   pub there-told : (t : ℕ) (r : Record) → IsSome (standing (lists_of y) t) → r ≡ get_or y.records.items t r → IsThere (lists_of y) t r.client r.wire
-  there-told t r stands at = there (lists_of y) t r.client r.wire (times-most y order k t) (stands-told t r stands at)
+  there-told t r stands at =
+      let (h, on') = live y order k t stands in
+      rw (record-told t r h at) (there-live y order k t stands)
 
   pub wire-told : (t : ℕ) (r : Record) → IsSome (standing (lists_of y) t) → r ≡ get_or y.records.items t r → r.wire < y.wires
   wire-told t r stands at =
@@ -73,10 +74,10 @@ module _ (y : Inside) (order : ℕ → List ℕ) (k : Keeps y order) where
       let same : wire ≡ r.wire = first-of-pair (sym is ∙ stands-told t r stands at) in
       let same' : r.wire ≡ w = ap (λ (s : Record). s.wire) e in
       let l = line-read r.wire line (omega arith) line_at in
-      let ends = k.links.linked.ends r.wire (omega arith) in
+      let ends = k.lined.links.linked.ends r.wire (omega arith) in
       let last : last_or line.last (order r.wire) ≡ line.last = subst (λ (l : Line). last_or l.last (order r.wire) ≡ l.last) (sym l) ends.last in
-      let one : times t (order r.wire) ≡ 1 = rw same' (k.links.there t h) in
-      let all = after-clients (next_of y.records.items) (prev_of y.records.items) (client_of y.records.items) t line.last (order r.wire) (k.links.linked.chain r.wire (omega arith)) one in
+      let one : times t (order r.wire) ≡ 1 = rw same' (k.lined.links.there t h) in
+      let all = after-clients (next_of y.records.items) (prev_of y.records.items) (client_of y.records.items) t line.last (order r.wire) (k.lined.links.linked.chain r.wire (omega arith)) one in
       let next : next_of y.records.items t ≡ r.next = ap (λ (s : Record). s.next) (sym e) in
       rw (same, on-wire y order k r.wire within) (all ∙ rw (last, next) refl)
     where
@@ -87,14 +88,14 @@ module _ (y : Inside) (order : ℕ → List ℕ) (k : Keeps y order) where
 
   nobody : (u : ℕ) → (u < y.wires → marked y.marks.items u ≡ 0) → on (lists_of y) u ≡ []
   nobody u none = elim (cases_lt u y.wires) [
-    | inl l ↦ let rows = k.wires in let m = k.marks u (omega arith) in let z = none l in
+    | inl l ↦ let rows = k.wires in let m = k.lined.marks u (omega arith) in let z = none l in
         nil_from_length (on (lists_of y) u) (length-on y order k u l ∙ (grind (arith, nat_tests)))
     | inr l ↦ on-beyond y order k u l
   ]
 
   pub lowest-told : (wire : ℕ) → wire < y.wires → (marked y.marks.items wire ≡ 1) × ((n : ℕ) → n < wire → marked y.marks.items n ≡ 0) → IsLowest (lists_of y) wire
   lowest-told wire h (one, lower) = record {
-    some = let rows = k.wires in let m = k.marks wire (omega arith) in rw (length-on y order k wire h) (grind (arith, nat_tests));
+    some = let rows = k.wires in let m = k.lined.marks wire (omega arith) in rw (length-on y order k wire h) (grind (arith, nat_tests));
     below = λ u l. nobody u (λ _. lower u l);
   }
 

@@ -11,7 +11,8 @@ use Rattle.std.proofs.lemmas.List.FromFn.{get_or-map-range_with_len, length-rang
 use Rattle.cn_spec.specs.Sums.{sum_below, times}
 use Rattle.cn_spec.proofs.CallerLemmas.{times-cons, times-nil, sum_below-same}
 use Rattle.cn_yard.specs.declared.yard.Yard.TheInside.{Inside}
-use Rattle.cn_yard.specs.Lists.{after, last_on, on, standing, times_in, tokens_in, without}
+use Rattle.cn_yard.proofs.There.{there}
+use Rattle.cn_yard.specs.Lists.{IsThere, after, last_on, on, standing, times_in, tokens_in, without}
 use Rattle.cn_yard.specs.Chains.{Chain, but, last_of, last_or, moved}
 use Rattle.cn_yard.specs.Lines.{count_of, line_of}
 use Rattle.cn_yard.specs.Records.{client_of, next_of, prev_of, wire_of}
@@ -104,8 +105,8 @@ sum-last n f = let e : n + 1 ≡ suc n = omega arith in rw e refl
 module _ (y : Inside) (order : ℕ → List ℕ) (k : Keeps y order) where
   pub walked-is : (u : ℕ) → u < length y.lines.items → walked y.records.items y.lines.items u ≡ order u
   walked-is u h =
-      let e = k.links.linked.ends u h in
-      rw (e.count, ← e.first) (walk-chain (next_of y.records.items) (prev_of y.records.items) (line_of y.lines.items u).first (order u) (k.links.linked.chain u h))
+      let e = k.lined.links.linked.ends u h in
+      rw (e.count, ← e.first) (walk-chain (next_of y.records.items) (prev_of y.records.items) (line_of y.lines.items u).first (order u) (k.lined.links.linked.chain u h))
 
   pub wires-are : length (lists_of y) ≡ y.wires
   wires-are = length-map (range_with_len 0 y.wires) (λ u. with_clients (client_of y.records.items) (walked y.records.items y.lines.items u)) ∙ length-range_with_len 0 y.wires
@@ -119,14 +120,14 @@ module _ (y : Inside) (order : ℕ → List ℕ) (k : Keeps y order) where
   on-beyond u h = get_or_past (lists_of y) u [] (omega (arith, wires-are))
 
   pub length-on : (u : ℕ) → u < y.wires → length (on (lists_of y) u) ≡ count_of y.lines.items u
-  length-on u h = ap length (on-wire u h) ∙ length-map (order u) (λ n. (n, client_of y.records.items n)) ∙ sym (k.links.linked.ends u (let w = k.wires in omega arith)).count
+  length-on u h = ap length (on-wire u h) ∙ length-map (order u) (λ n. (n, client_of y.records.items n)) ∙ sym (k.lined.links.linked.ends u (let w = k.wires in omega arith)).count
 
   -- all records are tokens or free
   pub tokens-are : tokens_in (lists_of y) + count_of y.lines.items y.wires ≡ length y.records.items
   tokens-are =
       let w = k.wires in
-      let free = (k.links.linked.ends y.wires (omega arith)).count in
-      let all : sum_below (y.wires + 1) (λ u. length (order u)) ≡ length y.records.items = rw w at k.links.all in
+      let free = (k.lined.links.linked.ends y.wires (omega arith)).count in
+      let all : sum_below (y.wires + 1) (λ u. length (order u)) ≡ length y.records.items = rw w at k.lined.links.all in
       let last = sum-last y.wires (λ u. length (order u)) in
       let same = sum_below-same y.wires (λ u. length (on (lists_of y) u)) (λ u. length (order u)) (λ u h. ap length (on-wire u h) ∙ length-map (order u) (λ n. (n, client_of y.records.items n))) in
       rw wires-are (omega arith)
@@ -134,7 +135,7 @@ module _ (y : Inside) (order : ℕ → List ℕ) (k : Keeps y order) where
   pub times-most : (t : ℕ) → times_in (lists_of y) t ≤ 1
   times-most t =
       let most = sum-once y.wires (wire_of y.records.items t) (λ u. count_by (λ e. nat_eq t e.0) (on (lists_of y) u))
-      (λ u h. rw (on-wire u h, times-clients (client_of y.records.items) t (order u)) (k.links.linked.once t u (let w = k.wires in omega arith))) in
+      (λ u h. rw (on-wire u h, times-clients (client_of y.records.items) t (order u)) (k.lined.links.linked.once t u (let w = k.wires in omega arith))) in
       rw wires-are (grind (arith, nat_tests))
 
   -- ---- who stands where
@@ -149,22 +150,22 @@ module _ (y : Inside) (order : ℕ → List ℕ) (k : Keeps y order) where
   pub standing-live : (t : ℕ) → t < length y.records.items → wire_of y.records.items t < y.wires → standing (lists_of y) t ≡ Some (wire_of y.records.items t, client_of y.records.items t)
   standing-live t h on_wire =
       let w = wire_of y.records.items t in
-      let one = k.links.there t h in
+      let one = k.lined.links.there t h in
       let rows = k.wires in
       standing-only (length (lists_of y)) (lists_of y) t w (client_of y.records.items t) (omega (arith, wires-are))
       (rw (on-wire w on_wire) (lookup-in (client_of y.records.items) t (order w) (omega arith)))
-      (λ u o. lookup-none t u (λ l. let once = k.links.linked.once t u (omega arith) in grind (arith, nat_tests)))
+      (λ u o. lookup-none t u (λ l. let once = k.lined.links.linked.once t u (omega arith) in grind (arith, nat_tests)))
 
   pub standing-free : (t : ℕ) → y.wires ≤ wire_of y.records.items t → standing (lists_of y) t ≡ None
   standing-free t free =
       let rows = k.wires in
-      standing-none (length (lists_of y)) (lists_of y) t (λ u h. lookup-none t u (λ l. let once = k.links.linked.once t u (omega arith) in grind (arith, nat_tests)))
+      standing-none (length (lists_of y)) (lists_of y) t (λ u h. lookup-none t u (λ l. let once = k.lined.links.linked.once t u (omega arith) in grind (arith, nat_tests)))
 
   pub standing-past : (t : ℕ) → length y.records.items ≤ t → standing (lists_of y) t ≡ None
   standing-past t past =
       let rows = k.wires in
       standing-none (length (lists_of y)) (lists_of y) t (λ u h. lookup-none t u (λ l. elim (cases_lt 0 (times t (order u))) [
-        | inl s ↦ absurd (let b = k.links.linked.below t u (omega arith) (omega arith) in omega arith)
+        | inl s ↦ absurd (let b = k.lined.links.linked.below t u (omega arith) (omega arith) in omega arith)
         | inr s ↦ omega arith
       ]))
 
@@ -178,6 +179,12 @@ module _ (y : Inside) (order : ℕ → List ℕ) (k : Keeps y order) where
         ]
       ]
 
+  -- a token that stands there stands where its record says
+  pub there-live : (t : ℕ) → IsSome (standing (lists_of y) t) → IsThere (lists_of y) t (client_of y.records.items t) (wire_of y.records.items t)
+  there-live t stands =
+      let (h, on_wire) = live t stands in
+      there (lists_of y) t (client_of y.records.items t) (wire_of y.records.items t) (times-most t) (standing-live t h on_wire)
+
 -- ---- a yard after a move
 
 pub on-moved : (y z : Inside) (order : ℕ → List ℕ) (t to : ℕ) → Keeps y order → Keeps z (moved order t to) → z.wires ≡ y.wires → ((n : ℕ) → n < length y.records.items → n ≢ t → client_of z.records.items n ≡ client_of y.records.items n)
@@ -187,7 +194,7 @@ on-moved y z order t to k k' wires same u h =
     let client = client_of y.records.items in
     let client' = client_of z.records.items in
     let kept = clients-same client client' (but t (order u)) (λ n i. let b = times-but n t (order u) in let o : n ≢ t = λ e. absurd (grind (arith, nat_tests)) in
-    same n (k.links.linked.below n u (omega arith) (grind (arith, nat_tests))) o) in
+    same n (k.lined.links.linked.below n u (omega arith) (grind (arith, nat_tests))) o) in
     on-wire z (moved order t to) k' u (omega (arith, wires))
     ∙ map-append (λ n. (n, client' n)) (but t (order u)) (last_of t to u)
     ∙ ap (λ es. es ++ with_clients client' (last_of t to u)) (kept ∙ sym (without-clients client t (order u)) ∙ ap (λ es. without t es) (sym (on-wire y order k u h)))

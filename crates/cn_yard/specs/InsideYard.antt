@@ -1,14 +1,13 @@
 -- What a yard holds.
-use Rattle.std.specs.Prelude.{◌≡◌, ℕ, ◌+◌, ◌*◌, ◌^◌, ◌<◌, ◌≤◌, List, length, map}
+use Rattle.std.specs.Prelude.{◌≡◌, ℕ, ◌+◌, List, length, map}
 use Rattle.std.specs.List.{range_with_len}
-use Rattle.cn_spec.specs.declared.limits.TheConstants.{MOST_TOKENS}
 use Rattle.cn_yard.specs.declared.records.Record.{Record}
 use Rattle.cn_yard.specs.declared.lines.Line.{Line}
 use Rattle.cn_yard.specs.declared.yard.Yard.TheInside.{Inside}
 use Rattle.cn_yard.specs.Chains.{walk}
 use Rattle.cn_yard.specs.Lines.{count_of, line_of}
 use Rattle.cn_yard.specs.Records.{client_of, next_of}
-use Rattle.cn_yard.specs.Moving.{HasMarks, IsLinks}
+use Rattle.cn_yard.specs.Moving.{IsLined}
 use Rattle.cn_yard.specs.Lists.{Lists, Yard}
 
 -- numbers, each with its client
@@ -29,15 +28,13 @@ lists_of y =
 abbrev pub yard_of : Inside → Yard
 yard_of y = record { lists = lists_of y; spare = count_of y.lines.items y.wires }
 
--- what a yard's records and lines keep, with the numbers of each line from first to last
+-- what a yard's records and lines keep, with the numbers of each line from first to last: the last line is that of the
+-- free records
 pub record Keeps (y : Inside) (order : ℕ → List ℕ) : Type 0 where
-  pub links : IsLinks y.records.items y.lines.items order
+  pub lined : IsLined y.records.items y.lines.items y.marks.items order
   pub wires : length y.lines.items ≡ y.wires + 1
-  pub few : length y.records.items ≤ MOST_TOKENS
-  pub words : length y.lines.items ≤ 64 * length y.marks.items
-  pub short : length y.marks.items < 2 ^ 32
-  pub marks : HasMarks y.lines.items y.marks.items
 
+-- some lists of numbers are those of the lines
 pub record IsYard (y : Inside) : Type 0 where
   pub order : ℕ → List ℕ
   pub keeps : Keeps y order

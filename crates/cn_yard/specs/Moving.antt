@@ -1,6 +1,7 @@
 -- Records that move from line to line.
-use Rattle.std.specs.Prelude.{◌≡◌, ◌≢◌, ℕ, ◌+◌, ◌<◌, ◌≤◌, ◌==◌, nat_lt, if◌then◌else◌, List, length}
+use Rattle.std.specs.Prelude.{◌≡◌, ◌≢◌, ℕ, ◌+◌, ◌*◌, ◌^◌, ◌<◌, ◌≤◌, ◌==◌, nat_lt, if◌then◌else◌, List, length}
 use Rattle.cn_spec.specs.Sums.{sum_below, times, when}
+use Rattle.cn_spec.specs.declared.limits.TheConstants.{MOST_TOKENS}
 use Rattle.cn_yard.specs.declared.records.Record.{Record}
 use Rattle.cn_yard.specs.declared.lines.Line.{Line}
 use Rattle.cn_yard.specs.Lines.{Linked, count_of}
@@ -18,6 +19,15 @@ pub record IsLinks (records : List Record) (lines : List Line) (order : ℕ → 
 abbrev pub HasMarks : List Line → List ℕ → Type 0
 HasMarks lines words =
     (u : ℕ) → u < length lines → marked words u ≡ when (nat_lt 0 (count_of lines u)) 1
+
+-- records on lines, with the marks of the lines on which any stand
+pub record IsLined (records : List Record) (lines : List Line) (words : List ℕ)
+    (order : ℕ → List ℕ) : Type 0 where
+  pub links : IsLinks records lines order
+  pub few : length records ≤ MOST_TOKENS
+  pub marks : HasMarks lines words
+  pub room : length lines ≤ 64 * length words
+  pub short : length words < 2 ^ 32
 
 -- what a move leaves
 pub record IsMove (records : List Record) (lines : List Line) (records' : List Record) (lines' : List Line)
@@ -50,6 +60,7 @@ abbrev pub SameBut : ℕ → (ℕ → List ℕ) → (ℕ → List ℕ) → Type 
 SameBut to order order' = (u : ℕ) → u ≢ to → order' u ≡ order u
 
 -- the other lines run through the lists through which they ran
-abbrev pub Fills : List Record → List Line → List Record → List Line → ℕ → Type 0
-Fills records lines records' lines' to = (order : ℕ → List ℕ) → IsLinks records lines order
-    → (order' : ℕ → List ℕ) × IsLinks records' lines' order' × SameBut to order order'
+abbrev pub Fills : List Record → List Line → List ℕ → List Record → List Line → List ℕ → ℕ → Type 0
+Fills records lines words records' lines' words' to = (order : ℕ → List ℕ)
+    → IsLined records lines words order
+    → (order' : ℕ → List ℕ) × IsLined records' lines' words' order' × SameBut to order order'

@@ -1,9 +1,10 @@
 //! Records that move from line to line, with the marks of the lines on which any stand.
 
-ghost use Rattle.std.specs.Prelude.{◌≡◌, ℕ, ◌+◌, ◌*◌, ◌^◌, ◌<◌, ◌≤◌, ◌-◌, List, length, max, vec_capacity, vec_len, IsOk, OnErr, OnOk};
+ghost use Rattle.std.specs.Prelude.{◌≡◌, ℕ, ◌+◌, ◌<◌, ◌≤◌, ◌-◌, List, length, max, vec_capacity, vec_len, IsOk, OnErr, OnOk};
+ghost use Rattle.cn_spec.specs.declared.limits.TheConstants.{MOST_TOKENS};
 ghost use Rattle.cn_yard.specs.Chains.{moved, put_last};
 ghost use Rattle.cn_yard.specs.Lines.{count_of};
-ghost use Rattle.cn_yard.specs.Moving.{Fills, HasMarks, IsAdded, IsLinks, IsMore, IsMove};
+ghost use Rattle.cn_yard.specs.Moving.{Fills, IsAdded, IsLined, IsMore, IsMove};
 
 use crate::lines::{Line, append, unlink};
 use crate::marks::mark;
@@ -20,15 +21,11 @@ pub(crate) fn relink(
 )
     requires number { number < length records.old }
     requires wire { wire < length lines.old }
-    requires few { length records.old + 1 < 2 ^ 32 }
-    requires linked { (order : ℕ → List ℕ) × IsLinks records.old lines.old order }
-    requires words { length lines.old ≤ 64 * length marks.old }
-    requires marks { HasMarks lines.old marks.old }
-    ensures linked { (order : ℕ → List ℕ) → IsLinks records.old lines.old order
-        → IsLinks records.new lines.new (moved order number wire) }
+    requires lined { (order : ℕ → List ℕ) × IsLined records.old lines.old marks.old order }
+    ensures lined { (order : ℕ → List ℕ) → IsLined records.old lines.old marks.old order
+        → IsLined records.new lines.new marks.new (moved order number wire) }
     ensures kept { IsMove records.old lines.old records.new lines.new number wire }
     ensures words { length marks.new ≡ length marks.old }
-    ensures marks { HasMarks lines.new marks.new }
 {
     let from = records[number as usize].wire;
     unlink(records, lines, number);
@@ -42,16 +39,13 @@ pub(crate) fn relink(
 fn add(records: &mut Vec<Record>, lines: &mut [Line], marks: &mut [u64], wire: u32)
     requires room { vec_len records.old < vec_capacity records.old }
     requires wire { wire < length lines.old }
-    requires few { length records.old.items + 1 < 2 ^ 32 }
-    requires linked { (order : ℕ → List ℕ) × IsLinks records.old.items lines.old order }
-    requires words { length lines.old ≤ 64 * length marks.old }
-    requires marks { HasMarks lines.old marks.old }
-    ensures linked { (order : ℕ → List ℕ) → IsLinks records.old.items lines.old order
-        → IsLinks records.new.items lines.new (put_last order (length records.old.items) wire) }
+    requires few { length records.old.items < MOST_TOKENS }
+    requires lined { (order : ℕ → List ℕ) × IsLined records.old.items lines.old marks.old order }
+    ensures lined { (order : ℕ → List ℕ) → IsLined records.old.items lines.old marks.old order
+        → IsLined records.new.items lines.new marks.new (put_last order (length records.old.items) wire) }
     ensures kept { IsAdded records.old.items lines.old records.new.items lines.new wire }
     ensures capacity { vec_capacity records.new ≡ vec_capacity records.old }
     ensures words { length marks.new ≡ length marks.old }
-    ensures marks { HasMarks lines.new marks.new }
 {
     let number = records.len() as u32;
     records.push_reserved(Record {
@@ -76,15 +70,12 @@ fn add_all(
     requires order { from ≤ to }
     requires room { vec_len records.old + (to - from) ≤ vec_capacity records.old }
     requires wire { wire < length lines.old }
-    requires few { length records.old.items + (to - from) + 1 < 2 ^ 32 }
-    requires linked { (order : ℕ → List ℕ) × IsLinks records.old.items lines.old order }
-    requires words { length lines.old ≤ 64 * length marks.old }
-    requires marks { HasMarks lines.old marks.old }
-    ensures linked { Fills records.old.items lines.old records.new.items lines.new wire }
+    requires few { length records.old.items + (to - from) ≤ MOST_TOKENS }
+    requires lined { (order : ℕ → List ℕ) × IsLined records.old.items lines.old marks.old order }
+    ensures lined { Fills records.old.items lines.old marks.old records.new.items lines.new marks.new wire }
     ensures kept { IsMore records.old.items lines.old records.new.items lines.new wire }
     ensures count { count_of lines.new wire ≡ count_of lines.old wire + (to - from) }
     ensures words { length marks.new ≡ length marks.old }
-    ensures marks { HasMarks lines.new marks.new }
 {
     for _ in from..to {
         add(records, lines, marks, wire);
@@ -103,19 +94,15 @@ pub(crate) fn fill(
     wanted: u32,
 ) -> Result<(), AllocError>
     requires wire { wire < length lines.old }
-    requires few { length records.old.items + (wanted - count_of lines.old wire) + 1 < 2 ^ 32 }
-    requires linked { (order : ℕ → List ℕ) × IsLinks records.old.items lines.old order }
-    requires words { length lines.old ≤ 64 * length marks.old }
-    requires marks { HasMarks lines.old marks.old }
-    ensures linked { Fills records.old.items lines.old records.new.items lines.new wire }
+    requires few { length records.old.items + (wanted - count_of lines.old wire) ≤ MOST_TOKENS }
+    requires lined { (order : ℕ → List ℕ) × IsLined records.old.items lines.old marks.old order }
+    ensures lined { Fills records.old.items lines.old marks.old records.new.items lines.new marks.new wire }
     ensures kept { IsMore records.old.items lines.old records.new.items lines.new wire }
-    ensures most { count_of lines.new wire ≤ max wanted (count_of lines.old wire) }
+    ensures words { length marks.new ≡ length marks.old }
     ensures ok { OnOk result (count_of lines.new wire ≡ max wanted (count_of lines.old wire)) }
     ensures records { OnErr result (records.new.items ≡ records.old.items) }
     ensures lines { OnErr result (lines.new ≡ lines.old) }
     ensures enough { wanted ≤ count_of lines.old wire → IsOk result }
-    ensures words { length marks.new ≡ length marks.old }
-    ensures marks { HasMarks lines.new marks.new }
 {
     let count = lines[wire as usize].count;
     if wanted <= count {

@@ -17,6 +17,21 @@ add-requires-clause-room c =
     let old : vec_len c.args.records.now ≡ length c.args.records.now.items = search rules in
     omega arith
 
+pub add-requires-clause-few : goal.add-requires-clause-few
+add-requires-clause-few c =
+    let len = c.loop.invariant.kept.len in
+    let count = c.loop.invariant.count in
+    let few = c.requires.few in
+    let test = c.loop-test.true in
+    let from = c.loop.auto.counter in
+    omega arith
+
+pub add-requires-clause-lined : goal.add-requires-clause-lined
+add-requires-clause-lined c =
+    let (order, lined) = c.requires.lined in
+    let (order', lined', same) = c.loop.invariant.lined order lined in
+    (order', lined')
+
 pub loop-preserved : goal.loop-preserved
 loop-preserved c =
     let inv = c.loop.invariant in
@@ -24,12 +39,11 @@ loop-preserved c =
     let from = c.loop.auto.counter in
     let count = inv.count in
     record {
-      linked = λ order is.
-          let (order', is', same) = inv.linked order is in
-          (put_last order' (length c.loop.records.items) c.args.wire, c.add.ensures.linked order' is', same-put c.args.wire (length c.loop.records.items) order order' same);
+      lined = λ order lined.
+          let (order', lined', same) = inv.lined order lined in
+          (put_last order' (length c.loop.records.items) c.args.wire, c.add.ensures.lined order' lined', same-put c.args.wire (length c.loop.records.items) order order' same);
       kept = more-add c.args.records.now.items c.args.lines.now c.loop.records.items c.loop.lines c.add.new.records.items c.add.new.lines c.args.wire inv.kept c.add.ensures.kept;
       count = grind (arith, nat_tests);
       words = c.add.ensures.words ∙ inv.words;
-      marks = c.add.ensures.marks;
       capacity = c.add.ensures.capacity ∙ inv.capacity;
     }

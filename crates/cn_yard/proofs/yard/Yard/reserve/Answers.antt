@@ -1,40 +1,38 @@
-use Rattle.std.proofs.Common.{◌≤◌, ◌+◌}
-use Rattle.std.specs.Vec.{with_items}
-use Rattle.cn_spec.specs.declared.limits.TheConstants.{MOST_TOKENS}
-use Rattle.cn_yard.specs.Lists.{tokens_in}
-use Rattle.cn_yard.specs.declared.yard.Yard.TheInside.{Inside}
+use Rattle.std.proofs.Common.{◌≡◌}
 use Rattle.cn_yard.specs.InsideYard.{lists_of}
-use Rattle.cn_yard.proofs.Bodies.{filled, filled-by, filled-lists}
+use Rattle.cn_yard.proofs.Bodies.{Filled, after-fill, filled, filled-by, filled-lists, room-for}
 use Rattle.cn_yard.proofs.Changes.{tokens-same}
+use Rattle.cn_yard.proofs.yard.Yard.reserve.Goals.{After-fill}
 use Rattle.cn_yard.proofs.yard.Yard.reserve.Goals as goal
+
+pub fill-requires-clause-few : goal.fill-requires-clause-few
+fill-requires-clause-few c =
+    rw (c.deref_mut.ensures.value) (room-for c.self.inside c.self.invariant.order c.args.records c.self.invariant.keeps (rw (← c.self.view_is) at c.requires))
+
+pub fill-requires-clause-lined : goal.fill-requires-clause-lined
+fill-requires-clause-lined c =
+    rw (c.deref_mut.ensures.value, c.deref_mut-2.ensures.value) (c.self.invariant.order, c.self.invariant.keeps.lined)
+
+more : (c : After-fill) → Filled c.self.inside (after-fill c.self.inside c.fill.new.records c.fill.new.lines c.fill.new.marks)
+more c =
+    filled-by c.self.inside c.deref_mut.result.now c.deref_mut-2.result.now c.fill.new.records c.fill.new.lines c.fill.new.marks
+    c.deref_mut.ensures.value c.deref_mut-2.ensures.value c.deref_mut.ensures.len c.deref_mut-2.ensures.len c.fill.ensures.kept c.fill.ensures.lined c.fill.ensures.words
 
 pub invariant_of-self : goal.invariant_of-self
 invariant_of-self c =
     let y = c.self.inside in
-    let k = c.self.invariant.keeps in
-    let z : Inside = record { wires = y.wires; records = c.fill.new.records; lines = with_items y.lines c.fill.new.lines; marks = with_items y.marks c.fill.new.marks } in
-    let fi = filled-by y c.deref_mut.result.now c.deref_mut-2.result.now c.fill.new.records c.fill.new.lines c.fill.new.marks c.args.records
-    c.deref_mut.ensures.value c.deref_mut.ensures.len c.deref_mut-2.ensures.len c.deref_mut-2.ensures.value c.fill.ensures.kept c.fill.ensures.most c.fill.ensures.linked c.fill.ensures.words c.fill.ensures.marks in
-    let room : tokens_in (lists_of y) + c.args.records ≤ MOST_TOKENS = rw (← c.self.view_is) at c.requires in
-    let (order, keeps, same) = filled y z c.self.invariant.order c.args.records k fi room in
+    let (order, keeps, same) = filled y (after-fill y c.fill.new.records c.fill.new.lines c.fill.new.marks) c.self.invariant.order c.self.invariant.keeps (more (goal.at.invariant_of-self c).After-fill) in
     record { order = order; keeps = keeps }
 
+lists : (c : After-fill) → lists_of (after-fill c.self.inside c.fill.new.records c.fill.new.lines c.fill.new.marks) ≡ lists_of c.self.inside
+lists c =
+    filled-lists c.self.inside (after-fill c.self.inside c.fill.new.records c.fill.new.lines c.fill.new.marks) c.self.invariant.order c.self.invariant.keeps (more c)
+
 pub returns-clause-lists : goal.returns-clause-lists
-returns-clause-lists c =
-    let y = c.self.inside in
-    let k = c.self.invariant.keeps in
-    let z : Inside = record { wires = y.wires; records = c.fill.new.records; lines = with_items y.lines c.fill.new.lines; marks = with_items y.marks c.fill.new.marks } in
-    let fi = filled-by y c.deref_mut.result.now c.deref_mut-2.result.now c.fill.new.records c.fill.new.lines c.fill.new.marks c.args.records
-    c.deref_mut.ensures.value c.deref_mut.ensures.len c.deref_mut-2.ensures.len c.deref_mut-2.ensures.value c.fill.ensures.kept c.fill.ensures.most c.fill.ensures.linked c.fill.ensures.words c.fill.ensures.marks in
-    let room : tokens_in (lists_of y) + c.args.records ≤ MOST_TOKENS = rw (← c.self.view_is) at c.requires in
-    rw (← c.self.view_is) (filled-lists y z c.self.invariant.order c.args.records k fi room)
+returns-clause-lists c = rw (← c.self.view_is) (lists (goal.at.returns-clause-lists c).After-fill)
 
 pub returns-clause-tokens : goal.returns-clause-tokens
 returns-clause-tokens c =
     let y = c.self.inside in
-    let k = c.self.invariant.keeps in
-    let z : Inside = record { wires = y.wires; records = c.fill.new.records; lines = with_items y.lines c.fill.new.lines; marks = with_items y.marks c.fill.new.marks } in
-    let fi = filled-by y c.deref_mut.result.now c.deref_mut-2.result.now c.fill.new.records c.fill.new.lines c.fill.new.marks c.args.records
-    c.deref_mut.ensures.value c.deref_mut.ensures.len c.deref_mut-2.ensures.len c.deref_mut-2.ensures.value c.fill.ensures.kept c.fill.ensures.most c.fill.ensures.linked c.fill.ensures.words c.fill.ensures.marks in
-    let room : tokens_in (lists_of y) + c.args.records ≤ MOST_TOKENS = rw (← c.self.view_is) at c.requires in
-    rw (← c.self.view_is) (tokens-same (lists_of y) (lists_of z) (filled-lists y z c.self.invariant.order c.args.records k fi room))
+    rw (← c.self.view_is)
+    (tokens-same (lists_of y) (lists_of (after-fill y c.fill.new.records c.fill.new.lines c.fill.new.marks)) (lists (goal.at.returns-clause-tokens c).After-fill))

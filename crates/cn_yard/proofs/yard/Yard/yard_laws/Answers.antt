@@ -25,5 +25,5 @@ pub returns-clause-few : goal.returns-clause-few
 returns-clause-few c =
     let k = c.self.invariant.keeps in
     let all = tokens-are c.self.inside c.self.invariant.order k in
-    let few = k.few in
+    let few = k.lined.few in
     rw (← c.self.view_is) (omega arith)
