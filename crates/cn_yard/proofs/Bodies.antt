@@ -110,17 +110,17 @@ last-free y order k some =
     (last-below y.records.items y.lines.items order k.lined.links.linked y.wires within some, (grind (arith, nat_tests)))
 
 -- a yard to which free records were added where it had none, and the last of them
-pub record HasFree (y z : Inside) (order : ℕ → List ℕ) (t : ℕ) : Type 0 where
+pub record HasFree (y z : Inside) (t : ℕ) : Type 0 where
   pub filled : Filled y z
   pub order_then : ℕ → List ℕ
   pub keeps : Keeps z order_then
-  pub same : SameBut y.wires order order_then
+  pub lists : lists_of z ≡ lists_of y
   pub one : count_of z.lines.items y.wires ≡ max 1 (count_of y.lines.items y.wires)
   pub within : t < length z.records.items
   pub free : wire_of z.records.items t ≡ y.wires
 
 pub has-free : (y z : Inside) (order : ℕ → List ℕ) (line : Line) → Keeps y order → Filled y z → count_of z.lines.items y.wires ≡ max 1 (count_of y.lines.items y.wires)
-    → line ≡ get_or z.lines.items y.wires line → HasFree y z order line.last
+    → line ≡ get_or z.lines.items y.wires line → HasFree y z line.last
 has-free y z order line k fi one at =
     let (order', keeps, same) = filled y z order k fi in
     let rows = keeps.wires in let wires = fi.wires in
@@ -130,13 +130,13 @@ has-free y z order line k fi one at =
       filled = fi;
       order_then = order';
       keeps = keeps;
-      same = same;
+      lists = lists-same y z order order' k keeps fi.wires same fi.more.client;
       one = one;
       within = rw e (rw wires at within);
       free = rw e (rw wires at free);
     }
 
-pub admits-renamed : (x y m z : Inside) (order : ℕ → List ℕ) (t to client : ℕ) → Keeps x order → HasFree x y order t
+pub admits-renamed : (x y m z : Inside) (order : ℕ → List ℕ) (t to client : ℕ) → Keeps x order → HasFree x y t
     → Relinked y m t to → Renamed m z t client → to < x.wires → Admits (yard_of x) (yard_of z) t client to
 admits-renamed x y m z order t to client k has re na h =
     let order' = has.order_then in
@@ -151,7 +151,7 @@ admits-renamed x y m z order t to client k has re na h =
     let fewer : count_of m.lines.items x.wires + 1 ≡ count_of y.lines.items x.wires = grind (arith, nat_tests) in
     let len = fi.more.len in let more = fi.more.more in let len' = re.move.len in let len'' = na.new.len in
     rw (← this)
-    (admits-of x y z order order' t to k has.keeps k'' fi.wires (na.wires ∙ re.wires ∙ fi.wires) (lists-same x y order order' k has.keeps fi.wires has.same fi.more.client)
+    (admits-of x y z order order' t to k has.keeps k'' fi.wires (na.wires ∙ re.wires ∙ fi.wires) has.lists
     (λ n o. let c = na.new.client n in let d = re.move.client n in grind (arith, nat_tests)) h free (omega arith) (grind arith))
 
 -- ---- what the bodies leave in the fields

@@ -16,7 +16,7 @@ use Rattle.cn_yard.specs.Lists.{IsThere, after, last_on, on, standing, times_in,
 use Rattle.cn_yard.specs.Chains.{Chain, but, last_of, last_or, moved}
 use Rattle.cn_yard.specs.Lines.{count_of, line_of}
 use Rattle.cn_yard.specs.Records.{client_of, next_of, prev_of, wire_of}
-use Rattle.cn_yard.specs.InsideYard.{Keeps, walked, with_clients, lists_of}
+use Rattle.cn_yard.specs.InsideYard.{IsYard, Keeps, walked, with_clients, lists_of}
 use Rattle.cn_yard.proofs.Chains.{chain-rest, chain-tied, last-in, times-but, walk-chain}
 use Rattle.cn_yard.proofs.Standings.{standing-none, standing-only}
 
@@ -101,6 +101,15 @@ unfolding sum_below
 sum-last n f = let e : n + 1 ≡ suc n = omega arith in rw e refl
 
 -- ---- a yard's wires
+
+-- the lists of numbers of its lines
+pub opened : (y : Inside) → IsYard y → (order : ℕ → List ℕ) × Keeps y order
+unfolding IsYard
+opened y is = is
+
+pub closed : (y : Inside) (order : ℕ → List ℕ) → Keeps y order → IsYard y
+unfolding IsYard
+closed y order k = (order, k)
 
 module _ (y : Inside) (order : ℕ → List ℕ) (k : Keeps y order) where
   pub walked-is : (u : ℕ) → u < length y.lines.items → walked y.records.items y.lines.items u ≡ order u

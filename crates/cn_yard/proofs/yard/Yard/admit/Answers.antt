@@ -7,20 +7,28 @@ use Rattle.cn_yard.specs.Lines.{count_of}
 use Rattle.cn_yard.specs.Lists.{tokens_in}
 use Rattle.cn_yard.specs.declared.yard.Yard.TheInside.{Inside}
 use Rattle.cn_yard.proofs.Bodies.{Filled, HasFree, Relinked, Renamed, admits-renamed, after, after-fill, filled, filled-by, has-free, keeps-relinked, keeps-renamed, relinked-by, renamed-by, room-for, with_records}
-use Rattle.cn_yard.proofs.Wires.{wires-are}
+use Rattle.cn_yard.proofs.Wires.{opened, closed, wires-are}
 use Rattle.cn_yard.proofs.yard.Yard.admit.Goals.{After-fill, After-index, After-relink, After-set_client}
 use Rattle.cn_yard.proofs.yard.Yard.admit.Goals as goal
 
 -- ---- a free record is there, or is made
 
+pub fill-requires-clause-wire : goal.fill-requires-clause-wire
+fill-requires-clause-wire c =
+    let (order, k) = opened c.self.inside c.self.invariant in
+    let rows = k.wires in
+    rw c.deref_mut.ensures.value (omega arith)
+
 pub fill-requires-clause-few : goal.fill-requires-clause-few
 fill-requires-clause-few c =
+    let (order, k) = opened c.self.inside c.self.invariant in
     let room : tokens_in (lists_of c.self.inside) + 1 ≤ MOST_TOKENS = (let h = rw (← c.self.view_is) at c.requires.room in omega arith) in
-    rw (c.deref_mut.ensures.value) (room-for c.self.inside c.self.invariant.order 1 c.self.invariant.keeps room)
+    rw (c.deref_mut.ensures.value) (room-for c.self.inside order 1 k room)
 
 pub fill-requires-clause-lined : goal.fill-requires-clause-lined
 fill-requires-clause-lined c =
-    rw (c.deref_mut.ensures.value, c.deref_mut-2.ensures.value) (c.self.invariant.order, c.self.invariant.keeps.lined)
+    let (order, k) = opened c.self.inside c.self.invariant in
+    rw (c.deref_mut.ensures.value, c.deref_mut-2.ensures.value) (order, k.lined)
 
 more : (c : After-fill) → Filled c.self.inside (after-fill c.self.inside c.fill.new.records c.fill.new.lines c.fill.new.marks)
 more c =
@@ -29,15 +37,17 @@ more c =
 
 pub invariant_of-self : goal.invariant_of-self
 invariant_of-self c =
+    let (order, k) = opened c.self.inside c.self.invariant in
     let y = c.self.inside in
     let z = after-fill y c.fill.new.records c.fill.new.lines c.fill.new.marks in
-    let (order, keeps, same) = filled y z c.self.invariant.order c.self.invariant.keeps (more (goal.at.invariant_of-self c).After-fill) in
-    record { order = order; keeps = keeps }
+    let (order', keeps, same) = filled y z order k (more (goal.at.invariant_of-self c).After-fill) in
+    closed z order' keeps
 
 -- ---- the last of them
 
-has : (c : After-index) → HasFree c.self.inside (after-fill c.self.inside c.fill.new.records c.fill.new.lines c.fill.new.marks) c.self.invariant.order c.index.result.now.last
+has : (c : After-index) → HasFree c.self.inside (after-fill c.self.inside c.fill.new.records c.fill.new.lines c.fill.new.marks) c.index.result.now.last
 has c =
+    let (order, k) = opened c.self.inside c.self.invariant in
     let y = c.self.inside in
     let z = after-fill y c.fill.new.records c.fill.new.lines c.fill.new.marks in
     let fi =
@@ -45,14 +55,15 @@ has c =
     c.deref_mut.ensures.value c.deref_mut-2.ensures.value c.deref_mut.ensures.len c.deref_mut-2.ensures.len c.fill.ensures.kept c.fill.ensures.lined c.fill.ensures.words in
     let lines : z.lines.items ≡ c.fill.new.lines = with_items_is y.lines c.fill.new.lines (c.fill.ensures.kept.rows ∙ c.deref_mut.ensures.len) in
     let one : count_of z.lines.items y.wires ≡ max 1 (count_of y.lines.items y.wires) = rw (lines, ← c.deref_mut.ensures.value) c.in_ok-fill.ensures.ok in
-    has-free y z c.self.invariant.order c.index.result.now c.self.invariant.keeps fi one c.index.ensures
+    has-free y z order c.index.result.now k fi one c.index.ensures
 
 pub relink-requires-clause-number : goal.relink-requires-clause-number
 relink-requires-clause-number c = rw c.deref_mut-3.ensures.value (has (goal.at.relink-requires-clause-number c).After-index).within
 
 pub relink-requires-clause-wire : goal.relink-requires-clause-wire
 relink-requires-clause-wire c =
-    let h : c.args.wire < c.self.inside.wires = rw (← c.self.view_is, wires-are c.self.inside c.self.invariant.order c.self.invariant.keeps) at c.requires.wire in
+    let (order, k) = opened c.self.inside c.self.invariant in
+    let h : c.args.wire < c.self.inside.wires = rw (← c.self.view_is, wires-are c.self.inside order k) at c.requires.wire in
     let rows = (has (goal.at.relink-requires-clause-wire c).After-index).keeps.wires in
     rw c.deref_mut-4.ensures.value (omega arith)
 
@@ -94,16 +105,18 @@ invariant_of-self-2 c =
     let m = moved_yard here.After-set_client in
     let free = has here.After-index in
     let t = c.index.result.now.last in
+    let w = with_records m c.set_client.new.records in
     let order = moved free.order_then t c.args.wire in
     let keeps = keeps-relinked z m free.order_then t c.args.wire free.keeps (relinked here.After-relink) in
-    record { order = order; keeps = keeps-renamed m (with_records m c.set_client.new.records) order t c.args.client keeps (renamed here.After-set_client) }
+    closed w order (keeps-renamed m w order t c.args.client keeps (renamed here.After-set_client))
 
 pub returns-clause-ok : goal.returns-clause-ok
 returns-clause-ok c =
+    let (order, k) = opened c.self.inside c.self.invariant in
     let here = goal.at.returns-clause-ok c in
     let y = c.self.inside in
     let m = moved_yard here.After-set_client in
-    let h : c.args.wire < y.wires = rw (← c.self.view_is, wires-are y c.self.invariant.order c.self.invariant.keeps) at c.requires.wire in
+    let h : c.args.wire < y.wires = rw (← c.self.view_is, wires-are y order k) at c.requires.wire in
     rw (← c.self.view_is, c.of.ensures)
-    (admits-renamed y (filled_yard here.After-relink) m (with_records m c.set_client.new.records) c.self.invariant.order c.index.result.now.last c.args.wire c.args.client c.self.invariant.keeps
+    (admits-renamed y (filled_yard here.After-relink) m (with_records m c.set_client.new.records) order c.index.result.now.last c.args.wire c.args.client k
     (has here.After-index) (relinked here.After-relink) (renamed here.After-set_client) h)

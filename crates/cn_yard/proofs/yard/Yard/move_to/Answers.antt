@@ -1,24 +1,27 @@
 use Rattle.std.proofs.Common.{◌<◌, arith}
 use Rattle.cn_yard.specs.Chains.{moved}
 use Rattle.cn_yard.proofs.Bodies.{Relinked, after, keeps-relinked, moves-relinked, relinked-by}
-use Rattle.cn_yard.proofs.Wires.{live, wires-are}
+use Rattle.cn_yard.proofs.Wires.{opened, closed, live, wires-are}
 use Rattle.cn_yard.proofs.yard.Yard.move_to.Goals.{After-relink}
 use Rattle.cn_yard.proofs.yard.Yard.move_to.Goals as goal
 
 pub relink-requires-clause-number : goal.relink-requires-clause-number
 relink-requires-clause-number c =
+    let (order, k) = opened c.self.inside c.self.invariant in
     let y = c.self.inside in
-    rw (c.number.ensures, c.deref_mut.ensures.value) (live y c.self.invariant.order c.self.invariant.keeps c.args.token (rw (← c.self.view_is) at c.requires.live)).0
+    rw (c.number.ensures, c.deref_mut.ensures.value) (live y order k c.args.token (rw (← c.self.view_is) at c.requires.live)).0
 
 pub relink-requires-clause-wire : goal.relink-requires-clause-wire
 relink-requires-clause-wire c =
-    let rows = c.self.invariant.keeps.wires in
-    let h = rw (← c.self.view_is, wires-are c.self.inside c.self.invariant.order c.self.invariant.keeps) at c.requires.wire in
+    let (order, k) = opened c.self.inside c.self.invariant in
+    let rows = k.wires in
+    let h = rw (← c.self.view_is, wires-are c.self.inside order k) at c.requires.wire in
     rw c.deref_mut-2.ensures.value (omega arith)
 
 pub relink-requires-clause-lined : goal.relink-requires-clause-lined
 relink-requires-clause-lined c =
-    rw (c.deref_mut.ensures.value, c.deref_mut-2.ensures.value, c.deref_mut-3.ensures.value) (c.self.invariant.order, c.self.invariant.keeps.lined)
+    let (order, k) = opened c.self.inside c.self.invariant in
+    rw (c.deref_mut.ensures.value, c.deref_mut-2.ensures.value, c.deref_mut-3.ensures.value) (order, k.lined)
 
 relinked : (c : After-relink) → Relinked c.self.inside (after c.self.inside c.relink.new.records c.relink.new.lines c.relink.new.marks) c.args.token c.args.wire
 relinked c =
@@ -28,16 +31,16 @@ relinked c =
 
 pub invariant_of-self : goal.invariant_of-self
 invariant_of-self c =
+    let (order, k) = opened c.self.inside c.self.invariant in
     let y = c.self.inside in
     let z = after y c.relink.new.records c.relink.new.lines c.relink.new.marks in
-    let order = c.self.invariant.order in
-    record { order = moved order c.args.token c.args.wire; keeps = keeps-relinked y z order c.args.token c.args.wire c.self.invariant.keeps (relinked (goal.at.invariant_of-self c).After-relink) }
+    closed z (moved order c.args.token c.args.wire) (keeps-relinked y z order c.args.token c.args.wire k (relinked (goal.at.invariant_of-self c).After-relink))
 
 pub returns : goal.returns
 returns c from client stands =
+    let (order, k) = opened c.self.inside c.self.invariant in
     let y = c.self.inside in
     let z = after y c.relink.new.records c.relink.new.lines c.relink.new.marks in
-    let k = c.self.invariant.keeps in
-    let h : c.args.wire < y.wires = rw (← c.self.view_is, wires-are y c.self.invariant.order k) at c.requires.wire in
+    let h : c.args.wire < y.wires = rw (← c.self.view_is, wires-are y order k) at c.requires.wire in
     rw (← c.self.view_is)
-    (moves-relinked y z c.self.invariant.order c.args.token c.args.wire from client k (relinked (goal.at.returns c).After-relink) h (rw (← c.self.view_is) at stands))
+    (moves-relinked y z order c.args.token c.args.wire from client k (relinked (goal.at.returns c).After-relink) h (rw (← c.self.view_is) at stands))
