@@ -156,12 +156,13 @@ impl Yard {
         ensures released { Releases self.old self.new token }
     {
         let number = token.number();
+        let free = self.wires;
         relink(
             &mut self.records,
             &mut self.lines,
             &mut self.marks,
             number,
-            self.wires,
+            free,
         );
         self.records[number as usize].client
     }
