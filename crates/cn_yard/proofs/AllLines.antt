@@ -19,12 +19,14 @@ use Rattle.cn_yard.proofs.Appended.{times-last}
 -- ---- sums over the lines
 
 -- one more at one place
-sum-more : (n w : ℕ) (f g : ℕ → ℕ) → ((u : ℕ) → u < n → g u ≡ f u + cond (eqb u w) 1 0) → w < n → sum_below n g ≡ sum_below n f + 1
+sum-more : (n w : ℕ) (f g : ℕ → ℕ) → ((u : ℕ) → u < n → g u ≡ f u + cond (eqb u w) 1 0) → w < n
+    → sum_below n g ≡ sum_below n f + 1
 sum-more n w f g each h =
     let same = sum_below-same n g (λ u. when (eqb w u) 1 + f u) (λ u l. let here = each u l in grind (arith, nat_tests)) in
     omega (arith, same, sum_below-pick n w 1 f h)
 
-pub count-le : (records : List Record) (lines : List Line) (order : ℕ → List ℕ) → IsLinks records lines order → (u : ℕ) → u < length lines → count_of lines u ≤ length records
+pub count-le : (records : List Record) (lines : List Line) (order : ℕ → List ℕ) → IsLinks records lines order → (u : ℕ)
+    → u < length lines → count_of lines u ≤ length records
 count-le records lines order is u h =
     let c = (is.linked.ends u h).count in
     let p = sum_below-part (length lines) u (λ v. length (order v)) h in
@@ -40,8 +42,10 @@ pub record ButOne (records : List Record) (lines : List Line) (order : ℕ → L
   pub there : (n : ℕ) → n < length records → n ≢ t → times n (order (wire_of records n)) ≡ 1
   pub all : sum_below (length lines) (λ u. length (order u)) + 1 ≡ length records
 
-pub but-one : (records : List Record) (lines : List Line) (records' : List Record) (lines' : List Line) (order : ℕ → List ℕ) (t : ℕ) → IsLinks records lines order → t < length records
-    → IsOff records lines records' lines' t → Linked records' lines' (λ u. but t (order u)) → ButOne records' lines' (λ u. but t (order u)) t
+pub but-one : (records : List Record) (lines : List Line) (records' : List Record) (lines' : List Line) (order : ℕ → List ℕ) (t : ℕ)
+    → IsLinks records lines order → t < length records
+    → IsOff records lines records' lines' t → Linked records' lines' (λ u. but t (order u))
+    → ButOne records' lines' (λ u. but t (order u)) t
 but-one records lines records' lines' order t is h kept l =
     let w = wire_of records t in
     record {
@@ -60,7 +64,8 @@ but-one records lines records' lines' order t is h kept l =
     }
 
 -- a record that is added is on no line
-pub new-one : (records : List Record) (lines : List Line) (order : ℕ → List ℕ) (x : Record) → IsLinks records lines order → ButOne (records ++ x ∷ []) lines order (length records)
+pub new-one : (records : List Record) (lines : List Line) (order : ℕ → List ℕ) (x : Record) → IsLinks records lines order
+    → ButOne (records ++ x ∷ []) lines order (length records)
 new-one records lines order x is =
     let many = length_push records x in
     let l = is.linked in
@@ -86,8 +91,10 @@ new-one records lines order x is =
     same n h = get_or_append_left records (x ∷ []) no_record n h
 
 -- and it is put last on one
-pub but-none : (records : List Record) (lines : List Line) (records' : List Record) (lines' : List Line) (order : ℕ → List ℕ) (t to : ℕ) → ButOne records lines order t → to < length lines
-    → IsOn records lines records' lines' t to → Linked records' lines' (put_last order t to) → IsLinks records' lines' (put_last order t to)
+pub but-none : (records : List Record) (lines : List Line) (records' : List Record) (lines' : List Line) (order : ℕ → List ℕ) (t to : ℕ)
+    → ButOne records lines order t → to < length lines
+    → IsOn records lines records' lines' t to → Linked records' lines' (put_last order t to)
+    → IsLinks records' lines' (put_last order t to)
 but-none records lines records' lines' order t to is h kept l =
     record {
       linked = l;
@@ -117,8 +124,10 @@ but-none records lines records' lines' order t to is h kept l =
 
 -- ---- marks
 
-pub marks-one : (lines lines' : List Line) (words words' : List ℕ) (t : ℕ) (b : Bool) → HasMarks lines words → ((u : ℕ) → marked words' u ≡ cond (eqb u t) (when b 1) (marked words u))
-    → length lines' ≡ length lines → ((u : ℕ) → u ≢ t → count_of lines' u ≡ count_of lines u) → b ≡ ltb 0 (count_of lines' t) → HasMarks lines' words'
+pub marks-one : (lines lines' : List Line) (words words' : List ℕ) (t : ℕ) (b : Bool) → HasMarks lines words
+    → ((u : ℕ) → marked words' u ≡ cond (eqb u t) (when b 1) (marked words u))
+    → length lines' ≡ length lines → ((u : ℕ) → u ≢ t → count_of lines' u ≡ count_of lines u) → b ≡ ltb 0 (count_of lines' t)
+    → HasMarks lines' words'
 marks-one lines lines' words words' t b has each rows same e u h =
     elim (cases_eq u t) [
       | inl k ↦ let f : eqb u t ≡ true = grind (arith, nat_tests) in each u ∙ rw f (rw (e, k) refl)
@@ -127,13 +136,17 @@ marks-one lines lines' words words' t b has each rows same e u h =
 
 -- ---- a record is added, and put last on a line
 
-pub added : (records : List Record) (lines : List Line) (mid records' : List Record) (lines' : List Line) (order : ℕ → List ℕ) (x : Record) (t to : ℕ) → IsLinks records lines order → mid ≡ records ++ x ∷ [] → t ≡ length records → to < length lines
-    → IsOn mid lines records' lines' t to → (Linked mid lines order → OffLine lines order t → Linked records' lines' (put_last order t to)) → IsLinks records' lines' (put_last order (length records) to)
+pub added : (records : List Record) (lines : List Line) (mid records' : List Record) (lines' : List Line) (order : ℕ → List ℕ) (x : Record) (t to : ℕ)
+    → IsLinks records lines order → mid ≡ records ++ x ∷ [] → t ≡ length records → to < length lines
+    → IsOn mid lines records' lines' t to
+    → (Linked mid lines order → OffLine lines order t → Linked records' lines' (put_last order t to))
+    → IsLinks records' lines' (put_last order (length records) to)
 added records lines mid records' lines' order x t to is m n h kept linked =
     let one : ButOne mid lines order t = rw (m, n) (new-one records lines order x is) in
     rw (← n) (but-none mid lines records' lines' order t to one h kept (linked one.linked one.off))
 
-pub added-kept : (records : List Record) (lines : List Line) (mid records' : List Record) (lines' : List Line) (x : Record) (t to : ℕ) → mid ≡ records ++ x ∷ [] → IsOn mid lines records' lines' t to → IsAdded records lines records' lines' to
+pub added-kept : (records : List Record) (lines : List Line) (mid records' : List Record) (lines' : List Line) (x : Record) (t to : ℕ)
+    → mid ≡ records ++ x ∷ [] → IsOn mid lines records' lines' t to → IsAdded records lines records' lines' to
 added-kept records lines mid records' lines' x t to m kept = record {
   len = kept.len ∙ ap length m ∙ length_push records x;
   rows = kept.rows;
@@ -144,7 +157,8 @@ added-kept records lines mid records' lines' x t to m kept = record {
 pub more-none : (records : List Record) (lines : List Line) (to : ℕ) → IsMore records lines records lines to
 more-none records lines to = record { more = omega arith; len = refl; rows = refl; client = λ n h. refl }
 
-pub more-add : (a : List Record) (l : List Line) (b : List Record) (m : List Line) (c : List Record) (n : List Line) (to : ℕ) → IsMore a l b m to → IsAdded b m c n to → IsMore a l c n to
+pub more-add : (a : List Record) (l : List Line) (b : List Record) (m : List Line) (c : List Record) (n : List Line) (to : ℕ)
+    → IsMore a l b m to → IsAdded b m c n to → IsMore a l c n to
 more-add a l b m c n to is added =
     let one = added.count to in
     let count : count_of n to ≡ count_of m to + 1 = grind (arith, nat_tests) in

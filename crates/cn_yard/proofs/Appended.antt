@@ -28,11 +28,14 @@ unfolding last_or
 last-there line [] e some = absurd (let c = e.count in omega arith)
 last-there line (x ∷ xs) e some = subst (λ (k : ℕ). 1 ≤ times k (x ∷ xs)) e.last (last-in x xs)
 
-pub last-below : (records : List Record) (lines : List Line) (order : ℕ → List ℕ) → Linked records lines order → (u : ℕ) → u < length lines → 1 ≤ count_of lines u → (line_of lines u).last < length records
+pub last-below : (records : List Record) (lines : List Line) (order : ℕ → List ℕ) → Linked records lines order → (u : ℕ)
+    → u < length lines → 1 ≤ count_of lines u → (line_of lines u).last < length records
 last-below records lines order l u h some = l.below (line_of lines u).last u h (last-there (line_of lines u) (order u) (l.ends u h) some)
 
-chain-on : (n p n' p' : ℕ → ℕ) (line : Line) (t : ℕ) (xs : List ℕ) → Ends line xs → Chain n p xs → times t xs ≡ 0 → ((z : ℕ) → times z xs ≤ 1)
-    → (1 ≤ line.count → ((z : ℕ) → n' z ≡ cond (eqb z line.last) t (n z)) × ((z : ℕ) → p' z ≡ cond (eqb z t) line.last (p z))) → Chain n' p' (xs ++ t ∷ [])
+chain-on : (n p n' p' : ℕ → ℕ) (line : Line) (t : ℕ) (xs : List ℕ) → Ends line xs → Chain n p xs → times t xs ≡ 0
+    → ((z : ℕ) → times z xs ≤ 1)
+    → (1 ≤ line.count → ((z : ℕ) → n' z ≡ cond (eqb z line.last) t (n z)) × ((z : ℕ) → p' z ≡ cond (eqb z t) line.last (p z)))
+    → Chain n' p' (xs ++ t ∷ [])
 unfolding last_or
 chain-on n p n' p' line t [] e c none once links = chain-one n' p' t
 chain-on n p n' p' line t (x ∷ xs) e c none once links =
@@ -57,7 +60,8 @@ cases-zero : (n : ℕ) → (n ≡ 0) ⊎ (1 ≤ n)
 cases-zero zero = inl refl
 cases-zero (suc n) = inr (omega arith)
 
-pub on-kept : (records : List Record) (lines : List Line) (mid records' : List Record) (lines' : List Line) (t to : ℕ) → to < length lines → Appends records lines mid records' lines' t to → IsOn records lines records' lines' t to
+pub on-kept : (records : List Record) (lines : List Line) (mid records' : List Record) (lines' : List Line) (t to : ℕ)
+    → to < length lines → Appends records lines mid records' lines' t to → IsOn records lines records' lines' t to
 on-kept records lines mid records' lines' t to h ap' =
     let new = line_with (line_of lines to) t in
     let which = cases-zero (count_of lines to) in
@@ -77,8 +81,10 @@ on-kept records lines mid records' lines' t to h ap' =
       ];
     }
 
-pub on-linked : (records : List Record) (lines : List Line) (mid records' : List Record) (lines' : List Line) (order : ℕ → List ℕ) (t to : ℕ) → Linked records lines order → OffLine lines order t → t < length records → to < length lines
-    → Appends records lines mid records' lines' t to → IsOn records lines records' lines' t to → Linked records' lines' (put_last order t to)
+pub on-linked : (records : List Record) (lines : List Line) (mid records' : List Record) (lines' : List Line) (order : ℕ → List ℕ) (t to : ℕ)
+    → Linked records lines order → OffLine lines order t → t < length records → to < length lines
+    → Appends records lines mid records' lines' t to → IsOn records lines records' lines' t to
+    → Linked records' lines' (put_last order t to)
 on-linked records lines mid records' lines' order t to l off ht h ap' kept =
     let new = line_with (line_of lines to) t in
     let which = cases-zero (count_of lines to) in

@@ -130,7 +130,8 @@ module _ (n p : ℕ → ℕ) where
       rw (but-cons t x (y ∷ z ∷ zs) o, but-cons t y (z ∷ zs) o') (chain-cons x y (but t (z ∷ zs)) tied.0 tied.1 (rw (but-cons t y (z ∷ zs) o') at rest))
 
   -- the last that is left
-  pub last-left : (t y : ℕ) (ys : List ℕ) → Chain n p (y ∷ ys) → 1 ≤ length ys → last_or y ys ≡ t → times t ys ≤ 1 → last_or y (but t ys) ≡ p t
+  pub last-left : (t y : ℕ) (ys : List ℕ) → Chain n p (y ∷ ys) → 1 ≤ length ys → last_or y ys ≡ t → times t ys ≤ 1
+      → last_or y (but t ys) ≡ p t
   unfolding last_or
   last-left t y [] c h e one = absurd (omega arith)
   last-left t y (z ∷ []) c h e one = rw (gone e) (sym (chain-tied y z [] c).1 ∙ ap p e)
@@ -144,7 +145,8 @@ module _ (n p : ℕ → ℕ) where
       rw (but-cons t z (w ∷ ws) o) (last-left t z (w ∷ ws) (chain-rest y (z ∷ w ∷ ws) c) (omega arith) e (omega arith))
 
 -- links that agree on a list
-pub chain-same : (n p n' p' : ℕ → ℕ) (xs : List ℕ) → Chain n p xs → ((x : ℕ) → 1 ≤ times x xs → n' x ≡ n x) → ((x : ℕ) → 1 ≤ times x (tail_of xs) → p' x ≡ p x) → Chain n' p' xs
+pub chain-same : (n p n' p' : ℕ → ℕ) (xs : List ℕ) → Chain n p xs → ((x : ℕ) → 1 ≤ times x xs → n' x ≡ n x)
+    → ((x : ℕ) → 1 ≤ times x (tail_of xs) → p' x ≡ p x) → Chain n' p' xs
 chain-same n p n' p' [] c a b = chain-nil n' p'
 chain-same n p n' p' (x ∷ []) c a b = chain-one n' p' x
 chain-same n p n' p' (x ∷ y ∷ ys) c a b =
@@ -155,8 +157,10 @@ chain-same n p n' p' (x ∷ y ∷ ys) c a b =
     (chain-same n p n' p' (y ∷ ys) (chain-rest n p x (y ∷ ys) c) (λ z h. a z (omega (arith, times-cons z x (y ∷ ys)))) (λ z h. b z (omega (arith, times-cons z y ys))))
 
 -- one between its neighbours is taken out
-pub chain-but : (n p n' p' : ℕ → ℕ) (t x : ℕ) (xs : List ℕ) → Chain n p (x ∷ xs) → 1 ≤ times t xs → last_or x xs ≢ t → ((z : ℕ) → times z (x ∷ xs) ≤ 1)
-    → ((z : ℕ) → n' z ≡ cond (eqb z (p t)) (n t) (n z)) → ((z : ℕ) → p' z ≡ cond (eqb z (n t)) (p t) (p z)) → Chain n' p' (x ∷ but t xs)
+pub chain-but : (n p n' p' : ℕ → ℕ) (t x : ℕ) (xs : List ℕ) → Chain n p (x ∷ xs) → 1 ≤ times t xs → last_or x xs ≢ t
+    → ((z : ℕ) → times z (x ∷ xs) ≤ 1)
+    → ((z : ℕ) → n' z ≡ cond (eqb z (p t)) (n t) (n z)) → ((z : ℕ) → p' z ≡ cond (eqb z (n t)) (p t) (p z))
+    → Chain n' p' (x ∷ but t xs)
 unfolding last_or
 chain-but n p n' p' t x [] c h o one a b = absurd (omega (arith, times-nil t))
 chain-but n p n' p' t x (y ∷ []) c h o one a b = absurd (let e = times-cons t y [] in let none = times-nil t in grind (arith, nat_tests))
@@ -186,8 +190,10 @@ chain-but n p n' p' t x (y ∷ w ∷ ws) c h o one a b =
     gone e m = let s = times-cons t x (y ∷ w ∷ ws) in rw e (but-head t (w ∷ ws) (rw e at (let k : times t (y ∷ w ∷ ws) ≤ 1 = omega arith in k)))
 
 -- one more comes last
-pub chain-push : (n p n' p' : ℕ → ℕ) (t x : ℕ) (xs : List ℕ) → Chain n p (x ∷ xs) → times t (x ∷ xs) ≡ 0 → ((z : ℕ) → times z (x ∷ xs) ≤ 1)
-    → ((z : ℕ) → n' z ≡ cond (eqb z (last_or x xs)) t (n z)) → ((z : ℕ) → p' z ≡ cond (eqb z t) (last_or x xs) (p z)) → Chain n' p' (x ∷ xs ++ t ∷ [])
+pub chain-push : (n p n' p' : ℕ → ℕ) (t x : ℕ) (xs : List ℕ) → Chain n p (x ∷ xs) → times t (x ∷ xs) ≡ 0
+    → ((z : ℕ) → times z (x ∷ xs) ≤ 1)
+    → ((z : ℕ) → n' z ≡ cond (eqb z (last_or x xs)) t (n z)) → ((z : ℕ) → p' z ≡ cond (eqb z t) (last_or x xs) (p z))
+    → Chain n' p' (x ∷ xs ++ t ∷ [])
 unfolding last_or
 chain-push n p n' p' t x [] c h one a b = chain-cons n' p' x t [] (let k = a x in grind (arith, nat_tests)) (let k = b t in grind (arith, nat_tests)) (chain-one n' p' t)
 chain-push n p n' p' t x (y ∷ ys) c h one a b =

@@ -21,7 +21,8 @@ use Rattle.cn_yard.proofs.Wires.{clients-same, on-beyond, on-moved, on-wire, sta
 
 -- ---- a record has another client
 
-pub links-client : (records : List Record) (lines : List Line) (records' : List Record) (order : ℕ → List ℕ) (t client : ℕ) → IsLinks records lines order → IsClient records records' t client → IsLinks records' lines order
+pub links-client : (records : List Record) (lines : List Line) (records' : List Record) (order : ℕ → List ℕ) (t client : ℕ)
+    → IsLinks records lines order → IsClient records records' t client → IsLinks records' lines order
 links-client records lines records' order t client is new =
     let l = is.linked in
     record {
@@ -36,13 +37,17 @@ links-client records lines records' order t client is new =
       all = is.all ∙ sym new.len;
     }
 
-tokens-at : (y : Inside) (order : ℕ → List ℕ) → Keeps y order → (w : ℕ) → y.wires ≡ w → tokens_in (lists_of y) + count_of y.lines.items w ≡ length y.records.items
+tokens-at : (y : Inside) (order : ℕ → List ℕ) → Keeps y order → (w : ℕ) → y.wires ≡ w
+    → tokens_in (lists_of y) + count_of y.lines.items w ≡ length y.records.items
 tokens-at y order k w e = subst (λ (v : ℕ). tokens_in (lists_of y) + count_of y.lines.items v ≡ length y.records.items) e (tokens-are y order k)
 
 -- ---- a move between wires
 
-pub moves-of : (y z : Inside) (order : ℕ → List ℕ) (t to : ℕ) → Keeps y order → Keeps z (moved order t to) → z.wires ≡ y.wires → ((n : ℕ) → client_of z.records.items n ≡ client_of y.records.items n)
-    → to < y.wires → length z.records.items ≡ length y.records.items → count_of z.lines.items y.wires ≡ count_of y.lines.items y.wires → Moves (yard_of y) (yard_of z) t (client_of y.records.items t) to
+pub moves-of : (y z : Inside) (order : ℕ → List ℕ) (t to : ℕ) → Keeps y order → Keeps z (moved order t to) → z.wires ≡ y.wires
+    → ((n : ℕ) → client_of z.records.items n ≡ client_of y.records.items n)
+    → to < y.wires → length z.records.items ≡ length y.records.items
+    → count_of z.lines.items y.wires ≡ count_of y.lines.items y.wires
+    → Moves (yard_of y) (yard_of z) t (client_of y.records.items t) to
 moves-of y z order t to k k' wires same h len count =
     let old = lists_of y in
     let new = lists_of z in
@@ -67,8 +72,10 @@ moves-of y z order t to k k' wires same h len count =
 
 -- ---- a move to the free records
 
-pub releases-of : (y z : Inside) (order : ℕ → List ℕ) (t : ℕ) → Keeps y order → Keeps z (moved order t y.wires) → z.wires ≡ y.wires → ((n : ℕ) → client_of z.records.items n ≡ client_of y.records.items n)
-    → wire_of z.records.items t ≡ y.wires → length z.records.items ≡ length y.records.items → count_of z.lines.items y.wires ≡ count_of y.lines.items y.wires + 1 → Releases (yard_of y) (yard_of z) t
+pub releases-of : (y z : Inside) (order : ℕ → List ℕ) (t : ℕ) → Keeps y order → Keeps z (moved order t y.wires)
+    → z.wires ≡ y.wires → ((n : ℕ) → client_of z.records.items n ≡ client_of y.records.items n)
+    → wire_of z.records.items t ≡ y.wires → length z.records.items ≡ length y.records.items
+    → count_of z.lines.items y.wires ≡ count_of y.lines.items y.wires + 1 → Releases (yard_of y) (yard_of z) t
 releases-of y z order t k k' wires same free len count =
     let old = lists_of y in
     let new = lists_of z in
@@ -95,7 +102,9 @@ releases-of y z order t k k' wires same free len count =
 
 -- ---- more free records
 
-pub lists-same : (y z : Inside) (order order' : ℕ → List ℕ) → Keeps y order → Keeps z order' → z.wires ≡ y.wires → SameBut y.wires order order' → ((n : ℕ) → n < length y.records.items → client_of z.records.items n ≡ client_of y.records.items n)
+pub lists-same : (y z : Inside) (order order' : ℕ → List ℕ) → Keeps y order → Keeps z order' → z.wires ≡ y.wires
+    → SameBut y.wires order order'
+    → ((n : ℕ) → n < length y.records.items → client_of z.records.items n ≡ client_of y.records.items n)
     → lists_of z ≡ lists_of y
 lists-same y z order order' k k' wires same clients =
     let rows = wires-are y order k in
@@ -113,9 +122,12 @@ tokens-same old new e = ap (λ l. sum_below (length l) (λ u. length (get_or l u
 
 -- ---- a move from the free records
 
-pub admits-of : (x y z : Inside) (order order' : ℕ → List ℕ) (t to : ℕ) → Keeps x order → Keeps y order' → Keeps z (moved order' t to) → y.wires ≡ x.wires → z.wires ≡ x.wires → lists_of y ≡ lists_of x
-    → ((n : ℕ) → n ≢ t → client_of z.records.items n ≡ client_of y.records.items n) → to < x.wires → wire_of y.records.items t ≡ x.wires
-    → length z.records.items + count_of x.lines.items x.wires ≡ length x.records.items + count_of z.lines.items x.wires + 1 → count_of z.lines.items x.wires ≡ count_of x.lines.items x.wires - 1
+pub admits-of : (x y z : Inside) (order order' : ℕ → List ℕ) (t to : ℕ) → Keeps x order → Keeps y order'
+    → Keeps z (moved order' t to) → y.wires ≡ x.wires → z.wires ≡ x.wires → lists_of y ≡ lists_of x
+    → ((n : ℕ) → n ≢ t → client_of z.records.items n ≡ client_of y.records.items n) → to < x.wires
+    → wire_of y.records.items t ≡ x.wires
+    → length z.records.items + count_of x.lines.items x.wires ≡ length x.records.items + count_of z.lines.items x.wires + 1
+    → count_of z.lines.items x.wires ≡ count_of x.lines.items x.wires - 1
     → Admits (yard_of x) (yard_of z) t (client_of z.records.items t) to
 admits-of x y z order order' t to i k k' wires wires' same clients h free len count =
     let old = lists_of x in

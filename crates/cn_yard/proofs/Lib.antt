@@ -10,4 +10,5 @@ pub mod Wires
 pub mod Changes
 pub mod Readers
 pub mod Bodies
+pub mod NewYard
 pub mod CallerLemmas

@@ -20,29 +20,35 @@ module _ (y : Inside) (order : ℕ → List ℕ) (k : Keeps y order) where
   line-read : (u : ℕ) (line : Line) → u ≤ y.wires → line ≡ get_or y.lines.items u line → line ≡ line_of y.lines.items u
   line-read u line h at = let w = k.wires in get_or_read y.lines.items u line (omega arith) at no_line
 
-  pub count-told : (u : ℕ) (line : Line) → u ≤ y.wires → line ≡ get_or y.lines.items u line → line.count ≡ count_of y.lines.items u
+  pub count-told : (u : ℕ) (line : Line) → u ≤ y.wires → line ≡ get_or y.lines.items u line
+      → line.count ≡ count_of y.lines.items u
   count-told u line h at = ap (λ (l : Line). l.count) (line-read u line h at)
 
-  pub first-told : (u : ℕ) (line : Line) → u < y.wires → line ≡ get_or y.lines.items u line → first_of (on (lists_of y) u) ≡ cond (eqb line.count 0) None (Some line.first)
+  pub first-told : (u : ℕ) (line : Line) → u < y.wires → line ≡ get_or y.lines.items u line
+      → first_of (on (lists_of y) u) ≡ cond (eqb line.count 0) None (Some line.first)
   first-told u line h at =
       let w = k.wires in
       let e = line-read u line (omega arith) at in
       rw (on-wire y order k u h) (by line (order u) (subst (λ (l : Line). Ends l (order u)) (sym e) (k.lined.links.linked.ends u (omega arith))))
     where
-      by : (line : Line) (xs : List ℕ) → Ends line xs → first_of (with_clients (client_of y.records.items) xs) ≡ cond (eqb line.count 0) None (Some line.first)
+      by : (line : Line) (xs : List ℕ) → Ends line xs
+          → first_of (with_clients (client_of y.records.items) xs) ≡ cond (eqb line.count 0) None (Some line.first)
       by line [] e = let c = e.count in let f : eqb line.count 0 ≡ true = grind (arith, nat_tests) in rw f refl
       by line (x ∷ xs) e = let c = e.count in let f : eqb line.count 0 ≡ false = grind (arith, nat_tests) in rw f (ap (λ (n : ℕ). Some n) e.first)
 
-  pub record-told : (t : ℕ) (r : Record) → t < length y.records.items → r ≡ get_or y.records.items t r → r ≡ get_or y.records.items t no_record
+  pub record-told : (t : ℕ) (r : Record) → t < length y.records.items → r ≡ get_or y.records.items t r
+      → r ≡ get_or y.records.items t no_record
   record-told t r h at = get_or_read y.records.items t r h at no_record
 
-  stands-told : (t : ℕ) (r : Record) → IsSome (standing (lists_of y) t) → r ≡ get_or y.records.items t r → standing (lists_of y) t ≡ Some (r.wire, r.client)
+  stands-told : (t : ℕ) (r : Record) → IsSome (standing (lists_of y) t) → r ≡ get_or y.records.items t r
+      → standing (lists_of y) t ≡ Some (r.wire, r.client)
   stands-told t r stands at =
       let (h, on') = live y order k t stands in
       standing-live y order k t h on' ∙ ap (λ (s : Record). Some (s.wire, s.client)) (sym (record-told t r h at))
 
   -- a token is where its record says
-  pub there-told : (t : ℕ) (r : Record) → IsSome (standing (lists_of y) t) → r ≡ get_or y.records.items t r → IsThere (lists_of y) t r.client r.wire
+  pub there-told : (t : ℕ) (r : Record) → IsSome (standing (lists_of y) t) → r ≡ get_or y.records.items t r
+      → IsThere (lists_of y) t r.client r.wire
   there-told t r stands at =
       let (h, on') = live y order k t stands in
       rw (record-told t r h at) (there-live y order k t stands)
@@ -53,7 +59,8 @@ module _ (y : Inside) (order : ℕ → List ℕ) (k : Keeps y order) where
       let e : r.wire ≡ wire_of y.records.items t = ap (λ (s : Record). s.wire) (record-told t r h at) in
       rw e on'
 
-  pub live-told : (t : ℕ) (r : Record) → t < length y.records.items → r ≡ get_or y.records.items t r → IsTrue (ltb r.wire y.wires) ↔ IsSome (standing (lists_of y) t)
+  pub live-told : (t : ℕ) (r : Record) → t < length y.records.items → r ≡ get_or y.records.items t r
+      → IsTrue (ltb r.wire y.wires) ↔ IsSome (standing (lists_of y) t)
   live-told t r h at =
       let e : r.wire ≡ wire_of y.records.items t = ap (λ (s : Record). s.wire) (record-told t r h at) in (
         λ test. let on' : wire_of y.records.items t < y.wires = rw e at (let l : r.wire < y.wires = grind (arith, nat_tests) in l) in some (standing-live y order k t h on'),
@@ -63,7 +70,8 @@ module _ (y : Inside) (order : ℕ → List ℕ) (k : Keeps y order) where
       some : {o : Option (ℕ × ℕ)} {x : ℕ × ℕ} → o ≡ Some x → IsSome o
       some e = rw e refl
 
-  pub next-told : (t : ℕ) (r : Record) (line : Line) (wire client : ℕ) → IsSome (standing (lists_of y) t) → r ≡ get_or y.records.items t r → line ≡ get_or y.lines.items r.wire line
+  pub next-told : (t : ℕ) (r : Record) (line : Line) (wire client : ℕ) → IsSome (standing (lists_of y) t)
+      → r ≡ get_or y.records.items t r → line ≡ get_or y.lines.items r.wire line
       → standing (lists_of y) t ≡ Some (wire, client) → after t (on (lists_of y) wire) ≡ cond (eqb line.last t) None (Some r.next)
   next-told t r line wire client stands at line_at is =
       let rows = k.wires in
@@ -93,13 +101,15 @@ module _ (y : Inside) (order : ℕ → List ℕ) (k : Keeps y order) where
     | inr l ↦ on-beyond y order k u l
   ]
 
-  pub lowest-told : (wire : ℕ) → wire < y.wires → (marked y.marks.items wire ≡ 1) × ((n : ℕ) → n < wire → marked y.marks.items n ≡ 0) → IsLowest (lists_of y) wire
+  pub lowest-told : (wire : ℕ) → wire < y.wires
+      → (marked y.marks.items wire ≡ 1) × ((n : ℕ) → n < wire → marked y.marks.items n ≡ 0) → IsLowest (lists_of y) wire
   lowest-told wire h (one, lower) = record {
     some = let rows = k.wires in let m = k.lined.marks wire (omega arith) in rw (length-on y order k wire h) (grind (arith, nat_tests));
     below = λ u l. nobody u (λ _. lower u l);
   }
 
-  pub none-told : (least : ℕ) → y.wires ≤ least → ((n : ℕ) → n < least → marked y.marks.items n ≡ 0) → (u : ℕ) → on (lists_of y) u ≡ []
+  pub none-told : (least : ℕ) → y.wires ≤ least → ((n : ℕ) → n < least → marked y.marks.items n ≡ 0) → (u : ℕ)
+      → on (lists_of y) u ≡ []
   none-told least h lower u = nobody u (λ l. lower u (omega arith))
 
   pub nobody-told : ((n : ℕ) → marked y.marks.items n ≡ 0) → (u : ℕ) → on (lists_of y) u ≡ []

@@ -7,7 +7,8 @@ use Rattle.cn_yard.specs.Lists.{Lists, here_or, on, standing, standing_below}
 
 -- ---- of any yard: a token that is on one wire alone, or on none, and yards that agree
 
-pub standing-none : (n : ℕ) (y : Lists) (token : ℕ) → ((u : ℕ) → u < n → lookup (nat_eq token) (on y u) ≡ None) → standing_below n y token ≡ None
+pub standing-none : (n : ℕ) (y : Lists) (token : ℕ) → ((u : ℕ) → u < n → lookup (nat_eq token) (on y u) ≡ None)
+    → standing_below n y token ≡ None
 unfolding standing_below
 standing-none zero y token none = refl
 standing-none (suc n) y token none = rw (none n (omega arith), standing-none n y token (λ u h. none u (omega arith)))
@@ -22,19 +23,23 @@ standing-only (suc n) y token wire client h here elsewhere =
       | inr d ↦ rw (elsewhere n d) (standing-only n y token wire client (omega arith) here elsewhere)
     ]
 
-pub standing-same : (n : ℕ) (y z : Lists) (token : ℕ) → ((u : ℕ) → lookup (nat_eq token) (on z u) ≡ lookup (nat_eq token) (on y u)) → standing_below n z token ≡ standing_below n y token
+pub standing-same : (n : ℕ) (y z : Lists) (token : ℕ)
+    → ((u : ℕ) → lookup (nat_eq token) (on z u) ≡ lookup (nat_eq token) (on y u))
+    → standing_below n z token ≡ standing_below n y token
 unfolding standing_below
 standing-same zero y z token same = refl
 standing-same (suc n) y z token same = rw (same n, standing-same n y z token same)
 
 -- a token that is not in the yard is on none of its wires
-pub lookup-absent : (n : ℕ) (y : Lists) (token : ℕ) → standing_below n y token ≡ None → (u : ℕ) → u < n → lookup (nat_eq token) (on y u) ≡ None
+pub lookup-absent : (n : ℕ) (y : Lists) (token : ℕ) → standing_below n y token ≡ None → (u : ℕ) → u < n
+    → lookup (nat_eq token) (on y u) ≡ None
 unfolding standing_below
 lookup-absent zero y token none u h = absurd (omega arith)
 lookup-absent (suc n) y token none u h = by (lookup (nat_eq token) (on y n)) refl none (λ rest l. lookup-absent n y token rest u l)
   where
     by : (here : Option ℕ) → lookup (nat_eq token) (on y n) ≡ here → here_or n here (standing_below n y token) ≡ None
-        → (standing_below n y token ≡ None → u < n → lookup (nat_eq token) (on y u) ≡ None) → lookup (nat_eq token) (on y u) ≡ None
+        → (standing_below n y token ≡ None → u < n → lookup (nat_eq token) (on y u) ≡ None)
+        → lookup (nat_eq token) (on y u) ≡ None
     by None e none rest = elim (cases_eq u n) [ inl same ↦ rw same e | inr d ↦ rest none (omega arith) ]
     by (Some c) e none rest = absurd (cc)
 
@@ -52,7 +57,8 @@ standing-added old new token client wire wires within own others other =
       | inr n ↦ let differ : eqb other token ≡ false = grind (arith, nat_tests) in rw differ (standing-same (length old) old new other (λ u. others other u n))
     ])
   where
-    by : (n : ℕ) → wire < n → ((u : ℕ) → u < n → lookup (nat_eq token) (on new u) ≡ cond (eqb wire u) (Some client) None) → standing_below n new token ≡ Some (wire, client)
+    by : (n : ℕ) → wire < n → ((u : ℕ) → u < n → lookup (nat_eq token) (on new u) ≡ cond (eqb wire u) (Some client) None)
+        → standing_below n new token ≡ Some (wire, client)
     by zero h own = absurd (omega arith)
     by (suc n) h own =
         elim (cases_eq n wire) [

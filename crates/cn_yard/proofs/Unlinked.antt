@@ -29,7 +29,8 @@ module _ (n p : ℕ → ℕ) where
       gone : x ≡ t → but t (x ∷ y ∷ ys) ≡ but t (y ∷ ys)
       gone h = grind (arith, nat_tests)
 
-  tail-left : (t x : ℕ) (xs : List ℕ) → Chain n p (x ∷ xs) → times t (x ∷ xs) ≡ 1 → last_or x xs ≡ t → last_or (p t) (but t (x ∷ xs)) ≡ p t
+  tail-left : (t x : ℕ) (xs : List ℕ) → Chain n p (x ∷ xs) → times t (x ∷ xs) ≡ 1 → last_or x xs ≡ t
+      → last_or (p t) (but t (x ∷ xs)) ≡ p t
   unfolding last_or
   tail-left t x [] c one h = rw gone refl
     where
@@ -42,7 +43,8 @@ module _ (n p : ℕ → ℕ) where
       rw (but-cons t x (y ∷ ys) o) (last-left n p t x (y ∷ ys) c (omega arith) h (omega arith))
 
   -- the ends
-  pub ends-but : (line : Line) (t : ℕ) (xs : List ℕ) → Ends line xs → Chain n p xs → times t xs ≡ 1 → Ends (line_without line t (p t) (n t)) (but t xs)
+  pub ends-but : (line : Line) (t : ℕ) (xs : List ℕ) → Ends line xs → Chain n p xs → times t xs ≡ 1
+      → Ends (line_without line t (p t) (n t)) (but t xs)
   unfolding last_or
   ends-but line t [] e c one = absurd (omega (arith, times-nil t))
   ends-but line t (x ∷ xs) e c one =
@@ -59,7 +61,8 @@ module _ (n p : ℕ → ℕ) where
       }
 
   -- the links, where it was at an end
-  pub chain-end : (line : Line) (t : ℕ) (xs : List ℕ) → Ends line xs → Chain n p xs → times t xs ≡ 1 → (eqb line.first t || eqb line.last t) ≡ true → Chain n p (but t xs)
+  pub chain-end : (line : Line) (t : ℕ) (xs : List ℕ) → Ends line xs → Chain n p xs → times t xs ≡ 1
+      → (eqb line.first t || eqb line.last t) ≡ true → Chain n p (but t xs)
   chain-end line t [] e c one end = absurd (omega (arith, times-nil t))
   chain-end line t (x ∷ xs) e c one end =
       elim (cases_eq x t) [
@@ -69,7 +72,8 @@ module _ (n p : ℕ → ℕ) where
       ]
 
   -- its neighbours, where it was not
-  pub neighbours : (line : Line) (t : ℕ) (xs : List ℕ) → Ends line xs → Chain n p xs → times t xs ≡ 1 → (eqb line.first t || eqb line.last t) ≡ false → (1 ≤ times (p t) xs) × (1 ≤ times (n t) xs)
+  pub neighbours : (line : Line) (t : ℕ) (xs : List ℕ) → Ends line xs → Chain n p xs → times t xs ≡ 1
+      → (eqb line.first t || eqb line.last t) ≡ false → (1 ≤ times (p t) xs) × (1 ≤ times (n t) xs)
   neighbours line t [] e c one end = absurd (omega (arith, times-nil t))
   neighbours line t (x ∷ xs) e c one end =
       let at = e.first in
@@ -78,8 +82,10 @@ module _ (n p : ℕ → ℕ) where
       (prev-in n p t x xs c (grind (arith, nat_tests)), next-in n p t line.last (x ∷ xs) c (omega arith) (λ h. absurd (let k = sym e.last ∙ h in grind (arith, nat_tests))))
 
 -- the links, where its neighbours were tied
-pub chain-mid : (n p n' p' : ℕ → ℕ) (line : Line) (t : ℕ) (xs : List ℕ) → Ends line xs → Chain n p xs → times t xs ≡ 1 → ((z : ℕ) → times z xs ≤ 1) → (eqb line.first t || eqb line.last t) ≡ false
-    → ((z : ℕ) → n' z ≡ cond (eqb z (p t)) (n t) (n z)) → ((z : ℕ) → p' z ≡ cond (eqb z (n t)) (p t) (p z)) → Chain n' p' (but t xs)
+pub chain-mid : (n p n' p' : ℕ → ℕ) (line : Line) (t : ℕ) (xs : List ℕ) → Ends line xs → Chain n p xs → times t xs ≡ 1
+    → ((z : ℕ) → times z xs ≤ 1) → (eqb line.first t || eqb line.last t) ≡ false
+    → ((z : ℕ) → n' z ≡ cond (eqb z (p t)) (n t) (n z)) → ((z : ℕ) → p' z ≡ cond (eqb z (n t)) (p t) (p z))
+    → Chain n' p' (but t xs)
 unfolding last_or
 chain-mid n p n' p' line t [] e c one once end a b = absurd (omega (arith, times-nil t))
 chain-mid n p n' p' line t (x ∷ xs) e c one once end a b =
@@ -95,27 +101,33 @@ in-tail z [] h = h
 in-tail z (x ∷ xs) h = omega (arith, times-cons z x xs)
 
 -- one of a line's neighbours is on no other line
-pub once-at : (records : List Record) (lines : List Line) (order : ℕ → List ℕ) → Linked records lines order → (z u w : ℕ) → u < length lines → w < length lines → 1 ≤ times z (order u) → 1 ≤ times z (order w) → u ≡ w
+pub once-at : (records : List Record) (lines : List Line) (order : ℕ → List ℕ) → Linked records lines order → (z u w : ℕ)
+    → u < length lines → w < length lines → 1 ≤ times z (order u) → 1 ≤ times z (order w) → u ≡ w
 once-at records lines order l z u w hu hw a b =
     let k = l.once z u hu in let m = l.once z w hw in grind (arith, nat_tests)
 
-pub one-line : (records : List Record) (lines : List Line) (order : ℕ → List ℕ) → Linked records lines order → (u : ℕ) → u < length lines → (z : ℕ) → times z (order u) ≤ 1
+pub one-line : (records : List Record) (lines : List Line) (order : ℕ → List ℕ) → Linked records lines order → (u : ℕ)
+    → u < length lines → (z : ℕ) → times z (order u) ≤ 1
 one-line records lines order l u h z = let k = l.once z u h in grind (arith, nat_tests)
 
 -- what is needed of the code
 pub record Unlinks (records : List Record) (lines : List Line) (records' : List Record) (lines' : List Line) (t : ℕ) : Type 0 where
-  pub at_end : (eqb (line_of lines (wire_of records t)).first t || eqb (line_of lines (wire_of records t)).last t) ≡ true → records' ≡ records
-  pub between : (eqb (line_of lines (wire_of records t)).first t || eqb (line_of lines (wire_of records t)).last t) ≡ false → IsLink records records' (prev_of records t) (next_of records t)
+  pub at_end : (eqb (line_of lines (wire_of records t)).first t || eqb (line_of lines (wire_of records t)).last t) ≡ true
+      → records' ≡ records
+  pub between : (eqb (line_of lines (wire_of records t)).first t || eqb (line_of lines (wire_of records t)).last t) ≡ false
+      → IsLink records records' (prev_of records t) (next_of records t)
   pub lines_are : lines' ≡ set lines (wire_of records t) (line_without (line_of lines (wire_of records t)) t (prev_of records t) (next_of records t))
 
-same-records : (records records' : List Record) (t : ℕ) → records' ≡ records → (length records' ≡ length records) × ((z : ℕ) → wire_of records' z ≡ wire_of records z)
+same-records : (records records' : List Record) (t : ℕ) → records' ≡ records
+    → (length records' ≡ length records) × ((z : ℕ) → wire_of records' z ≡ wire_of records z)
 same-records records records' t e = rw e (refl, λ z. refl)
 
 cases-bool : (b : Bool) → (b ≡ true) ⊎ (b ≡ false)
 cases-bool true = inl refl
 cases-bool false = inr refl
 
-pub off-kept : (records : List Record) (lines : List Line) (records' : List Record) (lines' : List Line) (t : ℕ) → wire_of records t < length lines → 1 ≤ count_of lines (wire_of records t)
+pub off-kept : (records : List Record) (lines : List Line) (records' : List Record) (lines' : List Line) (t : ℕ)
+    → wire_of records t < length lines → 1 ≤ count_of lines (wire_of records t)
     → Unlinks records lines records' lines' t → IsOff records lines records' lines' t
 off-kept records lines records' lines' t h some un =
     let w = wire_of records t in
@@ -136,8 +148,10 @@ off-kept records lines records' lines' t h some un =
       ];
     }
 
-pub off-linked : (records : List Record) (lines : List Line) (records' : List Record) (lines' : List Line) (order : ℕ → List ℕ) (t : ℕ) → Linked records lines order → wire_of records t < length lines → times t (order (wire_of records t)) ≡ 1
-    → Unlinks records lines records' lines' t → IsOff records lines records' lines' t → Linked records' lines' (λ u. but t (order u))
+pub off-linked : (records : List Record) (lines : List Line) (records' : List Record) (lines' : List Line) (order : ℕ → List ℕ) (t : ℕ)
+    → Linked records lines order → wire_of records t < length lines → times t (order (wire_of records t)) ≡ 1
+    → Unlinks records lines records' lines' t → IsOff records lines records' lines' t
+    → Linked records' lines' (λ u. but t (order u))
 off-linked records lines records' lines' order t l h one un kept =
     let w = wire_of records t in
     let n = next_of records in
@@ -185,11 +199,14 @@ off-linked records lines records' lines' order t l h one un kept =
 times-le : (t : ℕ) (xs : List ℕ) → times t xs ≤ length xs
 times-le t xs = omega (arith, length-but t xs)
 
-pub some-there : (records : List Record) (lines : List Line) (order : ℕ → List ℕ) → Linked records lines order → (t u : ℕ) → u < length lines → 1 ≤ times t (order u) → 1 ≤ count_of lines u
+pub some-there : (records : List Record) (lines : List Line) (order : ℕ → List ℕ) → Linked records lines order → (t u : ℕ)
+    → u < length lines → 1 ≤ times t (order u) → 1 ≤ count_of lines u
 some-there records lines order l t u h some = let e = l.ends u h in let c = e.count in omega (arith, times-le t (order u))
 
-pub near-below : (records : List Record) (lines : List Line) (order : ℕ → List ℕ) → Linked records lines order → (t : ℕ) → wire_of records t < length lines → times t (order (wire_of records t)) ≡ 1
-    → (eqb (line_of lines (wire_of records t)).first t || eqb (line_of lines (wire_of records t)).last t) ≡ false → (prev_of records t < length records) × (next_of records t < length records)
+pub near-below : (records : List Record) (lines : List Line) (order : ℕ → List ℕ) → Linked records lines order → (t : ℕ)
+    → wire_of records t < length lines → times t (order (wire_of records t)) ≡ 1
+    → (eqb (line_of lines (wire_of records t)).first t || eqb (line_of lines (wire_of records t)).last t) ≡ false
+    → (prev_of records t < length records) × (next_of records t < length records)
 near-below records lines order l t h one mid =
     let w = wire_of records t in
     let near = neighbours (next_of records) (prev_of records) (line_of lines w) t (order w) (l.ends w h) (l.chain w h) one mid in

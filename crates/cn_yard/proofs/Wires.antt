@@ -34,7 +34,8 @@ pub lookup-out : (client : ℕ → ℕ) (t : ℕ) (xs : List ℕ) → times t xs
 lookup-out client t [] h = refl
 lookup-out client t (x ∷ xs) h = grind (arith, nat_tests, times-cons t x xs, lookup-out client t xs)
 
-pub lookup-in : (client : ℕ → ℕ) (t : ℕ) (xs : List ℕ) → 1 ≤ times t xs → lookup (nat_eq t) (with_clients client xs) ≡ Some (client t)
+pub lookup-in : (client : ℕ → ℕ) (t : ℕ) (xs : List ℕ) → 1 ≤ times t xs
+    → lookup (nat_eq t) (with_clients client xs) ≡ Some (client t)
 lookup-in client t [] h = absurd (omega (arith, times-nil t))
 lookup-in client t (x ∷ xs) h =
     elim (cases_eq x t) [
@@ -51,7 +52,8 @@ without-clients client t (x ∷ xs) = by (nat_eq t x) (without-clients client t 
     by true rest = rest
     by false rest = ap (λ es. (x, client x) ∷ es) rest
 
-pub clients-same : (client client' : ℕ → ℕ) (xs : List ℕ) → ((n : ℕ) → 1 ≤ times n xs → client' n ≡ client n) → with_clients client' xs ≡ with_clients client xs
+pub clients-same : (client client' : ℕ → ℕ) (xs : List ℕ) → ((n : ℕ) → 1 ≤ times n xs → client' n ≡ client n)
+    → with_clients client' xs ≡ with_clients client xs
 clients-same client client' [] same = refl
 clients-same client client' (x ∷ xs) same =
     let here = same x (grind (arith, nat_tests, times-cons x x xs)) in
@@ -66,7 +68,8 @@ clients-last client t to u = by (eqb to u)
     by false = refl
 
 -- the token after one
-pub after-clients : (n p : ℕ → ℕ) (client : ℕ → ℕ) (t d : ℕ) (xs : List ℕ) → Chain n p xs → times t xs ≡ 1 → after t (with_clients client xs) ≡ cond (eqb (last_or d xs) t) None (Some (n t))
+pub after-clients : (n p : ℕ → ℕ) (client : ℕ → ℕ) (t d : ℕ) (xs : List ℕ) → Chain n p xs → times t xs ≡ 1
+    → after t (with_clients client xs) ≡ cond (eqb (last_or d xs) t) None (Some (n t))
 unfolding after last_or
 after-clients n p client t d [] c one = absurd (omega (arith, times-nil t))
 after-clients n p client t d (x ∷ []) c one =
@@ -156,7 +159,8 @@ module _ (y : Inside) (order : ℕ → List ℕ) (k : Keeps y order) where
         | inr l ↦ rw (on-beyond u l) refl
       ]
 
-  pub standing-live : (t : ℕ) → t < length y.records.items → wire_of y.records.items t < y.wires → standing (lists_of y) t ≡ Some (wire_of y.records.items t, client_of y.records.items t)
+  pub standing-live : (t : ℕ) → t < length y.records.items → wire_of y.records.items t < y.wires
+      → standing (lists_of y) t ≡ Some (wire_of y.records.items t, client_of y.records.items t)
   standing-live t h on_wire =
       let w = wire_of y.records.items t in
       let one = k.lined.links.there t h in
@@ -189,22 +193,34 @@ module _ (y : Inside) (order : ℕ → List ℕ) (k : Keeps y order) where
       ]
 
   -- a token that stands there stands where its record says
-  pub there-live : (t : ℕ) → IsSome (standing (lists_of y) t) → IsThere (lists_of y) t (client_of y.records.items t) (wire_of y.records.items t)
+  pub there-live : (t : ℕ) → IsSome (standing (lists_of y) t)
+      → IsThere (lists_of y) t (client_of y.records.items t) (wire_of y.records.items t)
   there-live t stands =
       let (h, on_wire) = live t stands in
       there (lists_of y) t (client_of y.records.items t) (wire_of y.records.items t) (times-most t) (standing-live t h on_wire)
 
 -- ---- a yard after a move
 
-pub on-moved : (y z : Inside) (order : ℕ → List ℕ) (t to : ℕ) → Keeps y order → Keeps z (moved order t to) → z.wires ≡ y.wires → ((n : ℕ) → n < length y.records.items → n ≢ t → client_of z.records.items n ≡ client_of y.records.items n)
+pub on-moved : (y z : Inside) (order : ℕ → List ℕ) (t to : ℕ) → Keeps y order → Keeps z (moved order t to) → z.wires ≡ y.wires
+    → ((n : ℕ) → n < length y.records.items → n ≢ t → client_of z.records.items n ≡ client_of y.records.items n)
     → (u : ℕ) → u < y.wires → on (lists_of z) u ≡ without t (on (lists_of y) u) ++ last_on t (client_of z.records.items t) to u
 on-moved y z order t to k k' wires same u h =
     let rows = k.wires in
     let client = client_of y.records.items in
     let client' = client_of z.records.items in
-    let kept = clients-same client client' (but t (order u)) (λ n i. let b = times-but n t (order u) in let o : n ≢ t = λ e. absurd (grind (arith, nat_tests)) in
-    same n (k.lined.links.linked.below n u (omega arith) (grind (arith, nat_tests))) o) in
-    on-wire z (moved order t to) k' u (omega (arith, wires))
-    ∙ map-append (λ n. (n, client' n)) (but t (order u)) (last_of t to u)
-    ∙ ap (λ es. es ++ with_clients client' (last_of t to u)) (kept ∙ sym (without-clients client t (order u)) ∙ ap (λ es. without t es) (sym (on-wire y order k u h)))
-    ∙ ap (λ es. without t (on (lists_of y) u) ++ es) (clients-last client' t to u)
+    let here = on-wire z (moved order t to) k' u (omega (arith, wires)) in
+    let parts : with_clients client' (but t (order u) ++ last_of t to u) ≡ with_clients client' (but t (order u)) ++ with_clients client' (last_of t to u) =
+    map-append (λ n. (n, client' n)) (but t (order u)) (last_of t to u) in
+    let kept : with_clients client' (but t (order u)) ≡ without t (on (lists_of y) u) =
+    clients-same client client' (but t (order u)) still
+    ∙ sym (without-clients client t (order u))
+    ∙ ap (λ es. without t es) (sym (on-wire y order k u h)) in
+    rw (here, parts, kept, clients-last client' t to u) refl
+  where
+    -- those that stay on the line have their clients
+    still : (n : ℕ) → 1 ≤ times n (but t (order u)) → client_of z.records.items n ≡ client_of y.records.items n
+    still n inside =
+        let rows = k.wires in
+        let left = times-but n t (order u) in
+        let other : n ≢ t = λ e. absurd (grind (arith, nat_tests)) in
+        same n (k.lined.links.linked.below n u (omega arith) (grind (arith, nat_tests))) other

@@ -3,7 +3,8 @@ use Rattle.cn_yard.proofs.Appended.{Appends, last-below, on-kept, on-linked}
 use Rattle.cn_yard.proofs.lines.append.Goals.{then-line-gt0, else-line-gt0}
 use Rattle.cn_yard.proofs.lines.append.Goals as goal
 
-appends : (c : goal.After-longer) → Appends c.args.records.now c.args.lines.now c.if-line-gt0.records c.set_wire.new.records (set c.args.lines.now c.args.wire c.longer.result) c.args.number c.args.wire
+appends : (c : goal.After-longer)
+    → Appends c.args.records.now c.args.lines.now c.if-line-gt0.records c.set_wire.new.records (set c.args.lines.now c.args.wire c.longer.result) c.args.number c.args.wire
 appends c = record {
   first = λ e. elim c.if-line-gt0.branch [
     | then-line-gt0 w ↦ absurd (let t = w.if-line-gt0.true in omega (arith, e, t))

@@ -4,7 +4,8 @@ use Rattle.cn_yard.proofs.Unlinked.{Unlinks, near-below, off-kept, off-linked, s
 use Rattle.cn_yard.proofs.lines.unlink.Goals.{then-not-is_end, else-not-is_end}
 use Rattle.cn_yard.proofs.lines.unlink.Goals as goal
 
-unlinks : (c : goal.After-shorter) → Unlinks c.args.records.now c.args.lines.now c.if-not-is_end.records (set c.args.lines.now (wire_of c.args.records.now c.args.number) c.shorter.result) c.args.number
+unlinks : (c : goal.After-shorter)
+    → Unlinks c.args.records.now c.args.lines.now c.if-not-is_end.records (set c.args.lines.now (wire_of c.args.records.now c.args.number) c.shorter.result) c.args.number
 unlinks c = record {
   at_end = λ e. elim c.if-not-is_end.branch [
     | then-not-is_end w ↦ absurd (let t = w.if-not-is_end.true in let k = c.is_end.ensures in cc)
@@ -17,7 +18,8 @@ unlinks c = record {
   lines_are = ap (λ l. set c.args.lines.now (wire_of c.args.records.now c.args.number) l) c.shorter.ensures;
 }
 
-near : (c : goal.After-link-arg-1) → (prev_of c.args.records.now c.args.number < length c.args.records.now) × (next_of c.args.records.now c.args.number < length c.args.records.now)
+near : (c : goal.After-link-arg-1)
+    → (prev_of c.args.records.now c.args.number < length c.args.records.now) × (next_of c.args.records.now c.args.number < length c.args.records.now)
 near c = let (order, l, one) = c.requires.linked in near-below c.args.records.now c.args.lines.now order l c.args.number c.requires.wire one (sym c.is_end.ensures ∙ c.if-not-is_end.true)
 
 pub link-requires-clause-from : goal.link-requires-clause-from

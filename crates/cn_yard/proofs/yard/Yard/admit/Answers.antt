@@ -45,7 +45,8 @@ invariant_of-self c =
 
 -- ---- the last of them
 
-has : (c : After-index) → HasFree c.self.inside (after-fill c.self.inside c.fill.new.records c.fill.new.lines c.fill.new.marks) c.index.result.now.last
+has : (c : After-index)
+    → HasFree c.self.inside (after-fill c.self.inside c.fill.new.records c.fill.new.lines c.fill.new.marks) c.index.result.now.last
 has c =
     let (order, k) = opened c.self.inside c.self.invariant in
     let y = c.self.inside in
@@ -77,7 +78,8 @@ relink-requires-clause-lined c =
 abbrev filled_yard : After-relink → Inside
 filled_yard c = after-fill c.self.inside c.fill.new.records c.fill.new.lines c.fill.new.marks
 
-relinked : (c : After-relink) → Relinked (filled_yard c) (after (filled_yard c) c.relink.new.records c.relink.new.lines c.relink.new.marks) c.index.result.now.last c.args.wire
+relinked : (c : After-relink)
+    → Relinked (filled_yard c) (after (filled_yard c) c.relink.new.records c.relink.new.lines c.relink.new.marks) c.index.result.now.last c.args.wire
 relinked c =
     relinked-by (filled_yard c) c.deref_mut-3.result.now c.deref_mut-4.result.now c.deref_mut-5.result.now c.relink.new.records c.relink.new.lines c.relink.new.marks c.index.result.now.last c.index.result.now.last c.args.wire refl
     c.deref_mut-3.ensures.value c.deref_mut-4.ensures.value c.deref_mut-5.ensures.value c.deref_mut-3.ensures.len c.deref_mut-4.ensures.len c.deref_mut-5.ensures.len
@@ -94,7 +96,8 @@ set_client-requires c =
 abbrev moved_yard : After-set_client → Inside
 moved_yard c = after (after-fill c.self.inside c.fill.new.records c.fill.new.lines c.fill.new.marks) c.relink.new.records c.relink.new.lines c.relink.new.marks
 
-renamed : (c : After-set_client) → Renamed (moved_yard c) (with_records (moved_yard c) c.set_client.new.records) c.index.result.now.last c.args.client
+renamed : (c : After-set_client)
+    → Renamed (moved_yard c) (with_records (moved_yard c) c.set_client.new.records) c.index.result.now.last c.args.client
 renamed c =
     renamed-by (moved_yard c) c.deref_mut-6.result.now c.set_client.new.records c.index.result.now.last c.args.client c.deref_mut-6.ensures.value c.deref_mut-6.ensures.len c.set_client.ensures
 

@@ -23,7 +23,8 @@ relink-requires-clause-lined c =
     let (order, k) = opened c.self.inside c.self.invariant in
     rw (c.deref_mut.ensures.value, c.deref_mut-2.ensures.value, c.deref_mut-3.ensures.value) (order, k.lined)
 
-relinked : (c : After-relink) → Relinked c.self.inside (after c.self.inside c.relink.new.records c.relink.new.lines c.relink.new.marks) c.args.token c.args.wire
+relinked : (c : After-relink)
+    → Relinked c.self.inside (after c.self.inside c.relink.new.records c.relink.new.lines c.relink.new.marks) c.args.token c.args.wire
 relinked c =
     relinked-by c.self.inside c.deref_mut.result.now c.deref_mut-2.result.now c.deref_mut-3.result.now c.relink.new.records c.relink.new.lines c.relink.new.marks c.number.result c.args.token c.args.wire c.number.ensures
     c.deref_mut.ensures.value c.deref_mut-2.ensures.value c.deref_mut-3.ensures.value c.deref_mut.ensures.len c.deref_mut-2.ensures.len c.deref_mut-3.ensures.len

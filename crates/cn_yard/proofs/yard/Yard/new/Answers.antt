@@ -1,6 +1,6 @@
 use Rattle.std.proofs.Common.{[], arith}
 use Rattle.cn_yard.specs.declared.yard.Yard.TheInside.{Inside}
-use Rattle.cn_yard.proofs.Bodies.{new-empty, new-keeps, new-nobody}
+use Rattle.cn_yard.proofs.NewYard.{new-empty, new-keeps, new-nobody}
 use Rattle.std.proofs.Common.{ℕ, Vec, Global}
 use Rattle.cn_yard.specs.declared.records.Record.{Record}
 use Rattle.cn_yard.specs.declared.lines.Line.{Line}

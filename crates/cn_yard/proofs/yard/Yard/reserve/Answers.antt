@@ -36,7 +36,8 @@ invariant_of-self c =
     let (order', keeps, same) = filled y z order k (more (goal.at.invariant_of-self c).After-fill) in
     closed z order' keeps
 
-lists : (c : After-fill) → lists_of (after-fill c.self.inside c.fill.new.records c.fill.new.lines c.fill.new.marks) ≡ lists_of c.self.inside
+lists : (c : After-fill)
+    → lists_of (after-fill c.self.inside c.fill.new.records c.fill.new.lines c.fill.new.marks) ≡ lists_of c.self.inside
 lists c =
     let (order, k) = opened c.self.inside c.self.invariant in
     filled-lists c.self.inside (after-fill c.self.inside c.fill.new.records c.fill.new.lines c.fill.new.marks) order k (more c)
