@@ -25,6 +25,7 @@ sum-more n w f g each h =
     let same = sum_below-same n g (λ u. when (eqb w u) 1 + f u) (λ u l. let here = each u l in grind (arith, nat_tests)) in
     omega (arith, same, sum_below-pick n w 1 f h)
 
+-- no more stand on a line than there are records
 pub count-le : (records : List Record) (lines : List Line) (order : ℕ → List ℕ) → IsLinks records lines order → (u : ℕ)
     → u < length lines → count_of lines u ≤ length records
 count-le records lines order is u h =
@@ -35,6 +36,7 @@ count-le records lines order is u h =
 
 -- ---- all records but one are on their lines
 
+-- each record but one is on the line that it names, once, and that one is on none
 pub record ButOne (records : List Record) (lines : List Line) (order : ℕ → List ℕ) (t : ℕ) : Type 0 where
   pub linked : Linked records lines order
   pub off : OffLine lines order t
@@ -42,6 +44,7 @@ pub record ButOne (records : List Record) (lines : List Line) (order : ℕ → L
   pub there : (n : ℕ) → n < length records → n ≢ t → times n (order (wire_of records n)) ≡ 1
   pub all : sum_below (length lines) (λ u. length (order u)) + 1 ≡ length records
 
+-- a record is taken off its line
 pub but-one : (records : List Record) (lines : List Line) (records' : List Record) (lines' : List Line) (order : ℕ → List ℕ) (t : ℕ)
     → IsLinks records lines order → t < length records
     → IsOff records lines records' lines' t → Linked records' lines' (λ u. but t (order u))
@@ -124,6 +127,7 @@ but-none records lines records' lines' order t to is h kept l =
 
 -- ---- marks
 
+-- the marks are right again where one line has changed, and its mark with it
 pub marks-one : (lines lines' : List Line) (words words' : List ℕ) (t : ℕ) (b : Bool) → HasMarks lines words
     → ((u : ℕ) → marked words' u ≡ cond (eqb u t) (when b 1) (marked words u))
     → length lines' ≡ length lines → ((u : ℕ) → u ≢ t → count_of lines' u ≡ count_of lines u) → b ≡ ltb 0 (count_of lines' t)
@@ -136,6 +140,7 @@ marks-one lines lines' words words' t b has each rows same e u h =
 
 -- ---- a record is added, and put last on a line
 
+-- what is needed of the code: one record more, and then that it is put last
 pub added : (records : List Record) (lines : List Line) (mid records' : List Record) (lines' : List Line) (order : ℕ → List ℕ) (x : Record) (t to : ℕ)
     → IsLinks records lines order → mid ≡ records ++ x ∷ [] → t ≡ length records → to < length lines
     → IsOn mid lines records' lines' t to
@@ -154,6 +159,7 @@ added-kept records lines mid records' lines' x t to m kept = record {
   count = kept.count;
 }
 
+-- nothing is added, or one more than before
 pub more-none : (records : List Record) (lines : List Line) (to : ℕ) → IsMore records lines records lines to
 more-none records lines to = record { more = omega arith; len = refl; rows = refl; client = λ n h. refl }
 
@@ -170,6 +176,7 @@ more-add a l b m c n to is added =
       client = λ k h. added.client k (omega arith) ∙ is.client k h;
     }
 
+-- a number that comes to a line changes no other
 pub same-put : (to t : ℕ) (order order' : ℕ → List ℕ) → SameBut to order order' → SameBut to order (put_last order' t to)
 same-put to t order order' same u o =
     let f : eqb to u ≡ false = grind (arith, nat_tests) in

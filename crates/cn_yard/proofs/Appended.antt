@@ -28,10 +28,12 @@ unfolding last_or
 last-there line [] e some = absurd (let c = e.count in omega arith)
 last-there line (x ∷ xs) e some = subst (λ (k : ℕ). 1 ≤ times k (x ∷ xs)) e.last (last-in x xs)
 
+-- and so it is a record
 pub last-below : (records : List Record) (lines : List Line) (order : ℕ → List ℕ) → Linked records lines order → (u : ℕ)
     → u < length lines → 1 ≤ count_of lines u → (line_of lines u).last < length records
 last-below records lines order l u h some = l.below (line_of lines u).last u h (last-there (line_of lines u) (order u) (l.ends u h) some)
 
+-- the links of a line that has one more
 chain-on : (n p n' p' : ℕ → ℕ) (line : Line) (t : ℕ) (xs : List ℕ) → Ends line xs → Chain n p xs → times t xs ≡ 0
     → ((z : ℕ) → times z xs ≤ 1)
     → (1 ≤ line.count → ((z : ℕ) → n' z ≡ cond (eqb z line.last) t (n z)) × ((z : ℕ) → p' z ≡ cond (eqb z t) line.last (p z)))
@@ -42,6 +44,7 @@ chain-on n p n' p' line t (x ∷ xs) e c none once links =
     let some : 1 ≤ line.count = let k = e.count in omega arith in
     chain-push n p n' p' t x xs c none once (λ z. rw (e.last) ((links some).0 z)) (λ z. rw (e.last) ((links some).1 z))
 
+-- how often a number stands in what is added at the end
 pub times-last : (z t to u : ℕ) → times z (last_of t to u) ≡ cond (eqb to u) (cond (eqb z t) 1 0) 0
 times-last z t to u = by (eqb to u)
   where
@@ -60,6 +63,7 @@ cases-zero : (n : ℕ) → (n ≡ 0) ⊎ (1 ≤ n)
 cases-zero zero = inl refl
 cases-zero (suc n) = inr (omega arith)
 
+-- then the records but the links, and the counts, are as told
 pub on-kept : (records : List Record) (lines : List Line) (mid records' : List Record) (lines' : List Line) (t to : ℕ)
     → to < length lines → Appends records lines mid records' lines' t to → IsOn records lines records' lines' t to
 on-kept records lines mid records' lines' t to h ap' =
@@ -81,6 +85,7 @@ on-kept records lines mid records' lines' t to h ap' =
       ];
     }
 
+-- and the lines run through the lists with the number at the end of one
 pub on-linked : (records : List Record) (lines : List Line) (mid records' : List Record) (lines' : List Line) (order : ℕ → List ℕ) (t to : ℕ)
     → Linked records lines order → OffLine lines order t → t < length records → to < length lines
     → Appends records lines mid records' lines' t to → IsOn records lines records' lines' t to

@@ -9,6 +9,7 @@ use Rattle.std.proofs.lemmas.Nat.{div-mul-add, mod-mul-add}
 use Rattle.std.proofs.lemmas.Nat.Bits.{bit_at-trailing_zeros, bit_at-zero}
 use Rattle.cn_yard.specs.Marks.{marked}
 
+-- a word that is 0 has no mark
 no-word : (words : List ℕ) (n : ℕ) → get_or words (n / 64) 0 ≡ 0 → marked words n ≡ 0
 no-word words n e = ap (λ (w : ℕ). bit_at w (n % 64)) e ∙ bit_at-zero (n % 64)
 

@@ -21,6 +21,7 @@ use Rattle.cn_yard.proofs.Wires.{live, standing-live, tokens-are}
 
 -- ---- a record is moved
 
+-- what `relink` leaves of a yard
 pub record Relinked (y z : Inside) (t to : ℕ) : Type 0 where
   pub wires : z.wires ≡ y.wires
   pub lined : (order : ℕ → List ℕ) → IsLined y.records.items y.lines.items y.marks.items order
@@ -54,6 +55,7 @@ releases-relinked y z order t k re stands =
 
 -- ---- free records are added
 
+-- what `fill` leaves of a yard
 pub record Filled (y z : Inside) : Type 0 where
   pub wires : z.wires ≡ y.wires
   pub lined : Fills y.records.items y.lines.items y.marks.items z.records.items z.lines.items z.marks.items y.wires
@@ -67,6 +69,7 @@ filled y z order k fi =
     let rows = fi.more.rows in let wires = fi.wires in let old = k.wires in
     (order', record { lined = lined; wires = omega arith }, same)
 
+-- the wires have the tokens that they had
 pub filled-lists : (y z : Inside) (order : ℕ → List ℕ) → Keeps y order → Filled y z → lists_of z ≡ lists_of y
 filled-lists y z order k fi =
     let (order', k', same) = filled y z order k fi in
@@ -79,6 +82,7 @@ room-for y order wanted k room = let few = k.lined.few in let tokens = tokens-ar
 
 -- ---- a free record becomes a token
 
+-- what `set_client` leaves of a yard
 pub record Renamed (y z : Inside) (t client : ℕ) : Type 0 where
   pub wires : z.wires ≡ y.wires
   pub new : IsClient y.records.items z.records.items t client
@@ -137,6 +141,7 @@ has-free y z order line k fi one at =
       free = rw e (rw wires at free);
     }
 
+-- a free record that was moved to a wire, and then got a client, is a token that came in
 pub admits-renamed : (x y m z : Inside) (order : ℕ → List ℕ) (t to client : ℕ) → Keeps x order → HasFree x y t
     → Relinked y m t to → Renamed m z t client → to < x.wires → Admits (yard_of x) (yard_of z) t client to
 admits-renamed x y m z order t to client k has re na h =
@@ -157,6 +162,7 @@ admits-renamed x y m z order t to client k has re na h =
 
 -- ---- what the bodies leave in the fields
 
+-- a yard with the lists that `relink` hands back
 abbrev pub after : Inside → List Record → List Line → List ℕ → Inside
 after y records lines marks = record {
   wires = y.wires;
@@ -184,6 +190,7 @@ relinked-by y records lines marks records' lines' marks' n t to e r l m rl ll ml
       move = rw (a, b) move';
     }
 
+-- and with those of `fill`
 abbrev pub after-fill : Inside → Vec Record Global → List Line → List ℕ → Inside
 after-fill y records lines marks = record {
   wires = y.wires;
@@ -207,6 +214,7 @@ filled-by y lines marks records' lines' marks' l m ll ml more lined words =
       more = rw b more';
     }
 
+-- and with the records of `set_client`
 abbrev pub with_records : Inside → List Record → Inside
 with_records y records = record { wires = y.wires; records = with_items y.records records; lines = y.lines; marks = y.marks }
 

@@ -8,26 +8,32 @@ use Rattle.cn_yard.specs.Chains.{Chain, but, head_or, last_or, tail_of, walk}
 
 -- ---- all but one
 
+-- a number that is not there is not missed
 pub but-out : (t : ℕ) (xs : List ℕ) → times t xs ≡ 0 → but t xs ≡ xs
 but-out t [] h = refl
 but-out t (x ∷ xs) h = let here = times-cons t x xs in let rest = but-out t xs in grind (arith, nat_tests)
 
+-- how often a number is left
 pub times-but : (n t : ℕ) (xs : List ℕ) → times n (but t xs) ≡ cond (eqb n t) 0 (times n xs)
 times-but n t [] = let none = times-nil n in grind (arith, nat_tests)
 times-but n t (x ∷ xs) = grind (arith, nat_tests, times-cons n x xs, times-cons n x (but t xs), times-but n t xs)
 
+-- how many are left
 pub length-but : (t : ℕ) (xs : List ℕ) → length (but t xs) + times t xs ≡ length xs
 length-but t [] = let none = times-nil t in grind (arith, nat_tests)
 length-but t (x ∷ xs) = grind (arith, nat_tests, times-cons t x xs, length-but t xs)
 
+-- the first is taken
 pub but-head : (t : ℕ) (xs : List ℕ) → times t (t ∷ xs) ≤ 1 → but t (t ∷ xs) ≡ xs
 but-head t xs one = let here = times-cons t t xs in let rest = but-out t xs in grind (arith, nat_tests)
 
+-- another than the first is taken
 pub but-cons : (t x : ℕ) (xs : List ℕ) → x ≢ t → but t (x ∷ xs) ≡ x ∷ but t xs
 but-cons t x xs n = grind (arith, nat_tests)
 
 -- ---- the ends
 
+-- the last is one of the list
 pub last-in : (x : ℕ) (xs : List ℕ) → 1 ≤ times (last_or x xs) (x ∷ xs)
 unfolding last_or
 last-in x [] = grind (arith, nat_tests, times-cons x x [])
@@ -206,6 +212,7 @@ chain-push n p n' p' t x (y ∷ ys) c h one a b =
     (let k = b y in grind (arith, nat_tests))
     (chain-push n p n' p' t y ys (chain-rest n p x (y ∷ ys) c) (omega arith) (λ z. let m = one z in omega (arith, times-cons z x (y ∷ ys))) a b)
 
+-- and it is the last then
 pub last-push : (t d : ℕ) (xs : List ℕ) → last_or d (xs ++ t ∷ []) ≡ t
 unfolding last_or
 last-push t d [] = refl

@@ -37,6 +37,7 @@ links-client records lines records' order t client is new =
       all = is.all ∙ sym new.len;
     }
 
+-- all records are tokens or free
 tokens-at : (y : Inside) (order : ℕ → List ℕ) → Keeps y order → (w : ℕ) → y.wires ≡ w
     → tokens_in (lists_of y) + count_of y.lines.items w ≡ length y.records.items
 tokens-at y order k w e = subst (λ (v : ℕ). tokens_in (lists_of y) + count_of y.lines.items v ≡ length y.records.items) e (tokens-are y order k)
@@ -117,6 +118,7 @@ lists-same y z order order' k k' wires same clients =
     ∙ clients-same (client_of y.records.items) (client_of z.records.items) (order u) (λ n i. clients n (k.lined.links.linked.below n u (omega arith) i))
     ∙ sym (on-wire y order k u l))
 
+-- the same lists have as many tokens
 pub tokens-same : (old new : Lists) → new ≡ old → tokens_in new ≡ tokens_in old
 tokens-same old new e = ap (λ l. sum_below (length l) (λ u. length (get_or l u []))) e
 

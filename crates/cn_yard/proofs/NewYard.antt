@@ -17,10 +17,12 @@ use Rattle.cn_yard.specs.Records.{next_of, prev_of}
 use Rattle.cn_yard.specs.InsideYard.{Keeps, lists_of, yard_of}
 use Rattle.cn_yard.proofs.Wires.{on-wire, tokens-are, wires-are}
 
+-- the ends of a line with nobody
 no-ends : Ends no_line []
 unfolding last_or
 no-ends = record { count = refl; first = refl; last = refl }
 
+-- each line is empty, and no bit is set
 pub new-keeps : (y : Inside) → y.records.items ≡ [] → y.lines.items ≡ replicate (y.wires + 1) no_line
     → y.marks.items ≡ replicate (y.wires / 64 + 1) 0 → y.wires < 2 ^ 32 → Keeps y (λ u. [])
 new-keeps y r l m fits =
@@ -58,6 +60,7 @@ yard_with lists spare = record { lists = lists; spare = spare }
 both : {a b : Lists} {m n : ℕ} → a ≡ b → m ≡ n → yard_with a m ≡ yard_with b n
 both e f = rw (e, f) refl
 
+-- a caller sees an empty yard
 pub new-empty : (y : Inside) → Keeps y (λ u. []) → y.lines.items ≡ replicate (y.wires + 1) no_line → yard_of y ≡ empty y.wires
 new-empty y k l =
     let count : count_of y.lines.items y.wires ≡ 0 = ap (λ ls. count_of ls y.wires) l ∙ ap (λ (x : Line). x.count) (get_or-replicate (y.wires + 1) y.wires no_line no_line (omega arith)) in
@@ -66,5 +69,6 @@ new-empty y k l =
     (λ u h. let w = wires-are y (λ u. []) k in on-wire y (λ u. []) k u (omega arith) ∙ sym (get_or-replicate y.wires u [] [] (omega arith))) in
     both lists count
 
+-- with no token
 pub new-nobody : (y : Inside) → Keeps y (λ u. []) → y.records.items ≡ [] → tokens_in (lists_of y) ≡ 0
 new-nobody y k r = let all = tokens-are y (λ u. []) k in let none : length y.records.items ≡ 0 = ap length r in omega arith

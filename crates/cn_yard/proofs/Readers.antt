@@ -17,6 +17,7 @@ use Rattle.cn_yard.specs.InsideYard.{Keeps, with_clients, lists_of}
 use Rattle.cn_yard.proofs.Wires.{after-clients, length-on, live, on-beyond, on-wire, standing-live, there-live}
 
 module _ (y : Inside) (order : ℕ → List ℕ) (k : Keeps y order) where
+  -- a line as the code reads it
   line-read : (u : ℕ) (line : Line) → u ≤ y.wires → line ≡ get_or y.lines.items u line → line ≡ line_of y.lines.items u
   line-read u line h at = let w = k.wires in get_or_read y.lines.items u line (omega arith) at no_line
 
@@ -24,6 +25,7 @@ module _ (y : Inside) (order : ℕ → List ℕ) (k : Keeps y order) where
       → line.count ≡ count_of y.lines.items u
   count-told u line h at = ap (λ (l : Line). l.count) (line-read u line h at)
 
+  -- the first on a wire
   pub first-told : (u : ℕ) (line : Line) → u < y.wires → line ≡ get_or y.lines.items u line
       → first_of (on (lists_of y) u) ≡ cond (eqb line.count 0) None (Some line.first)
   first-told u line h at =
@@ -36,6 +38,7 @@ module _ (y : Inside) (order : ℕ → List ℕ) (k : Keeps y order) where
       by line [] e = let c = e.count in let f : eqb line.count 0 ≡ true = grind (arith, nat_tests) in rw f refl
       by line (x ∷ xs) e = let c = e.count in let f : eqb line.count 0 ≡ false = grind (arith, nat_tests) in rw f (ap (λ (n : ℕ). Some n) e.first)
 
+  -- a record as the code reads it
   pub record-told : (t : ℕ) (r : Record) → t < length y.records.items → r ≡ get_or y.records.items t r
       → r ≡ get_or y.records.items t no_record
   record-told t r h at = get_or_read y.records.items t r h at no_record
@@ -53,12 +56,14 @@ module _ (y : Inside) (order : ℕ → List ℕ) (k : Keeps y order) where
       let (h, on') = live y order k t stands in
       rw (record-told t r h at) (there-live y order k t stands)
 
+  -- its wire is one of the wires
   pub wire-told : (t : ℕ) (r : Record) → IsSome (standing (lists_of y) t) → r ≡ get_or y.records.items t r → r.wire < y.wires
   wire-told t r stands at =
       let (h, on') = live y order k t stands in
       let e : r.wire ≡ wire_of y.records.items t = ap (λ (s : Record). s.wire) (record-told t r h at) in
       rw e on'
 
+  -- it stands there exactly where its record names a wire
   pub live-told : (t : ℕ) (r : Record) → t < length y.records.items → r ≡ get_or y.records.items t r
       → IsTrue (ltb r.wire y.wires) ↔ IsSome (standing (lists_of y) t)
   live-told t r h at =
@@ -70,6 +75,7 @@ module _ (y : Inside) (order : ℕ → List ℕ) (k : Keeps y order) where
       some : {o : Option (ℕ × ℕ)} {x : ℕ × ℕ} → o ≡ Some x → IsSome o
       some e = rw e refl
 
+  -- the one after it
   pub next-told : (t : ℕ) (r : Record) (line : Line) (wire client : ℕ) → IsSome (standing (lists_of y) t)
       → r ≡ get_or y.records.items t r → line ≡ get_or y.lines.items r.wire line
       → standing (lists_of y) t ≡ Some (wire, client) → after t (on (lists_of y) wire) ≡ cond (eqb line.last t) None (Some r.next)
@@ -94,6 +100,7 @@ module _ (y : Inside) (order : ℕ → List ℕ) (k : Keeps y order) where
 
   -- ---- the lowest wire
 
+  -- a wire with no mark has nobody
   nobody : (u : ℕ) → (u < y.wires → marked y.marks.items u ≡ 0) → on (lists_of y) u ≡ []
   nobody u none = elim (cases_lt u y.wires) [
     | inl l ↦ let rows = k.wires in let m = k.lined.marks u (omega arith) in let z = none l in
@@ -101,6 +108,7 @@ module _ (y : Inside) (order : ℕ → List ℕ) (k : Keeps y order) where
     | inr l ↦ on-beyond y order k u l
   ]
 
+  -- the least number with a mark is the lowest wire, where it is one of a wire
   pub lowest-told : (wire : ℕ) → wire < y.wires
       → (marked y.marks.items wire ≡ 1) × ((n : ℕ) → n < wire → marked y.marks.items n ≡ 0) → IsLowest (lists_of y) wire
   lowest-told wire h (one, lower) = record {
@@ -108,6 +116,7 @@ module _ (y : Inside) (order : ℕ → List ℕ) (k : Keeps y order) where
     below = λ u l. nobody u (λ _. lower u l);
   }
 
+  -- where the least is beyond the wires, or there is none, nobody stands on any wire
   pub none-told : (least : ℕ) → y.wires ≤ least → ((n : ℕ) → n < least → marked y.marks.items n ≡ 0) → (u : ℕ)
       → on (lists_of y) u ≡ []
   none-told least h lower u = nobody u (λ l. lower u (omega arith))

@@ -15,6 +15,7 @@ use Rattle.cn_yard.proofs.Chains.{but-cons, but-head, but-out, chain-but, chain-
 -- ---- what is left of one line, with its links n and p
 
 module _ (n p : ℕ → ℕ) where
+  -- the first of those that are left, where the first is taken
   head-left : (t x : ℕ) (xs : List ℕ) → Chain n p (x ∷ xs) → x ≡ t → times t (x ∷ xs) ≡ 1 → head_or (n t) (but t (x ∷ xs)) ≡ n t
   head-left t x [] c h one = rw (gone h) refl
     where
@@ -29,6 +30,7 @@ module _ (n p : ℕ → ℕ) where
       gone : x ≡ t → but t (x ∷ y ∷ ys) ≡ but t (y ∷ ys)
       gone h = grind (arith, nat_tests)
 
+  -- the last of those that are left, where the last is taken
   tail-left : (t x : ℕ) (xs : List ℕ) → Chain n p (x ∷ xs) → times t (x ∷ xs) ≡ 1 → last_or x xs ≡ t
       → last_or (p t) (but t (x ∷ xs)) ≡ p t
   unfolding last_or
@@ -96,6 +98,7 @@ chain-mid n p n' p' line t (x ∷ xs) e c one once end a b =
 
 -- ---- all lines
 
+-- what stands behind the first stands in the list
 pub in-tail : (z : ℕ) (xs : List ℕ) → 1 ≤ times z (tail_of xs) → 1 ≤ times z xs
 in-tail z [] h = h
 in-tail z (x ∷ xs) h = omega (arith, times-cons z x xs)
@@ -106,6 +109,7 @@ pub once-at : (records : List Record) (lines : List Line) (order : ℕ → List 
 once-at records lines order l z u w hu hw a b =
     let k = l.once z u hu in let m = l.once z w hw in grind (arith, nat_tests)
 
+-- no number stands on a line twice
 pub one-line : (records : List Record) (lines : List Line) (order : ℕ → List ℕ) → Linked records lines order → (u : ℕ)
     → u < length lines → (z : ℕ) → times z (order u) ≤ 1
 one-line records lines order l u h z = let k = l.once z u h in grind (arith, nat_tests)
@@ -118,14 +122,17 @@ pub record Unlinks (records : List Record) (lines : List Line) (records' : List 
       → IsLink records records' (prev_of records t) (next_of records t)
   pub lines_are : lines' ≡ set lines (wire_of records t) (line_without (line_of lines (wire_of records t)) t (prev_of records t) (next_of records t))
 
+-- records that are the same have the same length and name the same lines
 same-records : (records records' : List Record) (t : ℕ) → records' ≡ records
     → (length records' ≡ length records) × ((z : ℕ) → wire_of records' z ≡ wire_of records z)
 same-records records records' t e = rw e (refl, λ z. refl)
 
+-- a test holds or does not
 cases-bool : (b : Bool) → (b ≡ true) ⊎ (b ≡ false)
 cases-bool true = inl refl
 cases-bool false = inr refl
 
+-- then the records but the links, and the counts, are as told
 pub off-kept : (records : List Record) (lines : List Line) (records' : List Record) (lines' : List Line) (t : ℕ)
     → wire_of records t < length lines → 1 ≤ count_of lines (wire_of records t)
     → Unlinks records lines records' lines' t → IsOff records lines records' lines' t
@@ -148,6 +155,7 @@ off-kept records lines records' lines' t h some un =
       ];
     }
 
+-- and the lines run through the lists without the number
 pub off-linked : (records : List Record) (lines : List Line) (records' : List Record) (lines' : List Line) (order : ℕ → List ℕ) (t : ℕ)
     → Linked records lines order → wire_of records t < length lines → times t (order (wire_of records t)) ≡ 1
     → Unlinks records lines records' lines' t → IsOff records lines records' lines' t
@@ -196,6 +204,7 @@ off-linked records lines records' lines' order t l h one un kept =
           rw kept.len (l.below z u hu (let m = times-but z t (order u) in grind (arith, nat_tests)));
     }
 
+-- a line on which a number stands has a record
 times-le : (t : ℕ) (xs : List ℕ) → times t xs ≤ length xs
 times-le t xs = omega (arith, length-but t xs)
 
@@ -203,6 +212,7 @@ pub some-there : (records : List Record) (lines : List Line) (order : ℕ → Li
     → u < length lines → 1 ≤ times t (order u) → 1 ≤ count_of lines u
 some-there records lines order l t u h some = let e = l.ends u h in let c = e.count in omega (arith, times-le t (order u))
 
+-- the neighbours of a record that is at neither end are records
 pub near-below : (records : List Record) (lines : List Line) (order : ℕ → List ℕ) → Linked records lines order → (t : ℕ)
     → wire_of records t < length lines → times t (order (wire_of records t)) ≡ 1
     → (eqb (line_of lines (wire_of records t)).first t || eqb (line_of lines (wire_of records t)).last t) ≡ false

@@ -22,6 +22,7 @@ use Rattle.cn_yard.proofs.Standings.{standing-none, standing-only}
 
 -- ---- numbers with their clients
 
+-- how often a number stands among numbers with their clients
 pub times-clients : (client : ℕ → ℕ) (t : ℕ) (xs : List ℕ) → count_by (λ e. nat_eq t e.0) (with_clients client xs) ≡ times t xs
 times-clients client t [] = let none = times-nil t in grind (arith, nat_tests)
 times-clients client t (x ∷ xs) =
@@ -30,6 +31,7 @@ times-clients client t (x ∷ xs) =
     let rest = times-clients client t xs in
     grind (arith, nat_tests)
 
+-- a number that is not there has no client, and one that is there has its own
 pub lookup-out : (client : ℕ → ℕ) (t : ℕ) (xs : List ℕ) → times t xs ≡ 0 → lookup (nat_eq t) (with_clients client xs) ≡ None
 lookup-out client t [] h = refl
 lookup-out client t (x ∷ xs) h = grind (arith, nat_tests, times-cons t x xs, lookup-out client t xs)
@@ -43,6 +45,7 @@ lookup-in client t (x ∷ xs) h =
       | inr o ↦ let f : nat_eq t x ≡ false = grind (arith, nat_tests) in rw f (lookup-in client t xs (let m = times-cons t x xs in grind (arith, nat_tests)))
     ]
 
+-- without one of them
 pub without-clients : (client : ℕ → ℕ) (t : ℕ) (xs : List ℕ) → without t (with_clients client xs) ≡ with_clients client (but t xs)
 without-clients client t [] = refl
 without-clients client t (x ∷ xs) = by (nat_eq t x) (without-clients client t xs)
@@ -52,6 +55,7 @@ without-clients client t (x ∷ xs) = by (nat_eq t x) (without-clients client t 
     by true rest = rest
     by false rest = ap (λ es. (x, client x) ∷ es) rest
 
+-- clients that agree on the numbers of a list
 pub clients-same : (client client' : ℕ → ℕ) (xs : List ℕ) → ((n : ℕ) → 1 ≤ times n xs → client' n ≡ client n)
     → with_clients client' xs ≡ with_clients client xs
 clients-same client client' [] same = refl
@@ -60,6 +64,7 @@ clients-same client client' (x ∷ xs) same =
     let rest = clients-same client client' xs (λ n h. same n (omega (arith, times-cons n x xs))) in
     rw (here, rest) refl
 
+-- the client of a number at the end
 clients-last : (client : ℕ → ℕ) (t to u : ℕ) → with_clients client (last_of t to u) ≡ last_on t (client t) to u
 clients-last client t to u = by (eqb to u)
   where
@@ -94,6 +99,7 @@ after-clients n p client t d (x ∷ y ∷ ys) c one =
 
 -- ---- sums
 
+-- a sum with at most one member, which is at most 1
 sum-once : (n w : ℕ) (f : ℕ → ℕ) → ((u : ℕ) → u < n → f u ≤ cond (eqb w u) 1 0) → sum_below n f ≤ cond (ltb w n) 1 0
 unfolding sum_below
 sum-once zero w f h = omega arith
@@ -115,11 +121,13 @@ unfolding IsYard
 closed y order k = (order, k)
 
 module _ (y : Inside) (order : ℕ → List ℕ) (k : Keeps y order) where
+  -- a walk along a line meets its numbers
   pub walked-is : (u : ℕ) → u < length y.lines.items → walked y.records.items y.lines.items u ≡ order u
   walked-is u h =
       let e = k.lined.links.linked.ends u h in
       rw (e.count, ← e.first) (walk-chain (next_of y.records.items) (prev_of y.records.items) (line_of y.lines.items u).first (order u) (k.lined.links.linked.chain u h))
 
+  -- there are as many lists as wires, each the line with its clients, and none beyond
   pub wires-are : length (lists_of y) ≡ y.wires
   wires-are = length-map (range_with_len 0 y.wires) (λ u. with_clients (client_of y.records.items) (walked y.records.items y.lines.items u)) ∙ length-range_with_len 0 y.wires
 
@@ -131,6 +139,7 @@ module _ (y : Inside) (order : ℕ → List ℕ) (k : Keeps y order) where
   pub on-beyond : (u : ℕ) → y.wires ≤ u → on (lists_of y) u ≡ []
   on-beyond u h = get_or_past (lists_of y) u [] (omega (arith, wires-are))
 
+  -- as many stand on a wire as its line counts
   pub length-on : (u : ℕ) → u < y.wires → length (on (lists_of y) u) ≡ count_of y.lines.items u
   length-on u h = ap length (on-wire u h) ∙ length-map (order u) (λ n. (n, client_of y.records.items n)) ∙ sym (k.lined.links.linked.ends u (let w = k.wires in omega arith)).count
 
@@ -144,6 +153,7 @@ module _ (y : Inside) (order : ℕ → List ℕ) (k : Keeps y order) where
       let same = sum_below-same y.wires (λ u. length (on (lists_of y) u)) (λ u. length (order u)) (λ u h. ap length (on-wire u h) ∙ length-map (order u) (λ n. (n, client_of y.records.items n))) in
       rw wires-are (omega arith)
 
+  -- no token stands there twice
   pub times-most : (t : ℕ) → times_in (lists_of y) t ≤ 1
   times-most t =
       let most = sum-once y.wires (wire_of y.records.items t) (λ u. count_by (λ e. nat_eq t e.0) (on (lists_of y) u))
@@ -152,6 +162,7 @@ module _ (y : Inside) (order : ℕ → List ℕ) (k : Keeps y order) where
 
   -- ---- who stands where
 
+  -- a number that is not on a line has no client on its wire
   pub lookup-none : (t u : ℕ) → (u < y.wires → times t (order u) ≡ 0) → lookup (nat_eq t) (on (lists_of y) u) ≡ None
   lookup-none t u none =
       elim (cases_lt u y.wires) [
@@ -159,6 +170,7 @@ module _ (y : Inside) (order : ℕ → List ℕ) (k : Keeps y order) where
         | inr l ↦ rw (on-beyond u l) refl
       ]
 
+  -- a record stands on the wire that it names, a free one on none, and what is no record on none
   pub standing-live : (t : ℕ) → t < length y.records.items → wire_of y.records.items t < y.wires
       → standing (lists_of y) t ≡ Some (wire_of y.records.items t, client_of y.records.items t)
   standing-live t h on_wire =
@@ -182,6 +194,7 @@ module _ (y : Inside) (order : ℕ → List ℕ) (k : Keeps y order) where
         | inr s ↦ omega arith
       ]))
 
+  -- a token that stands there is a record that names a wire
   pub live : (t : ℕ) → IsSome (standing (lists_of y) t) → (t < length y.records.items) × (wire_of y.records.items t < y.wires)
   live t stands =
       elim (cases_lt t (length y.records.items)) [
