@@ -81,14 +81,23 @@ impl Guarded {
         Some(client)
     }
 
-    /// The first two clients on a wire.
-    fn row(&self, wire: u32) -> [Option<u64>; 2] {
+    /// The first three clients on a wire.
+    fn row(&self, wire: u32) -> Row {
         let first = self.first(wire);
         let second = match first {
             Some(token) => self.next(token),
             None => None,
         };
-        [self.client(first), self.client(second)]
+        let third = match second {
+            Some(token) => self.next(token),
+            None => None,
+        };
+        [self.client(first), self.client(second), self.client(third)]
+    }
+
+    /// The rows of the first two wires, and the number of free records.
+    fn pair(&self) -> Pair {
+        ([self.row(0), self.row(1)], self.yard.spare())
     }
 
     /// The rows of the three wires, and the numbers of tokens and of free records.
@@ -101,17 +110,20 @@ impl Guarded {
     }
 }
 
-type Stand = ([[Option<u64>; 2]; 3], Option<u32>, (u32, u32, bool));
+type Row = [Option<u64>; 3];
 
-/// A yard of three wires.
-fn three_wires(alloc: Global) -> Option<Guarded> {
-    let yard = Yard::new(alloc, 3).ok()?;
+type Stand = ([Row; 3], Option<u32>, (u32, u32, bool));
+
+type Pair = ([Row; 2], u32);
+
+fn yard_of(alloc: Global, wires: u32) -> Option<Guarded> {
+    let yard = Yard::new(alloc, wires).ok()?;
     Some(Guarded { yard })
 }
 
 /// The yard after each move of the row.
 fn stands(alloc: Global) -> Option<[Stand; 6]> {
-    let mut yard = three_wires(alloc)?;
+    let mut yard = yard_of(alloc, 3)?;
     yard.reserve(2)?;
     let empty = yard.stand();
     let t = yard.admit(7, 0)?;
@@ -128,17 +140,33 @@ fn stands(alloc: Global) -> Option<[Stand; 6]> {
     Some([empty, both, turned, apart, left, yard.stand()])
 }
 
-const NOBODY: [Option<u64>; 2] = [None, None];
+const NOBODY: Row = [None, None, None];
 
-const EIGHT: [Option<u64>; 2] = [Some(8), None];
+const EIGHT: Row = [Some(8), None, None];
 
 const STANDS: [Stand; 6] = [
     ([NOBODY, NOBODY, NOBODY], None, (0, 2, true)),
-    ([[Some(7), Some(8)], NOBODY, NOBODY], Some(0), (2, 0, false)),
-    ([[Some(8), Some(7)], NOBODY, NOBODY], Some(0), (2, 0, false)),
-    ([[Some(7), None], NOBODY, EIGHT], Some(0), (2, 0, false)),
+    (
+        [[Some(7), Some(8), None], NOBODY, NOBODY],
+        Some(0),
+        (2, 0, false),
+    ),
+    (
+        [[Some(8), Some(7), None], NOBODY, NOBODY],
+        Some(0),
+        (2, 0, false),
+    ),
+    (
+        [[Some(7), None, None], NOBODY, EIGHT],
+        Some(0),
+        (2, 0, false),
+    ),
     ([NOBODY, NOBODY, EIGHT], Some(2), (1, 1, false)),
-    ([NOBODY, [Some(9), Some(10)], EIGHT], Some(1), (3, 0, false)),
+    (
+        [NOBODY, [Some(9), Some(10), None], EIGHT],
+        Some(1),
+        (3, 0, false),
+    ),
 ];
 
 #[test]
@@ -146,11 +174,42 @@ fn yard_moves(rt: HostRuntime) {
     assert_eq!(rt; stands(rt.alloc()), Some(STANDS));
 }
 
+/// Five clients on one wire: once three of their tokens have moved to the other, once one is released, and once another
+/// client has come.
+fn linked(alloc: Global) -> Option<[Pair; 3]> {
+    let mut yard = yard_of(alloc, 2)?;
+    yard.reserve(5)?;
+    let first = yard.admit(1, 0)?;
+    yard.admit(2, 0)?;
+    let third = yard.admit(3, 0)?;
+    yard.admit(4, 0)?;
+    let fifth = yard.admit(5, 0)?;
+    yard.move_to(third, 1)?;
+    yard.move_to(first, 1)?;
+    yard.move_to(fifth, 1)?;
+    let moved = yard.pair();
+    yard.release(first)?;
+    let released = yard.pair();
+    yard.admit(6, 0)?;
+    Some([moved, released, yard.pair()])
+}
+
+const LINKED: [Pair; 3] = [
+    ([[Some(2), Some(4), None], [Some(3), Some(1), Some(5)]], 0),
+    ([[Some(2), Some(4), None], [Some(3), Some(5), None]], 1),
+    ([[Some(2), Some(4), Some(6)], [Some(3), Some(5), None]], 0),
+];
+
+#[test]
+fn linked_yard(rt: HostRuntime) {
+    assert_eq!(rt; linked(rt.alloc()), Some(LINKED));
+}
+
 /// The places of two tokens on one wire, how many stand there, who is released, and whether it stands there still.
 type Looks = ([Option<(u32, u64)>; 2], [Option<u32>; 2], Option<u64>, bool);
 
 fn looks(alloc: Global) -> Option<Looks> {
-    let mut yard = three_wires(alloc)?;
+    let mut yard = yard_of(alloc, 3)?;
     let t = yard.admit(7, 0)?;
     let u = yard.admit(8, 0)?;
     let counts = [yard.count(0), yard.count(1)];
@@ -174,7 +233,7 @@ fn looks_at_tokens_and_wires(rt: HostRuntime) {
 
 /// The wires and the free records after a reserve of so many, and the tokens and free records once so many came in.
 fn full(alloc: Global, records: u32) -> Option<[(u32, u32); 2]> {
-    let mut yard = three_wires(alloc)?;
+    let mut yard = yard_of(alloc, 3)?;
     yard.reserve(records)?;
     let reserved = (yard.yard.wires(), yard.yard.spare());
     for client in 0..records {
