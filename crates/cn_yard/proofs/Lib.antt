@@ -1,7 +1,13 @@
 pub mod Keyed
 pub mod There
-pub mod OnWires
 pub mod Standings
-pub mod Moved
-pub mod Kept
+pub mod Chains
+pub mod Unlinked
+pub mod Appended
+pub mod AllLines
+pub mod Bits
+pub mod Wires
+pub mod Changes
+pub mod Readers
+pub mod Bodies
 pub mod CallerLemmas

@@ -1,15 +1,9 @@
 -- Where the tokens of a yard stand.
-use Rattle.std.proofs.Common.{◌≡◌, ◌≢◌, ℕ, zero, suc, ◌+◌, ◌<◌, ◌≤◌, inl, inr, nat_eq, List, [], ◌∷◌, length, get_or, map, refl, ap, ◌∙◌, arith, Option, Some, None}
-use Rattle.std.specs.Prelude.{All, Any, IfSome, IsSome, MatchOption, replicate}
-use Rattle.std.specs.List.{range_with_len}
+use Rattle.std.proofs.Common.{◌≡◌, ◌≢◌, ℕ, zero, suc, ◌<◌, inl, inr, nat_eq, length, refl, arith, Option, Some, None, true, false, cond, eqb}
 use Rattle.std.specs.Map.{lookup}
-use Rattle.std.proofs.lemmas.Bool.{cases_eq, cases_lt}
-use Rattle.std.proofs.lemmas.List.{length-map}
-use Rattle.std.proofs.lemmas.List.FromFn.{get_or-map-range_with_len, length-range_with_len}
-use Rattle.cn_yard.specs.declared.live.LiveRecord.{LiveRecord}
-use Rattle.cn_yard.specs.Lists.{IsLowest, Lists, Yard, empty, on, standing, standing_below}
-use Rattle.cn_yard.specs.InsideYard.{lists_of, on_wire, place}
-use Rattle.cn_yard.proofs.OnWires.{on_wire-below, on_wire-some, lookup-elsewhere, lookup-here, lookup-out, place-in, times_of}
+use Rattle.std.proofs.lemmas.Bool.{cases_eq}
+use Rattle.std.proofs.lemmas.Bool.Decides.{nat_tests}
+use Rattle.cn_yard.specs.Lists.{Lists, here_or, on, standing, standing_below}
 
 -- ---- of any yard: a token that is on one wire alone, or on none, and yards that agree
 
@@ -33,82 +27,35 @@ unfolding standing_below
 standing-same zero y z token same = refl
 standing-same (suc n) y z token same = rw (same n, standing-same n y z token same)
 
--- ---- of a yard that is seen from one list
-
-abbrev pub seen : ℕ → List LiveRecord → ℕ → Yard
-seen wires items spare = record { lists = lists_of wires items; spare = spare }
-
-pub wires-seen : (wires : ℕ) (items : List LiveRecord) → length (lists_of wires items) ≡ wires
-wires-seen wires items = length-map (range_with_len 0 wires) (λ u. on_wire u items) ∙ length-range_with_len 0 wires
-
-pub on-seen : (wires : ℕ) (items : List LiveRecord) (u : ℕ) → u < wires → on (lists_of wires items) u ≡ on_wire u items
-on-seen wires items u h = get_or-map-range_with_len (λ w. on_wire w items) 0 wires u u [] h (omega arith)
-
--- beyond the wires there is nothing
-beyond : {X : Type 0} (xs : List X) (i : ℕ) (d : X) → length xs ≤ i → get_or xs i d ≡ d
-beyond [] i d h = refl
-beyond (x ∷ xs) zero d h = absurd (omega arith)
-beyond (x ∷ xs) (suc i) d h = beyond xs i d (omega arith)
-
-pub on-beyond : (wires : ℕ) (items : List LiveRecord) (u : ℕ) → wires ≤ u → on (lists_of wires items) u ≡ []
-on-beyond wires items u h = beyond (lists_of wires items) u [] (omega (arith, wires-seen wires items))
-
-pub standing-out : (wires : ℕ) (items : List LiveRecord) (token : ℕ) → times_of token items ≡ 0 → standing (lists_of wires items) token ≡ None
-standing-out wires items token out =
-    standing-none (length (lists_of wires items)) (lists_of wires items) token
-    (λ u h. rw (on-seen wires items u (omega (arith, wires-seen wires items))) (lookup-out token u items out))
-
-pub standing-in : (wires : ℕ) (items : List LiveRecord) (token : ℕ) (d : LiveRecord) → All (λ s. s.wire < wires) items → times_of token items ≤ 1 → place token items < length items
-    → standing (lists_of wires items) token ≡ Some ((get_or items (place token items) d).wire, (get_or items (place token items) d).client)
-standing-in wires items token d on_wires one h =
-    let within = on_wires (place token items) d h in
-    let s = get_or items (place token items) d in
-    standing-only (length (lists_of wires items)) (lists_of wires items) token s.wire s.client
-    (omega (arith, within, wires-seen wires items))
-    (rw (on-seen wires items s.wire within) (lookup-here token items d one h))
-    elsewhere
+-- a token that is not in the yard is on none of its wires
+pub lookup-absent : (n : ℕ) (y : Lists) (token : ℕ) → standing_below n y token ≡ None → (u : ℕ) → u < n → lookup (nat_eq token) (on y u) ≡ None
+unfolding standing_below
+lookup-absent zero y token none u h = absurd (omega arith)
+lookup-absent (suc n) y token none u h = by (lookup (nat_eq token) (on y n)) refl none (λ rest l. lookup-absent n y token rest u l)
   where
-    elsewhere : (u : ℕ) → u ≢ (get_or items (place token items) d).wire → lookup (nat_eq token) (on (lists_of wires items) u) ≡ None
-    elsewhere u n =
-        elim (cases_lt u wires) [
-          | inl l ↦ rw (on-seen wires items u l) (lookup-elsewhere token u items d one h n)
-          | inr l ↦ rw (on-beyond wires items u l) refl
+    by : (here : Option ℕ) → lookup (nat_eq token) (on y n) ≡ here → here_or n here (standing_below n y token) ≡ None
+        → (standing_below n y token ≡ None → u < n → lookup (nat_eq token) (on y u) ≡ None) → lookup (nat_eq token) (on y u) ≡ None
+    by None e none rest = elim (cases_eq u n) [ inl same ↦ rw same e | inr d ↦ rest none (omega arith) ]
+    by (Some c) e none rest = absurd (cc)
+
+-- ---- the three changes
+
+-- whoever else stands there stands where it stood, and a token that has come stands on its wire
+pub standing-added : (old new : Lists) (token client wire : ℕ) → length new ≡ length old → wire < length old
+    → ((u : ℕ) → u < length old → lookup (nat_eq token) (on new u) ≡ cond (eqb wire u) (Some client) None)
+    → ((other u : ℕ) → other ≢ token → lookup (nat_eq other) (on new u) ≡ lookup (nat_eq other) (on old u))
+    → (other : ℕ) → standing new other ≡ cond (eqb other token) (Some (wire, client)) (standing old other)
+unfolding standing_below
+standing-added old new token client wire wires within own others other =
+    rw wires (elim (cases_eq other token) [
+      | inl e ↦ rw (e) (let same : eqb token token ≡ true = grind (arith, nat_tests) in rw same (by (length old) within own))
+      | inr n ↦ let differ : eqb other token ≡ false = grind (arith, nat_tests) in rw differ (standing-same (length old) old new other (λ u. others other u n))
+    ])
+  where
+    by : (n : ℕ) → wire < n → ((u : ℕ) → u < n → lookup (nat_eq token) (on new u) ≡ cond (eqb wire u) (Some client) None) → standing_below n new token ≡ Some (wire, client)
+    by zero h own = absurd (omega arith)
+    by (suc n) h own =
+        elim (cases_eq n wire) [
+          | inl e ↦ let here : eqb wire n ≡ true = grind (arith, nat_tests) in rw (own n (omega arith), here, e) refl
+          | inr d ↦ let away : eqb wire n ≡ false = grind (arith, nat_tests) in rw (own n (omega arith), away) (by n (omega arith) (λ u l. own u (omega arith)))
         ]
-
--- a token that stands in the yard has a place in the list
-pub place-standing : (wires : ℕ) (items : List LiveRecord) (token : ℕ) → IsSome (standing (lists_of wires items) token) → place token items < length items
-place-standing wires items token stands =
-    elim (cases_lt 0 (times_of token items)) [
-      | inl l ↦ place-in token items l
-      | inr l ↦ absurd (let none = standing-out wires items token (omega arith) in let some = rw none at stands in cc)
-    ]
-
--- the least wire with a token
-pub lowest-seen : (wires : ℕ) (items : List LiveRecord) (wire : ℕ) → All (λ s. s.wire < wires) items → Any (λ s. s.wire ≡ wire) items → All (λ s. wire ≤ s.wire) items → IsLowest (lists_of wires items) wire
-lowest-seen wires items wire on_wires (i, s, within, here, on_it) least =
-    let inside : wire < wires = let w = on_wires i s within in rw (here, on_it) at w in
-    record {
-      some = rw (on-seen wires items wire inside) (on_wire-some wire items i s within (ap (λ (x : LiveRecord). x.wire) here ∙ on_it));
-      below = λ u h. rw (on-seen wires items u (omega arith)) (on_wire-below wire u items least h);
-    }
-
-pub nobody-seen : (wires : ℕ) (items : List LiveRecord) → length items ≡ 0 → (u : ℕ) → on (lists_of wires items) u ≡ []
-unfolding on_wire
-nobody-seen wires [] none u = elim (cases_lt u wires) [ inl l ↦ on-seen wires [] u l | inr l ↦ on-beyond wires [] u l ]
-nobody-seen wires (s ∷ items) none u = absurd (omega arith)
-
--- what the least wire of the list is in the yard
-pub lowest-told : (wires : ℕ) (items : List LiveRecord) (lowest : Option ℕ) → All (λ s. s.wire < wires) items
-    → MatchOption lowest (length items ≡ 0) (λ wire. Any (λ s. s.wire ≡ wire) items × All (λ s. wire ≤ s.wire) items)
-    → IfSome lowest (λ wire. IsLowest (lists_of wires items) wire) × (lowest ≡ None → (u : ℕ) → on (lists_of wires items) u ≡ [])
-lowest-told wires items None on_wires none = (tt, λ e u. nobody-seen wires items none u)
-lowest-told wires items (Some wire) on_wires (some, least) = (lowest-seen wires items wire on_wires some least, λ e. absurd (cc))
-
--- a yard of no list is empty
-pub empty-seen : (wires : ℕ) → seen wires [] 0 ≡ empty wires
-unfolding on_wire
-empty-seen wires = ap (λ lists. record { lists = lists; spare = 0 }) (none 0 wires)
-  where
-    none : (a n : ℕ) → map (λ u. on_wire u []) (range_with_len a n) ≡ replicate n []
-    none a zero = refl
-    none a (suc n) = ap (λ lists. [] ∷ lists) (none (a + 1) n)

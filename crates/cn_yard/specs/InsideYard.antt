@@ -1,36 +1,39 @@
 -- What a yard holds.
-use Rattle.std.specs.Prelude.{◌≡◌, ℕ, suc, ◌+◌, ◌<◌, ◌≤◌, ◌==◌, nat_eq, if◌then◌else◌, List, [], ◌∷◌, All, length, map, count_by, vec_capacity}
+use Rattle.std.specs.Prelude.{◌≡◌, ℕ, ◌+◌, List, length, map}
 use Rattle.std.specs.List.{range_with_len}
-use Rattle.cn_spec.specs.Sums.{times, once_below}
-use Rattle.cn_spec.specs.declared.limits.TheConstants.{MOST_TOKENS}
-use Rattle.cn_yard.specs.declared.live.LiveRecord.{LiveRecord}
+use Rattle.cn_yard.specs.declared.records.Record.{Record}
+use Rattle.cn_yard.specs.declared.lines.Line.{Line}
 use Rattle.cn_yard.specs.declared.yard.Yard.TheInside.{Inside}
-use Rattle.cn_yard.specs.Lists.{Yard}
+use Rattle.cn_yard.specs.Chains.{walk}
+use Rattle.cn_yard.specs.Lines.{count_of, line_of}
+use Rattle.cn_yard.specs.Records.{client_of, next_of}
+use Rattle.cn_yard.specs.Moving.{IsLined}
+use Rattle.cn_yard.specs.Lists.{Lists, Yard}
 
--- the tokens of a list that stand on a wire, in order, each with its client
-unfoldable pub on_wire : ℕ → List LiveRecord → List (ℕ × ℕ)
-on_wire wire [] = []
-on_wire wire (s ∷ rest) = if s.wire == wire then (s.token, s.client) ∷ on_wire wire rest else on_wire wire rest
+-- numbers, each with its client
+abbrev pub with_clients : (ℕ → ℕ) → List ℕ → List (ℕ × ℕ)
+with_clients client list = map (λ n. (n, client n)) list
 
--- the place of a token in a list, or the list's length
-unfoldable pub place : ℕ → List LiveRecord → ℕ
-place token [] = 0
-place token (s ∷ rest) = if nat_eq token s.token then 0 else suc (place token rest)
+-- the numbers on a line
+abbrev pub walked : List Record → List Line → ℕ → List ℕ
+walked records lines u = walk (next_of records) (count_of lines u) (line_of lines u).first
 
--- the lists of all wires
-abbrev pub lists_of : ℕ → List LiveRecord → List (List (ℕ × ℕ))
-lists_of wires list = map (λ wire. on_wire wire list) (range_with_len 0 wires)
+-- the tokens on the wires
+abbrev pub lists_of : Inside → Lists
+lists_of y =
+    map (λ u. with_clients (client_of y.records.items) (walked y.records.items y.lines.items u))
+    (range_with_len 0 y.wires)
 
+-- the free records are on the line after the last wire
 abbrev pub yard_of : Inside → Yard
-yard_of y = record { lists = lists_of y.wires y.live.items; spare = length y.free.items }
+yard_of y = record { lists = lists_of y; spare = count_of y.lines.items y.wires }
 
--- what a yard's lists keep
-pub record IsYard (y : Inside) : Type 0 where
-  pub on_wires : All (λ s. s.wire < y.wires) y.live.items
-  -- each number below that of all records is that of one token or of one free record
-  pub numbers : (n : ℕ) → count_by (λ s. nat_eq n s.token) y.live.items + times n y.free.items
-      ≡ once_below (length y.live.items + length y.free.items) n
-  pub few : length y.live.items + length y.free.items ≤ MOST_TOKENS
-  -- there is room for all records in either list
-  pub room_live : length y.live.items + length y.free.items ≤ vec_capacity y.live
-  pub room_free : length y.live.items + length y.free.items ≤ vec_capacity y.free
+-- what a yard's records and lines keep, with the numbers of each line from first to last: the last line is that of the
+-- free records
+pub record Keeps (y : Inside) (order : ℕ → List ℕ) : Type 0 where
+  pub lined : IsLined y.records.items y.lines.items y.marks.items order
+  pub wires : length y.lines.items ≡ y.wires + 1
+
+-- some lists of numbers are those of the lines. It opens only where that is asked: a caller's proof needs nothing of it
+unfoldable pub IsYard : Inside → Type 0
+IsYard y = (order : ℕ → List ℕ) × Keeps y order

@@ -1,2 +1,7 @@
 pub mod Lists
+pub mod Records
+pub mod Chains
+pub mod Lines
+pub mod Marks
+pub mod Moving
 pub mod InsideYard

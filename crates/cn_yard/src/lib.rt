@@ -1,7 +1,10 @@
 //! A yard: per wire a list of tokens from first to last, and a number of free records.
 #![tactic(auto)]
 
-mod live;
+mod lines;
+mod marks;
+mod moves;
+mod records;
 mod token;
 mod yard;
 

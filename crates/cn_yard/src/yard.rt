@@ -4,7 +4,10 @@ ghost use Rattle.std.specs.Prelude.{◌≡◌, ℕ, ◌+◌, ◌<◌, ◌≤◌,
 ghost use Rattle.cn_spec.specs.declared.limits.TheConstants.{MOST_TOKENS};
 ghost use Rattle.cn_yard.specs.Lists.{Admits, IsLowest, IsThere, Moves, Releases, after, empty, first_of, on, standing, times_in, tokens_in};
 
-use crate::live::{LiveRecord, count_on, first_on, least_wire, place_of, push_numbers};
+use crate::lines::Line;
+use crate::marks::least;
+use crate::moves::{fill, relink};
+use crate::records::{Record, set_client};
 use crate::token::Token;
 use cn_spec::limits::MOST_TOKENS;
 use std::alloc::{AllocError, Global};
@@ -12,14 +15,17 @@ use std::marker::Model;
 
 /// Per wire a list of tokens from first to last, each with its client, and a number of free records.
 ///
-/// Only [`Yard::new`], [`Yard::reserve`] and [`Yard::admit`] take memory. This yard keeps one list of its tokens in the
-/// order in which they came to their wires, so a move, a release, a look at a wire or at a token and the search for the
-/// lowest wire take time in proportion to [`Yard::len`].
+/// Only [`Yard::new`], [`Yard::reserve`] and [`Yard::admit`] take memory. The tokens are records that are linked by their
+/// numbers, and the free records stand on a line of their own, so all takes a few steps but [`Yard::lowest`], which
+/// looks at one bit per wire, 64 at a time.
 #[derive(Drop)]
 pub struct Yard {
     wires: u32,
-    live: Vec<LiveRecord>,
-    free: Vec<u32>,
+    records: Vec<Record>,
+    // One per wire, and then that of the free records.
+    lines: Vec<Line>,
+    // One bit per line: whether a record stands there.
+    marks: Vec<u64>,
 }
 
 impl Model for Yard {
@@ -42,10 +48,16 @@ impl Yard {
         ensures yard { IfOk result (λ yard. yard ≡ empty wires) }
         ensures nobody { IfOk result (λ yard. tokens_in yard.lists ≡ 0) }
     {
+        let lines = wires as usize + 1;
         Ok(Yard {
             wires,
-            live: Vec::new(alloc),
-            free: Vec::new(alloc),
+            records: Vec::new(alloc),
+            lines: vec![in alloc; Line {
+                first: 0,
+                last: 0,
+                count: 0
+            }; lines]?,
+            marks: vec![in alloc; 0; wires as usize / 64 + 1]?,
         })
     }
 
@@ -62,15 +74,13 @@ impl Yard {
         ensures err { OnErr result (self.new ≡ self.old) }
         ensures enough { records ≤ self.old.spare → IsOk result }
     {
-        let spare = self.free.len() as u32;
-        if records <= spare {
-            return Ok(());
-        }
-        let used = self.live.len() as u32;
-        self.live.reserve(records as usize)?;
-        self.free.reserve((used + records - spare) as usize)?;
-        push_numbers(&mut self.free, used + spare, used + records);
-        Ok(())
+        fill(
+            &mut self.records,
+            &mut self.lines,
+            &mut self.marks,
+            self.wires,
+            records,
+        )
     }
 
     /// What holds of each yard: a token stands there at most once, and one that stands there is on one wire alone, for one
@@ -102,21 +112,23 @@ impl Yard {
         ensures err { OnErr result (self.new ≡ self.old) }
         ensures reserved { 0 < self.old.spare → IsOk result }
     {
-        let number = match self.free.pop() {
-            Some(number) => number,
-            None => {
-                self.live.reserve(1)?;
-                self.free.reserve(self.live.len() + 1)?;
-                self.live.len() as u32
-            }
-        };
-        let token = Token::of(number);
-        self.live.push_reserved(LiveRecord {
-            token,
-            client,
+        fill(
+            &mut self.records,
+            &mut self.lines,
+            &mut self.marks,
+            self.wires,
+            1,
+        )?;
+        let number = self.lines[self.wires as usize].last;
+        relink(
+            &mut self.records,
+            &mut self.lines,
+            &mut self.marks,
+            number,
             wire,
-        });
-        Ok(token)
+        );
+        set_client(&mut self.records, number, client);
+        Ok(Token::of(number))
     }
 
     /// Takes a token that stands in the yard ([`Yard::is_live`]) out of its place and puts it last on `wire`, which is
@@ -127,9 +139,13 @@ impl Yard {
         ensures { (from client : ℕ) → standing self.old.lists token ≡ Some (from, client)
             → Moves self.old self.new token client wire }
     {
-        let place = place_of(&self.live, token);
-        let moved = self.live.remove(place);
-        self.live.push_reserved(LiveRecord { wire, ..moved });
+        relink(
+            &mut self.records,
+            &mut self.lines,
+            &mut self.marks,
+            token.number(),
+            wire,
+        );
     }
 
     /// Takes a token that stands in the yard ([`Yard::is_live`]) off its wire, and gives its client. Its record is free
@@ -139,10 +155,15 @@ impl Yard {
         ensures client { (wire : ℕ) × IsThere self.old.lists token result wire }
         ensures released { Releases self.old self.new token }
     {
-        let place = place_of(&self.live, token);
-        let released = self.live.remove(place);
-        self.free.push_reserved(token.number());
-        released.client
+        let number = token.number();
+        relink(
+            &mut self.records,
+            &mut self.lines,
+            &mut self.marks,
+            number,
+            self.wires,
+        );
+        self.records[number as usize].client
     }
 
     /// The first token on `wire`, which is below [`Yard::wires`], if one stands there.
@@ -150,7 +171,11 @@ impl Yard {
         requires { wire < length self.now.lists }
         ensures { result ≡ first_of (on self.now.lists wire) }
     {
-        first_on(&self.live, wire)
+        let line = self.lines[wire as usize];
+        if line.count == 0 {
+            return None;
+        }
+        Some(Token::of(line.first))
     }
 
     /// The token after `token`, which stands in the yard, on its wire, if it is not the last there.
@@ -159,10 +184,11 @@ impl Yard {
         ensures { (wire client : ℕ) → standing self.now.lists token ≡ Some (wire, client)
             → result ≡ after token (on self.now.lists wire) }
     {
-        let place = place_of(&self.live, token);
-        let wire = self.live[place].wire;
-        let (_, later) = self.live.split_at(place + 1);
-        first_on(later, wire)
+        let record = self.records[token.number() as usize];
+        if self.lines[record.wire as usize].last == token.number() {
+            return None;
+        }
+        Some(Token::of(record.next))
     }
 
     /// The least wire on which a token stands, if one does.
@@ -170,7 +196,10 @@ impl Yard {
         ensures some { IfSome result (λ wire. IsLowest self.now.lists wire) }
         ensures none { result ≡ None → (wire : ℕ) → on self.now.lists wire ≡ [] }
     {
-        least_wire(&self.live)
+        match least(&self.marks) {
+            Some(wire) if wire < self.wires as u64 => Some(wire as u32),
+            _ => None,
+        }
     }
 
     /// How many tokens stand on `wire`, which is below [`Yard::wires`].
@@ -178,28 +207,28 @@ impl Yard {
         requires { wire < length self.now.lists }
         ensures { result ≡ length (on self.now.lists wire) }
     {
-        count_on(&self.live, wire) as u32
+        self.lines[wire as usize].count
     }
 
     /// How many tokens stand in the yard.
     pub fn len(&self) -> u32
         ensures { result ≡ tokens_in self.now.lists }
     {
-        self.live.len() as u32
+        self.records.len() as u32 - self.lines[self.wires as usize].count
     }
 
     /// Whether no token stands in the yard.
     pub fn is_empty(&self) -> bool
         ensures { IsTrue result ↔ (tokens_in self.now.lists ≡ 0) }
     {
-        self.live.is_empty()
+        self.len() == 0
     }
 
     /// How many records are free: as many tokens can be admitted with no further memory.
     pub fn spare(&self) -> u32
         ensures { result ≡ self.now.spare }
     {
-        self.free.len() as u32
+        self.lines[self.wires as usize].count
     }
 
     /// How many wires there are.
@@ -214,7 +243,7 @@ impl Yard {
         requires { IsSome (standing self.now.lists token) }
         ensures { (client : ℕ) × IsThere self.now.lists token client result }
     {
-        self.live[place_of(&self.live, token)].wire
+        self.records[token.number() as usize].wire
     }
 
     /// The client of a token that stands in the yard.
@@ -222,13 +251,14 @@ impl Yard {
         requires { IsSome (standing self.now.lists token) }
         ensures { (wire : ℕ) × IsThere self.now.lists token result wire }
     {
-        self.live[place_of(&self.live, token)].client
+        self.records[token.number() as usize].client
     }
 
     /// Whether a token stands in the yard.
     pub fn is_live(&self, token: Token) -> bool
         ensures { IsTrue result ↔ IsSome (standing self.now.lists token) }
     {
-        place_of(&self.live, token) < self.live.len()
+        let at = token.number() as usize;
+        at < self.records.len() && self.records[at].wire < self.wires
     }
 }

@@ -1,6 +1,16 @@
 use Rattle.std.proofs.Common.{ℕ, List, length, get_or, rules, sym, ap, ◌∙◌, []}
+use Rattle.cn_yard.specs.Lists.{tokens_in}
 use Rattle.cn_yard.proofs.CallerLemmas.{nobody-on}
+use Rattle.cn_walk.proofs.floor.Floor.join.Goals.{then-lane-more+else-is_err, else-lane-more}
 use Rattle.cn_walk.proofs.floor.Floor.join.Goals as goal
+
+pub merge-requires-clause-quotas : goal.merge-requires-clause-quotas
+merge-requires-clause-quotas c =
+    let inside = ap tokens_in (sym c.lane.invariant.tokens) ∙ sym c.len-inside.ensures in
+    elim c.if-lane-more.branch [
+      | then-lane-more+else-is_err w ↦ rw w.lane-inside-is (sym c.lane.invariant.quota, sym c.other.invariant.quota, inside)
+      | else-lane-more w ↦ rw w.lane-inside-is (sym c.lane.invariant.quota, sym c.other.invariant.quota, inside)
+    ]
 
 pub merge-requires-clause-out : goal.merge-requires-clause-out
 merge-requires-clause-out c u =

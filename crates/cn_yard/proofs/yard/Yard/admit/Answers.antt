@@ -1,65 +1,122 @@
-use Rattle.std.proofs.Common.{◌≡◌, ◌∙◌, ◌<◌, ◌-◌, ◌∷◌, [], ℕ, List, length, refl, ap, sym, rules, arith, vec_len}
-use Rattle.cn_yard.proofs.Moved.{tokens-seen}
-use Rattle.cn_yard.proofs.Standings.{wires-seen}
-use Rattle.cn_yard.proofs.Kept.{HasNumber, admits-of, admitted, length-last, number-freed, number-made}
-use Rattle.cn_yard.proofs.yard.Yard.admit.Goals.{in-Some, in-None+in_ok-reserve-in-None+in_ok-reserve-in-None-2}
+use Rattle.std.proofs.Common.{◌≡◌, ◌∙◌, ◌+◌, ◌<◌, ◌≤◌, refl, arith, max}
+use Rattle.std.proofs.lemmas.List.{with_items_is}
+use Rattle.cn_spec.specs.declared.limits.TheConstants.{MOST_TOKENS}
+use Rattle.cn_yard.specs.Chains.{moved}
+use Rattle.cn_yard.specs.InsideYard.{lists_of}
+use Rattle.cn_yard.specs.Lines.{count_of}
+use Rattle.cn_yard.specs.Lists.{tokens_in}
+use Rattle.cn_yard.specs.declared.yard.Yard.TheInside.{Inside}
+use Rattle.cn_yard.proofs.Bodies.{Filled, HasFree, Relinked, Renamed, admits-renamed, after, after-fill, filled, filled-by, has-free, keeps-relinked, keeps-renamed, relinked-by, renamed-by, room-for, with_records}
+use Rattle.cn_yard.proofs.Wires.{opened, closed, wires-are}
+use Rattle.cn_yard.proofs.yard.Yard.admit.Goals.{After-fill, After-index, After-relink, After-set_client}
 use Rattle.cn_yard.proofs.yard.Yard.admit.Goals as goal
 
-nil : (xs : List ℕ) → length xs ≡ 0 → xs ≡ []
-nil [] e = refl
-nil (x ∷ xs) e = absurd (omega arith)
+-- ---- a free record is there, or is made
 
--- the number is free, and there is room for it
-numbered : (c : goal.After-push_reserved) → HasNumber c.match-pop.self-inside c.match-pop.number
-numbered c =
+pub fill-requires-clause-wire : goal.fill-requires-clause-wire
+fill-requires-clause-wire c =
+    let (order, k) = opened c.self.inside c.self.invariant in
+    let rows = k.wires in
+    rw c.deref_mut.ensures.value (omega arith)
+
+pub fill-requires-clause-few : goal.fill-requires-clause-few
+fill-requires-clause-few c =
+    let (order, k) = opened c.self.inside c.self.invariant in
+    let room : tokens_in (lists_of c.self.inside) + 1 ≤ MOST_TOKENS = (let h = rw (← c.self.view_is) at c.requires.room in omega arith) in
+    rw (c.deref_mut.ensures.value) (room-for c.self.inside order 1 k room)
+
+pub fill-requires-clause-lined : goal.fill-requires-clause-lined
+fill-requires-clause-lined c =
+    let (order, k) = opened c.self.inside c.self.invariant in
+    rw (c.deref_mut.ensures.value, c.deref_mut-2.ensures.value) (order, k.lined)
+
+more : (c : After-fill) → Filled c.self.inside (after-fill c.self.inside c.fill.new.records c.fill.new.lines c.fill.new.marks)
+more c =
+    filled-by c.self.inside c.deref_mut.result.now c.deref_mut-2.result.now c.fill.new.records c.fill.new.lines c.fill.new.marks
+    c.deref_mut.ensures.value c.deref_mut-2.ensures.value c.deref_mut.ensures.len c.deref_mut-2.ensures.len c.fill.ensures.kept c.fill.ensures.lined c.fill.ensures.words
+
+pub invariant_of-self : goal.invariant_of-self
+invariant_of-self c =
+    let (order, k) = opened c.self.inside c.self.invariant in
     let y = c.self.inside in
-    let counted : vec_len y.live ≡ length y.live.items = search rules in
-    let counted' : vec_len y.free ≡ length y.free.items = search rules in
-    elim c.match-pop.branch [
-      | in-Some w ↦ rw (w.self-inside-is, w.number-is)
-          (number-freed y (record { wires = y.wires; live = y.live; free = c.pop.new.self }) w.in-Some.number c.self.invariant refl refl w.in-Some.ensures.items c.pop.ensures.capacity)
-      | in-None+in_ok-reserve-in-None+in_ok-reserve-in-None-2 w ↦
-          let none : y.free.items ≡ [] = nil y.free.items (let e = w.in-None.ensures.cases.0 in omega arith) in
-          let popped : c.pop.new.self.items ≡ [] = nil c.pop.new.self.items (let e = ap length (sym w.in-None.ensures.items) in let f = ap length none in omega arith) in
-          let few = rw (← c.self.view_is, tokens-seen y.wires y.live.items c.self.invariant.on_wires) at c.requires.room in
-          let same = w.reserve.ensures.len in
-          let number : w.len-in-None.result ≡ length y.live.items = w.len-in-None.ensures ∙ same ∙ counted in
-          let room = w.in_ok-reserve-in-None.ensures.ok in
-          let room' = w.in_ok-reserve-in-None-2.ensures.ok in
-          let len = w.len.ensures in
-          rw (w.self-inside-is, w.number-is)
-          (number-made y (record { wires = y.wires; live = w.reserve.new.self; free = w.reserve-in-None.new.self }) w.len-in-None.result c.self.invariant refl w.reserve.ensures.items none
-          (w.reserve-in-None.ensures.items ∙ popped) number few (omega arith) (omega arith))
-    ]
+    let z = after-fill y c.fill.new.records c.fill.new.lines c.fill.new.marks in
+    let (order', keeps, same) = filled y z order k (more (goal.at.invariant_of-self c).After-fill) in
+    closed z order' keeps
 
--- the wires and the tokens are those of before
-before : (c : goal.After-push_reserved) → (c.self.inside.wires ≡ c.match-pop.self-inside.wires) × (c.self.inside.live.items ≡ c.match-pop.self-inside.live.items)
-before c = elim c.match-pop.branch [
-  | in-Some w ↦ rw w.self-inside-is (refl, refl)
-  | in-None+in_ok-reserve-in-None+in_ok-reserve-in-None-2 w ↦ rw w.self-inside-is (refl, sym w.reserve.ensures.items)
-]
+-- ---- the last of them
 
--- one free record fewer, where there is one
-spare : (c : goal.After-push_reserved) → length c.match-pop.self-inside.free.items ≡ length c.self.inside.free.items - 1
-spare c =
-    let counted : vec_len c.self.inside.free ≡ length c.self.inside.free.items = search rules in
-    elim c.match-pop.branch [
-      | in-Some w ↦ rw w.self-inside-is (let all = ap length w.in-Some.ensures.items ∙ length-last w.in-Some.number c.pop.new.self.items in omega arith)
-      | in-None+in_ok-reserve-in-None+in_ok-reserve-in-None-2 w ↦ rw (w.self-inside-is, w.reserve-in-None.ensures.items) (let e = ap length (sym w.in-None.ensures.items) in let z = w.in-None.ensures.cases.0 in omega arith)
-    ]
+has : (c : After-index) → HasFree c.self.inside (after-fill c.self.inside c.fill.new.records c.fill.new.lines c.fill.new.marks) c.index.result.now.last
+has c =
+    let (order, k) = opened c.self.inside c.self.invariant in
+    let y = c.self.inside in
+    let z = after-fill y c.fill.new.records c.fill.new.lines c.fill.new.marks in
+    let fi =
+    filled-by y c.deref_mut.result.now c.deref_mut-2.result.now c.fill.new.records c.fill.new.lines c.fill.new.marks
+    c.deref_mut.ensures.value c.deref_mut-2.ensures.value c.deref_mut.ensures.len c.deref_mut-2.ensures.len c.fill.ensures.kept c.fill.ensures.lined c.fill.ensures.words in
+    let lines : z.lines.items ≡ c.fill.new.lines = with_items_is y.lines c.fill.new.lines (c.fill.ensures.kept.rows ∙ c.deref_mut.ensures.len) in
+    let one : count_of z.lines.items y.wires ≡ max 1 (count_of y.lines.items y.wires) = rw (lines, ← c.deref_mut.ensures.value) c.in_ok-fill.ensures.ok in
+    has-free y z order c.index.result.now k fi one c.index.ensures
 
-within : (c : goal.After-push_reserved) → c.args.wire < c.match-pop.self-inside.wires
-within c = rw (← (before c).0) (rw (← c.self.view_is, wires-seen c.self.inside.wires c.self.inside.live.items) at c.requires.wire)
+pub relink-requires-clause-number : goal.relink-requires-clause-number
+relink-requires-clause-number c = rw c.deref_mut-3.ensures.value (has (goal.at.relink-requires-clause-number c).After-index).within
+
+pub relink-requires-clause-wire : goal.relink-requires-clause-wire
+relink-requires-clause-wire c =
+    let (order, k) = opened c.self.inside c.self.invariant in
+    let h : c.args.wire < c.self.inside.wires = rw (← c.self.view_is, wires-are c.self.inside order k) at c.requires.wire in
+    let rows = (has (goal.at.relink-requires-clause-wire c).After-index).keeps.wires in
+    rw c.deref_mut-4.ensures.value (omega arith)
+
+pub relink-requires-clause-lined : goal.relink-requires-clause-lined
+relink-requires-clause-lined c =
+    let free = has (goal.at.relink-requires-clause-lined c).After-index in
+    rw (c.deref_mut-3.ensures.value, c.deref_mut-4.ensures.value, c.deref_mut-5.ensures.value) (free.order_then, free.keeps.lined)
+
+-- ---- it moves to the wire
+
+abbrev filled_yard : After-relink → Inside
+filled_yard c = after-fill c.self.inside c.fill.new.records c.fill.new.lines c.fill.new.marks
+
+relinked : (c : After-relink) → Relinked (filled_yard c) (after (filled_yard c) c.relink.new.records c.relink.new.lines c.relink.new.marks) c.index.result.now.last c.args.wire
+relinked c =
+    relinked-by (filled_yard c) c.deref_mut-3.result.now c.deref_mut-4.result.now c.deref_mut-5.result.now c.relink.new.records c.relink.new.lines c.relink.new.marks c.index.result.now.last c.index.result.now.last c.args.wire refl
+    c.deref_mut-3.ensures.value c.deref_mut-4.ensures.value c.deref_mut-5.ensures.value c.deref_mut-3.ensures.len c.deref_mut-4.ensures.len c.deref_mut-5.ensures.len
+    c.relink.ensures.kept c.relink.ensures.lined c.relink.ensures.words
+
+pub set_client-requires : goal.set_client-requires
+set_client-requires c =
+    let len = (relinked (goal.at.set_client-requires c).After-relink).move.len in
+    let within = (has (goal.at.set_client-requires c).After-index).within in
+    rw c.deref_mut-6.ensures.value (omega arith)
+
+-- ---- and gets its client
+
+abbrev moved_yard : After-set_client → Inside
+moved_yard c = after (after-fill c.self.inside c.fill.new.records c.fill.new.lines c.fill.new.marks) c.relink.new.records c.relink.new.lines c.relink.new.marks
+
+renamed : (c : After-set_client) → Renamed (moved_yard c) (with_records (moved_yard c) c.set_client.new.records) c.index.result.now.last c.args.client
+renamed c =
+    renamed-by (moved_yard c) c.deref_mut-6.result.now c.set_client.new.records c.index.result.now.last c.args.client c.deref_mut-6.ensures.value c.deref_mut-6.ensures.len c.set_client.ensures
 
 pub invariant_of-self-2 : goal.invariant_of-self-2
 invariant_of-self-2 c =
-    let z = c.match-pop.self-inside in
-    admitted z (record { wires = z.wires; live = c.push_reserved.new.self; free = z.free }) c.match-pop.number (record { token = c.of-token.result; client = c.args.client; wire = c.args.wire })
-    (numbered c) c.of-token.ensures (within c) refl c.push_reserved.ensures.items c.push_reserved.ensures.capacity refl
+    let here = goal.at.invariant_of-self-2 c in
+    let z = filled_yard here.After-relink in
+    let m = moved_yard here.After-set_client in
+    let free = has here.After-index in
+    let t = c.index.result.now.last in
+    let w = with_records m c.set_client.new.records in
+    let order = moved free.order_then t c.args.wire in
+    let keeps = keeps-relinked z m free.order_then t c.args.wire free.keeps (relinked here.After-relink) in
+    closed w order (keeps-renamed m w order t c.args.client keeps (renamed here.After-set_client))
 
 pub returns-clause-ok : goal.returns-clause-ok
 returns-clause-ok c =
-    let z = c.match-pop.self-inside in
-    rw (← c.self.view_is)
-    (admits-of c.self.inside z (record { wires = z.wires; live = c.push_reserved.new.self; free = z.free }) c.match-pop.number (record { token = c.of-token.result; client = c.args.client; wire = c.args.wire })
-    (numbered c) c.of-token.ensures (within c) (before c).0 (before c).1 refl c.push_reserved.ensures.items (spare c))
+    let (order, k) = opened c.self.inside c.self.invariant in
+    let here = goal.at.returns-clause-ok c in
+    let y = c.self.inside in
+    let m = moved_yard here.After-set_client in
+    let h : c.args.wire < y.wires = rw (← c.self.view_is, wires-are y order k) at c.requires.wire in
+    rw (← c.self.view_is, c.of.ensures)
+    (admits-renamed y (filled_yard here.After-relink) m (with_records m c.set_client.new.records) order c.index.result.now.last c.args.wire c.args.client k
+    (has here.After-index) (relinked here.After-relink) (renamed here.After-set_client) h)

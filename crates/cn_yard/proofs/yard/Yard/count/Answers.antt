@@ -1,9 +1,20 @@
-use Rattle.cn_yard.proofs.OnWires.{length-on_wire}
-use Rattle.cn_yard.proofs.Standings.{on-seen, wires-seen}
+use Rattle.std.proofs.Common.{◌≡◌, ◌∙◌, ◌<◌, length, sym, arith, rules, vec_len}
+use Rattle.cn_yard.proofs.Wires.{opened, length-on, wires-are}
+use Rattle.cn_yard.proofs.Readers.{count-told}
 use Rattle.cn_yard.proofs.yard.Yard.count.Goals as goal
+
+pub index-requires : goal.index-requires
+index-requires c =
+    let (order, k) = opened c.self.inside c.self.invariant in
+    let y = c.self.inside in
+    let counted : vec_len y.lines ≡ length y.lines.items = search rules in
+    let h = rw (← c.self.view_is, wires-are y order k) at c.requires in
+    let rows = k.wires in
+    omega arith
 
 pub returns : goal.returns
 returns c =
-    let items = c.self.inside.live.items in
-    rw (← c.self.view_is, on-seen c.self.inside.wires items c.args.wire (rw (← c.self.view_is, wires-seen c.self.inside.wires items) at c.requires), length-on_wire c.args.wire items)
-    (rw c.deref.ensures.value at c.count_on.ensures)
+    let (order, k) = opened c.self.inside c.self.invariant in
+    let y = c.self.inside in
+    let h : c.args.wire < y.wires = rw (← c.self.view_is, wires-are y order k) at c.requires in
+    rw (← c.self.view_is) (count-told y order k c.args.wire c.index.result.now (omega arith) c.index.ensures ∙ sym (length-on y order k c.args.wire h))

@@ -1,11 +1,27 @@
-use Rattle.std.proofs.Common.{◌≡◌, length, rules, vec_len}
-use Rattle.cn_yard.proofs.Kept.{live-seen}
-use Rattle.cn_yard.specs.InsideYard.{place}
+use Rattle.std.proofs.Common.{◌≡◌, ◌<◌, length, arith, rules, vec_len}
+use Rattle.std.proofs.lemmas.Bool.Decides.{nat_tests}
+use Rattle.cn_yard.proofs.Wires.{opened, live}
+use Rattle.cn_yard.proofs.Readers.{live-told}
 use Rattle.cn_yard.proofs.yard.Yard.is_live.Goals as goal
 
-pub returns : goal.returns
-returns c =
-    let items = c.self.inside.live.items in
-    let counted : vec_len c.self.inside.live ≡ length items = search rules in
-    let at : c.place_of.result ≡ place c.args.token items = rw c.deref.ensures.value at c.place_of.ensures in
-    rw (← c.self.view_is, at, c.len.ensures, counted) (live-seen c.self.inside c.self.invariant c.args.token)
+pub returns-then-at-len : goal.returns-then-at-len
+returns-then-at-len c =
+    let (order, k) = opened c.self.inside c.self.invariant in
+    let y = c.self.inside in
+    let counted : vec_len y.records ≡ length y.records.items = search rules in
+    let test = c.if-at-len.true in
+    let len = c.len.ensures in
+    let number = c.number-at.ensures in
+    let h : c.args.token < length y.records.items = omega arith in
+    rw (← c.self.view_is) (live-told y order k c.args.token c.index.result.now h (rw c.number-at.ensures at c.index.ensures))
+
+pub returns-else-at-len : goal.returns-else-at-len
+returns-else-at-len c =
+    let (order, k) = opened c.self.inside c.self.invariant in
+    let y = c.self.inside in
+    let counted : vec_len y.records ≡ length y.records.items = search rules in
+    let test = c.if-at-len.false in
+    let len = c.len.ensures in
+    let number = c.number-at.ensures in
+    rw (← c.self.view_is)
+    ((λ t. absurd (grind (arith, nat_tests))), (λ stands. absurd (let h = (live y order k c.args.token stands).0 in omega arith)))

@@ -1,43 +1,46 @@
-use Rattle.std.proofs.Common.{◌≡◌, ◌∙◌, ◌<◌, length, refl, ap, rules, vec_len}
-use Rattle.cn_yard.proofs.Kept.{moved, moves-of, placed}
-use Rattle.cn_yard.specs.declared.live.LiveRecord.{LiveRecord}
-use Rattle.cn_yard.specs.InsideYard.{place}
-use Rattle.cn_yard.proofs.OnWires.{token-at}
-use Rattle.cn_yard.proofs.Standings.{wires-seen}
+use Rattle.std.proofs.Common.{◌<◌, arith}
+use Rattle.cn_yard.specs.Chains.{moved}
+use Rattle.cn_yard.proofs.Bodies.{Relinked, after, keeps-relinked, moves-relinked, relinked-by}
+use Rattle.cn_yard.proofs.Wires.{opened, closed, live, wires-are}
+use Rattle.cn_yard.proofs.yard.Yard.move_to.Goals.{After-relink}
 use Rattle.cn_yard.proofs.yard.Yard.move_to.Goals as goal
 
-pub remove-moved-requires : goal.remove-moved-requires
-remove-moved-requires c =
-    let counted : vec_len c.self.inside.live ≡ length c.self.inside.live.items = search rules in
-    rw (c.place_of-place.ensures, c.deref.ensures.value, counted) (placed c.self.inside c.self.invariant c.args.token (rw (← c.self.view_is) at c.requires.live))
-
--- the token that is taken out is the one that was asked for
-its_token : (c : goal.After-push_reserved) → (c.remove-moved.result.token ≡ c.args.token) × (c.args.wire < c.self.inside.wires)
-its_token c =
+pub relink-requires-clause-number : goal.relink-requires-clause-number
+relink-requires-clause-number c =
+    let (order, k) = opened c.self.inside c.self.invariant in
     let y = c.self.inside in
-    let there = placed y c.self.invariant c.args.token (rw (← c.self.view_is) at c.requires.live) in
-    let at : c.place_of-place.result ≡ place c.args.token y.live.items = rw c.deref.ensures.value at c.place_of-place.ensures in
-    let value = rw at at c.remove-moved.ensures.value in
-    (ap (λ (s : LiveRecord). s.token) value ∙ token-at c.args.token y.live.items c.remove-moved.result there, rw (← c.self.view_is, wires-seen y.wires y.live.items) at c.requires.wire)
+    rw (c.number.ensures, c.deref_mut.ensures.value) (live y order k c.args.token (rw (← c.self.view_is) at c.requires.live)).0
+
+pub relink-requires-clause-wire : goal.relink-requires-clause-wire
+relink-requires-clause-wire c =
+    let (order, k) = opened c.self.inside c.self.invariant in
+    let rows = k.wires in
+    let h = rw (← c.self.view_is, wires-are c.self.inside order k) at c.requires.wire in
+    rw c.deref_mut-2.ensures.value (omega arith)
+
+pub relink-requires-clause-lined : goal.relink-requires-clause-lined
+relink-requires-clause-lined c =
+    let (order, k) = opened c.self.inside c.self.invariant in
+    rw (c.deref_mut.ensures.value, c.deref_mut-2.ensures.value, c.deref_mut-3.ensures.value) (order, k.lined)
+
+relinked : (c : After-relink) → Relinked c.self.inside (after c.self.inside c.relink.new.records c.relink.new.lines c.relink.new.marks) c.args.token c.args.wire
+relinked c =
+    relinked-by c.self.inside c.deref_mut.result.now c.deref_mut-2.result.now c.deref_mut-3.result.now c.relink.new.records c.relink.new.lines c.relink.new.marks c.number.result c.args.token c.args.wire c.number.ensures
+    c.deref_mut.ensures.value c.deref_mut-2.ensures.value c.deref_mut-3.ensures.value c.deref_mut.ensures.len c.deref_mut-2.ensures.len c.deref_mut-3.ensures.len
+    c.relink.ensures.kept c.relink.ensures.lined c.relink.ensures.words
 
 pub invariant_of-self : goal.invariant_of-self
 invariant_of-self c =
+    let (order, k) = opened c.self.inside c.self.invariant in
     let y = c.self.inside in
-    let s = c.remove-moved.result in
-    let there = placed y c.self.invariant c.args.token (rw (← c.self.view_is) at c.requires.live) in
-    let at : c.place_of-place.result ≡ place c.args.token y.live.items = rw c.deref.ensures.value at c.place_of-place.ensures in
-    let its = its_token c in
-    moved y (record { wires = y.wires; live = c.push_reserved.new.self; free = y.free }) c.args.token (record { token = s.token; client = s.client; wire = c.args.wire }) c.self.invariant
-    there its.0 its.1 refl (rw (c.remove-moved.ensures.items, at) at c.push_reserved.ensures.items) (c.push_reserved.ensures.capacity ∙ c.remove-moved.ensures.capacity) refl
+    let z = after y c.relink.new.records c.relink.new.lines c.relink.new.marks in
+    closed z (moved order c.args.token c.args.wire) (keeps-relinked y z order c.args.token c.args.wire k (relinked (goal.at.invariant_of-self c).After-relink))
 
 pub returns : goal.returns
 returns c from client stands =
+    let (order, k) = opened c.self.inside c.self.invariant in
     let y = c.self.inside in
-    let s = c.remove-moved.result in
-    let there = placed y c.self.invariant c.args.token (rw (← c.self.view_is) at c.requires.live) in
-    let at : c.place_of-place.result ≡ place c.args.token y.live.items = rw c.deref.ensures.value at c.place_of-place.ensures in
-    let its = its_token c in
-    let value = rw at at c.remove-moved.ensures.value in
+    let z = after y c.relink.new.records c.relink.new.lines c.relink.new.marks in
+    let h : c.args.wire < y.wires = rw (← c.self.view_is, wires-are y order k) at c.requires.wire in
     rw (← c.self.view_is)
-    (moves-of y (record { wires = y.wires; live = c.push_reserved.new.self; free = y.free }) c.args.token (record { token = s.token; client = s.client; wire = c.args.wire }) s c.self.invariant
-    there its.0 its.1 (ap (λ (x : LiveRecord). x.client) value) refl (rw (c.remove-moved.ensures.items, at) at c.push_reserved.ensures.items) refl from client (rw (← c.self.view_is) at stands))
+    (moves-relinked y z order c.args.token c.args.wire from client k (relinked (goal.at.returns c).After-relink) h (rw (← c.self.view_is) at stands))

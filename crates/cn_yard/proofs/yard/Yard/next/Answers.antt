@@ -1,33 +1,43 @@
-use Rattle.std.proofs.Common.{◌≡◌, length, rules, arith, vec_len}
-use Rattle.cn_yard.specs.InsideYard.{place}
-use Rattle.cn_yard.proofs.Kept.{after-seen, placed}
+use Rattle.std.proofs.Common.{◌≡◌, ◌∙◌, length, refl, sym, arith, rules, vec_len, true, false, eqb}
+use Rattle.std.proofs.lemmas.Bool.Decides.{nat_tests}
+use Rattle.cn_yard.proofs.Wires.{opened, live}
+use Rattle.cn_yard.proofs.Readers.{next-told, wire-told}
 use Rattle.cn_yard.proofs.yard.Yard.next.Goals as goal
+
+pub index-record-requires : goal.index-record-requires
+index-record-requires c =
+    let (order, k) = opened c.self.inside c.self.invariant in
+    let y = c.self.inside in
+    let counted : vec_len y.records ≡ length y.records.items = search rules in
+    rw (c.number.ensures, counted) (live y order k c.args.token (rw (← c.self.view_is) at c.requires)).0
 
 pub index-requires : goal.index-requires
 index-requires c =
-    let counted : vec_len c.self.inside.live ≡ length c.self.inside.live.items = search rules in
-    rw (c.place_of-place.ensures, c.deref.ensures.value, counted) (placed c.self.inside c.self.invariant c.args.token (rw (← c.self.view_is) at c.requires))
-
-pub overflow_add-place : goal.overflow_add-place
-overflow_add-place c =
+    let (order, k) = opened c.self.inside c.self.invariant in
     let y = c.self.inside in
-    let at : c.place_of-place.result ≡ place c.args.token y.live.items = rw c.deref.ensures.value at c.place_of-place.ensures in
-    let there = placed y c.self.invariant c.args.token (rw (← c.self.view_is) at c.requires) in
-    let same = c.deref-2.ensures.value in
-    let few = rw same at c.deref-2.type_inv.0 in
+    let counted : vec_len y.lines ≡ length y.lines.items = search rules in
+    let rows = k.wires in
+    let h = wire-told y order k c.args.token c.index-record.result.now (rw (← c.self.view_is) at c.requires) (rw c.number.ensures at c.index-record.ensures) in
     omega arith
 
-pub split_at-requires : goal.split_at-requires
-split_at-requires c =
+pub returns-then-index-number : goal.returns-then-index-number
+returns-then-index-number c wire client stands =
+    let (order, k) = opened c.self.inside c.self.invariant in
     let y = c.self.inside in
-    let at : c.place_of-place.result ≡ place c.args.token y.live.items = rw c.deref.ensures.value at c.place_of-place.ensures in
-    let there = placed y c.self.invariant c.args.token (rw (← c.self.view_is) at c.requires) in
-    rw c.deref-2.ensures.value (omega arith)
+    let told = next-told y order k c.args.token c.index-record.result.now c.index.result.now wire client (rw (← c.self.view_is) at c.requires) (rw c.number.ensures at c.index-record.ensures) c.index.ensures
+    (rw (← c.self.view_is) at stands) in
+    let test = c.if-index-number.true in
+    let number = c.number-2.ensures in
+    let f : eqb c.index.result.now.last c.args.token ≡ true = grind (arith, nat_tests) in
+    rw (← c.self.view_is) (sym (told ∙ rw f refl))
 
 pub returns : goal.returns
 returns c wire client stands =
+    let (order, k) = opened c.self.inside c.self.invariant in
     let y = c.self.inside in
-    let at : c.place_of-place.result ≡ place c.args.token y.live.items = rw c.deref.ensures.value at c.place_of-place.ensures in
-    let there = placed y c.self.invariant c.args.token (rw (← c.self.view_is) at c.requires) in
-    rw (c.first_on.ensures, c.split_at.ensures.back, c.deref-2.ensures.value, at, ← c.self.view_is)
-    (after-seen y c.self.invariant c.args.token c.index.result.now wire client there (rw at at c.index.ensures) (rw (← c.self.view_is) at stands))
+    let told = next-told y order k c.args.token c.index-record.result.now c.index.result.now wire client (rw (← c.self.view_is) at c.requires) (rw c.number.ensures at c.index-record.ensures) c.index.ensures
+    (rw (← c.self.view_is) at stands) in
+    let test = c.if-index-number.false in
+    let number = c.number-2.ensures in
+    let f : eqb c.index.result.now.last c.args.token ≡ false = grind (arith, nat_tests) in
+    rw (← c.self.view_is, c.of.ensures) (sym (told ∙ rw f refl))

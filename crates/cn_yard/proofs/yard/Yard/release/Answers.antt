@@ -1,32 +1,68 @@
-use Rattle.std.proofs.Common.{◌≡◌, length, refl, rules, vec_len}
-use Rattle.cn_yard.proofs.Kept.{placed, released, releases-of, there-at}
-use Rattle.cn_yard.specs.InsideYard.{place}
+use Rattle.std.proofs.Common.{◌≡◌, ◌<◌, length, ap, ◌∙◌, arith, rules, vec_len}
+use Rattle.std.proofs.lemmas.List.{get_or_read, with_items_is}
+use Rattle.std.specs.Vec.{with_items}
+use Rattle.cn_yard.specs.Chains.{moved}
+use Rattle.cn_yard.specs.Records.{client_of, no_record, wire_of}
+use Rattle.cn_yard.specs.declared.records.Record.{Record}
+use Rattle.cn_yard.proofs.Bodies.{Relinked, after, keeps-relinked, relinked-by, releases-relinked}
+use Rattle.cn_yard.proofs.Wires.{opened, closed, live, there-live}
+use Rattle.cn_yard.proofs.yard.Yard.release.Goals.{After-relink}
 use Rattle.cn_yard.proofs.yard.Yard.release.Goals as goal
 
-pub remove-released-requires : goal.remove-released-requires
-remove-released-requires c =
-    let counted : vec_len c.self.inside.live ≡ length c.self.inside.live.items = search rules in
-    rw (c.place_of-place.ensures, c.deref.ensures.value, counted) (placed c.self.inside c.self.invariant c.args.token (rw (← c.self.view_is) at c.requires))
+pub relink-requires-clause-number : goal.relink-requires-clause-number
+relink-requires-clause-number c =
+    let (order, k) = opened c.self.inside c.self.invariant in
+    rw (c.number-number.ensures, c.deref_mut.ensures.value) (live c.self.inside order k c.args.token (rw (← c.self.view_is) at c.requires)).0
+
+pub relink-requires-clause-wire : goal.relink-requires-clause-wire
+relink-requires-clause-wire c =
+    let (order, k) = opened c.self.inside c.self.invariant in
+    let rows = k.wires in rw c.deref_mut-2.ensures.value (omega arith)
+
+pub relink-requires-clause-lined : goal.relink-requires-clause-lined
+relink-requires-clause-lined c =
+    let (order, k) = opened c.self.inside c.self.invariant in
+    rw (c.deref_mut.ensures.value, c.deref_mut-2.ensures.value, c.deref_mut-3.ensures.value) (order, k.lined)
+
+pub index-requires : goal.index-requires
+index-requires c =
+    let (order, k) = opened c.self.inside c.self.invariant in
+    let y = c.self.inside in
+    let counted : vec_len y.records ≡ length y.records.items = search rules in
+    rw c.number-number.ensures (rw (← counted) at (live y order k c.args.token (rw (← c.self.view_is) at c.requires)).0)
+
+relinked : (c : After-relink) → Relinked c.self.inside (after c.self.inside c.relink.new.records c.relink.new.lines c.relink.new.marks) c.args.token c.self.inside.wires
+relinked c =
+    relinked-by c.self.inside c.deref_mut.result.now c.deref_mut-2.result.now c.deref_mut-3.result.now c.relink.new.records c.relink.new.lines c.relink.new.marks c.number-number.result c.args.token c.self.inside.wires c.number-number.ensures
+    c.deref_mut.ensures.value c.deref_mut-2.ensures.value c.deref_mut-3.ensures.value c.deref_mut.ensures.len c.deref_mut-2.ensures.len c.deref_mut-3.ensures.len
+    c.relink.ensures.kept c.relink.ensures.lined c.relink.ensures.words
 
 pub invariant_of-self : goal.invariant_of-self
 invariant_of-self c =
+    let (order, k) = opened c.self.inside c.self.invariant in
     let y = c.self.inside in
-    let at : c.place_of-place.result ≡ place c.args.token y.live.items = rw c.deref.ensures.value at c.place_of-place.ensures in
-    released y (record { wires = y.wires; live = c.remove-released.new.self; free = c.push_reserved.new.self }) c.args.token c.remove-released.result c.self.invariant
-    (placed y c.self.invariant c.args.token (rw (← c.self.view_is) at c.requires)) refl (rw at at c.remove-released.ensures.items) c.remove-released.ensures.capacity
-    (rw c.number.ensures at c.push_reserved.ensures.items) c.push_reserved.ensures.capacity
+    let z = after y c.relink.new.records c.relink.new.lines c.relink.new.marks in
+    let re = relinked (goal.at.invariant_of-self c).After-relink in
+    closed z (moved order c.args.token y.wires) (keeps-relinked y z order c.args.token y.wires k re)
 
 pub returns-clause-client : goal.returns-clause-client
 returns-clause-client c =
+    let (order, k) = opened c.self.inside c.self.invariant in
     let y = c.self.inside in
-    let s = c.remove-released.result in
-    let at : c.place_of-place.result ≡ place c.args.token y.live.items = rw c.deref.ensures.value at c.place_of-place.ensures in
-    (s.wire, rw (← c.self.view_is) (there-at y c.self.invariant c.args.token s (placed y c.self.invariant c.args.token (rw (← c.self.view_is) at c.requires)) (rw at at c.remove-released.ensures.value)))
+    let stands = rw (← c.self.view_is) at c.requires in
+    let within = (live y order k c.args.token stands).0 in
+    let len : length c.relink.new.records ≡ length y.records.items = c.relink.ensures.kept.len ∙ ap length c.deref_mut.ensures.value in
+    let left : (with_items y.records c.relink.new.records).items ≡ c.relink.new.records = with_items_is y.records c.relink.new.records (c.relink.ensures.kept.len ∙ c.deref_mut.ensures.len) in
+    let h : c.args.token < length c.relink.new.records = omega arith in
+    let r = get_or_read c.relink.new.records c.args.token c.index.result.now h (rw (left, c.number-number.ensures) at c.index.ensures) no_record in
+    let client : c.index.result.now.client ≡ client_of y.records.items c.args.token =
+    ap (λ (x : Record). x.client) r ∙ c.relink.ensures.kept.client c.args.token ∙ ap (λ rs. client_of rs c.args.token) c.deref_mut.ensures.value in
+    (wire_of y.records.items c.args.token, rw (← c.self.view_is, client) (there-live y order k c.args.token stands))
 
 pub returns-clause-released : goal.returns-clause-released
 returns-clause-released c =
+    let (order, k) = opened c.self.inside c.self.invariant in
     let y = c.self.inside in
-    let at : c.place_of-place.result ≡ place c.args.token y.live.items = rw c.deref.ensures.value at c.place_of-place.ensures in
-    rw (← c.self.view_is)
-    (releases-of y (record { wires = y.wires; live = c.remove-released.new.self; free = c.push_reserved.new.self }) c.args.token c.self.invariant
-    (placed y c.self.invariant c.args.token (rw (← c.self.view_is) at c.requires)) refl (rw at at c.remove-released.ensures.items) (rw c.number.ensures at c.push_reserved.ensures.items))
+    let z = after y c.relink.new.records c.relink.new.lines c.relink.new.marks in
+    let re = relinked (goal.at.returns-clause-released c).After-relink in
+    rw (← c.self.view_is) (releases-relinked y z order c.args.token k re (rw (← c.self.view_is) at c.requires))

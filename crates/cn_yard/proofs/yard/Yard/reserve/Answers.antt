@@ -1,42 +1,51 @@
-use Rattle.std.proofs.Common.{◌≡◌, ◌∙◌, ◌+◌, ◌-◌, ◌++◌, length, refl, rules, arith, vec_len}
-use Rattle.std.specs.List.{range_with_len}
-use Rattle.std.proofs.lemmas.List.{length-append}
-use Rattle.std.proofs.lemmas.List.FromFn.{length-range_with_len}
-use Rattle.std.proofs.lemmas.Bool.Decides.{nat_tests}
-use Rattle.cn_yard.proofs.Moved.{tokens-seen}
-use Rattle.cn_yard.proofs.Kept.{reserved}
+use Rattle.std.proofs.Common.{arith}
+use Rattle.std.proofs.Common.{◌≡◌}
+use Rattle.cn_yard.specs.InsideYard.{lists_of}
+use Rattle.cn_yard.proofs.Bodies.{Filled, after-fill, filled, filled-by, filled-lists, room-for}
+use Rattle.cn_yard.proofs.Changes.{tokens-same}
+use Rattle.cn_yard.proofs.Wires.{opened, closed}
+use Rattle.cn_yard.proofs.yard.Yard.reserve.Goals.{After-fill}
 use Rattle.cn_yard.proofs.yard.Yard.reserve.Goals as goal
 
--- the numbers that are added are the next ones
-numbers : (c : goal.After-push_numbers) → c.push_numbers.new.numbers.items ≡ c.self.inside.free.items ++ range_with_len (length c.self.inside.live.items + length c.self.inside.free.items) (c.args.records - length c.self.inside.free.items)
-numbers c =
-    let y = c.self.inside in
-    let used : c.len-used.result ≡ length y.live.items = c.len-used.ensures ∙ search rules in
-    let spare : c.len-spare.result ≡ length y.free.items = c.len-spare.ensures ∙ search rules in
-    let more : (length y.live.items + c.args.records) - (length y.live.items + length y.free.items) ≡ c.args.records - length y.free.items = omega arith in
-    rw (c.reserve-2.ensures.items, used, spare, more) at c.push_numbers.ensures.items
+pub fill-requires-clause-wire : goal.fill-requires-clause-wire
+fill-requires-clause-wire c =
+    let (order, k) = opened c.self.inside c.self.invariant in
+    let rows = k.wires in
+    rw c.deref_mut.ensures.value (omega arith)
 
-pub invariant_of-self-2 : goal.invariant_of-self-2
-invariant_of-self-2 c =
-    let y = c.self.inside in
-    let counted : vec_len y.live ≡ length y.live.items = search rules in
-    let counted' : vec_len y.free ≡ length y.free.items = search rules in
-    let few = rw (← c.self.view_is, tokens-seen y.wires y.live.items c.self.invariant.on_wires) at c.requires in
-    let room = c.in_ok-reserve.ensures.ok in
-    let room' = c.in_ok-reserve-2.ensures.ok in
-    let same = c.reserve.ensures.len in
-    let same' = c.reserve-2.ensures.len in
-    let capacity = c.push_numbers.ensures.capacity in
-    let used = c.len-used.ensures in
-    let spare = c.len-spare.ensures in
-    let more = c.if-records-spare.false in
-    reserved y (record { wires = y.wires; live = c.reserve.new.self; free = c.push_numbers.new.numbers }) (c.args.records - length y.free.items) c.self.invariant refl c.reserve.ensures.items (numbers c)
-    (grind arith) (grind arith) (grind arith)
+pub fill-requires-clause-few : goal.fill-requires-clause-few
+fill-requires-clause-few c =
+    let (order, k) = opened c.self.inside c.self.invariant in
+    rw (c.deref_mut.ensures.value) (room-for c.self.inside order c.args.records k (rw (← c.self.view_is) at c.requires))
 
-pub returns-clause-ok : goal.returns-clause-ok
-returns-clause-ok c =
+pub fill-requires-clause-lined : goal.fill-requires-clause-lined
+fill-requires-clause-lined c =
+    let (order, k) = opened c.self.inside c.self.invariant in
+    rw (c.deref_mut.ensures.value, c.deref_mut-2.ensures.value) (order, k.lined)
+
+more : (c : After-fill) → Filled c.self.inside (after-fill c.self.inside c.fill.new.records c.fill.new.lines c.fill.new.marks)
+more c =
+    filled-by c.self.inside c.deref_mut.result.now c.deref_mut-2.result.now c.fill.new.records c.fill.new.lines c.fill.new.marks
+    c.deref_mut.ensures.value c.deref_mut-2.ensures.value c.deref_mut.ensures.len c.deref_mut-2.ensures.len c.fill.ensures.kept c.fill.ensures.lined c.fill.ensures.words
+
+pub invariant_of-self : goal.invariant_of-self
+invariant_of-self c =
+    let (order, k) = opened c.self.inside c.self.invariant in
     let y = c.self.inside in
-    let n = c.args.records - length y.free.items in
-    let spare : c.len-spare.result ≡ length y.free.items = c.len-spare.ensures ∙ search rules in
-    let more = c.if-records-spare.false in
-    rw (← c.self.view_is, numbers c, length-append y.free.items (range_with_len (length y.live.items + length y.free.items) n), length-range_with_len (length y.live.items + length y.free.items) n) (grind (arith, nat_tests))
+    let z = after-fill y c.fill.new.records c.fill.new.lines c.fill.new.marks in
+    let (order', keeps, same) = filled y z order k (more (goal.at.invariant_of-self c).After-fill) in
+    closed z order' keeps
+
+lists : (c : After-fill) → lists_of (after-fill c.self.inside c.fill.new.records c.fill.new.lines c.fill.new.marks) ≡ lists_of c.self.inside
+lists c =
+    let (order, k) = opened c.self.inside c.self.invariant in
+    filled-lists c.self.inside (after-fill c.self.inside c.fill.new.records c.fill.new.lines c.fill.new.marks) order k (more c)
+
+pub returns-clause-lists : goal.returns-clause-lists
+returns-clause-lists c = rw (← c.self.view_is) (lists (goal.at.returns-clause-lists c).After-fill)
+
+pub returns-clause-tokens : goal.returns-clause-tokens
+returns-clause-tokens c =
+    let y = c.self.inside in
+    rw (← c.self.view_is)
+    (tokens-same (lists_of y) (lists_of (after-fill y c.fill.new.records c.fill.new.lines c.fill.new.marks)) (lists (goal.at.returns-clause-tokens c).After-fill))

@@ -1,0 +1,162 @@
+-- Records that move from line to line.
+use Rattle.std.proofs.Common.{◌≡◌, ◌≢◌, ℕ, ◌+◌, ◌<◌, ◌≤◌, inl, inr, Bool, true, false, cond, eqb, ltb, List, [], ◌∷◌, ◌++◌, length, get_or, refl, ap, ◌∙◌, arith}
+use Rattle.std.proofs.lemmas.Bool.{cases_eq, cases_lt}
+use Rattle.std.proofs.lemmas.Bool.Decides.{nat_tests}
+use Rattle.std.proofs.lemmas.List.{append-nil, get_or_append_left, length-append, length_push}
+use Rattle.cn_spec.specs.Sums.{sum_below, times, when}
+use Rattle.cn_spec.proofs.CallerLemmas.{sum_below-part, sum_below-pick, sum_below-same, times-append}
+use Rattle.cn_yard.specs.declared.records.Record.{Record}
+use Rattle.cn_yard.specs.declared.lines.Line.{Line}
+use Rattle.cn_yard.specs.Chains.{but, last_of, put_last}
+use Rattle.cn_yard.specs.Lines.{IsOff, IsOn, Linked, OffLine, count_of}
+use Rattle.cn_yard.specs.Records.{next_of, no_record, prev_of, wire_of}
+use Rattle.cn_yard.specs.Marks.{marked}
+use Rattle.cn_yard.specs.Moving.{HasMarks, IsAdded, IsLinks, IsMore, SameBut}
+use Rattle.cn_yard.proofs.Chains.{chain-same, length-but, times-but}
+use Rattle.cn_yard.proofs.Unlinked.{in-tail}
+use Rattle.cn_yard.proofs.Appended.{times-last}
+
+-- ---- sums over the lines
+
+-- one more at one place
+sum-more : (n w : ℕ) (f g : ℕ → ℕ) → ((u : ℕ) → u < n → g u ≡ f u + cond (eqb u w) 1 0) → w < n → sum_below n g ≡ sum_below n f + 1
+sum-more n w f g each h =
+    let same = sum_below-same n g (λ u. when (eqb w u) 1 + f u) (λ u l. let here = each u l in grind (arith, nat_tests)) in
+    omega (arith, same, sum_below-pick n w 1 f h)
+
+pub count-le : (records : List Record) (lines : List Line) (order : ℕ → List ℕ) → IsLinks records lines order → (u : ℕ) → u < length lines → count_of lines u ≤ length records
+count-le records lines order is u h =
+    let c = (is.linked.ends u h).count in
+    let p = sum_below-part (length lines) u (λ v. length (order v)) h in
+    let a = is.all in
+    omega arith
+
+-- ---- all records but one are on their lines
+
+pub record ButOne (records : List Record) (lines : List Line) (order : ℕ → List ℕ) (t : ℕ) : Type 0 where
+  pub linked : Linked records lines order
+  pub off : OffLine lines order t
+  pub within : (n : ℕ) → n < length records → n ≢ t → wire_of records n < length lines
+  pub there : (n : ℕ) → n < length records → n ≢ t → times n (order (wire_of records n)) ≡ 1
+  pub all : sum_below (length lines) (λ u. length (order u)) + 1 ≡ length records
+
+pub but-one : (records : List Record) (lines : List Line) (records' : List Record) (lines' : List Line) (order : ℕ → List ℕ) (t : ℕ) → IsLinks records lines order → t < length records
+    → IsOff records lines records' lines' t → Linked records' lines' (λ u. but t (order u)) → ButOne records' lines' (λ u. but t (order u)) t
+but-one records lines records' lines' order t is h kept l =
+    let w = wire_of records t in
+    record {
+      linked = l;
+      off = λ u k. let m = times-but t t (order u) in grind (arith, nat_tests);
+      within = λ n k o. rw (kept.wire n, kept.rows) (is.within n (rw kept.len at k));
+      there = λ n k o. rw (kept.wire n) (let m = times-but n t (order (wire_of records n)) in let one = is.there n (rw kept.len at k) in grind (arith, nat_tests));
+      all =
+          let more = sum-more (length lines) w (λ u. length (but t (order u))) (λ u. length (order u))
+          (λ u k. let c = length-but t (order u) in let one = is.linked.once t u k in let here = is.there t h in elim (cases_eq u w) [
+            | inl e ↦ let many : times t (order u) ≡ 1 = rw e here in grind (arith, nat_tests)
+            | inr o ↦ grind (arith, nat_tests)
+          ]) (is.within t h) in
+          let a = is.all in let len = kept.len in let rows = kept.rows in
+          rw rows (omega arith);
+    }
+
+-- a record that is added is on no line
+pub new-one : (records : List Record) (lines : List Line) (order : ℕ → List ℕ) (x : Record) → IsLinks records lines order → ButOne (records ++ x ∷ []) lines order (length records)
+new-one records lines order x is =
+    let many = length_push records x in
+    let l = is.linked in
+    record {
+      linked = record {
+        chain = λ u h. chain-same (next_of records) (prev_of records) (next_of (records ++ x ∷ [])) (prev_of (records ++ x ∷ [])) (order u) (l.chain u h)
+            (λ z i. ap (λ (r : Record). r.next) (same z (l.below z u h i)))
+            (λ z i. ap (λ (r : Record). r.prev) (same z (l.below z u h (in-tail z (order u) i))));
+        ends = l.ends;
+        once = λ n u h. elim (cases_lt n (length records)) [
+          | inl k ↦ let w : wire_of (records ++ x ∷ []) n ≡ wire_of records n = ap (λ (r : Record). r.wire) (same n k) in rw w (l.once n u h)
+          | inr k ↦ let none : times n (order u) ≡ 0 = elim (cases_lt 0 (times n (order u))) [ inl s ↦ absurd (let b = l.below n u h (omega arith) in omega arith) | inr s ↦ omega arith ] in omega (arith, none)
+        ];
+        below = λ n u h i. let b = l.below n u h i in omega arith;
+      };
+      off = λ u h. elim (cases_lt 0 (times (length records) (order u))) [ inl s ↦ absurd (let b = l.below (length records) u h (omega arith) in omega arith) | inr s ↦ omega arith ];
+      within = λ n k o. let i : n < length records = omega arith in let w : wire_of (records ++ x ∷ []) n ≡ wire_of records n = ap (λ (r : Record). r.wire) (same n i) in rw w (is.within n i);
+      there = λ n k o. let i : n < length records = omega arith in let w : wire_of (records ++ x ∷ []) n ≡ wire_of records n = ap (λ (r : Record). r.wire) (same n i) in rw w (is.there n i);
+      all = let a = is.all in omega arith;
+    }
+  where
+    same : (n : ℕ) → n < length records → get_or (records ++ x ∷ []) n no_record ≡ get_or records n no_record
+    same n h = get_or_append_left records (x ∷ []) no_record n h
+
+-- and it is put last on one
+pub but-none : (records : List Record) (lines : List Line) (records' : List Record) (lines' : List Line) (order : ℕ → List ℕ) (t to : ℕ) → ButOne records lines order t → to < length lines
+    → IsOn records lines records' lines' t to → Linked records' lines' (put_last order t to) → IsLinks records' lines' (put_last order t to)
+but-none records lines records' lines' order t to is h kept l =
+    record {
+      linked = l;
+      within = λ n k. rw (kept.wire n, kept.rows) (elim (cases_eq n t) [
+        | inl e ↦ let f : eqb n t ≡ true = grind (arith, nat_tests) in rw f h
+        | inr o ↦ let f : eqb n t ≡ false = grind (arith, nat_tests) in rw f (is.within n (rw kept.len at k) o)
+      ]);
+      there = λ n k. rw (kept.wire n) (elim (cases_eq n t) [
+        | inl e ↦ let f : eqb n t ≡ true = grind (arith, nat_tests) in rw f
+            (let a = times-append n (order to) (last_of t to to) in let b = times-last n t to to in let z : times n (order to) ≡ 0 = rw e (is.off to h) in let s : eqb to to ≡ true = grind (arith, nat_tests) in grind (arith, nat_tests))
+        | inr o ↦ let f : eqb n t ≡ false = grind (arith, nat_tests) in let w = wire_of records n in rw f
+            (let a = times-append n (order w) (last_of t to w) in let b = times-last n t to w in let one = is.there n (rw kept.len at k) o in grind (arith, nat_tests))
+      ]);
+      all =
+          let more = sum-more (length lines) to (λ u. length (order u)) (λ u. length (put_last order t to u))
+          (λ u k. let a = length-append (order u) (last_of t to u) in let b = length-last t to u in grind (arith, nat_tests)) h in
+          let a = is.all in let len = kept.len in let rows = kept.rows in
+          rw rows (omega arith);
+    }
+  where
+    length-last : (t to u : ℕ) → length (last_of t to u) ≡ cond (eqb to u) 1 0
+    length-last t to u = by (eqb to u)
+      where
+        by : (b : Bool) → length {A = ℕ} (cond b (t ∷ []) []) ≡ cond b 1 0
+        by true = refl
+        by false = refl
+
+-- ---- marks
+
+pub marks-one : (lines lines' : List Line) (words words' : List ℕ) (t : ℕ) (b : Bool) → HasMarks lines words → ((u : ℕ) → marked words' u ≡ cond (eqb u t) (when b 1) (marked words u))
+    → length lines' ≡ length lines → ((u : ℕ) → u ≢ t → count_of lines' u ≡ count_of lines u) → b ≡ ltb 0 (count_of lines' t) → HasMarks lines' words'
+marks-one lines lines' words words' t b has each rows same e u h =
+    elim (cases_eq u t) [
+      | inl k ↦ let f : eqb u t ≡ true = grind (arith, nat_tests) in each u ∙ rw f (rw (e, k) refl)
+      | inr o ↦ let f : eqb u t ≡ false = grind (arith, nat_tests) in each u ∙ rw (f, same u o) (has u (rw rows at h))
+    ]
+
+-- ---- a record is added, and put last on a line
+
+pub added : (records : List Record) (lines : List Line) (mid records' : List Record) (lines' : List Line) (order : ℕ → List ℕ) (x : Record) (t to : ℕ) → IsLinks records lines order → mid ≡ records ++ x ∷ [] → t ≡ length records → to < length lines
+    → IsOn mid lines records' lines' t to → (Linked mid lines order → OffLine lines order t → Linked records' lines' (put_last order t to)) → IsLinks records' lines' (put_last order (length records) to)
+added records lines mid records' lines' order x t to is m n h kept linked =
+    let one : ButOne mid lines order t = rw (m, n) (new-one records lines order x is) in
+    rw (← n) (but-none mid lines records' lines' order t to one h kept (linked one.linked one.off))
+
+pub added-kept : (records : List Record) (lines : List Line) (mid records' : List Record) (lines' : List Line) (x : Record) (t to : ℕ) → mid ≡ records ++ x ∷ [] → IsOn mid lines records' lines' t to → IsAdded records lines records' lines' to
+added-kept records lines mid records' lines' x t to m kept = record {
+  len = kept.len ∙ ap length m ∙ length_push records x;
+  rows = kept.rows;
+  client = λ n h. kept.client n ∙ rw m (ap (λ (r : Record). r.client) (get_or_append_left records (x ∷ []) no_record n h));
+  count = kept.count;
+}
+
+pub more-none : (records : List Record) (lines : List Line) (to : ℕ) → IsMore records lines records lines to
+more-none records lines to = record { more = omega arith; len = refl; rows = refl; client = λ n h. refl }
+
+pub more-add : (a : List Record) (l : List Line) (b : List Record) (m : List Line) (c : List Record) (n : List Line) (to : ℕ) → IsMore a l b m to → IsAdded b m c n to → IsMore a l c n to
+more-add a l b m c n to is added =
+    let one = added.count to in
+    let count : count_of n to ≡ count_of m to + 1 = grind (arith, nat_tests) in
+    let len = is.len in let len' = added.len in let more = is.more in
+    record {
+      more = omega arith;
+      len = omega arith;
+      rows = added.rows ∙ is.rows;
+      client = λ k h. added.client k (omega arith) ∙ is.client k h;
+    }
+
+pub same-put : (to t : ℕ) (order order' : ℕ → List ℕ) → SameBut to order order' → SameBut to order (put_last order' t to)
+same-put to t order order' same u o =
+    let f : eqb to u ≡ false = grind (arith, nat_tests) in
+    rw (f, append-nil (order' u)) (same u o)

@@ -1,0 +1,264 @@
+-- A yard before and after each change of its records.
+use Rattle.std.proofs.Common.{◌≡◌, ℕ, ◌+◌, ◌-◌, ◌^◌, ◌<◌, ◌≤◌, max, List, [], length, get_or, refl, sym, ap, ◌∙◌, arith, subst, Some}
+use Rattle.std.proofs.Common.{◌/◌, ◌%◌, vec_len, Vec, Global}
+use Rattle.std.specs.Prelude.{IsSome, replicate}
+use Rattle.std.specs.Vec.{with_items}
+use Rattle.std.specs.Int.{bit_at}
+use Rattle.std.proofs.lemmas.List.{ext_get_or, get_or_read, get_or-replicate, length-replicate, with_items_is}
+use Rattle.std.proofs.lemmas.Nat.Bits.{bit_at-zero}
+use Rattle.std.proofs.lemmas.Bool.Decides.{nat_tests}
+use Rattle.cn_spec.proofs.CallerLemmas.{times-nil, sum_below-zero}
+use Rattle.cn_spec.specs.declared.limits.TheConstants.{MOST_TOKENS}
+use Rattle.cn_yard.specs.declared.yard.Yard.TheInside.{Inside}
+use Rattle.cn_yard.specs.declared.records.Record.{Record}
+use Rattle.cn_yard.specs.declared.lines.Line.{Line}
+use Rattle.cn_yard.specs.Lists.{Admits, Moves, Lists, Releases, Yard, empty, standing, tokens_in}
+use Rattle.cn_yard.specs.Marks.{marked}
+use Rattle.cn_yard.proofs.Chains.{chain-nil}
+use Rattle.cn_yard.specs.Chains.{last_or, moved}
+use Rattle.cn_yard.specs.Lines.{Ends, count_of, line_of, no_line}
+use Rattle.cn_yard.specs.Records.{IsClient, client_of, next_of, prev_of, wire_of}
+use Rattle.cn_yard.specs.Moving.{Fills, IsLined, IsMore, IsMove, SameBut}
+use Rattle.cn_yard.specs.InsideYard.{Keeps, lists_of, yard_of}
+use Rattle.cn_yard.proofs.Changes.{admits-of, links-client, lists-same, moves-of, releases-of}
+use Rattle.cn_yard.proofs.Appended.{last-below, last-there}
+use Rattle.cn_yard.proofs.Wires.{live, on-wire, standing-live, tokens-are, wires-are}
+
+-- ---- a record is moved
+
+pub record Relinked (y z : Inside) (t to : ℕ) : Type 0 where
+  pub wires : z.wires ≡ y.wires
+  pub lined : (order : ℕ → List ℕ) → IsLined y.records.items y.lines.items y.marks.items order
+      → IsLined z.records.items z.lines.items z.marks.items (moved order t to)
+  pub move : IsMove y.records.items y.lines.items z.records.items z.lines.items t to
+
+pub keeps-relinked : (y z : Inside) (order : ℕ → List ℕ) (t to : ℕ) → Keeps y order → Relinked y z t to → Keeps z (moved order t to)
+keeps-relinked y z order t to k re =
+    let rows = re.move.rows in let wires = re.wires in let old = k.wires in
+    record { lined = re.lined order k.lined; wires = omega arith }
+
+pub moves-relinked : (y z : Inside) (order : ℕ → List ℕ) (t to from client : ℕ) → Keeps y order → Relinked y z t to → to < y.wires → standing (lists_of y) t ≡ Some (from, client) → Moves (yard_of y) (yard_of z) t client to
+moves-relinked y z order t to from client k re h stands =
+    let (within, on_wire) = live y order k t (rw stands refl) in
+    let who : client ≡ client_of y.records.items t = second (sym stands ∙ standing-live y order k t within on_wire) in
+    let count = re.move.count y.wires in
+    rw who (moves-of y z order t to k (keeps-relinked y z order t to k re) re.wires re.move.client h re.move.len (grind (arith, nat_tests)))
+  where
+    second : {a b : ℕ × ℕ} → Some a ≡ Some b → a.1 ≡ b.1
+    second h = cc
+
+pub releases-relinked : (y z : Inside) (order : ℕ → List ℕ) (t : ℕ) → Keeps y order → Relinked y z t y.wires → IsSome (standing (lists_of y) t) → Releases (yard_of y) (yard_of z) t
+releases-relinked y z order t k re stands =
+    let (within, on_wire) = live y order k t stands in
+    let count = re.move.count y.wires in
+    let wire = re.move.wire t in
+    releases-of y z order t k (keeps-relinked y z order t y.wires k re) re.wires re.move.client (grind (arith, nat_tests)) re.move.len (grind (arith, nat_tests))
+
+-- ---- free records are added
+
+pub record Filled (y z : Inside) : Type 0 where
+  pub wires : z.wires ≡ y.wires
+  pub lined : Fills y.records.items y.lines.items y.marks.items z.records.items z.lines.items z.marks.items y.wires
+  pub more : IsMore y.records.items y.lines.items z.records.items z.lines.items y.wires
+
+-- the numbers on the lines then
+pub filled : (y z : Inside) (order : ℕ → List ℕ) → Keeps y order → Filled y z → (order' : ℕ → List ℕ) × Keeps z order' × SameBut y.wires order order'
+filled y z order k fi =
+    let (order', lined, same) = fi.lined order k.lined in
+    let rows = fi.more.rows in let wires = fi.wires in let old = k.wires in
+    (order', record { lined = lined; wires = omega arith }, same)
+
+pub filled-lists : (y z : Inside) (order : ℕ → List ℕ) → Keeps y order → Filled y z → lists_of z ≡ lists_of y
+filled-lists y z order k fi =
+    let (order', k', same) = filled y z order k fi in
+    lists-same y z order order' k k' fi.wires same fi.more.client
+
+-- there is room for them
+pub room-for : (y : Inside) (order : ℕ → List ℕ) (wanted : ℕ) → Keeps y order → tokens_in (lists_of y) + wanted ≤ MOST_TOKENS
+    → length y.records.items + (wanted - count_of y.lines.items y.wires) ≤ MOST_TOKENS
+room-for y order wanted k room = let few = k.lined.few in let tokens = tokens-are y order k in grind arith
+
+-- ---- a free record becomes a token
+
+pub record Renamed (y z : Inside) (t client : ℕ) : Type 0 where
+  pub wires : z.wires ≡ y.wires
+  pub new : IsClient y.records.items z.records.items t client
+  pub lines : z.lines.items ≡ y.lines.items
+  pub marks : z.marks.items ≡ y.marks.items
+
+pub keeps-renamed : (y z : Inside) (order : ℕ → List ℕ) (t client : ℕ) → Keeps y order → Renamed y z t client → Keeps z order
+keeps-renamed y z order t client k re =
+    let links = links-client y.records.items y.lines.items z.records.items order t client k.lined.links re.new in
+    record {
+      lined = rw (re.lines, re.marks) (record {
+        links = links;
+        few = rw re.new.len k.lined.few;
+        marks = k.lined.marks;
+        room = k.lined.room;
+        short = k.lined.short;
+      });
+      wires = rw (re.lines, re.wires) k.wires;
+    }
+
+-- the last of the free records
+pub last-free : (y : Inside) (order : ℕ → List ℕ) → Keeps y order → 1 ≤ count_of y.lines.items y.wires → ((line_of y.lines.items y.wires).last < length y.records.items) × (wire_of y.records.items (line_of y.lines.items y.wires).last ≡ y.wires)
+last-free y order k some =
+    let rows = k.wires in
+    let within : y.wires < length y.lines.items = omega arith in
+    let there = last-there (line_of y.lines.items y.wires) (order y.wires) (k.lined.links.linked.ends y.wires within) some in
+    let once = k.lined.links.linked.once (line_of y.lines.items y.wires).last y.wires within in
+    (last-below y.records.items y.lines.items order k.lined.links.linked y.wires within some, (grind (arith, nat_tests)))
+
+-- a yard to which free records were added where it had none, and the last of them
+pub record HasFree (y z : Inside) (t : ℕ) : Type 0 where
+  pub filled : Filled y z
+  pub order_then : ℕ → List ℕ
+  pub keeps : Keeps z order_then
+  pub lists : lists_of z ≡ lists_of y
+  pub one : count_of z.lines.items y.wires ≡ max 1 (count_of y.lines.items y.wires)
+  pub within : t < length z.records.items
+  pub free : wire_of z.records.items t ≡ y.wires
+
+pub has-free : (y z : Inside) (order : ℕ → List ℕ) (line : Line) → Keeps y order → Filled y z → count_of z.lines.items y.wires ≡ max 1 (count_of y.lines.items y.wires)
+    → line ≡ get_or z.lines.items y.wires line → HasFree y z line.last
+has-free y z order line k fi one at =
+    let (order', keeps, same) = filled y z order k fi in
+    let rows = keeps.wires in let wires = fi.wires in
+    let e : line.last ≡ (line_of z.lines.items y.wires).last = ap (λ (l : Line). l.last) (get_or_read z.lines.items y.wires line (omega arith) at no_line) in
+    let (within, free) = last-free z order' keeps (rw wires (grind arith)) in
+    record {
+      filled = fi;
+      order_then = order';
+      keeps = keeps;
+      lists = lists-same y z order order' k keeps fi.wires same fi.more.client;
+      one = one;
+      within = rw e (rw wires at within);
+      free = rw e (rw wires at free);
+    }
+
+pub admits-renamed : (x y m z : Inside) (order : ℕ → List ℕ) (t to client : ℕ) → Keeps x order → HasFree x y t
+    → Relinked y m t to → Renamed m z t client → to < x.wires → Admits (yard_of x) (yard_of z) t client to
+admits-renamed x y m z order t to client k has re na h =
+    let order' = has.order_then in
+    let fi = has.filled in
+    let k'' = keeps-renamed m z (moved order' t to) t client (keeps-relinked y m order' t to has.keeps re) na in
+    let who = na.new.client t in
+    let this : client_of z.records.items t ≡ client = grind (arith, nat_tests) in
+    let free = has.free in
+    let one = has.one in
+    let count = re.move.count x.wires in
+    let left : count_of z.lines.items x.wires ≡ count_of m.lines.items x.wires = ap (λ l. count_of l x.wires) na.lines in
+    let fewer : count_of m.lines.items x.wires + 1 ≡ count_of y.lines.items x.wires = grind (arith, nat_tests) in
+    let len = fi.more.len in let more = fi.more.more in let len' = re.move.len in let len'' = na.new.len in
+    rw (← this)
+    (admits-of x y z order order' t to k has.keeps k'' fi.wires (na.wires ∙ re.wires ∙ fi.wires) has.lists
+    (λ n o. let c = na.new.client n in let d = re.move.client n in grind (arith, nat_tests)) h free (omega arith) (grind arith))
+
+-- ---- what the bodies leave in the fields
+
+abbrev pub after : Inside → List Record → List Line → List ℕ → Inside
+after y records lines marks = record {
+  wires = y.wires;
+  records = with_items y.records records;
+  lines = with_items y.lines lines;
+  marks = with_items y.marks marks;
+}
+
+pub relinked-by : (y : Inside) (records : List Record) (lines : List Line) (marks : List ℕ) (records' : List Record) (lines' : List Line) (marks' : List ℕ) (n t to : ℕ) → n ≡ t
+    → records ≡ y.records.items → lines ≡ y.lines.items → marks ≡ y.marks.items → length records ≡ vec_len y.records → length lines ≡ vec_len y.lines → length marks ≡ vec_len y.marks
+    → IsMove records lines records' lines' n to → ((order : ℕ → List ℕ) → IsLined records lines marks order → IsLined records' lines' marks' (moved order n to)) → length marks' ≡ length marks
+    → Relinked y (after y records' lines' marks') t to
+relinked-by y records lines marks records' lines' marks' n t to e r l m rl ll ml move lined words =
+    let a : (with_items y.records records').items ≡ records' = with_items_is y.records records' (move.len ∙ rl) in
+    let b : (with_items y.lines lines').items ≡ lines' = with_items_is y.lines lines' (move.rows ∙ ll) in
+    let d : (with_items y.marks marks').items ≡ marks' = with_items_is y.marks marks' (words ∙ ml) in
+    let move' : IsMove y.records.items y.lines.items records' lines' t to = rw (← r, ← l, ← e) move in
+    record {
+      wires = refl;
+      lined = λ order is. rw (a, b, d) (subst (λ (k : ℕ). IsLined records' lines' marks' (moved order k to)) e (lined order (rw (r, l, m) is)));
+      move = rw (a, b) move';
+    }
+
+abbrev pub after-fill : Inside → Vec Record Global → List Line → List ℕ → Inside
+after-fill y records lines marks = record {
+  wires = y.wires;
+  records = records;
+  lines = with_items y.lines lines;
+  marks = with_items y.marks marks;
+}
+
+pub filled-by : (y : Inside) (lines : List Line) (marks : List ℕ) (records' : Vec Record Global) (lines' : List Line) (marks' : List ℕ)
+    → lines ≡ y.lines.items → marks ≡ y.marks.items → length lines ≡ vec_len y.lines → length marks ≡ vec_len y.marks
+    → IsMore y.records.items lines records'.items lines' y.wires → Fills y.records.items lines marks records'.items lines' marks' y.wires → length marks' ≡ length marks
+    → Filled y (after-fill y records' lines' marks')
+filled-by y lines marks records' lines' marks' l m ll ml more lined words =
+    let b : (with_items y.lines lines').items ≡ lines' = with_items_is y.lines lines' (more.rows ∙ ll) in
+    let d : (with_items y.marks marks').items ≡ marks' = with_items_is y.marks marks' (words ∙ ml) in
+    let more' : IsMore y.records.items y.lines.items records'.items lines' y.wires = rw (← l) more in
+    record {
+      wires = refl;
+      lined = λ order is. rw (b, d) (lined order (rw (l, m) is));
+      more = rw b more';
+    }
+
+-- ---- a new yard
+
+no-ends : Ends no_line []
+unfolding last_or
+no-ends = record { count = refl; first = refl; last = refl }
+
+pub new-keeps : (y : Inside) → y.records.items ≡ [] → y.lines.items ≡ replicate (y.wires + 1) no_line → y.marks.items ≡ replicate (y.wires / 64 + 1) 0 → y.wires < 2 ^ 32 → Keeps y (λ u. [])
+new-keeps y r l m fits =
+    let rows : length y.lines.items ≡ y.wires + 1 = ap length l ∙ length-replicate (y.wires + 1) no_line in
+    let words : length y.marks.items ≡ y.wires / 64 + 1 = ap length m ∙ length-replicate (y.wires / 64 + 1) 0 in
+    let none : length y.records.items ≡ 0 = ap length r in
+    let line : (u : ℕ) → u < length y.lines.items → line_of y.lines.items u ≡ no_line = λ u h. ap (λ ls. line_of ls u) l ∙ get_or-replicate (y.wires + 1) u no_line no_line (omega arith) in
+    record {
+      lined = record {
+        links = record {
+          linked = record {
+            chain = λ u h. chain-nil (next_of y.records.items) (prev_of y.records.items);
+            ends = λ u h. rw (line u h) no-ends;
+            once = λ n u h. omega (arith, times-nil n);
+            below = λ n u h some. absurd (omega (arith, times-nil n));
+          };
+          within = λ n h. absurd (omega arith);
+          there = λ n h. absurd (omega arith);
+          all = sum_below-zero (length y.lines.items) (λ u. 0) (λ u. refl) ∙ sym none;
+        };
+        few = omega arith;
+        room = omega arith;
+        short = omega arith;
+        marks = λ u h.
+            let a : marked y.marks.items u ≡ 0 = ap (λ (ws : List ℕ). marked ws u) m ∙ ap (λ (w : ℕ). bit_at w (u % 64)) (get_or-replicate (y.wires / 64 + 1) (u / 64) 0 0 (omega arith)) ∙ bit_at-zero (u % 64) in
+            let b : count_of y.lines.items u ≡ 0 = ap (λ (x : Line). x.count) (line u h) in
+            a ∙ rw b refl;
+      };
+      wires = rows;
+    }
+
+abbrev yard_with : Lists → ℕ → Yard
+yard_with lists spare = record { lists = lists; spare = spare }
+
+both : {a b : Lists} {m n : ℕ} → a ≡ b → m ≡ n → yard_with a m ≡ yard_with b n
+both e f = rw (e, f) refl
+
+pub new-empty : (y : Inside) → Keeps y (λ u. []) → y.lines.items ≡ replicate (y.wires + 1) no_line → yard_of y ≡ empty y.wires
+new-empty y k l =
+    let count : count_of y.lines.items y.wires ≡ 0 = ap (λ ls. count_of ls y.wires) l ∙ ap (λ (x : Line). x.count) (get_or-replicate (y.wires + 1) y.wires no_line no_line (omega arith)) in
+    let lists : lists_of y ≡ replicate y.wires [] =
+    ext_get_or [] (lists_of y) (replicate y.wires []) (wires-are y (λ u. []) k ∙ sym (length-replicate y.wires []))
+    (λ u h. let w = wires-are y (λ u. []) k in on-wire y (λ u. []) k u (omega arith) ∙ sym (get_or-replicate y.wires u [] [] (omega arith))) in
+    both lists count
+
+pub new-nobody : (y : Inside) → Keeps y (λ u. []) → y.records.items ≡ [] → tokens_in (lists_of y) ≡ 0
+new-nobody y k r = let all = tokens-are y (λ u. []) k in let none : length y.records.items ≡ 0 = ap length r in omega arith
+
+abbrev pub with_records : Inside → List Record → Inside
+with_records y records = record { wires = y.wires; records = with_items y.records records; lines = y.lines; marks = y.marks }
+
+pub renamed-by : (y : Inside) (records records' : List Record) (t client : ℕ) → records ≡ y.records.items → length records ≡ vec_len y.records → IsClient records records' t client → Renamed y (with_records y records') t client
+renamed-by y records records' t client r rl new =
+    let a : (with_items y.records records').items ≡ records' = with_items_is y.records records' (new.len ∙ rl) in
+    let new' : IsClient y.records.items records' t client = rw (← r) new in
+    record { wires = refl; new = rw a new'; lines = refl; marks = refl }

@@ -1,0 +1,206 @@
+-- Lists of numbers that are linked one to the next.
+use Rattle.std.proofs.Common.{◌≡◌, ◌≢◌, ℕ, ◌+◌, ◌≤◌, inl, inr, cond, eqb, List, [], ◌∷◌, ◌++◌, length, refl, sym, ap, ◌∙◌, arith, subst}
+use Rattle.std.proofs.lemmas.Bool.{cases_eq}
+use Rattle.std.proofs.lemmas.Bool.Decides.{nat_tests}
+use Rattle.cn_spec.specs.Sums.{times}
+use Rattle.cn_spec.proofs.CallerLemmas.{times-cons, times-nil}
+use Rattle.cn_yard.specs.Chains.{Chain, but, head_or, last_or, tail_of, walk}
+
+-- ---- all but one
+
+pub but-out : (t : ℕ) (xs : List ℕ) → times t xs ≡ 0 → but t xs ≡ xs
+but-out t [] h = refl
+but-out t (x ∷ xs) h = let here = times-cons t x xs in let rest = but-out t xs in grind (arith, nat_tests)
+
+pub times-but : (n t : ℕ) (xs : List ℕ) → times n (but t xs) ≡ cond (eqb n t) 0 (times n xs)
+times-but n t [] = let none = times-nil n in grind (arith, nat_tests)
+times-but n t (x ∷ xs) = grind (arith, nat_tests, times-cons n x xs, times-cons n x (but t xs), times-but n t xs)
+
+pub length-but : (t : ℕ) (xs : List ℕ) → length (but t xs) + times t xs ≡ length xs
+length-but t [] = let none = times-nil t in grind (arith, nat_tests)
+length-but t (x ∷ xs) = grind (arith, nat_tests, times-cons t x xs, length-but t xs)
+
+pub but-head : (t : ℕ) (xs : List ℕ) → times t (t ∷ xs) ≤ 1 → but t (t ∷ xs) ≡ xs
+but-head t xs one = let here = times-cons t t xs in let rest = but-out t xs in grind (arith, nat_tests)
+
+pub but-cons : (t x : ℕ) (xs : List ℕ) → x ≢ t → but t (x ∷ xs) ≡ x ∷ but t xs
+but-cons t x xs n = grind (arith, nat_tests)
+
+-- ---- the ends
+
+pub last-in : (x : ℕ) (xs : List ℕ) → 1 ≤ times (last_or x xs) (x ∷ xs)
+unfolding last_or
+last-in x [] = grind (arith, nat_tests, times-cons x x [])
+last-in x (y ∷ ys) = let rest = last-in y ys in omega (arith, times-cons (last_or y ys) x (y ∷ ys))
+
+-- the last is another where the last is not taken
+pub last-but : (t d : ℕ) (xs : List ℕ) → last_or d xs ≢ t → last_or d (but t xs) ≡ last_or d xs
+unfolding last_or
+last-but t d [] n = refl
+last-but t d (x ∷ []) n = rw (but-cons t x [] n) refl
+last-but t d (x ∷ y ∷ ys) n =
+    elim (cases_eq x t) [
+      | inl e ↦ rw (skip e) (last-but t d (y ∷ ys) n)
+      | inr o ↦ rw (but-cons t x (y ∷ ys) o) (last-but t x (y ∷ ys) n)
+    ]
+  where
+    skip : x ≡ t → but t (x ∷ y ∷ ys) ≡ but t (y ∷ ys)
+    skip e = grind (arith, nat_tests)
+
+-- ---- chains
+
+module _ (n p : ℕ → ℕ) where
+  pub chain-rest : (x : ℕ) (xs : List ℕ) → Chain n p (x ∷ xs) → Chain n p xs
+  unfolding Chain
+  chain-rest x xs c = c.1
+
+  pub chain-tied : (x y : ℕ) (xs : List ℕ) → Chain n p (x ∷ y ∷ xs) → (n x ≡ y) × (p y ≡ x)
+  unfolding Chain
+  chain-tied x y xs c = c.0
+
+  pub chain-nil : Chain n p []
+  unfolding Chain
+  chain-nil = tt
+
+  pub chain-one : (x : ℕ) → Chain n p (x ∷ [])
+  unfolding Chain
+  chain-one x = (tt, tt)
+
+  pub chain-cons : (x y : ℕ) (xs : List ℕ) → n x ≡ y → p y ≡ x → Chain n p (y ∷ xs) → Chain n p (x ∷ y ∷ xs)
+  unfolding Chain
+  chain-cons x y xs a b c = ((a, b), c)
+
+  -- the number before one that is not the first
+  pub prev-in : (t y : ℕ) (ys : List ℕ) → Chain n p (y ∷ ys) → 1 ≤ times t ys → 1 ≤ times (p t) (y ∷ ys)
+  prev-in t y [] c h = absurd (omega (arith, times-nil t))
+  prev-in t y (z ∷ zs) c h =
+      elim (cases_eq z t) [
+        | inl e ↦ let tied = (chain-tied y z zs c).1 in let before : p t ≡ y = ap p (sym e) ∙ tied in rw before (grind (arith, nat_tests, times-cons y y (z ∷ zs)))
+        | inr o ↦ let more = times-cons t z zs in
+            let rest = prev-in t z zs (chain-rest y (z ∷ zs) c) (grind (arith, nat_tests)) in
+            omega (arith, rest, times-cons (p t) y (z ∷ zs))
+      ]
+
+  -- the number after one that is not the last
+  pub next-in : (t d : ℕ) (ys : List ℕ) → Chain n p ys → 1 ≤ times t ys → last_or d ys ≢ t → 1 ≤ times (n t) ys
+  unfolding last_or
+  next-in t d [] c h o = absurd (omega (arith, times-nil t))
+  next-in t d (z ∷ []) c h o = absurd (let more = times-cons t z [] in let none = times-nil t in grind (arith, nat_tests))
+  next-in t d (z ∷ w ∷ ws) c h o =
+      elim (cases_eq z t) [
+        | inl e ↦ let tied = (chain-tied z w ws c).0 in let after : n t ≡ w = ap n (sym e) ∙ tied in
+            rw after (let a = times-cons w z (w ∷ ws) in let b = times-cons w w ws in grind (arith, nat_tests))
+        | inr d' ↦ let more = times-cons t z (w ∷ ws) in
+            let rest = next-in t z (w ∷ ws) (chain-rest z (w ∷ ws) c) (grind (arith, nat_tests)) o in
+            omega (arith, rest, times-cons (n t) z (w ∷ ws))
+      ]
+
+  -- a walk from the first meets them all
+  pub walk-chain : (d : ℕ) (xs : List ℕ) → Chain n p xs → walk n (length xs) (head_or d xs) ≡ xs
+  unfolding walk
+  walk-chain d [] c = refl
+  walk-chain d (x ∷ []) c = refl
+  walk-chain d (x ∷ y ∷ ys) c =
+      let tied = (chain-tied x y ys c).0 in
+      let rest = walk-chain d (y ∷ ys) (chain-rest x (y ∷ ys) c) in
+      rw tied (ap (λ zs. x ∷ zs) rest)
+
+  -- without the last
+  pub chain-but-last : (t d : ℕ) (xs : List ℕ) → Chain n p xs → last_or d xs ≡ t → times t xs ≤ 1 → Chain n p (but t xs)
+  unfolding last_or
+  chain-but-last t d [] c e one = c
+  chain-but-last t d (x ∷ []) c e one = rw (but-out-one e) chain-nil
+    where
+      but-out-one : x ≡ t → but t (x ∷ []) ≡ []
+      but-out-one e = grind (arith, nat_tests)
+  chain-but-last t d (x ∷ y ∷ []) c e one =
+      let a = times-cons t x (y ∷ []) in let b = times-cons t y [] in
+      let o : x ≢ t = λ h. absurd (grind (arith, nat_tests)) in
+      rw (but-two o e) (chain-one x)
+    where
+      but-two : x ≢ t → y ≡ t → but t (x ∷ y ∷ []) ≡ x ∷ []
+      but-two o e = grind (arith, nat_tests)
+  chain-but-last t d (x ∷ y ∷ z ∷ zs) c e one =
+      let here = subst (λ (k : ℕ). 1 ≤ times k (z ∷ zs)) e (last-in z zs) in
+      let a = times-cons t x (y ∷ z ∷ zs) in let b = times-cons t y (z ∷ zs) in
+      let o : x ≢ t = λ h. absurd (grind (arith, nat_tests)) in
+      let o' : y ≢ t = λ h. absurd (grind (arith, nat_tests)) in
+      let rest = chain-but-last t x (y ∷ z ∷ zs) (chain-rest x (y ∷ z ∷ zs) c) e (omega arith) in
+      let tied = chain-tied x y (z ∷ zs) c in
+      rw (but-cons t x (y ∷ z ∷ zs) o, but-cons t y (z ∷ zs) o') (chain-cons x y (but t (z ∷ zs)) tied.0 tied.1 (rw (but-cons t y (z ∷ zs) o') at rest))
+
+  -- the last that is left
+  pub last-left : (t y : ℕ) (ys : List ℕ) → Chain n p (y ∷ ys) → 1 ≤ length ys → last_or y ys ≡ t → times t ys ≤ 1 → last_or y (but t ys) ≡ p t
+  unfolding last_or
+  last-left t y [] c h e one = absurd (omega arith)
+  last-left t y (z ∷ []) c h e one = rw (gone e) (sym (chain-tied y z [] c).1 ∙ ap p e)
+    where
+      gone : z ≡ t → but t (z ∷ []) ≡ []
+      gone e = grind (arith, nat_tests)
+  last-left t y (z ∷ w ∷ ws) c h e one =
+      let here = subst (λ (k : ℕ). 1 ≤ times k (w ∷ ws)) e (last-in w ws) in
+      let a = times-cons t z (w ∷ ws) in
+      let o : z ≢ t = λ h. absurd (grind (arith, nat_tests)) in
+      rw (but-cons t z (w ∷ ws) o) (last-left t z (w ∷ ws) (chain-rest y (z ∷ w ∷ ws) c) (omega arith) e (omega arith))
+
+-- links that agree on a list
+pub chain-same : (n p n' p' : ℕ → ℕ) (xs : List ℕ) → Chain n p xs → ((x : ℕ) → 1 ≤ times x xs → n' x ≡ n x) → ((x : ℕ) → 1 ≤ times x (tail_of xs) → p' x ≡ p x) → Chain n' p' xs
+chain-same n p n' p' [] c a b = chain-nil n' p'
+chain-same n p n' p' (x ∷ []) c a b = chain-one n' p' x
+chain-same n p n' p' (x ∷ y ∷ ys) c a b =
+    let tied = chain-tied n p x y ys c in
+    chain-cons n' p' x y ys
+    (a x (grind (arith, nat_tests, times-cons x x (y ∷ ys))) ∙ tied.0)
+    (b y (grind (arith, nat_tests, times-cons y y ys)) ∙ tied.1)
+    (chain-same n p n' p' (y ∷ ys) (chain-rest n p x (y ∷ ys) c) (λ z h. a z (omega (arith, times-cons z x (y ∷ ys)))) (λ z h. b z (omega (arith, times-cons z y ys))))
+
+-- one between its neighbours is taken out
+pub chain-but : (n p n' p' : ℕ → ℕ) (t x : ℕ) (xs : List ℕ) → Chain n p (x ∷ xs) → 1 ≤ times t xs → last_or x xs ≢ t → ((z : ℕ) → times z (x ∷ xs) ≤ 1)
+    → ((z : ℕ) → n' z ≡ cond (eqb z (p t)) (n t) (n z)) → ((z : ℕ) → p' z ≡ cond (eqb z (n t)) (p t) (p z)) → Chain n' p' (x ∷ but t xs)
+unfolding last_or
+chain-but n p n' p' t x [] c h o one a b = absurd (omega (arith, times-nil t))
+chain-but n p n' p' t x (y ∷ []) c h o one a b = absurd (let e = times-cons t y [] in let none = times-nil t in grind (arith, nat_tests))
+chain-but n p n' p' t x (y ∷ w ∷ ws) c h o one a b =
+    elim (cases_eq y t) [
+      | inl e ↦
+          let back : p t ≡ x = ap p (sym e) ∙ (chain-tied n p x y (w ∷ ws) c).1 in
+          let forth : n t ≡ w = ap n (sym e) ∙ (chain-tied n p y w ws (chain-rest n p x (y ∷ w ∷ ws) c)).0 in
+          rw (gone e (one t)) (chain-cons n' p' x w ws (let k = a x in grind (arith, nat_tests)) (let k = b w in grind (arith, nat_tests))
+          (chain-same n p n' p' (w ∷ ws) (chain-rest n p y (w ∷ ws) (chain-rest n p x (y ∷ w ∷ ws) c))
+          (λ z l. let k = a z in let m = one z in let s = times-cons z x (y ∷ w ∷ ws) in let r = times-cons z y (w ∷ ws) in grind (arith, nat_tests))
+          (λ z l. let k = b z in let m = one z in let s = times-cons z x (y ∷ w ∷ ws) in let r = times-cons z y (w ∷ ws) in let q = times-cons z w ws in grind (arith, nat_tests))))
+      | inr d ↦
+          let more = times-cons t y (w ∷ ws) in
+          let tied = chain-tied n p x y (w ∷ ws) c in
+          let c' = chain-rest n p x (y ∷ w ∷ ws) c in
+          let there : 1 ≤ times t (w ∷ ws) = grind (arith, nat_tests) in
+          let back = prev-in n p t y (w ∷ ws) c' there in
+          let forth = next-in n p t y (w ∷ ws) (chain-rest n p y (w ∷ ws) c') there o in
+          rw (but-cons t y (w ∷ ws) d) (chain-cons n' p' x y (but t (w ∷ ws))
+          (let k = a x in let m = one x in let s = times-cons x x (y ∷ w ∷ ws) in grind (arith, nat_tests))
+          (let k = b y in let m = one y in let s = times-cons y x (y ∷ w ∷ ws) in let r = times-cons y y (w ∷ ws) in grind (arith, nat_tests))
+          (chain-but n p n' p' t y (w ∷ ws) c' there o (λ z. let m = one z in omega (arith, times-cons z x (y ∷ w ∷ ws))) a b))
+    ]
+  where
+    gone : y ≡ t → times t (x ∷ y ∷ w ∷ ws) ≤ 1 → but t (y ∷ w ∷ ws) ≡ w ∷ ws
+    gone e m = let s = times-cons t x (y ∷ w ∷ ws) in rw e (but-head t (w ∷ ws) (rw e at (let k : times t (y ∷ w ∷ ws) ≤ 1 = omega arith in k)))
+
+-- one more comes last
+pub chain-push : (n p n' p' : ℕ → ℕ) (t x : ℕ) (xs : List ℕ) → Chain n p (x ∷ xs) → times t (x ∷ xs) ≡ 0 → ((z : ℕ) → times z (x ∷ xs) ≤ 1)
+    → ((z : ℕ) → n' z ≡ cond (eqb z (last_or x xs)) t (n z)) → ((z : ℕ) → p' z ≡ cond (eqb z t) (last_or x xs) (p z)) → Chain n' p' (x ∷ xs ++ t ∷ [])
+unfolding last_or
+chain-push n p n' p' t x [] c h one a b = chain-cons n' p' x t [] (let k = a x in grind (arith, nat_tests)) (let k = b t in grind (arith, nat_tests)) (chain-one n' p' t)
+chain-push n p n' p' t x (y ∷ ys) c h one a b =
+    let tied = chain-tied n p x y ys c in
+    let last = last-in y ys in
+    let s = times-cons t x (y ∷ ys) in
+    let r = times-cons t y ys in
+    chain-cons n' p' x y (ys ++ t ∷ [])
+    (let k = a x in let m = one x in let q = times-cons x x (y ∷ ys) in grind (arith, nat_tests))
+    (let k = b y in grind (arith, nat_tests))
+    (chain-push n p n' p' t y ys (chain-rest n p x (y ∷ ys) c) (omega arith) (λ z. let m = one z in omega (arith, times-cons z x (y ∷ ys))) a b)
+
+pub last-push : (t d : ℕ) (xs : List ℕ) → last_or d (xs ++ t ∷ []) ≡ t
+unfolding last_or
+last-push t d [] = refl
+last-push t d (x ∷ xs) = last-push t x xs

@@ -1,0 +1,156 @@
+-- What callers see when a token comes, moves or goes.
+use Rattle.std.proofs.Common.{◌≡◌, ◌≢◌, ℕ, ◌+◌, ◌-◌, ◌<◌, inl, inr, true, false, nat_eq, eqb, List, [], ◌++◌, length, get_or, refl, sym, ap, ◌∙◌, arith, subst, None}
+use Rattle.std.specs.Map.{lookup}
+use Rattle.std.proofs.lemmas.Bool.{cases_eq, cases_lt}
+use Rattle.std.proofs.lemmas.Bool.Decides.{nat_tests}
+use Rattle.std.proofs.lemmas.List.{append-nil, ext_get_or}
+use Rattle.cn_spec.specs.Sums.{sum_below, times}
+use Rattle.cn_yard.specs.declared.yard.Yard.TheInside.{Inside}
+use Rattle.cn_yard.specs.declared.records.Record.{Record}
+use Rattle.cn_yard.specs.declared.lines.Line.{Line}
+use Rattle.cn_yard.specs.Lists.{Admits, Lists, Moves, Releases, last_on, on, standing, standing_below, tokens_in, without}
+use Rattle.cn_yard.specs.Chains.{moved}
+use Rattle.cn_yard.specs.Lines.{count_of}
+use Rattle.cn_yard.specs.Records.{IsClient, client_of, next_of, prev_of, wire_of}
+use Rattle.cn_yard.specs.Moving.{IsLinks, SameBut}
+use Rattle.cn_yard.specs.InsideYard.{Keeps, with_clients, lists_of, yard_of}
+use Rattle.cn_yard.proofs.Chains.{but-out, chain-same}
+use Rattle.cn_yard.proofs.Keyed.{lookup-added, lookup-gone, lookup-last, lookup-without}
+use Rattle.cn_yard.proofs.Standings.{lookup-absent, standing-added, standing-same}
+use Rattle.cn_yard.proofs.Wires.{clients-same, on-beyond, on-moved, on-wire, standing-free, tokens-are, wires-are, without-clients}
+
+-- ---- a record has another client
+
+pub links-client : (records : List Record) (lines : List Line) (records' : List Record) (order : ℕ → List ℕ) (t client : ℕ) → IsLinks records lines order → IsClient records records' t client → IsLinks records' lines order
+links-client records lines records' order t client is new =
+    let l = is.linked in
+    record {
+      linked = record {
+        chain = λ u h. chain-same (next_of records) (prev_of records) (next_of records') (prev_of records') (order u) (l.chain u h) (λ z i. new.next z) (λ z i. new.prev z);
+        ends = l.ends;
+        once = λ n u h. rw (new.wire n) (l.once n u h);
+        below = λ n u h i. rw new.len (l.below n u h i);
+      };
+      within = λ n h. rw (new.wire n) (is.within n (rw new.len at h));
+      there = λ n h. rw (new.wire n) (is.there n (rw new.len at h));
+      all = is.all ∙ sym new.len;
+    }
+
+tokens-at : (y : Inside) (order : ℕ → List ℕ) → Keeps y order → (w : ℕ) → y.wires ≡ w → tokens_in (lists_of y) + count_of y.lines.items w ≡ length y.records.items
+tokens-at y order k w e = subst (λ (v : ℕ). tokens_in (lists_of y) + count_of y.lines.items v ≡ length y.records.items) e (tokens-are y order k)
+
+-- ---- a move between wires
+
+pub moves-of : (y z : Inside) (order : ℕ → List ℕ) (t to : ℕ) → Keeps y order → Keeps z (moved order t to) → z.wires ≡ y.wires → ((n : ℕ) → client_of z.records.items n ≡ client_of y.records.items n)
+    → to < y.wires → length z.records.items ≡ length y.records.items → count_of z.lines.items y.wires ≡ count_of y.lines.items y.wires → Moves (yard_of y) (yard_of z) t (client_of y.records.items t) to
+moves-of y z order t to k k' wires same h len count =
+    let old = lists_of y in
+    let new = lists_of z in
+    let rows = wires-are y order k in
+    let rows' = wires-are z (moved order t to) k' in
+    let there : length new ≡ length old = rows' ∙ wires ∙ sym rows in
+    record {
+      wires = there;
+      lists = lists;
+      spare = rw wires count;
+      standing_now = standing-added old new t (client_of y.records.items t) to there (omega (arith, rows))
+          (λ u l. rw (lists u) (lookup-added t (client_of y.records.items t) to u (without t (on old u)) (lookup-gone t (on old u))))
+          (λ other u n. rw (lists u) (lookup-last other t (client_of y.records.items t) to u (without t (on old u)) n ∙ lookup-without other t (on old u) n));
+      tokens = let a = tokens-are y order k in let b = tokens-at z (moved order t to) k' y.wires wires in omega arith;
+    }
+  where
+    lists : (u : ℕ) → on (lists_of z) u ≡ without t (on (lists_of y) u) ++ last_on t (client_of y.records.items t) to u
+    lists u = elim (cases_lt u y.wires) [
+      | inl l ↦ on-moved y z order t to k k' wires (λ n i o. same n) u l ∙ ap (λ (c : ℕ). without t (on (lists_of y) u) ++ last_on t c to u) (same t)
+      | inr l ↦ let f : eqb to u ≡ false = grind (arith, nat_tests) in rw (on-beyond z (moved order t to) k' u (omega (arith, wires)), on-beyond y order k u l, f) refl
+    ]
+
+-- ---- a move to the free records
+
+pub releases-of : (y z : Inside) (order : ℕ → List ℕ) (t : ℕ) → Keeps y order → Keeps z (moved order t y.wires) → z.wires ≡ y.wires → ((n : ℕ) → client_of z.records.items n ≡ client_of y.records.items n)
+    → wire_of z.records.items t ≡ y.wires → length z.records.items ≡ length y.records.items → count_of z.lines.items y.wires ≡ count_of y.lines.items y.wires + 1 → Releases (yard_of y) (yard_of z) t
+releases-of y z order t k k' wires same free len count =
+    let old = lists_of y in
+    let new = lists_of z in
+    let rows = wires-are y order k in
+    let rows' = wires-are z (moved order t y.wires) k' in
+    let there : length new ≡ length old = rows' ∙ wires ∙ sym rows in
+    record {
+      wires = there;
+      lists = lists;
+      spare = rw wires count;
+      standing_now = λ other. elim (cases_eq other t) [
+        | inl e ↦ let f : eqb other t ≡ true = grind (arith, nat_tests) in rw (f, e) (standing-free z (moved order t y.wires) k' t (rw (free, wires) (omega arith)))
+        | inr o ↦ let f : eqb other t ≡ false = grind (arith, nat_tests) in rw (f, there) (standing-same (length old) old new other (λ u. rw (lists u) (lookup-without other t (on old u) o)))
+      ];
+      tokens = let a = tokens-are y order k in let b = tokens-at z (moved order t y.wires) k' y.wires wires in omega arith;
+    }
+  where
+    lists : (u : ℕ) → on (lists_of z) u ≡ without t (on (lists_of y) u)
+    lists u = elim (cases_lt u y.wires) [
+      | inl l ↦ let f : eqb y.wires u ≡ false = grind (arith, nat_tests) in
+          on-moved y z order t y.wires k k' wires (λ n i o. same n) u l ∙ rw f (append-nil (without t (on (lists_of y) u)))
+      | inr l ↦ rw (on-beyond z (moved order t y.wires) k' u (omega (arith, wires)), on-beyond y order k u l) refl
+    ]
+
+-- ---- more free records
+
+pub lists-same : (y z : Inside) (order order' : ℕ → List ℕ) → Keeps y order → Keeps z order' → z.wires ≡ y.wires → SameBut y.wires order order' → ((n : ℕ) → n < length y.records.items → client_of z.records.items n ≡ client_of y.records.items n)
+    → lists_of z ≡ lists_of y
+lists-same y z order order' k k' wires same clients =
+    let rows = wires-are y order k in
+    let rows' = wires-are z order' k' in
+    let w = k.wires in
+    ext_get_or [] (lists_of z) (lists_of y) (rows' ∙ wires ∙ sym rows)
+    (λ u h. let l : u < y.wires = omega (arith, rows', wires) in
+    on-wire z order' k' u (omega (arith, wires))
+    ∙ ap (λ xs. with_clients (client_of z.records.items) xs) (same u (λ e. absurd (omega arith)))
+    ∙ clients-same (client_of y.records.items) (client_of z.records.items) (order u) (λ n i. clients n (k.lined.links.linked.below n u (omega arith) i))
+    ∙ sym (on-wire y order k u l))
+
+pub tokens-same : (old new : Lists) → new ≡ old → tokens_in new ≡ tokens_in old
+tokens-same old new e = ap (λ l. sum_below (length l) (λ u. length (get_or l u []))) e
+
+-- ---- a move from the free records
+
+pub admits-of : (x y z : Inside) (order order' : ℕ → List ℕ) (t to : ℕ) → Keeps x order → Keeps y order' → Keeps z (moved order' t to) → y.wires ≡ x.wires → z.wires ≡ x.wires → lists_of y ≡ lists_of x
+    → ((n : ℕ) → n ≢ t → client_of z.records.items n ≡ client_of y.records.items n) → to < x.wires → wire_of y.records.items t ≡ x.wires
+    → length z.records.items + count_of x.lines.items x.wires ≡ length x.records.items + count_of z.lines.items x.wires + 1 → count_of z.lines.items x.wires ≡ count_of x.lines.items x.wires - 1
+    → Admits (yard_of x) (yard_of z) t (client_of z.records.items t) to
+admits-of x y z order order' t to i k k' wires wires' same clients h free len count =
+    let old = lists_of x in
+    let new = lists_of z in
+    let rows = wires-are x order i in
+    let rows' = wires-are z (moved order' t to) k' in
+    let there : length new ≡ length old = rows' ∙ wires' ∙ sym rows in
+    let fresh : standing old t ≡ None =
+    let mid : standing (lists_of y) t ≡ None = standing-free y order' k t (rw (free, wires) (omega arith)) in
+    let e : length (lists_of y) ≡ length old = ap length same in
+    let mid' : standing_below (length old) (lists_of y) t ≡ None = rw e at mid in
+    sym (standing-same (length old) old (lists_of y) t (λ u. ap (λ l. lookup (nat_eq t) (get_or l u [])) same)) ∙ mid' in
+    record {
+      fresh = fresh;
+      wires = there;
+      lists = lists;
+      spare = rw wires' count;
+      standing_now = standing-added old new t (client_of z.records.items t) to there (omega (arith, rows))
+          (λ u l. rw (lists u) (lookup-added t (client_of z.records.items t) to u (on old u) (lookup-absent (length old) old t fresh u l)))
+          (λ other u n. rw (lists u) (lookup-last other t (client_of z.records.items t) to u (on old u) n));
+      tokens = let a = tokens-are x order i in let b = tokens-at z (moved order' t to) k' x.wires wires' in omega arith;
+    }
+  where
+    here : (u : ℕ) → on (lists_of y) u ≡ on (lists_of x) u
+    here u = ap (λ l. get_or l u []) same
+
+    lists : (u : ℕ) → on (lists_of z) u ≡ on (lists_of x) u ++ last_on t (client_of z.records.items t) to u
+    lists u = elim (cases_lt u x.wires) [
+      | inl l ↦
+          let rows = k.wires in
+          let once = k.lined.links.linked.once t u (omega (arith, wires)) in
+          let none : times t (order' u) ≡ 0 = grind (arith, nat_tests) in
+          let l' : u < y.wires = omega (arith, wires) in
+          let at = on-wire y order' k u l' in
+          let out : without t (on (lists_of y) u) ≡ on (lists_of y) u = ap (λ es. without t es) at ∙ without-clients (client_of y.records.items) t (order' u) ∙ ap (λ xs. with_clients (client_of y.records.items) xs) (but-out t (order' u) none) ∙ sym at in
+          on-moved y z order' t to k k' (wires' ∙ sym wires) (λ n i o. clients n o) u l' ∙ ap (λ es. es ++ last_on t (client_of z.records.items t) to u) (out ∙ here u)
+      | inr l ↦ let f : eqb to u ≡ false = grind (arith, nat_tests) in rw (on-beyond z (moved order' t to) k' u (omega (arith, wires')), on-beyond x order i u l, f) refl
+    ]

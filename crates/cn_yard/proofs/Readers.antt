@@ -1,0 +1,106 @@
+-- What a yard's readers tell.
+use Rattle.std.proofs.Common.{◌≡◌, ℕ, ◌<◌, ◌≤◌, inl, inr, true, false, cond, eqb, ltb, List, [], ◌∷◌, length, get_or, refl, sym, ap, ◌∙◌, arith, subst, Option, Some, None}
+use Rattle.std.specs.Prelude.{IsSome, IsTrue, ◌↔◌}
+use Rattle.std.proofs.lemmas.Bool.{cases_lt}
+use Rattle.std.proofs.lemmas.Bool.Decides.{nat_tests}
+use Rattle.std.proofs.lemmas.List.{get_or_read, nil_from_length}
+use Rattle.cn_spec.specs.Sums.{times}
+use Rattle.cn_yard.specs.declared.yard.Yard.TheInside.{Inside}
+use Rattle.cn_yard.specs.declared.records.Record.{Record}
+use Rattle.cn_yard.specs.declared.lines.Line.{Line}
+use Rattle.cn_yard.specs.Lists.{IsLowest, IsThere, after, first_of, on, standing}
+use Rattle.cn_yard.specs.Chains.{last_or}
+use Rattle.cn_yard.specs.Lines.{Ends, count_of, line_of, no_line}
+use Rattle.cn_yard.specs.Records.{client_of, next_of, no_record, prev_of, wire_of}
+use Rattle.cn_yard.specs.Marks.{marked}
+use Rattle.cn_yard.specs.InsideYard.{Keeps, with_clients, lists_of}
+use Rattle.cn_yard.proofs.Wires.{after-clients, length-on, live, on-beyond, on-wire, standing-live, there-live}
+
+module _ (y : Inside) (order : ℕ → List ℕ) (k : Keeps y order) where
+  line-read : (u : ℕ) (line : Line) → u ≤ y.wires → line ≡ get_or y.lines.items u line → line ≡ line_of y.lines.items u
+  line-read u line h at = let w = k.wires in get_or_read y.lines.items u line (omega arith) at no_line
+
+  pub count-told : (u : ℕ) (line : Line) → u ≤ y.wires → line ≡ get_or y.lines.items u line → line.count ≡ count_of y.lines.items u
+  count-told u line h at = ap (λ (l : Line). l.count) (line-read u line h at)
+
+  pub first-told : (u : ℕ) (line : Line) → u < y.wires → line ≡ get_or y.lines.items u line → first_of (on (lists_of y) u) ≡ cond (eqb line.count 0) None (Some line.first)
+  first-told u line h at =
+      let w = k.wires in
+      let e = line-read u line (omega arith) at in
+      rw (on-wire y order k u h) (by line (order u) (subst (λ (l : Line). Ends l (order u)) (sym e) (k.lined.links.linked.ends u (omega arith))))
+    where
+      by : (line : Line) (xs : List ℕ) → Ends line xs → first_of (with_clients (client_of y.records.items) xs) ≡ cond (eqb line.count 0) None (Some line.first)
+      by line [] e = let c = e.count in let f : eqb line.count 0 ≡ true = grind (arith, nat_tests) in rw f refl
+      by line (x ∷ xs) e = let c = e.count in let f : eqb line.count 0 ≡ false = grind (arith, nat_tests) in rw f (ap (λ (n : ℕ). Some n) e.first)
+
+  pub record-told : (t : ℕ) (r : Record) → t < length y.records.items → r ≡ get_or y.records.items t r → r ≡ get_or y.records.items t no_record
+  record-told t r h at = get_or_read y.records.items t r h at no_record
+
+  stands-told : (t : ℕ) (r : Record) → IsSome (standing (lists_of y) t) → r ≡ get_or y.records.items t r → standing (lists_of y) t ≡ Some (r.wire, r.client)
+  stands-told t r stands at =
+      let (h, on') = live y order k t stands in
+      standing-live y order k t h on' ∙ ap (λ (s : Record). Some (s.wire, s.client)) (sym (record-told t r h at))
+
+  -- a token is where its record says
+  pub there-told : (t : ℕ) (r : Record) → IsSome (standing (lists_of y) t) → r ≡ get_or y.records.items t r → IsThere (lists_of y) t r.client r.wire
+  there-told t r stands at =
+      let (h, on') = live y order k t stands in
+      rw (record-told t r h at) (there-live y order k t stands)
+
+  pub wire-told : (t : ℕ) (r : Record) → IsSome (standing (lists_of y) t) → r ≡ get_or y.records.items t r → r.wire < y.wires
+  wire-told t r stands at =
+      let (h, on') = live y order k t stands in
+      let e : r.wire ≡ wire_of y.records.items t = ap (λ (s : Record). s.wire) (record-told t r h at) in
+      rw e on'
+
+  pub live-told : (t : ℕ) (r : Record) → t < length y.records.items → r ≡ get_or y.records.items t r → IsTrue (ltb r.wire y.wires) ↔ IsSome (standing (lists_of y) t)
+  live-told t r h at =
+      let e : r.wire ≡ wire_of y.records.items t = ap (λ (s : Record). s.wire) (record-told t r h at) in (
+        λ test. let on' : wire_of y.records.items t < y.wires = rw e at (let l : r.wire < y.wires = grind (arith, nat_tests) in l) in some (standing-live y order k t h on'),
+        λ stands. let on' = wire-told t r stands at in grind (arith, nat_tests),
+      )
+    where
+      some : {o : Option (ℕ × ℕ)} {x : ℕ × ℕ} → o ≡ Some x → IsSome o
+      some e = rw e refl
+
+  pub next-told : (t : ℕ) (r : Record) (line : Line) (wire client : ℕ) → IsSome (standing (lists_of y) t) → r ≡ get_or y.records.items t r → line ≡ get_or y.lines.items r.wire line
+      → standing (lists_of y) t ≡ Some (wire, client) → after t (on (lists_of y) wire) ≡ cond (eqb line.last t) None (Some r.next)
+  next-told t r line wire client stands at line_at is =
+      let rows = k.wires in
+      let (h, on') = live y order k t stands in
+      let e = record-told t r h at in
+      let w = wire_of y.records.items t in
+      let within : r.wire < y.wires = wire-told t r stands at in
+      let same : wire ≡ r.wire = first-of-pair (sym is ∙ stands-told t r stands at) in
+      let same' : r.wire ≡ w = ap (λ (s : Record). s.wire) e in
+      let l = line-read r.wire line (omega arith) line_at in
+      let ends = k.lined.links.linked.ends r.wire (omega arith) in
+      let last : last_or line.last (order r.wire) ≡ line.last = subst (λ (l : Line). last_or l.last (order r.wire) ≡ l.last) (sym l) ends.last in
+      let one : times t (order r.wire) ≡ 1 = rw same' (k.lined.links.there t h) in
+      let all = after-clients (next_of y.records.items) (prev_of y.records.items) (client_of y.records.items) t line.last (order r.wire) (k.lined.links.linked.chain r.wire (omega arith)) one in
+      let next : next_of y.records.items t ≡ r.next = ap (λ (s : Record). s.next) (sym e) in
+      rw (same, on-wire y order k r.wire within) (all ∙ rw (last, next) refl)
+    where
+      first-of-pair : {a b : ℕ × ℕ} → Some a ≡ Some b → a.0 ≡ b.0
+      first-of-pair h = cc
+
+  -- ---- the lowest wire
+
+  nobody : (u : ℕ) → (u < y.wires → marked y.marks.items u ≡ 0) → on (lists_of y) u ≡ []
+  nobody u none = elim (cases_lt u y.wires) [
+    | inl l ↦ let rows = k.wires in let m = k.lined.marks u (omega arith) in let z = none l in
+        nil_from_length (on (lists_of y) u) (length-on y order k u l ∙ (grind (arith, nat_tests)))
+    | inr l ↦ on-beyond y order k u l
+  ]
+
+  pub lowest-told : (wire : ℕ) → wire < y.wires → (marked y.marks.items wire ≡ 1) × ((n : ℕ) → n < wire → marked y.marks.items n ≡ 0) → IsLowest (lists_of y) wire
+  lowest-told wire h (one, lower) = record {
+    some = let rows = k.wires in let m = k.lined.marks wire (omega arith) in rw (length-on y order k wire h) (grind (arith, nat_tests));
+    below = λ u l. nobody u (λ _. lower u l);
+  }
+
+  pub none-told : (least : ℕ) → y.wires ≤ least → ((n : ℕ) → n < least → marked y.marks.items n ≡ 0) → (u : ℕ) → on (lists_of y) u ≡ []
+  none-told least h lower u = nobody u (λ l. lower u (omega arith))
+
+  pub nobody-told : ((n : ℕ) → marked y.marks.items n ≡ 0) → (u : ℕ) → on (lists_of y) u ≡ []
+  nobody-told none u = nobody u (λ l. none u)

@@ -1,0 +1,210 @@
+-- What stands on the wires of a yard.
+use Rattle.std.proofs.Common.{◌≡◌, ◌≢◌, ℕ, zero, suc, ◌+◌, ◌<◌, ◌≤◌, inl, inr, Bool, true, false, cond, not, nat_eq, eqb, ltb, List, [], ◌∷◌, ◌++◌, length, refl, sym, ap, ◌∙◌, arith, subst, Some, None}
+use Rattle.std.specs.Prelude.{IsSome, count_by}
+use Rattle.std.specs.List.{range_with_len}
+use Rattle.std.specs.Map.{lookup}
+use Rattle.std.proofs.lemmas.Bool.{cases_eq, cases_lt}
+use Rattle.std.proofs.lemmas.Bool.Decides.{nat_tests}
+use Rattle.std.proofs.lemmas.List.{get_or_past, length-map, map-append}
+use Rattle.std.proofs.lemmas.List.Sums.{sum_by-cons}
+use Rattle.std.proofs.lemmas.List.FromFn.{get_or-map-range_with_len, length-range_with_len}
+use Rattle.cn_spec.specs.Sums.{sum_below, times}
+use Rattle.cn_spec.proofs.CallerLemmas.{times-cons, times-nil, sum_below-same}
+use Rattle.cn_yard.specs.declared.yard.Yard.TheInside.{Inside}
+use Rattle.cn_yard.proofs.There.{there}
+use Rattle.cn_yard.specs.Lists.{IsThere, after, last_on, on, standing, times_in, tokens_in, without}
+use Rattle.cn_yard.specs.Chains.{Chain, but, last_of, last_or, moved}
+use Rattle.cn_yard.specs.Lines.{count_of, line_of}
+use Rattle.cn_yard.specs.Records.{client_of, next_of, prev_of, wire_of}
+use Rattle.cn_yard.specs.InsideYard.{IsYard, Keeps, walked, with_clients, lists_of}
+use Rattle.cn_yard.proofs.Chains.{chain-rest, chain-tied, last-in, times-but, walk-chain}
+use Rattle.cn_yard.proofs.Standings.{standing-none, standing-only}
+
+-- ---- numbers with their clients
+
+pub times-clients : (client : ℕ → ℕ) (t : ℕ) (xs : List ℕ) → count_by (λ e. nat_eq t e.0) (with_clients client xs) ≡ times t xs
+times-clients client t [] = let none = times-nil t in grind (arith, nat_tests)
+times-clients client t (x ∷ xs) =
+    let more : count_by (λ e. nat_eq t e.0) (with_clients client (x ∷ xs)) ≡ cond (nat_eq t x) 1 0 + count_by (λ e. nat_eq t e.0) (with_clients client xs) = sum_by-cons (λ e. cond (nat_eq t e.0) 1 0) (x, client x) (with_clients client xs) in
+    let here = times-cons t x xs in
+    let rest = times-clients client t xs in
+    grind (arith, nat_tests)
+
+pub lookup-out : (client : ℕ → ℕ) (t : ℕ) (xs : List ℕ) → times t xs ≡ 0 → lookup (nat_eq t) (with_clients client xs) ≡ None
+lookup-out client t [] h = refl
+lookup-out client t (x ∷ xs) h = grind (arith, nat_tests, times-cons t x xs, lookup-out client t xs)
+
+pub lookup-in : (client : ℕ → ℕ) (t : ℕ) (xs : List ℕ) → 1 ≤ times t xs → lookup (nat_eq t) (with_clients client xs) ≡ Some (client t)
+lookup-in client t [] h = absurd (omega (arith, times-nil t))
+lookup-in client t (x ∷ xs) h =
+    elim (cases_eq x t) [
+      | inl e ↦ let f : nat_eq t x ≡ true = grind (arith, nat_tests) in rw f (ap (λ (n : ℕ). Some (client n)) e)
+      | inr o ↦ let f : nat_eq t x ≡ false = grind (arith, nat_tests) in rw f (lookup-in client t xs (let m = times-cons t x xs in grind (arith, nat_tests)))
+    ]
+
+pub without-clients : (client : ℕ → ℕ) (t : ℕ) (xs : List ℕ) → without t (with_clients client xs) ≡ with_clients client (but t xs)
+without-clients client t [] = refl
+without-clients client t (x ∷ xs) = by (nat_eq t x) (without-clients client t xs)
+  where
+    by : (b : Bool) → without t (with_clients client xs) ≡ with_clients client (but t xs)
+        → cond {A = List (ℕ × ℕ)} (not b) ((x, client x) ∷ without t (with_clients client xs)) (without t (with_clients client xs)) ≡ with_clients client (cond {A = List ℕ} (not b) (x ∷ but t xs) (but t xs))
+    by true rest = rest
+    by false rest = ap (λ es. (x, client x) ∷ es) rest
+
+pub clients-same : (client client' : ℕ → ℕ) (xs : List ℕ) → ((n : ℕ) → 1 ≤ times n xs → client' n ≡ client n) → with_clients client' xs ≡ with_clients client xs
+clients-same client client' [] same = refl
+clients-same client client' (x ∷ xs) same =
+    let here = same x (grind (arith, nat_tests, times-cons x x xs)) in
+    let rest = clients-same client client' xs (λ n h. same n (omega (arith, times-cons n x xs))) in
+    rw (here, rest) refl
+
+clients-last : (client : ℕ → ℕ) (t to u : ℕ) → with_clients client (last_of t to u) ≡ last_on t (client t) to u
+clients-last client t to u = by (eqb to u)
+  where
+    by : (b : Bool) → with_clients client (cond b (t ∷ []) []) ≡ cond {A = List (ℕ × ℕ)} b ((t, client t) ∷ []) []
+    by true = refl
+    by false = refl
+
+-- the token after one
+pub after-clients : (n p : ℕ → ℕ) (client : ℕ → ℕ) (t d : ℕ) (xs : List ℕ) → Chain n p xs → times t xs ≡ 1 → after t (with_clients client xs) ≡ cond (eqb (last_or d xs) t) None (Some (n t))
+unfolding after last_or
+after-clients n p client t d [] c one = absurd (omega (arith, times-nil t))
+after-clients n p client t d (x ∷ []) c one =
+    let m = times-cons t x [] in let none = times-nil t in
+    let e : x ≡ t = grind (arith, nat_tests) in
+    let f : eqb t x ≡ true = grind (arith, nat_tests) in
+    let g : eqb x t ≡ true = grind (arith, nat_tests) in
+    rw (f, g) refl
+after-clients n p client t d (x ∷ y ∷ ys) c one =
+    let m = times-cons t x (y ∷ ys) in
+    elim (cases_eq x t) [
+      | inl e ↦
+          let f : eqb t x ≡ true = grind (arith, nat_tests) in
+          let last = last-in y ys in
+          let other : last_or y ys ≢ t = λ h. absurd (let k : 1 ≤ times t (y ∷ ys) = subst (λ (k : ℕ). 1 ≤ times k (y ∷ ys)) h last in grind (arith, nat_tests)) in
+          let g : eqb (last_or y ys) t ≡ false = grind (arith, nat_tests) in
+          rw (f, g) (ap (λ (k : ℕ). Some k) (sym (chain-tied n p x y ys c).0 ∙ ap n e))
+      | inr o ↦
+          let f : eqb t x ≡ false = grind (arith, nat_tests) in
+          rw f (after-clients n p client t x (y ∷ ys) (chain-rest n p x (y ∷ ys) c) (grind (arith, nat_tests)))
+    ]
+
+-- ---- sums
+
+sum-once : (n w : ℕ) (f : ℕ → ℕ) → ((u : ℕ) → u < n → f u ≤ cond (eqb w u) 1 0) → sum_below n f ≤ cond (ltb w n) 1 0
+unfolding sum_below
+sum-once zero w f h = omega arith
+sum-once (suc n) w f h = let here = h n (omega arith) in let rest = sum-once n w f (λ u l. h u (omega arith)) in grind (arith, nat_tests)
+
+sum-last : (n : ℕ) (f : ℕ → ℕ) → sum_below (n + 1) f ≡ sum_below n f + f n
+unfolding sum_below
+sum-last n f = let e : n + 1 ≡ suc n = omega arith in rw e refl
+
+-- ---- a yard's wires
+
+-- the lists of numbers of its lines
+pub opened : (y : Inside) → IsYard y → (order : ℕ → List ℕ) × Keeps y order
+unfolding IsYard
+opened y is = is
+
+pub closed : (y : Inside) (order : ℕ → List ℕ) → Keeps y order → IsYard y
+unfolding IsYard
+closed y order k = (order, k)
+
+module _ (y : Inside) (order : ℕ → List ℕ) (k : Keeps y order) where
+  pub walked-is : (u : ℕ) → u < length y.lines.items → walked y.records.items y.lines.items u ≡ order u
+  walked-is u h =
+      let e = k.lined.links.linked.ends u h in
+      rw (e.count, ← e.first) (walk-chain (next_of y.records.items) (prev_of y.records.items) (line_of y.lines.items u).first (order u) (k.lined.links.linked.chain u h))
+
+  pub wires-are : length (lists_of y) ≡ y.wires
+  wires-are = length-map (range_with_len 0 y.wires) (λ u. with_clients (client_of y.records.items) (walked y.records.items y.lines.items u)) ∙ length-range_with_len 0 y.wires
+
+  pub on-wire : (u : ℕ) → u < y.wires → on (lists_of y) u ≡ with_clients (client_of y.records.items) (order u)
+  on-wire u h =
+      get_or-map-range_with_len (λ w. with_clients (client_of y.records.items) (walked y.records.items y.lines.items w)) 0 y.wires u u [] h (omega arith)
+      ∙ ap (λ xs. with_clients (client_of y.records.items) xs) (walked-is u (let w = k.wires in omega arith))
+
+  pub on-beyond : (u : ℕ) → y.wires ≤ u → on (lists_of y) u ≡ []
+  on-beyond u h = get_or_past (lists_of y) u [] (omega (arith, wires-are))
+
+  pub length-on : (u : ℕ) → u < y.wires → length (on (lists_of y) u) ≡ count_of y.lines.items u
+  length-on u h = ap length (on-wire u h) ∙ length-map (order u) (λ n. (n, client_of y.records.items n)) ∙ sym (k.lined.links.linked.ends u (let w = k.wires in omega arith)).count
+
+  -- all records are tokens or free
+  pub tokens-are : tokens_in (lists_of y) + count_of y.lines.items y.wires ≡ length y.records.items
+  tokens-are =
+      let w = k.wires in
+      let free = (k.lined.links.linked.ends y.wires (omega arith)).count in
+      let all : sum_below (y.wires + 1) (λ u. length (order u)) ≡ length y.records.items = rw w at k.lined.links.all in
+      let last = sum-last y.wires (λ u. length (order u)) in
+      let same = sum_below-same y.wires (λ u. length (on (lists_of y) u)) (λ u. length (order u)) (λ u h. ap length (on-wire u h) ∙ length-map (order u) (λ n. (n, client_of y.records.items n))) in
+      rw wires-are (omega arith)
+
+  pub times-most : (t : ℕ) → times_in (lists_of y) t ≤ 1
+  times-most t =
+      let most = sum-once y.wires (wire_of y.records.items t) (λ u. count_by (λ e. nat_eq t e.0) (on (lists_of y) u))
+      (λ u h. rw (on-wire u h, times-clients (client_of y.records.items) t (order u)) (k.lined.links.linked.once t u (let w = k.wires in omega arith))) in
+      rw wires-are (grind (arith, nat_tests))
+
+  -- ---- who stands where
+
+  pub lookup-none : (t u : ℕ) → (u < y.wires → times t (order u) ≡ 0) → lookup (nat_eq t) (on (lists_of y) u) ≡ None
+  lookup-none t u none =
+      elim (cases_lt u y.wires) [
+        | inl l ↦ rw (on-wire u l) (lookup-out (client_of y.records.items) t (order u) (none l))
+        | inr l ↦ rw (on-beyond u l) refl
+      ]
+
+  pub standing-live : (t : ℕ) → t < length y.records.items → wire_of y.records.items t < y.wires → standing (lists_of y) t ≡ Some (wire_of y.records.items t, client_of y.records.items t)
+  standing-live t h on_wire =
+      let w = wire_of y.records.items t in
+      let one = k.lined.links.there t h in
+      let rows = k.wires in
+      standing-only (length (lists_of y)) (lists_of y) t w (client_of y.records.items t) (omega (arith, wires-are))
+      (rw (on-wire w on_wire) (lookup-in (client_of y.records.items) t (order w) (omega arith)))
+      (λ u o. lookup-none t u (λ l. let once = k.lined.links.linked.once t u (omega arith) in grind (arith, nat_tests)))
+
+  pub standing-free : (t : ℕ) → y.wires ≤ wire_of y.records.items t → standing (lists_of y) t ≡ None
+  standing-free t free =
+      let rows = k.wires in
+      standing-none (length (lists_of y)) (lists_of y) t (λ u h. lookup-none t u (λ l. let once = k.lined.links.linked.once t u (omega arith) in grind (arith, nat_tests)))
+
+  pub standing-past : (t : ℕ) → length y.records.items ≤ t → standing (lists_of y) t ≡ None
+  standing-past t past =
+      let rows = k.wires in
+      standing-none (length (lists_of y)) (lists_of y) t (λ u h. lookup-none t u (λ l. elim (cases_lt 0 (times t (order u))) [
+        | inl s ↦ absurd (let b = k.lined.links.linked.below t u (omega arith) (omega arith) in omega arith)
+        | inr s ↦ omega arith
+      ]))
+
+  pub live : (t : ℕ) → IsSome (standing (lists_of y) t) → (t < length y.records.items) × (wire_of y.records.items t < y.wires)
+  live t stands =
+      elim (cases_lt t (length y.records.items)) [
+        | inr l ↦ absurd (let none = standing-past t l in let some = rw none at stands in cc)
+        | inl l ↦ elim (cases_lt (wire_of y.records.items t) y.wires) [
+          | inr f ↦ absurd (let none = standing-free t f in let some = rw none at stands in cc)
+          | inl f ↦ (l, f)
+        ]
+      ]
+
+  -- a token that stands there stands where its record says
+  pub there-live : (t : ℕ) → IsSome (standing (lists_of y) t) → IsThere (lists_of y) t (client_of y.records.items t) (wire_of y.records.items t)
+  there-live t stands =
+      let (h, on_wire) = live t stands in
+      there (lists_of y) t (client_of y.records.items t) (wire_of y.records.items t) (times-most t) (standing-live t h on_wire)
+
+-- ---- a yard after a move
+
+pub on-moved : (y z : Inside) (order : ℕ → List ℕ) (t to : ℕ) → Keeps y order → Keeps z (moved order t to) → z.wires ≡ y.wires → ((n : ℕ) → n < length y.records.items → n ≢ t → client_of z.records.items n ≡ client_of y.records.items n)
+    → (u : ℕ) → u < y.wires → on (lists_of z) u ≡ without t (on (lists_of y) u) ++ last_on t (client_of z.records.items t) to u
+on-moved y z order t to k k' wires same u h =
+    let rows = k.wires in
+    let client = client_of y.records.items in
+    let client' = client_of z.records.items in
+    let kept = clients-same client client' (but t (order u)) (λ n i. let b = times-but n t (order u) in let o : n ≢ t = λ e. absurd (grind (arith, nat_tests)) in
+    same n (k.lined.links.linked.below n u (omega arith) (grind (arith, nat_tests))) o) in
+    on-wire z (moved order t to) k' u (omega (arith, wires))
+    ∙ map-append (λ n. (n, client' n)) (but t (order u)) (last_of t to u)
+    ∙ ap (λ es. es ++ with_clients client' (last_of t to u)) (kept ∙ sym (without-clients client t (order u)) ∙ ap (λ es. without t es) (sym (on-wire y order k u h)))
+    ∙ ap (λ es. without t (on (lists_of y) u) ++ es) (clients-last client' t to u)

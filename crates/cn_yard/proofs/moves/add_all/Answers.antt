@@ -1,0 +1,49 @@
+use Rattle.std.proofs.Common.{◌≡◌, ◌∙◌, length, arith, rules, vec_len}
+use Rattle.std.proofs.lemmas.Bool.Decides.{nat_tests}
+use Rattle.cn_yard.specs.Chains.{put_last}
+use Rattle.cn_yard.proofs.AllLines.{more-add, same-put}
+use Rattle.cn_yard.proofs.moves.add_all.Goals as goal
+
+pub add-requires-clause-room : goal.add-requires-clause-room
+add-requires-clause-room c =
+    let inv = c.loop.invariant in
+    let len = inv.kept.len in
+    let count = inv.count in
+    let capacity = inv.capacity in
+    let room = c.requires.room in
+    let test = c.loop-test.true in
+    let from = c.loop.auto.counter in
+    let now : vec_len c.loop.records ≡ length c.loop.records.items = search rules in
+    let old : vec_len c.args.records.now ≡ length c.args.records.now.items = search rules in
+    omega arith
+
+pub add-requires-clause-few : goal.add-requires-clause-few
+add-requires-clause-few c =
+    let len = c.loop.invariant.kept.len in
+    let count = c.loop.invariant.count in
+    let few = c.requires.few in
+    let test = c.loop-test.true in
+    let from = c.loop.auto.counter in
+    omega arith
+
+pub add-requires-clause-lined : goal.add-requires-clause-lined
+add-requires-clause-lined c =
+    let (order, lined) = c.requires.lined in
+    let (order', lined', same) = c.loop.invariant.lined order lined in
+    (order', lined')
+
+pub loop-preserved : goal.loop-preserved
+loop-preserved c =
+    let inv = c.loop.invariant in
+    let one = c.add.ensures.kept.count c.args.wire in
+    let from = c.loop.auto.counter in
+    let count = inv.count in
+    record {
+      lined = λ order lined.
+          let (order', lined', same) = inv.lined order lined in
+          (put_last order' (length c.loop.records.items) c.args.wire, c.add.ensures.lined order' lined', same-put c.args.wire (length c.loop.records.items) order order' same);
+      kept = more-add c.args.records.now.items c.args.lines.now c.loop.records.items c.loop.lines c.add.new.records.items c.add.new.lines c.args.wire inv.kept c.add.ensures.kept;
+      count = grind (arith, nat_tests);
+      words = c.add.ensures.words ∙ inv.words;
+      capacity = c.add.ensures.capacity ∙ inv.capacity;
+    }
