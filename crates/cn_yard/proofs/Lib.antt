@@ -10,4 +10,6 @@ pub mod Wires
 pub mod Changes
 pub mod Readers
 pub mod Bodies
+pub mod Taken
+pub mod Turns
 pub mod CallerLemmas
