@@ -8,6 +8,7 @@ mod Sole
 mod Fresh
 mod Kept
 mod Steps
+mod Sweeps
 mod Openings
 mod Lanes
 mod Loading

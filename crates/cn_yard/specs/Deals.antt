@@ -1,6 +1,6 @@
--- The tokens of a wire, dealt to two others by turns.
+-- The tokens of a wire, dealt to two others by turns, or released.
 use Rattle.std.specs.Prelude.{◌≡◌, ◌≢◌, ℕ, zero, suc, ◌+◌, ◌-◌, ◌%◌, ◌++◌, ◌==◌, if◌then◌else◌, List, [], ◌∷◌, length}
-use Rattle.cn_yard.specs.Lists.{Moves, Yard, on, tokens_in}
+use Rattle.cn_yard.specs.Lists.{Moves, Releases, Yard, on, tokens_in}
 
 -- the wire of an output
 abbrev pub out_of : ℕ → ℕ → ℕ → ℕ
@@ -11,6 +11,11 @@ unfoldable pub Deals : (ℕ → ℕ) → ℕ → List (ℕ × ℕ) → Yard → 
 Deals outs output [] old new = new ≡ old
 Deals outs output (e ∷ rest) old new =
     (between : Yard) × Moves old between e.0 e.1 (outs (output % 2)) × Deals outs (output + 1) rest between new
+
+-- these tokens are released one after the other
+unfoldable pub Frees : List (ℕ × ℕ) → Yard → Yard → Type 0
+Frees [] old new = new ≡ old
+Frees (e ∷ rest) old new = (between : Yard) × Releases old between e.0 × Frees rest between new
 
 -- every second element, from the first on for 0, from the second on for 1
 unfoldable pub every_second : ℕ → List (ℕ × ℕ) → List (ℕ × ℕ)
