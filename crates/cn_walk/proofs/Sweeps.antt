@@ -8,6 +8,7 @@ use Rattle.std.proofs.lemmas.List.{get_or_past, set-get_or, set-set, get_or-set_
 use Rattle.std.proofs.lemmas.List.FromFn.{length-map-range_with_len}
 use Rattle.atomic_table.specs.Table.{Allows, Me, State, keeps, stepped}
 use Rattle.atomic_table.proofs.Lists.{at_set}
+use Rattle.cn_spec.specs.Step.{name_of}
 use Rattle.cn_spec.specs.Sums.{times, when}
 use Rattle.cn_wiring.specs.declared.end.End.{End}
 use Rattle.cn_wiring.specs.declared.end.End.TheVariants.{Balancer, Exit}
@@ -23,7 +24,7 @@ use Rattle.cn_walk.specs.Steps.{IsStep}
 use Rattle.cn_walk.specs.Sweeps.{AllGoOn, AreLetBy, GoInRow, GoesFrom, Sweeping, gone_by, swept}
 use Rattle.cn_walk.specs.Views.{base, given_in, gone, granted_in, on_in, relisted, standing_in}
 use Rattle.cn_walk.specs.Words.{clients_in, count_in, end_word}
-use Rattle.cn_walk.proofs.Bounds.{count_few, few_came}
+use Rattle.cn_walk.proofs.Bounds.{count_few, few_came, name_later}
 use Rattle.cn_walk.proofs.Kept.{AddUpAlike, kept_alike, ledger-alike}
 use Rattle.cn_walk.proofs.Lists.{made_at, made_beyond}
 use Rattle.cn_walk.proofs.Raised.{count-raised, count-word, end_there, raised}
@@ -275,6 +276,10 @@ all_may start slots id me wire end no_slot idle of once wires low ends stands s 
               happened = subst (GoInRow t wire end n tokens (ledger_of t start.carried s.words s.views)) same gone_all.row;
             };
             few = few;
+            late = λ i is.
+                let low_exit : i < t.width = subst (Stands t) is stands in
+                let counted : count_in t s.words (Exit i) ≡ n = ap (count_in t s.words) (sym is) ∙ count in
+                subst (λ (k : ℕ). base start ≤ name_of t.width i k) counted (name_later start s kept i low_exit);
             sole = λ whole. sym count ∙ sole start s kept id v here whole end stands;
           },
         ),

@@ -1,5 +1,6 @@
 -- A sweep: all tokens of a wire go by its end in one atomic step, which is as many events in a row.
-use Rattle.std.specs.Prelude.{◌≡◌, ℕ, ◌+◌, ◌%◌, ◌≤◌, List, [], ◌∷◌, length}
+use Rattle.std.specs.Prelude.{◌≡◌, ℕ, ◌+◌, ◌-◌, ◌%◌, ◌≤◌, List, [], ◌∷◌, length}
+use Rattle.cn_spec.specs.Step.{name_of}
 use Rattle.cn_wiring.specs.declared.end.End.{End}
 use Rattle.cn_wiring.specs.declared.end.End.TheVariants.{Balancer, Exit}
 use Rattle.cn_wiring.specs.Table.{Table, end_of, output_wire}
@@ -7,13 +8,14 @@ use Rattle.cn_ledger.specs.Events.{Leaves, Passes}
 use Rattle.cn_ledger.specs.Ledger.{Ledger}
 use Rattle.cn_yard.specs.Deals.{Frees, IsDealt}
 use Rattle.cn_yard.specs.Lists.{Yard, on}
+use Rattle.cn_walk.specs.declared.view.Grant.{Grant}
 use Rattle.cn_walk.specs.declared.view.Start.{Start}
 use Rattle.cn_walk.specs.declared.view.Sweep.{Sweep}
 use Rattle.cn_walk.specs.declared.view.Sweep.TheVariants.{On, Out}
 use Rattle.cn_walk.specs.declared.view.View.{View}
 use Rattle.cn_walk.specs.Lane.{LaneValue}
 use Rattle.cn_walk.specs.Steps.{IsStep}
-use Rattle.cn_walk.specs.Views.{base, gone, own_count}
+use Rattle.cn_walk.specs.Views.{base, gone, no_start, own_count}
 use Rattle.cn_walk.specs.Words.{count_in}
 
 -- tokens go by an end one after the other, with the numbers from n on
@@ -42,20 +44,28 @@ pub record Sweeping : Type 0 where
   pub wire : ℕ
   pub end : End
 
-abbrev pub nobody_sweeps : Start → Sweeping
-nobody_sweeps start = record { start = start; wire = 0; end = Exit 0 }
+abbrev pub nobody_sweeps : Sweeping
+nobody_sweeps = record { start = no_start; wire = 0; end = Exit 0 }
 
 -- the tokens of a wire go by its end, where the first finds the number n
 pub record AreLetBy (start : Start) (v w : View) (wire : ℕ) (end : End) (n : ℕ) : Type 0 where
   -- it is one step, and as many events in a row as tokens
   pub step : IsStep start v w (GoInRow start.network.table wire end n (on v.tokens wire))
   pub few : n + length (on v.tokens wire) ≤ base start + start.quota
+  -- no name is that of a client that came before the floor began
+  pub late : (i : ℕ) → end ≡ Exit i → base start ≤ name_of start.network.table.width i n
   -- a lane with the whole quota is given the counts of its own
   pub sole : v.quota + length v.entries ≡ start.quota
       → n ≡ count_in start.network.table start.carried end + own_count end v
 
 abbrev pub AllGoOn : Sweeping → View → ℕ → View → Type 0
 AllGoOn s v n w = (w ≡ swept s.wire s.end n v) × AreLetBy s.start v w s.wire s.end n
+
+-- the grants of tokens that leave by an exit of so many, with the visits from n on; so much less are their names
+unfoldable pub grants_out : ℕ → ℕ → ℕ → ℕ → List (ℕ × ℕ) → List Grant
+grants_out width less i n [] = []
+grants_out width less i n (e ∷ rest) =
+    record { client = e.1; exit = i; visit = n; name = name_of width i n - less } ∷ grants_out width less i (n + 1) rest
 
 -- ---- what a lane is answered
 

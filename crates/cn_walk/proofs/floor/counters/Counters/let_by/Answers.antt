@@ -1,4 +1,3 @@
-use Rattle.cn_walk.proofs.Sweeps.{rest-may}
 use Rattle.std.proofs.Common.{◌≡◌, length, rules, sym, ap, ◌∙◌, subst, arith}
 use Rattle.cn_wiring.specs.Table.{Stands, end_of}
 use Rattle.cn_walk.specs.declared.view.Start.{Start}
