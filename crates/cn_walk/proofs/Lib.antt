@@ -9,6 +9,7 @@ mod Fresh
 mod Kept
 mod Steps
 mod Sweeps
+mod Outs
 mod Openings
 mod Lanes
 mod Loading
