@@ -10,6 +10,7 @@ mod Kept
 mod Steps
 mod Sweeps
 mod Outs
+mod Swept
 mod Openings
 mod Lanes
 mod Loading
