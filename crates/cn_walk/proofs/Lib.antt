@@ -19,6 +19,7 @@ mod Sharing
 mod Closings
 mod Holding
 mod Walks
+mod SweptWalks
 mod Halves
 mod Runs
 mod Walked

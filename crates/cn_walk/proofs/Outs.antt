@@ -1,5 +1,5 @@
 -- The tokens of a wire leave one after the other.
-use Rattle.std.proofs.Common.{◌≡◌, ℕ, suc, ◌+◌, ◌-◌, ◌*◌, ◌<◌, ◌≤◌, List, [], ◌∷◌, ◌++◌, length, refl, sym, ap, ◌∙◌, subst, arith, Some, append-nil, length-append}
+use Rattle.std.proofs.Common.{◌≡◌, ℕ, suc, ◌+◌, ◌-◌, ◌<◌, ◌≤◌, List, [], ◌∷◌, ◌++◌, length, refl, sym, ap, ◌∙◌, subst, arith, Some, append-nil, length-append}
 use Rattle.std.proofs.lemmas.List.{append_assoc, length_push}
 use Rattle.cn_spec.specs.Step.{name_of}
 use Rattle.cn_yard.specs.Deals.{Frees}

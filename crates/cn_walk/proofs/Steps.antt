@@ -12,7 +12,7 @@ use Rattle.cn_spec.specs.Sums.{once_below, times}
 use Rattle.cn_wiring.specs.declared.end.End.{End}
 use Rattle.cn_wiring.specs.declared.end.End.TheVariants.{Balancer, Exit}
 use Rattle.cn_wiring.specs.Table.{Stands, Table, end_of, is_end, output_wire}
-use Rattle.cn_ledger.specs.Events.{Enters, Leaves, Passes, one_at}
+use Rattle.cn_ledger.specs.Events.{Enters, one_at}
 use Rattle.cn_ledger.specs.Ledger.{IsSound, Ledger}
 use Rattle.cn_walk.specs.declared.view.Grant.{Grant}
 use Rattle.cn_walk.specs.declared.view.Start.{Start}

@@ -1,15 +1,14 @@
 -- The rule is kept by a sweep: by as many events in a row as tokens go.
-use Rattle.std.proofs.Common.{◌≡◌, ◌≢◌, ℕ, zero, suc, ◌+◌, ◌*◌, ◌%◌, ◌^◌, ◌<◌, ◌≤◌, inl, inr, cond, eqb, List, [], ◌∷◌, ◌++◌, length, get_or, set, sum_by, sym, refl, ap, ◌∙◌, arith, subst, append-nil, ⊎_elim}
+use Rattle.std.proofs.Common.{◌≡◌, ◌≢◌, ℕ, zero, suc, ◌+◌, ◌*◌, ◌%◌, ◌^◌, ◌<◌, ◌≤◌, inl, inr, cond, List, [], ◌∷◌, ◌++◌, length, get_or, set, sum_by, sym, refl, ap, ◌∙◌, arith, subst, append-nil, ⊎_elim}
 use mathlib.Core.Option.{some, some-injective, some-ne-none}
 use lib.ListN.{get_elem?}
-use Rattle.std.specs.List.{range_with_len}
 use Rattle.std.proofs.lemmas.Bool.{cases_lt, ne_eqb}
 use Rattle.std.proofs.lemmas.List.{get_or_past, set-get_or, set-set, get_or-set_same}
 use Rattle.std.proofs.lemmas.List.FromFn.{length-map-range_with_len}
-use Rattle.atomic_table.specs.Table.{Allows, Me, State, keeps, stepped}
+use Rattle.atomic_table.specs.Table.{Allows, Me, State, keeps}
 use Rattle.atomic_table.proofs.Lists.{at_set}
 use Rattle.cn_spec.specs.Step.{name_of}
-use Rattle.cn_spec.specs.Sums.{times, when}
+use Rattle.cn_spec.specs.Sums.{times}
 use Rattle.cn_wiring.specs.declared.end.End.{End}
 use Rattle.cn_wiring.specs.declared.end.End.TheVariants.{Balancer, Exit}
 use Rattle.cn_wiring.specs.Table.{IsWellFormed, LeadsOn, Stands, Table, end_of, output_wire}
@@ -20,8 +19,7 @@ use Rattle.cn_yard.proofs.CallerLemmas.{first-there, once-gone, once-moved, rest
 use Rattle.cn_walk.specs.declared.view.Start.{Start}
 use Rattle.cn_walk.specs.declared.view.View.{View}
 use Rattle.cn_walk.specs.Rule.{IsAccounted, IsFresh, IsKept, ledger_of}
-use Rattle.cn_walk.specs.Steps.{IsStep}
-use Rattle.cn_walk.specs.Sweeps.{AllGoOn, AreLetBy, GoInRow, GoesFrom, Sweeping, gone_by, swept}
+use Rattle.cn_walk.specs.Sweeps.{AllGoOn, GoInRow, GoesFrom, Sweeping, gone_by, swept}
 use Rattle.cn_walk.specs.Views.{base, given_in, gone, granted_in, on_in, relisted, standing_in}
 use Rattle.cn_walk.specs.Words.{clients_in, count_in, end_word}
 use Rattle.cn_walk.proofs.Bounds.{count_few, few_came, name_later}
@@ -74,7 +72,6 @@ module _ (start : Start) (wire : ℕ) (end : End) (formed : IsWellFormed start.n
     pub once : (k : ℕ) → times_in v.tokens k ≤ 1
     pub wires : length v.tokens ≡ length t.ends
     pub of : v.start ≡ start
-    pub idle : v.loads ≡ []
 
   pub goes-there : (v : View) (token client : ℕ) (rest : List (ℕ × ℕ)) → MayGo v ((token, client) ∷ rest) → IsThere v.tokens token client wire
   goes-there v token client rest may = first-there v.tokens token client wire rest may.once (omega (arith, low, may.wires)) may.on_wire
@@ -97,7 +94,6 @@ module _ (start : Start) (wire : ℕ) (end : End) (formed : IsWellFormed start.n
         once = λ k. once-moved v.tokens token client wire rest may.once inside may.on_wire (gone token client (Balancer b) n v).tokens long k to lands lists;
         wires = long ∙ may.wires;
         of = may.of;
-        idle = may.idle;
       }
 
   gone-out : (i n : ℕ) (v : View) (token client : ℕ) (rest : List (ℕ × ℕ)) → MayGo v ((token, client) ∷ rest) → MayGo (gone token client (Exit i) n v) rest
@@ -111,7 +107,6 @@ module _ (start : Start) (wire : ℕ) (end : End) (formed : IsWellFormed start.n
         once = λ k. once-gone v.tokens token client wire rest may.once inside may.on_wire (gone token client (Exit i) n v).tokens long k lists;
         wires = long ∙ may.wires;
         of = may.of;
-        idle = may.idle;
       }
 
   pub rest-may : (n : ℕ) (v : View) (token client : ℕ) (rest : List (ℕ × ℕ)) → MayGo v ((token, client) ∷ rest) → MayGo (gone token client end n v) rest
@@ -120,6 +115,14 @@ module _ (start : Start) (wire : ℕ) (end : End) (formed : IsWellFormed start.n
       by : (e : End) → end ≡ e → MayGo (gone token client e n v) rest
       by (Balancer b) is = gone-on b n is v token client rest may
       by (Exit i) is = gone-out i n v token client rest may
+
+  -- a view that loads nothing goes on to load nothing
+  still-idle : (n token client : ℕ) (v : View) → v.loads ≡ [] → (gone token client end n v).loads ≡ []
+  still-idle n token client v idle = by end
+    where
+      by : (e : End) → (gone token client e n v).loads ≡ []
+      by (Balancer b) = idle
+      by (Exit i) = idle
 
   module _ (id : ℕ) where
     abbrev word : ℕ
@@ -138,10 +141,10 @@ module _ (start : Start) (wire : ℕ) (end : End) (formed : IsWellFormed start.n
     abbrev with_view : State (Unit {0}) View → View → State (Unit {0}) View
     with_view s v = record { words = s.words; homes = s.homes; views = set s.views id v }
 
-    all-gone : (tokens : List (ℕ × ℕ)) (s : State (Unit {0}) View) (v : View) (n : ℕ) → IsKept start s → get_elem? s.views id ≡ some v → MayGo v tokens → count_in t s.words end ≡ n
+    all-gone : (tokens : List (ℕ × ℕ)) (s : State (Unit {0}) View) (v : View) (n : ℕ) → IsKept start s → get_elem? s.views id ≡ some v → MayGo v tokens → v.loads ≡ [] → count_in t s.words end ≡ n
         → Gone s v n tokens
     unfolding gone_by GoInRow
-    all-gone [] s v n kept here may count =
+    all-gone [] s v n kept here may idle count =
         let same : set s.views id v ≡ s.views = set-here s.views id v here in
         record {
           words = s.words;
@@ -152,12 +155,12 @@ module _ (start : Start) (wire : ℕ) (end : End) (formed : IsWellFormed start.n
       where
         plus-zero : (k : ℕ) → k + 0 ≡ k
         plus-zero k = omega arith
-    all-gone ((token, client) ∷ rest) s v n kept here may count =
+    all-gone ((token, client) ∷ rest) s v n kept here may idle count =
         let is = goes-there v token client rest may in
         let m : ℕ = count_in t s.words end in
         let raise : List ℕ = raised s.words word in
         let then : View = gone token client end n v in
-        let kept_m = kept-gone start id token client wire end v s kept here may.of is may.wires ends stands may.idle in
+        let kept_m = kept-gone start id token client wire end v s kept here may.of is may.wires ends stands idle in
         let went_m = went start id token client wire end v s kept here may.of is may.wires ends stands in
         let kept_n : IsKept start (record { words = raise; homes = s.homes; views = set s.views id then }) =
         subst (λ (k : ℕ). IsKept start (record { words = raise; homes = s.homes; views = set s.views id (gone token client end k v) })) count kept_m in
@@ -165,7 +168,7 @@ module _ (start : Start) (wire : ℕ) (end : End) (formed : IsWellFormed start.n
         subst (λ (k : ℕ). GoesFrom t (ledger s) (ledger_of t start.carried raise (set s.views id (gone token client end k v))) client wire end) count went_m in
         let more : count_in t raise end ≡ n + 1 =
         count-raised t s.words kept.words end end stands ∙ ap (λ b. m + cond b 1 0) (end-self end) ∙ ap (λ (k : ℕ). k + 1) count in
-        let later = all-gone rest (record { words = raise; homes = s.homes; views = set s.views id then }) then (n + 1) kept_n (get-here s.views id v then here) (rest-may n v token client rest may) more in
+        let later = all-gone rest (record { words = raise; homes = s.homes; views = set s.views id then }) then (n + 1) kept_n (get-here s.views id v then here) (rest-may n v token client rest may) (still-idle n token client v idle) more in
         let views : set (set s.views id then) id (gone_by end (n + 1) rest then) ≡ set s.views id (gone_by end (n + 1) rest then) = set-set s.views id then (gone_by end (n + 1) rest then) in
         let inside : word < length s.words = omega (arith, kept.words, end_there t end stands) in
         let raise_at : get_or raise word 0 ≡ get_or s.words word 0 + 1 = get_or-set_same s.words word (get_or s.words word 0 + 1) 0 inside in
@@ -240,8 +243,8 @@ all_may start slots id me wire end no_slot idle of once wires low ends stands s 
     let n : ℕ = get_or s.words at 0 in
     let formed = kept.began.network.formed in
     let count : count_in t s.words end ≡ n = count-word t s.words end stands in
-    let may : MayGo start wire end formed low ends stands v tokens = record { on_wire = refl; once = once; wires = wires; of = of; idle = idle } in
-    let gone_all = all-gone start wire end formed low ends stands id tokens s v n kept here may count in
+    let may : MayGo start wire end formed low ends stands v tokens = record { on_wire = refl; once = once; wires = wires; of = of } in
+    let gone_all = all-gone start wire end formed low ends stands id tokens s v n kept here may idle count in
     let g : View = gone_by end n tokens v in
     let w : View = swept wire end n v in
     let words : List ℕ = gone_all.words in

@@ -63,7 +63,6 @@ impl<'a> Floor<'a> {
         ensures { (n : ℕ) × SweepsOn lane.old lane.new wire n result }
     {
         lane.lane_laws();
-        lane.yard.yard_laws();
         let tokens = u64::from(lane.yard.count(wire));
         let end = self.network.end(wire);
         let first = self
