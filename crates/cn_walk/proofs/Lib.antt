@@ -8,6 +8,9 @@ mod Sole
 mod Fresh
 mod Kept
 mod Steps
+mod Sweeps
+mod Outs
+mod Swept
 mod Openings
 mod Lanes
 mod Loading
@@ -16,6 +19,7 @@ mod Sharing
 mod Closings
 mod Holding
 mod Walks
+mod SweptWalks
 mod Halves
 mod Runs
 mod Walked

@@ -17,10 +17,10 @@ ones {X} (x ∷ xs) = omega (arith, ones xs, sum_by-cons (λ (_ : X). 1) x xs)
 -- ---- lists that are made anew
 
 module _ (lists : List (List (ℕ × ℕ))) (make : ℕ → List (ℕ × ℕ)) where
-  made_at : (u : ℕ) → u < length lists → get_or (map make (range_with_len 0 (length lists))) u [] ≡ make u
+  pub made_at : (u : ℕ) → u < length lists → get_or (map make (range_with_len 0 (length lists))) u [] ≡ make u
   made_at u l = get_or-map-range_with_len make 0 (length lists) u u [] l (omega arith)
 
-  made_beyond : (u : ℕ) → length lists ≤ u → get_or (map make (range_with_len 0 (length lists))) u [] ≡ []
+  pub made_beyond : (u : ℕ) → length lists ≤ u → get_or (map make (range_with_len 0 (length lists))) u [] ≡ []
   made_beyond u l = get_or_past (map make (range_with_len 0 (length lists))) u [] (omega (arith, length-map-range_with_len make 0 (length lists)))
 
   -- the lists of another yard are these where they are so on each wire

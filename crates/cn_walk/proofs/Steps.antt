@@ -12,7 +12,7 @@ use Rattle.cn_spec.specs.Sums.{once_below, times}
 use Rattle.cn_wiring.specs.declared.end.End.{End}
 use Rattle.cn_wiring.specs.declared.end.End.TheVariants.{Balancer, Exit}
 use Rattle.cn_wiring.specs.Table.{Stands, Table, end_of, is_end, output_wire}
-use Rattle.cn_ledger.specs.Events.{Enters, Leaves, Passes, one_at}
+use Rattle.cn_ledger.specs.Events.{Enters, one_at}
 use Rattle.cn_ledger.specs.Ledger.{IsSound, Ledger}
 use Rattle.cn_walk.specs.declared.view.Grant.{Grant}
 use Rattle.cn_walk.specs.declared.view.Start.{Start}
@@ -20,6 +20,7 @@ use Rattle.cn_walk.specs.declared.view.View.{View}
 use Rattle.cn_core.specs.Calls.{IsMoveOf}
 use Rattle.cn_walk.specs.Plays.{Coming, ComesIn, Going, GoesOn, IsLetBy}
 use Rattle.cn_walk.specs.Steps.{IsStep, answer_at}
+use Rattle.cn_walk.specs.Sweeps.{GoesFrom}
 use Rattle.cn_walk.specs.Rule.{IsAccounted, IsFresh, IsKept, heard, ledger_of}
 use Rattle.cn_walk.specs.Views.{base, entered, gone}
 use Rattle.cn_walk.specs.Words.{clients_in, count_in, end_word, entered_in, entry_word}
@@ -34,7 +35,7 @@ use Rattle.cn_spec.proofs.CallerLemmas.{sum_below-one, sum_below-part, sum_below
 use Rattle.cn_ledger.proofs.CallerLemmas.{bounded, sound-enters, sound-leaves, sound-passes}
 use Rattle.cn_yard.specs.Lists.{IsThere}
 
-end-self : (end : End) → is_end end end ≡ true
+pub end-self : (end : End) → is_end end end ≡ true
 end-self (Balancer b) = eq-eqb b b refl
 end-self (Exit i) = eq-eqb i i refl
 
@@ -123,13 +124,8 @@ lets_in start slots id me is same no_slot idle of low inside some_quota s kept h
 
 -- ---- who goes on
 
--- a client goes from a wire by an end
-abbrev Goes_by : Table → Ledger → Ledger → ℕ → ℕ → End → Type 0
-Goes_by t old new c u (Balancer b) = Passes t old new c u b
-Goes_by t old new c u (Exit i) = Leaves t old new c u i
-
 -- so it is told
-moved-by : (start : Start) (old new : Ledger) (c u : ℕ) (end : End) → Goes_by start.network.table old new c u end
+moved-by : (start : Start) (old new : Ledger) (c u : ℕ) (end : End) → GoesFrom start.network.table old new c u end
     → ((i : ℕ) → end ≡ Exit i → base start ≤ name_of start.network.table.width i (old.count end))
     → IsMoveOf start.network.table (base start) old new c (answer_at start end (old.count end))
 moved-by start old new c u (Balancer b) goes later = (u, goes, refl, refl)
@@ -147,7 +143,7 @@ module _ (start : Start) (id token client wire : ℕ) (end : End) (v : View) (s 
   abbrev then : View
   then = gone token client end n v
 
-  abbrev next : State (Unit {0}) View
+  abbrev pub next : State (Unit {0}) View
   next = record { words = raised s.words (end_word t end); homes = s.homes; views = set s.views id then }
 
   abbrev was : Ledger
@@ -168,7 +164,7 @@ module _ (start : Start) (id token client wire : ℕ) (end : End) (v : View) (s 
   lands-at (Exit i) q = tt
 
   went-at : (e : End) → e ≡ end
-      → Goes_by t was (ledger_of t start.carried (raised s.words (end_word t e)) (set s.views id (gone token client e (count_in t s.words e) v))) client wire e
+      → GoesFrom t was (ledger_of t start.carried (raised s.words (end_word t e)) (set s.views id (gone token client e (count_in t s.words e) v))) client wire e
   went-at (Balancer b) q =
       let low : b < t.balancers = subst (Stands t) (sym q) stands in
       let all = kept.began.network.formed.wires in
@@ -177,10 +173,10 @@ module _ (start : Start) (id token client wire : ℕ) (end : End) (v : View) (s 
       let low : i < t.width = subst (Stands t) (sym q) stands in
       leaves start s.words s.views id v kept.words here of token client wire i is there (ends ∙ sym q) low (name_later start s kept i low)
 
-  went : Goes_by t was now client wire end
+  pub went : GoesFrom t was now client wire end
   went = went-at end refl
 
-  sound-by : (e : End) (new : Ledger) → Goes_by t was new client wire e → IsSound t new
+  sound-by : (e : End) (new : Ledger) → GoesFrom t was new client wire e → IsSound t new
   sound-by (Balancer b) new ev = sound-passes t was new client wire b ev kept.sound
   sound-by (Exit i) new ev = sound-leaves t kept.began.network.formed was new client wire i ev kept.sound
 

@@ -1,12 +1,12 @@
 -- Walks one after the other, and what one step is to a walk.
-use Rattle.std.proofs.Common.{rules, ◌≡◌, ℕ, zero, suc, ◌+◌, ◌-◌, ◌*◌, ◌%◌, ◌<◌, inl, inr, cond, eqb, List, [], ◌∷◌, ◌++◌, length, get_or, map, sum_by, take, Option, Some, None, sym, refl, ap, ◌∙◌, subst, arith, append-nil}
+use Rattle.std.proofs.Common.{rules, ◌≡◌, ℕ, zero, suc, ◌+◌, ◌-◌, ◌*◌, ◌%◌, ◌<◌, ◌≤◌, inl, inr, cond, eqb, List, [], ◌∷◌, ◌++◌, length, get_or, map, sum_by, take, Option, Some, None, sym, refl, ap, ◌∙◌, subst, arith, append-nil}
 use Rattle.std.specs.Prelude.{IsSome}
 use Rattle.std.specs.Map.{lookup}
 use Rattle.std.proofs.lemmas.Bool.{cases_eq, cases_lt, eq-eqb}
 use Rattle.std.proofs.lemmas.List.{append_assoc, get_or_past, map-append, take_more}
 use Rattle.std.proofs.lemmas.List.FromFn.{length-map-range_with_len}
 use Rattle.std.proofs.lemmas.Nat.{mod_below}
-use Rattle.std.proofs.lemmas.List.Sums.{sum_by-append, sum_by-cons}
+use Rattle.std.proofs.lemmas.List.Sums.{sum_by-append}
 use Rattle.cn_spec.specs.Step.{name_of}
 use Rattle.cn_spec.specs.Sums.{sum_below, when}
 use Rattle.cn_spec.proofs.CallerLemmas.{sum_below-one, sum_below-plus, sum_below-same, sum_below-shift, sum_below-zero}
@@ -15,7 +15,7 @@ use Rattle.cn_wiring.specs.declared.end.End.TheVariants.{Balancer, Exit}
 use Rattle.cn_wiring.specs.Table.{LeadsOn, Stands, Table, end_of, output_wire}
 use Rattle.cn_core.specs.declared.client.Client.{Client}
 use Rattle.cn_core.specs.declared.reply.Moved.{Moved}
-use Rattle.cn_yard.specs.Lists.{IsLowest, IsThere, Lists, first_of, here_or, last_on, on, standing, standing_below, tokens_in, without}
+use Rattle.cn_yard.specs.Lists.{IsLowest, IsThere, Lists, first_of, here_or, last_on, on, standing, standing_below, times_in, tokens_in, without}
 use Rattle.cn_walk.specs.declared.view.Grant.{Grant}
 use Rattle.cn_walk.specs.declared.view.Start.{Start}
 use Rattle.cn_walk.specs.declared.view.View.{View}
@@ -67,6 +67,7 @@ pub record IsHeld (a : LaneValue) : Type 0 where
   pub start : a.view.start ≡ a.home.start
   pub tokens : a.yard.lists ≡ a.view.tokens
   pub wires : length a.yard.lists ≡ length a.home.start.network.table.ends
+  pub once : (token : ℕ) → times_in a.yard.lists token ≤ 1
   pub there : (token client wire : ℕ) → standing a.yard.lists token ≡ Some (wire, client) → IsThere a.yard.lists token client wire
 
 -- ---- a client comes in
@@ -113,7 +114,7 @@ module _ (token client wire n : ℕ) (v : View) (is : IsThere v.tokens token cli
   long (Balancer b) = length-map-range_with_len (λ u. without token (get_or v.tokens u []) ++ last_on token client (output_wire v.start.network.table b (n % 2)) u) 0 (length v.tokens)
   long (Exit i) = length-map-range_with_len (λ u. without token (get_or v.tokens u []) ++ []) 0 (length v.tokens)
 
-  passed_by : (b : ℕ) → Lands n v (Balancer b) → inside_by f (gone token client (Balancer b) n v) ≡ inside_by f v
+  pub passed_by : (b : ℕ) → Lands n v (Balancer b) → inside_by f (gone token client (Balancer b) n v) ≡ inside_by f v
   passed_by b lands =
       let m : ℕ = length v.tokens in
       let w : View = gone token client (Balancer b) n v in
@@ -122,7 +123,7 @@ module _ (token client wire n : ℕ) (v : View) (is : IsThere v.tokens token cli
       (λ u l. weigh-pass v.tokens token client wire to is lands u (λ e. f e.1)) in
       ap (λ (k : ℕ). sum_below k (λ u. sum_by (λ (e : ℕ × ℕ). f e.1) (on w.tokens u))) (long (Balancer b)) ∙ omega (arith, moved, sum_below-one m wire (f client) is.inside, sum_below-one m to (f client) lands)
 
-  left_by : (i : ℕ) → inside_by f (gone token client (Exit i) n v) + f client ≡ inside_by f v
+  pub left_by : (i : ℕ) → inside_by f (gone token client (Exit i) n v) + f client ≡ inside_by f v
   left_by i =
       let m : ℕ = length v.tokens in
       let w : View = gone token client (Exit i) n v in
@@ -141,11 +142,11 @@ module _ (token client wire n : ℕ) (v : View) (is : IsThere v.tokens token cli
       let w : View = gone token client end n v in
       ap (λ (k : ℕ). sum_below (length w.tokens) (λ u. (k - u) * on_in u w)) (sym (long token client wire n v is (λ _. 0) end))
 
-  less_passed : (b : ℕ) → Lands n v (Balancer b) → wire < output_wire v.start.network.table b (n % 2) → steps_left (gone token client (Balancer b) n v) < steps_left v
+  pub less_passed : (b : ℕ) → Lands n v (Balancer b) → wire < output_wire v.start.network.table b (n % 2) → steps_left (gone token client (Balancer b) n v) < steps_left v
   less_passed b lands on =
       omega (arith, left (Balancer b), weighed-went v.start.network token client wire n v is there refl g (Balancer b) lands, at-one (length v.tokens) (output_wire v.start.network.table b (n % 2)) g lands)
 
-  less_left : (i : ℕ) → steps_left (gone token client (Exit i) n v) < steps_left v
+  pub less_left : (i : ℕ) → steps_left (gone token client (Exit i) n v) < steps_left v
   less_left i =
       omega (arith, left (Exit i), weighed-went v.start.network token client wire n v is there refl g (Exit i) tt, at-none (length v.tokens) g, is.inside)
 

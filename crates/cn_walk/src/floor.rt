@@ -5,6 +5,7 @@ mod counters;
 mod lane;
 mod plays;
 mod quiet;
+mod sweeping;
 
 ghost use Rattle.std.specs.Prelude.{◌≡◌, ℕ, ◌+◌, ◌-◌, ◌<◌, ◌≤◌, ◌↔◌, ◌++◌, [], length, replicate, vec_capacity, vec_len, IfErr, IfOk, IsErrOf, IsSome, OnErr};
 ghost use Rattle.cn_spec.specs.declared.limits.TheConstants.{MOST_CLIENTS};

@@ -14,5 +14,5 @@ pub use fault::{JoinFault, LaneFault, OpenFault, SplitFault};
 pub use floor::{CloseFault, Floor, Lane, Quiet};
 pub use gate::{Gate, Moment, OpenGate};
 pub use running::{RunFault, run_epoch};
-pub use view::{Grant, Opening, Passage, Start, View};
+pub use view::{Grant, Opening, Passage, Start, Sweep, View};
 pub use walking::walk_all;

@@ -34,7 +34,7 @@ fn walk_in<'a, G: Gate, R: Wait>(
     }
 }
 
-/// Steps the first token on the lowest wire that has one, until nobody is inside.
+/// Sweeps the lowest wire that has a token, until nobody is inside.
 fn walk_out<'a, G: Gate, R: Wait>(rt: &R, floor: &Floor<'a>, lane: &mut Lane, gate: &G, worker: u32)
     requires own { lane.old.home ≡ floor.now }
     ensures walked { Walks lane.old lane.new [] }
@@ -43,22 +43,19 @@ fn walk_out<'a, G: Gate, R: Wait>(rt: &R, floor: &Floor<'a>, lane: &mut Lane, ga
 {
     lane.lane_laws();
     while let Some(wire) = lane.lowest() {
-        let Some(token) = lane.first(wire) else {
-            unreachable!()
-        };
         let moment = match floor.network().end(wire) {
             End::Balancer(_) => Moment::Pass,
             End::Exit(_) => Moment::Leave,
         };
         gate.before(rt, worker, moment);
-        floor.step(lane, token);
+        floor.sweep(lane, wire);
         lane.lane_laws();
     }
 }
 
 /// Walks all clients through the lane, in order: the next come in until `hand` are inside or none is left; then, until
-/// nobody is inside, the first token on the lowest wire that has one makes a step; and so on until no client is left. It
-/// asks the gate before each step, in the worker's name.
+/// nobody is inside, all tokens on the lowest wire that has one go by its end in a sweep; and so on until no client is left.
+/// It asks the gate before each enter and each sweep, in the worker's name.
 ///
 /// It takes no memory and refuses nothing, but returns only if the gate lets it on.
 pub fn walk_all<'a, G: Gate, R: Wait>(

@@ -11,4 +11,6 @@ pub mod Changes
 pub mod Readers
 pub mod Bodies
 pub mod NewYard
+pub mod Taken
+pub mod Turns
 pub mod CallerLemmas

@@ -1,4 +1,5 @@
 pub mod Lists
+pub mod Deals
 pub mod Records
 pub mod Chains
 pub mod Lines

@@ -1,6 +1,7 @@
 //! A yard: per wire a list of tokens from first to last, and a number of free records.
 #![tactic(auto)]
 
+mod dealing;
 mod lines;
 mod marks;
 mod moves;

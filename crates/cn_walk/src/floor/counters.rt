@@ -5,14 +5,17 @@ ghost use Rattle.std.specs.Prelude.{◌≡◌, ◌+◌, ◌<◌, ◌≤◌, ℕ,
 ghost use Rattle.std.specs.Mem.Slots.{slots_items, slots_len, IsFull};
 ghost use Rattle.cn_spec.specs.declared.limits.TheConstants.{MOST_CLIENTS};
 ghost use Rattle.cn_wiring.specs.Table.{Stands, end_of};
-ghost use Rattle.cn_yard.specs.Lists.{IsThere};
+ghost use Rattle.cn_yard.specs.Lists.{IsThere, on, times_in};
 ghost use Rattle.cn_walk.specs.Closing.{IsEnding};
 ghost use Rattle.cn_walk.specs.Plays.{ComesIn, GoesOn, Loads};
 ghost use Rattle.cn_walk.specs.Rule.{IsStart};
+ghost use Rattle.cn_walk.specs.Sweeps.{AllGoOn};
 ghost use Rattle.cn_walk.specs.Views.{inside_in, joined, new_view, on_in, split_left, split_right};
 ghost use Rattle.cn_walk.specs.Words.{end_word, word_count};
 
-use super::plays::{Both, By, Cut, Enters, Goes, Hears, In, Looked, Next, Portion, Walk};
+use super::plays::{
+    AllBy, Both, By, Cut, Enters, Goes, Hears, In, Looked, Next, Portion, Sweeps, Walk,
+};
 use crate::view::{Opening, View};
 use atomic_table::{Closed, Seat, Table};
 use cn_spec::limits::MOST_CLIENTS;
@@ -144,6 +147,31 @@ impl Counters {
     {
         let word = self.word_of(end);
         self.table.shared.fetch_add::<By<T>>(seat, word, 1)
+    }
+
+    /// The tokens of a wire go by its end, in one atomic step: an add of their number on the end's word, which gives the
+    /// number of the first. The wire is for the proof alone.
+    pub(super) fn let_all_by<T: Sweeps>(
+        &self,
+        seat: &mut Seat<(), View>,
+        _wire: u32,
+        end: End,
+        tokens: u64,
+    ) -> u64
+        requires own { (seat.old.table_id ≡ self.now.table) × (seat.old.me.0.start ≡ self.now.start) }
+        requires sweeping { T.sweeping ≡ record { start = self.now.start; wire = _wire; end = end } }
+        requires slots { (seat.old.me.1 ≡ []) × (seat.old.me.0.loads ≡ []) }
+        requires once { (token : ℕ) → times_in seat.old.me.0.tokens token ≤ 1 }
+        requires tokens { length (on seat.old.me.0.tokens _wire) ≡ tokens }
+        requires wires { length seat.old.me.0.tokens ≡ length self.now.start.network.table.ends }
+        requires wire { _wire < length self.now.start.network.table.ends }
+        requires ends { end_of self.now.start.network.table _wire ≡ end }
+        requires stands { Stands self.now.start.network.table end }
+        ensures seat { (seat.new.table_id ≡ seat.old.table_id) × (seat.new.me.1 ≡ []) }
+        ensures went { AllGoOn T.sweeping seat.old.me.0 result seat.new.me.0 }
+    {
+        let word = self.word_of(end);
+        self.table.shared.fetch_add::<AllBy<T>>(seat, word, tokens)
     }
 
     /// Loads the next entry's word, in one atomic step.

@@ -2,7 +2,7 @@
 
 ghost use Rattle.std.specs.Prelude.{◌≡◌, ℕ, ◌+◌, ◌<◌, ◌≤◌, ◌↔◌, None, Some, max, length, IfSome, IsSome, IsTrue, OnErr, OnOk};
 ghost use Rattle.cn_spec.specs.declared.limits.TheConstants.{MOST_CLIENTS, MOST_ROOM};
-ghost use Rattle.cn_yard.specs.Lists.{IsLowest, IsThere, after, first_of, on, standing, tokens_in};
+ghost use Rattle.cn_yard.specs.Lists.{IsLowest, IsThere, after, first_of, on, standing, times_in, tokens_in};
 
 use crate::view::{Grant, View};
 use atomic_table::Seat;
@@ -39,7 +39,8 @@ impl Lane {
     ghost use Rattle.cn_walk.specs.Lane.{with_room};
 
     /// What holds of each lane: its yard has the tokens of its view, wire by wire, and it has a wire for each of the
-    /// network; those inside and its quota are few; and a token that stands there stands once, on one wire, for one client.
+    /// network; those inside and its quota are few; no token stands there twice, and one that does stands on one wire, for one
+    /// client.
     ///
     /// It does nothing: its contract is the law.
     pub fn lane_laws(&self)
@@ -47,6 +48,7 @@ impl Lane {
         ensures tokens { self.now.yard.lists ≡ self.now.view.tokens }
         ensures wires { length self.now.yard.lists ≡ length self.now.home.start.network.table.ends }
         ensures few { tokens_in self.now.yard.lists + self.now.view.quota ≤ MOST_CLIENTS }
+        ensures once { (token : ℕ) → times_in self.now.yard.lists token ≤ 1 }
         ensures there { (token client wire : ℕ) → standing self.now.yard.lists token ≡ Some (wire, client)
             → IsThere self.now.yard.lists token client wire }
     {

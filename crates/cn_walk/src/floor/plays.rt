@@ -66,6 +66,31 @@ impl<T: Goes> Play<(), View> for By<T> {
     ghost then = { λ _ me n new. (new.1 ≡ []) × GoesOn T.going me.0 n new.0 };
 }
 
+/// Which wire's tokens go on.
+pub trait Sweeps {
+    ghost use Rattle.cn_walk.specs.Sweeps.{Sweeping};
+
+    ghost sweeping: { Sweeping };
+}
+
+impl Sweeps for Brand {
+    ghost use Rattle.cn_walk.specs.Sweeps.{nobody_sweeps};
+
+    ghost sweeping = { nobody_sweeps };
+}
+
+/// A step by which all tokens of a wire go by its end.
+pub struct AllBy<T> {
+    of: PhantomData<T>,
+}
+
+impl<T: Sweeps> Play<(), View> for AllBy<T> {
+    ghost use Rattle.std.specs.Prelude.{◌≡◌, []};
+    ghost use Rattle.cn_walk.specs.Sweeps.{AllGoOn};
+
+    ghost then = { λ _ me n new. (new.1 ≡ []) × AllGoOn T.sweeping me.0 n new.0 };
+}
+
 /// Of which floor a load is.
 pub trait Hears {
     ghost use Rattle.cn_walk.specs.declared.view.Start.{Start};

@@ -25,7 +25,7 @@ loop-rest-preserved g c =
 pub loop-rest-init : goal.loop-rest-init
 loop-rest-init g c =
     let laws = c.lane_laws.ensures in
-    let held : IsHeld c.args.lane = record { start = laws.start; tokens = laws.tokens; wires = laws.wires; there = laws.there } in
+    let held : IsHeld c.args.lane = record { start = laws.start; tokens = laws.tokens; wires = laws.wires; once = laws.once; there = laws.there } in
     record {
       home = c.requires.own;
       out = c.requires.out;
@@ -39,7 +39,7 @@ loop-rest-init g c =
 pub returns : goal.returns
 returns g c =
     let laws = c.lane_laws.ensures in
-    let held : IsHeld c.args.lane = record { start = laws.start; tokens = laws.tokens; wires = laws.wires; there = laws.there } in
+    let held : IsHeld c.args.lane = record { start = laws.start; tokens = laws.tokens; wires = laws.wires; once = laws.once; there = laws.there } in
     let was = c.loop-rest.invariant in
     let none : c.loop-rest.rest.now ≡ [] = none_left c.loop-rest.rest.now (search rules) in
     walked c.args.lane c.loop-rest.lane c.args.clients.now (was.walks c.loop-rest.lane (subst (λ (xs : List Client). Walks c.loop-rest.lane c.loop-rest.lane xs) (sym none) (stays c.loop-rest.lane))) was.out

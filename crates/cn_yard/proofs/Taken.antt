@@ -1,0 +1,104 @@
+-- The first token of a wire, taken off it.
+use Rattle.std.proofs.Common.{◌≡◌, ◌≢◌, ℕ, ◌+◌, ◌<◌, ◌≤◌, inl, inr, eqb, cond, Bool, true, false, List, [], ◌∷◌, ◌++◌, length, refl, sym, ap, ◌∙◌, arith, Option, Some, None}
+use Rattle.std.specs.Prelude.{count_by, nat_eq, sum_by}
+use Rattle.std.specs.Map.{lookup}
+use Rattle.std.proofs.lemmas.Bool.{cases_lt, eq-eqb}
+use Rattle.std.proofs.lemmas.List.{get_or_past}
+use Rattle.std.proofs.lemmas.List.Sums.{sum_by-append, sum_by-cons}
+use Rattle.cn_spec.specs.Sums.{sum_below, when}
+use Rattle.cn_spec.proofs.CallerLemmas.{sum_below-one, sum_below-part, sum_below-parts, sum_below-shift, sum_below-zero}
+use Rattle.cn_yard.specs.Lists.{IsThere, Lists, last_on, on, times_in, without}
+use Rattle.cn_yard.proofs.Keyed.{found-once, last_on-sum}
+use Rattle.cn_yard.proofs.Standings.{standing-only}
+use Rattle.cn_yard.proofs.There.{there}
+
+-- how often a token stands in a list
+abbrev pub times_on : ℕ → List (ℕ × ℕ) → ℕ
+times_on token es = count_by (λ e. nat_eq token e.0) es
+
+-- where it does not stand, nothing is taken
+pub without-same : (token : ℕ) (es : List (ℕ × ℕ)) → times_on token es ≡ 0 → without token es ≡ es
+without-same token [] none = refl
+without-same token (e ∷ es) none = by (nat_eq token e.0) refl (without-same token es)
+  where
+    size : times_on token (e ∷ es) ≡ cond (nat_eq token e.0) 1 0 + times_on token es
+    size = sum_by-cons (λ (x : ℕ × ℕ). cond (nat_eq token x.0) 1 0) e es
+
+    by : (b : Bool) → nat_eq token e.0 ≡ b → (times_on token es ≡ 0 → without token es ≡ es) → without token (e ∷ es) ≡ e ∷ es
+    by true is rest =
+        let one : ◌≡◌ {A = ℕ} (cond (nat_eq token e.0) 1 0) 1 = ap {B = ℕ} (λ b. cond b 1 0) is in
+        absurd (omega (arith, none, size, one))
+    by false is rest =
+        let zero_here : ◌≡◌ {A = ℕ} (cond (nat_eq token e.0) 1 0) 0 = ap {B = ℕ} (λ b. cond b 1 0) is in
+        rw is (ap (λ (l : List (ℕ × ℕ)). e ∷ l) (rest (omega (arith, none, size, zero_here))))
+
+nowhere : (token : ℕ) (es : List (ℕ × ℕ)) → times_on token es ≡ 0 → lookup (nat_eq token) es ≡ None
+nowhere token es none = by (lookup (nat_eq token) es) refl
+  where
+    by : (found : Option ℕ) → lookup (nat_eq token) es ≡ found → lookup (nat_eq token) es ≡ None
+    by None is = is
+    by (Some c) is = absurd (omega (arith, none, found-once token c es is))
+
+module _ (y : Lists) (token client wire : ℕ) (rest : List (ℕ × ℕ)) (once : (k : ℕ) → times_in y k ≤ 1) (inside : wire < length y) (begins : on y wire ≡ (token, client) ∷ rest) where
+  abbrev times : ℕ → ℕ
+  times u = times_on token (on y u)
+
+  here : times wire ≡ 1 + times_on token rest
+  here =
+      let one : ◌≡◌ {A = ℕ} (cond (nat_eq token token) 1 0) 1 = ap {B = ℕ} (λ b. cond b 1 0) (eq-eqb token token refl) in
+      ap (times_on token) begins ∙ sum_by-cons (λ (x : ℕ × ℕ). cond (nat_eq token x.0) 1 0) (token, client) rest ∙ ap (λ (n : ℕ). n + times_on token rest) one
+
+  none_after : times_on token rest ≡ 0
+  none_after = omega (arith, once token, here, sum_below-part (length y) wire times inside)
+
+  none_elsewhere : (u : ℕ) → u ≢ wire → times u ≡ 0
+  none_elsewhere u other = elim (cases_lt u (length y)) [
+    | inl l ↦ omega (arith, once token, here, sum_below-parts (length y) wire u times inside l (λ e. other (sym e)))
+    | inr l ↦ ap (times_on token) (get_or_past y u [] l)
+  ]
+
+  -- it is there
+  pub first-there : IsThere y token client wire
+  first-there =
+      let found : lookup (nat_eq token) (on y wire) ≡ Some client = ap (lookup (nat_eq token)) begins ∙ rw (eq-eqb token token refl) refl in
+      there y token client wire (once token) (standing-only (length y) y token wire client inside found (λ u other. nowhere token (on y u) (none_elsewhere u other)))
+
+  -- the tokens after it are left on its wire, and all on other wires
+  pub rest-on : without token (on y wire) ≡ rest
+  rest-on =
+      let taken : without token ((token, client) ∷ rest) ≡ without token rest = rw (eq-eqb token token refl) refl in
+      ap (without token) begins ∙ taken ∙ without-same token rest none_after
+
+  pub others-on : (u : ℕ) → u ≢ wire → without token (on y u) ≡ on y u
+  others-on u other = without-same token (on y u) (none_elsewhere u other)
+
+  -- elsewhere or gone, no token stands twice
+  module _ (z : Lists) (long : length z ≡ length y) (k : ℕ) where
+    abbrev f : ℕ × ℕ → ℕ
+    f e = cond (nat_eq k e.0) 1 0
+
+    abbrev moved_from : ℕ → ℕ
+    moved_from u = when (eqb wire u) (f (token, client))
+
+    all_z : times_in z k ≡ sum_below (length y) (λ u. sum_by f (on z u))
+    all_z = ap (λ (n : ℕ). sum_below n (λ u. sum_by f (on z u))) long
+
+    pub once-moved : (to : ℕ) → to < length y → ((u : ℕ) → on z u ≡ without token (on y u) ++ last_on token client to u) → times_in z k ≤ 1
+    once-moved to lands lists =
+        let each : (u : ℕ) → u < length y → sum_by f (on z u) + moved_from u ≡ sum_by f (on y u) + when (eqb to u) (f (token, client)) =
+        λ u l. omega (
+          arith,
+          ap (sum_by f) (lists u),
+          sum_by-append f (without token (on y u)) (last_on token client to u),
+          last_on-sum token client to u f,
+          first-there.less u f,
+        ) in
+        let moved = sum_below-shift (length y) (λ u. sum_by f (on z u)) moved_from (λ u. sum_by f (on y u)) (λ u. when (eqb to u) (f (token, client))) each in
+        omega (arith, once k, all_z, moved, sum_below-one (length y) wire (f (token, client)) inside, sum_below-one (length y) to (f (token, client)) lands)
+
+    pub once-gone : ((u : ℕ) → on z u ≡ without token (on y u)) → times_in z k ≤ 1
+    once-gone lists =
+        let each : (u : ℕ) → u < length y → sum_by f (on z u) + moved_from u ≡ sum_by f (on y u) + 0 =
+        λ u l. omega (arith, ap (sum_by f) (lists u), first-there.less u f) in
+        let moved = sum_below-shift (length y) (λ u. sum_by f (on z u)) moved_from (λ u. sum_by f (on y u)) (λ _. 0) each in
+        omega (arith, once k, all_z, moved, sum_below-zero (length y) (λ _. 0) (λ _. refl))
