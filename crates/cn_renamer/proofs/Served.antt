@@ -1,12 +1,11 @@
 -- The record of an epoch that was run.
 use Rattle.std.proofs.Common.{◌≡◌, ◌≢◌, ℕ, ◌≤◌, ◌<◌, cond, eqb, List, [], ◌∷◌, ◌++◌, get_or, length, map, sym, ap, ◌∙◌, subst, arith}
 use Rattle.std.specs.List.Sorted.{IsPermutation}
-use Rattle.std.proofs.lemmas.List.{map-id}
 use Rattle.std.proofs.lemmas.List.FromFn.{length-map-range_with_len}
-use Rattle.std.proofs.lemmas.List.Sorted.{IsPermutation-cons, IsPermutation-middle, IsPermutation-refl, IsPermutation-sym, IsPermutation-trans, sum_by-IsPermutation}
+use Rattle.std.proofs.lemmas.List.Sorted.{IsPermutation-trans}
 use Rattle.cn_spec.specs.Step.{share, shares}
 use Rattle.cn_spec.specs.Sums.{times}
-use Rattle.cn_spec.proofs.CallerLemmas.{get_or-shares, times-append, times-cons, times-map, times-member, times-nil, times-parts, times-two}
+use Rattle.cn_spec.proofs.CallerLemmas.{get_or-shares, order-times, times-map, times-order, times-two}
 use Rattle.cn_wiring.specs.Network.{Network}
 use Rattle.cn_core.specs.declared.client.Client.{Client}
 use Rattle.cn_epoch.specs.declared.record.EpochRecord.{EpochRecord}
@@ -18,28 +17,6 @@ use Rattle.cn_report.specs.Reading.Batch.{MayCome}
 use Rattle.cn_report.specs.declared.reading.gathering.BatchEpoch.{BatchEpoch}
 use Rattle.cn_renamer.specs.Serve.{IsServed}
 
--- lists in which each number stands as often are orders of one another
-same_counts : (xs ys : List ℕ) → ((n : ℕ) → times n xs ≡ times n ys) → IsPermutation xs ys
-same_counts [] [] same = IsPermutation-refl []
-same_counts [] (y ∷ ys) same =
-    let here : 1 ≤ times y (y ∷ ys) = times-member (y ∷ ys) 0 (omega arith) in
-    absurd (omega (arith, same y, times-nil y, here))
-same_counts (x ∷ xs) ys same =
-    let here : 1 ≤ times x (x ∷ xs) = times-member (x ∷ xs) 0 (omega arith) in
-    let (front, back, e) = times-parts x ys (omega (arith, same x, here)) in
-    let rest = same_counts xs (front ++ back) (λ n.
-    let whole : times n ys ≡ times n (front ++ x ∷ back) = ap (times n) e in
-    omega (arith, same n, whole, times-cons n x xs, times-append n front (x ∷ back), times-cons n x back, times-append n front back)) in
-    let first = IsPermutation-cons x xs (front ++ back) rest in
-    let moved = IsPermutation-sym (front ++ x ∷ back) (x ∷ (front ++ back)) (IsPermutation-middle front x back) in
-    subst (IsPermutation (x ∷ xs)) (sym e) (IsPermutation-trans _ _ _ first moved)
-
--- in an order of a list each number stands as often
-times_order : (xs ys : List ℕ) (n : ℕ) → IsPermutation xs ys → times n ys ≡ times n xs
-times_order xs ys n order =
-    let same = sum_by-IsPermutation (λ (x : ℕ). cond (eqb x n) 1 0) xs ys order in
-    ap (times n) (sym (map-id ys)) ∙ times-map (λ (x : ℕ). x) n ys ∙ same ∙ sym (times-map (λ (x : ℕ). x) n xs) ∙ ap (times n) (map-id xs)
-
 -- the clients that came hold the names, one each
 module _ (clients : List Client) (grants : List Grant) (theirs : AreFor clients grants) (holders : List ℕ) (lists : ListsHolders grants holders) where
   abbrev ids : List ℕ
@@ -48,13 +25,13 @@ module _ (clients : List Client) (grants : List Grant) (theirs : AreFor clients 
   pub own : IsPermutation ids holders
   own =
       let granted : List ℕ = map (λ (g : Grant). g.client) grants in
-      let same : IsPermutation ids granted = same_counts ids granted (λ n. times-map (λ (c : Client). c.id) n clients ∙ sym (theirs.as_often n) ∙ sym (times-map (λ (g : Grant). g.client) n grants)) in
+      let same : IsPermutation ids granted = order-times ids granted (λ n. times-map (λ (c : Client). c.id) n clients ∙ sym (theirs.as_often n) ∙ sym (times-map (λ (g : Grant). g.client) n grants)) in
       IsPermutation-trans ids granted holders same lists.own
 
   pub apart : ((client : ℕ) → times client ids ≤ 1) → (m n : ℕ) → m < n → n < length holders → get_or holders m 0 ≢ get_or holders n 0
   apart once m n less below same =
       let who : ℕ = get_or holders n 0 in
-      omega (arith, times-two holders m n less below same, times_order ids holders who own, once who)
+      omega (arith, times-two holders m n less below same, times-order ids holders who own, once who)
 
 -- the record of a run is that of its epoch, served tight
 pub served : (network : Network) (epoch : BatchEpoch) (quiet : QuietValue) (r : EpochRecord) → IsRun network epoch.clients.items quiet → MayCome network.table.entries epoch.clients.items
