@@ -6,7 +6,7 @@ use Rattle.std.proofs.lemmas.Bool.Decides.{nat_tests}
 use Rattle.std.proofs.lemmas.Map.{length-set_value}
 use Rattle.std.proofs.lemmas.List.Sums.{sum_by-cons}
 use Rattle.cn_spec.specs.declared.limits.TheConstants.{MOST_CLIENTS}
-use Rattle.cn_spec.proofs.CallerLemmas.{one_more_at}
+use Rattle.cn_spec.proofs.CallerLemmas.{one_more_at, zero_at}
 use Rattle.cn_wiring.specs.declared.end.End.{End}
 use Rattle.cn_wiring.specs.declared.end.End.TheVariants.{Balancer, Exit}
 use Rattle.cn_wiring.specs.Table.{Table, end_of, is_end}
@@ -23,7 +23,7 @@ use Rattle.cn_core.specs.State.{State, IsState, position_in, with_position, posi
 use Rattle.cn_core.specs.History.{position_after, leaves_of, inside_of, end_at, is_leave, IsHistory, Agrees, MayAnswerAll, grown}
 use Rattle.cn_core.specs.Calls.{EntersTo, StepsTo, TakesTo, IsLedgerEvent, AnswersByHistory, RunsByHistory, RunsTo}
 use Rattle.cn_yard.proofs.CallerLemmas.{lookup-push, lookup-set, count-push, count-set}
-use Rattle.cn_core.proofs.StateLemmas.{stands-at, zero_at}
+use Rattle.cn_core.proofs.StateLemmas.{stands-at}
 
 pub Agrees-start : (network : Network) → Agrees (start network) []
 Agrees-start network = record { accepted = tt; positions = λ q. refl; entered = λ e. zero_at network.table.entries e; total = refl; left = refl; counts = none }

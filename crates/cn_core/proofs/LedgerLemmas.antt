@@ -7,7 +7,7 @@ use Rattle.std.proofs.lemmas.List.Sums.{sum_by-cons}
 use Rattle.cn_spec.specs.Step.{name_of}
 use Rattle.cn_spec.specs.Sums.{when, once_below}
 use Rattle.cn_spec.specs.declared.limits.TheConstants.{MOST_CLIENTS}
-use Rattle.cn_spec.proofs.CallerLemmas.{exit_of-name_of, one_more_at}
+use Rattle.cn_spec.proofs.CallerLemmas.{exit_of-name_of, one_more_at, zero_at}
 use Rattle.cn_wiring.specs.declared.end.End.{End}
 use Rattle.cn_wiring.specs.declared.end.End.TheVariants.{Balancer, Exit}
 use Rattle.cn_wiring.specs.Table.{end_of, is_end, Stands}
@@ -26,7 +26,7 @@ use Rattle.cn_core.specs.declared.reply.Reply.TheVariants.{Stepped}
 use Rattle.cn_core.specs.Calls.{IsMoveOf, MovesLedger, StepsTo}
 use Rattle.cn_core.specs.StateLedger.{is_on, holds, held_in, given_in, ledger_of, IsCore}
 use Rattle.cn_yard.proofs.CallerLemmas.{count-push, count-set, count_pair-push, count_pair-set}
-use Rattle.cn_core.proofs.StateLemmas.{stands-at, zero_at, IsState-start, IsState-after_enter, IsState-after_step}
+use Rattle.cn_core.proofs.StateLemmas.{stands-at, IsState-start, IsState-after_enter, IsState-after_step}
 use Rattle.cn_core.proofs.HistoryLemmas.{past-after_step, Agrees-start, Agrees-after_enter, Agrees-after_step}
 use Rattle.cn_core.proofs.PassageLemmas.{sound_passages}
 use Rattle.cn_ledger.proofs.CallerLemmas.{eqb-sym, is_end-sym, sound-enters, sound-leaves, sound-nothing, sound-passes}

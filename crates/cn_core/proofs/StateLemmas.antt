@@ -1,11 +1,11 @@
 -- Each event keeps what each state keeps.
-use Rattle.std.proofs.Common.{◌≡◌, ℕ, zero, suc, ◌+◌, ◌*◌, ◌%◌, ◌<◌, ◌≤◌, nat_eq, List, [], ◌∷◌, ◌++◌, length, refl, arith, Some, None, ◌∙◌, slice_index, length-set, length-append, subst}
+use Rattle.std.proofs.Common.{◌≡◌, ℕ, ◌+◌, ◌*◌, ◌%◌, ◌<◌, ◌≤◌, nat_eq, List, [], ◌∷◌, ◌++◌, length, arith, Some, None, ◌∙◌, slice_index, length-set, length-append, subst}
 use Rattle.std.specs.Prelude.{replicate}
 use Rattle.std.proofs.lemmas.Bool.Decides.{nat_tests}
 use Rattle.std.proofs.lemmas.List.{length-replicate}
 use Rattle.std.proofs.lemmas.Map.{length-set_value}
 use Rattle.cn_spec.specs.declared.limits.TheConstants.{MOST_CLIENTS}
-use Rattle.cn_spec.proofs.CallerLemmas.{one_more_at, sum_below-change, sum_below-zero}
+use Rattle.cn_spec.proofs.CallerLemmas.{one_more_at, sum_below-change, sum_below-zero, zero_at}
 use Rattle.cn_spec.specs.Sums.{one_more}
 use Rattle.cn_wiring.specs.declared.end.End.{End}
 use Rattle.cn_wiring.specs.declared.end.End.TheVariants.{Balancer, Exit}
@@ -102,11 +102,6 @@ IsState-after_step s client wire (Exit i) is on ends = record {
 
     in_range : i < length s.visits
     in_range = omega (arith, is.exits, below)
-
-pub zero_at : (n i : ℕ) → slice_index (replicate n 0) i ≡ 0
-zero_at zero i = refl
-zero_at (suc n) zero = refl
-zero_at (suc n) (suc i) = zero_at n i
 
 pub IsState-start : (network : Network) → IsNetwork network → IsState (start network)
 IsState-start network is = record {

@@ -1,11 +1,10 @@
 -- The record of an epoch that was run.
 use Rattle.std.proofs.Common.{◌≡◌, ℕ, ◌≤◌, cond, eqb, List, [], ◌∷◌, ◌++◌, length, map, sym, ap, ◌∙◌, subst, arith}
 use Rattle.std.specs.List.Sorted.{IsPermutation}
-use Rattle.std.proofs.lemmas.List.{map-id}
-use Rattle.std.proofs.lemmas.List.Sorted.{IsPermutation-cons, IsPermutation-middle, IsPermutation-refl, IsPermutation-sym, IsPermutation-trans, sum_by-IsPermutation}
+use Rattle.std.proofs.lemmas.List.Sorted.{IsPermutation-trans}
 use Rattle.cn_spec.specs.Step.{shares}
 use Rattle.cn_spec.specs.Sums.{times}
-use Rattle.cn_spec.proofs.CallerLemmas.{times-append, times-cons, times-map, times-member, times-nil, times-parts}
+use Rattle.cn_spec.proofs.CallerLemmas.{order-times, times-map, times-order}
 use Rattle.cn_wiring.specs.Network.{Network}
 use Rattle.cn_core.specs.declared.client.Client.{Client}
 use Rattle.cn_epoch.specs.declared.record.EpochRecord.{EpochRecord}
@@ -17,28 +16,6 @@ use Rattle.cn_report.specs.Reading.Batch.{MayCome}
 use Rattle.cn_report.specs.declared.reading.gathering.BatchEpoch.{BatchEpoch}
 use Rattle.cn_renamer.specs.Headline.{IsServed}
 
--- lists in which each number stands as often are orders of one another
-same_counts : (xs ys : List ℕ) → ((n : ℕ) → times n xs ≡ times n ys) → IsPermutation xs ys
-same_counts [] [] same = IsPermutation-refl []
-same_counts [] (y ∷ ys) same =
-    let here : 1 ≤ times y (y ∷ ys) = times-member (y ∷ ys) 0 (omega arith) in
-    absurd (omega (arith, same y, times-nil y, here))
-same_counts (x ∷ xs) ys same =
-    let here : 1 ≤ times x (x ∷ xs) = times-member (x ∷ xs) 0 (omega arith) in
-    let (front, back, e) = times-parts x ys (omega (arith, same x, here)) in
-    let rest = same_counts xs (front ++ back) (λ n.
-    let whole : times n ys ≡ times n (front ++ x ∷ back) = ap (times n) e in
-    omega (arith, same n, whole, times-cons n x xs, times-append n front (x ∷ back), times-cons n x back, times-append n front back)) in
-    let first = IsPermutation-cons x xs (front ++ back) rest in
-    let moved = IsPermutation-sym (front ++ x ∷ back) (x ∷ (front ++ back)) (IsPermutation-middle front x back) in
-    subst (IsPermutation (x ∷ xs)) (sym e) (IsPermutation-trans _ _ _ first moved)
-
--- in an order of a list each number stands as often
-times_order : (xs ys : List ℕ) (n : ℕ) → IsPermutation xs ys → times n ys ≡ times n xs
-times_order xs ys n order =
-    let same = sum_by-IsPermutation (λ (x : ℕ). cond (eqb x n) 1 0) xs ys order in
-    ap (times n) (sym (map-id ys)) ∙ times-map (λ (x : ℕ). x) n ys ∙ same ∙ sym (times-map (λ (x : ℕ). x) n xs) ∙ ap (times n) (map-id xs)
-
 -- the clients that came hold the names, one each
 module _ (clients : List Client) (grants : List Grant) (theirs : AreFor clients grants) (holders : List ℕ) (lists : ListsHolders grants holders) where
   abbrev ids : List ℕ
@@ -47,12 +24,12 @@ module _ (clients : List Client) (grants : List Grant) (theirs : AreFor clients 
   pub own : IsPermutation ids holders
   own =
       let granted : List ℕ = map (λ (g : Grant). g.client) grants in
-      let same : IsPermutation ids granted = same_counts ids granted (λ n. times-map (λ (c : Client). c.id) n clients ∙ sym (theirs.as_often n) ∙ sym (times-map (λ (g : Grant). g.client) n grants)) in
+      let same : IsPermutation ids granted = order-times ids granted (λ n. times-map (λ (c : Client). c.id) n clients ∙ sym (theirs.as_often n) ∙ sym (times-map (λ (g : Grant). g.client) n grants)) in
       IsPermutation-trans ids granted holders same lists.own
 
   -- and where no client came twice, none holds two
   pub once : ((client : ℕ) → times client ids ≤ 1) → (client : ℕ) → times client holders ≤ 1
-  once come client = omega (arith, times_order ids holders client own, come client)
+  once come client = omega (arith, times-order ids holders client own, come client)
 
 -- the record of a run is that of its epoch, served
 pub served : (network : Network) (epoch : BatchEpoch) (quiet : QuietValue) (r : EpochRecord) → IsRun network epoch.clients.items quiet → MayCome network.table.entries epoch.clients.items

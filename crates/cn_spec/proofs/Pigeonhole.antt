@@ -1,16 +1,15 @@
 -- A list of m numbers in which each number below m stands is an order of those numbers, and in an order of them each
 -- stands once.
-use Rattle.std.proofs.Common.{◌≡◌, ℕ, zero, suc, ◌+◌, ◌≤◌, ◌<◌, cond, eqb, List, [], ◌∷◌, ◌++◌, length, refl, sym, ap, ◌∙◌, length-append, arith}
+use Rattle.std.proofs.Common.{◌≡◌, ℕ, zero, suc, ◌+◌, ◌≤◌, ◌<◌, cond, eqb, List, [], ◌∷◌, ◌++◌, length, ap, ◌∙◌, length-append, arith}
 use Rattle.std.proofs.lemmas.Bool.{ne_eqb}
 use Rattle.std.proofs.lemmas.Bool.Decides.{nat_tests}
-use Rattle.std.proofs.lemmas.List.Sorted.{IsPermutation-refl, sum_by-IsPermutation}
-use Rattle.std.proofs.lemmas.List.Sums.{sum_by-cons}
-use Rattle.std.specs.List.{range_with_len, sum_by}
+use Rattle.std.proofs.lemmas.List.Sorted.{IsPermutation-refl}
+use Rattle.std.specs.List.{range_with_len}
 use Rattle.cn_spec.specs.Step.{IsEachBelow}
 use Rattle.cn_spec.specs.Sums.{IsOnceBelow, once_below, times}
 use Rattle.cn_spec.proofs.EachBelow.{each_more, once-next}
 use Rattle.cn_spec.proofs.Names.{range_more}
-use Rattle.cn_spec.proofs.Times.{times-append, times-cons, times-nil, times-parts}
+use Rattle.cn_spec.proofs.Times.{times-append, times-cons, times-nil, times-order, times-parts}
 
 pub all_below : (m : ℕ) (xs : List ℕ) → length xs ≡ m → ((n : ℕ) → n < m → 1 ≤ times n xs) → IsEachBelow m xs
 all_below zero [] size there = IsPermutation-refl []
@@ -23,11 +22,6 @@ all_below (suc m) xs size there =
     let other : ◌≡◌ {A = ℕ} (cond (eqb m n) 1 0) 0 = ap {B = ℕ} (λ q. cond q 1 0) (ne_eqb m n (λ x. omega (arith, x, h))) in
     omega (arith, there n (omega (arith, h)), whole, other, times-append n front (m ∷ back), times-cons n m back, times-append n front back)))
 
-times_sum : (n : ℕ) (xs : List ℕ) → times n xs ≡ sum_by (λ x. cond (eqb x n) 1 0) xs
-unfolding times
-times_sum n [] = refl
-times_sum n (x ∷ xs) = ap (λ k. cond (eqb x n) 1 0 + k) (times_sum n xs) ∙ sym (sum_by-cons (λ y. cond (eqb y n) 1 0) x xs)
-
 once_range : (m n : ℕ) → times n (range_with_len 0 m) ≡ once_below m n
 once_range zero n = times-nil n ∙ grind (arith, nat_tests)
 once_range (suc m) n =
@@ -36,11 +30,13 @@ once_range (suc m) n =
     omega (arith, list, once_range m n, once-next m n, times-append n (range_with_len 0 m) (m ∷ []), times-cons n m [], times-nil n)
 
 pub once_each : (m : ℕ) (xs : List ℕ) → IsEachBelow m xs → IsOnceBelow m xs
-once_each m xs each n =
-    times_sum n xs ∙ sum_by-IsPermutation (λ x. cond (eqb x n) 1 0) (range_with_len 0 m) xs each ∙ sym (times_sum n (range_with_len 0 m)) ∙ once_range m n
+once_each m xs each n = times-order (range_with_len 0 m) xs n each ∙ once_range m n
 
 pub at_most_once : (m n : ℕ) → once_below m n ≤ 1
 at_most_once m n = grind (arith, nat_tests)
 
 pub once_there : (m n : ℕ) → n < m → once_below m n ≡ 1
 once_there m n h = grind (arith, nat_tests)
+
+pub once_in : (m n : ℕ) → 1 ≤ once_below m n → n < m
+once_in m n h = grind (arith, nat_tests)

@@ -1,5 +1,5 @@
 -- Sums over the places of a list, and over ranges.
-use Rattle.std.proofs.Common.{◌≡◌, ◌≢◌, ℕ, zero, suc, ◌+◌, ◌<◌, ◌≤◌, Bool, true, false, cond, List, [], ◌∷◌, ◌++◌, length, map, get_or, set, sum_by, refl, sym, ◌∙◌, inl, inr, arith, eqb, ltb, zero-add, slice_index, nat_eq, get_or-set_same, get_or-set_other, ap}
+use Rattle.std.proofs.Common.{◌≡◌, ◌≢◌, ℕ, zero, suc, ◌+◌, ◌<◌, ◌≤◌, Bool, true, false, cond, List, [], ◌∷◌, ◌++◌, length, map, get_or, replicate, set, sum_by, refl, sym, ◌∙◌, inl, inr, arith, eqb, ltb, zero-add, slice_index, nat_eq, get_or-set_same, get_or-set_other, ap}
 use Rattle.std.proofs.lemmas.Bool.{cases_eq, eq-eqb, false_from_ne_true, le-ltb, lt-ltb, ne_eqb}
 use Rattle.std.proofs.lemmas.Bool.Decides.{nat_tests}
 use Rattle.std.proofs.lemmas.List.Sums.{sum_by-cons}
@@ -153,6 +153,17 @@ pub sum_below-none : (f : ℕ → ℕ) → sum_below 0 f ≡ 0
 unfolding sum_below
 sum_below-none f = refl
 
+-- one term more
+pub sum_below-next : (f : ℕ → ℕ) (n : ℕ) → sum_below (n + 1) f ≡ sum_below n f + f n
+unfolding sum_below
+sum_below-next f n = let e : n + 1 ≡ suc n = omega arith in rw e refl
+
+-- fewer terms
+pub sum_below-fewer : (f : ℕ → ℕ) (m n : ℕ) → m ≤ n → sum_below m f ≤ sum_below n f
+unfolding sum_below
+sum_below-fewer f m zero h = let e : m ≡ 0 = omega arith in rw e (omega arith)
+sum_below-fewer f m (suc n) h = elim (cases_eq m (suc n)) [ inl e ↦ rw e (omega arith) | inr d ↦ omega (arith, sum_below-fewer f m n (omega arith)) ]
+
 -- from the front
 pub sum_below-front : (n : ℕ) (f : ℕ → ℕ) → sum_below (suc n) f ≡ f 0 + sum_below n (λ u. f (suc u))
 unfolding sum_below
@@ -220,6 +231,12 @@ module _ {X : Type 0} where
       omega (arith, same 0 (omega arith), sum_by-same f g xs d (λ i h. same (suc i) (omega arith)), sum_by-cons f x xs, sum_by-cons g x xs)
 
 -- ---- lists of counts
+
+-- before anything is counted
+pub zero_at : (n i : ℕ) → slice_index (replicate n 0) i ≡ 0
+zero_at zero i = refl
+zero_at (suc n) zero = refl
+zero_at (suc n) (suc i) = zero_at n i
 
 -- one more at a place
 pub one_more_at : (counts : List ℕ) (i j : ℕ) → i < length counts → slice_index (one_more counts i) j ≡ slice_index counts j + cond (nat_eq j i) 1 0

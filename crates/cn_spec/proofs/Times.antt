@@ -1,7 +1,9 @@
 -- How often a number stands in a list.
-use Rattle.std.proofs.Common.{◌≡◌, ℕ, zero, suc, ◌+◌, ◌<◌, ◌≤◌, ◌⊎◌, inl, inr, cond, eqb, List, [], ◌∷◌, ◌++◌, All, length, get_or, map, refl, ap, arith}
-use Rattle.std.specs.List.{count_by, range_with_len}
+use Rattle.std.proofs.Common.{◌≡◌, ℕ, zero, suc, ◌+◌, ◌<◌, ◌≤◌, ◌⊎◌, inl, inr, cond, eqb, List, [], ◌∷◌, ◌++◌, All, length, get_or, map, refl, sym, ap, ◌∙◌, subst, arith}
+use Rattle.std.specs.List.{count_by, range_with_len, sum_by}
+use Rattle.std.specs.List.Sorted.{IsPermutation}
 use Rattle.std.proofs.lemmas.Bool.{cases_eq, eq-eqb, ne_eqb}
+use Rattle.std.proofs.lemmas.List.Sorted.{IsPermutation-cons, IsPermutation-middle, IsPermutation-refl, IsPermutation-sym, IsPermutation-trans, sum_by-IsPermutation}
 use Rattle.std.proofs.lemmas.List.Sums.{sum_by-cons}
 use Rattle.cn_spec.specs.Sums.{sum_below, times, when}
 use Rattle.cn_spec.proofs.Sums.{sum_below-one, sum_below-plus, sum_below-same, sum_below-zero}
@@ -62,6 +64,32 @@ times-parts n (x ∷ xs) h =
           let (front, back, e) = times-parts n xs (omega (arith, times-cons n x xs)) in
           (x ∷ front, back, ap (λ r. x ∷ r) e)
     ]
+
+-- ---- orders of a list
+
+-- in an order of a list each number stands as often
+pub times-order : (xs ys : List ℕ) (n : ℕ) → IsPermutation xs ys → times n ys ≡ times n xs
+times-order xs ys n order = sum ys ∙ sum_by-IsPermutation (λ x. cond (eqb x n) 1 0) xs ys order ∙ sym (sum xs)
+  where
+    sum : (zs : List ℕ) → times n zs ≡ sum_by (λ x. cond (eqb x n) 1 0) zs
+    sum [] = times-nil n
+    sum (z ∷ zs) = omega (arith, times-cons n z zs, sum zs, sum_by-cons (λ x. cond (eqb x n) 1 0) z zs)
+
+-- and lists in which each number stands as often are orders of one another
+pub order-times : (xs ys : List ℕ) → ((n : ℕ) → times n xs ≡ times n ys) → IsPermutation xs ys
+order-times [] [] same = IsPermutation-refl []
+order-times [] (y ∷ ys) same =
+    let here : 1 ≤ times y (y ∷ ys) = times-member (y ∷ ys) 0 (omega arith) in
+    absurd (omega (arith, same y, times-nil y, here))
+order-times (x ∷ xs) ys same =
+    let here : 1 ≤ times x (x ∷ xs) = times-member (x ∷ xs) 0 (omega arith) in
+    let (front, back, e) = times-parts x ys (omega (arith, same x, here)) in
+    let rest = order-times xs (front ++ back) (λ n.
+    let whole : times n ys ≡ times n (front ++ x ∷ back) = ap (times n) e in
+    omega (arith, same n, whole, times-cons n x xs, times-append n front (x ∷ back), times-cons n x back, times-append n front back)) in
+    let first = IsPermutation-cons x xs (front ++ back) rest in
+    let moved = IsPermutation-sym (front ++ x ∷ back) (x ∷ (front ++ back)) (IsPermutation-middle front x back) in
+    subst (IsPermutation (x ∷ xs)) (sym e) (IsPermutation-trans _ _ _ first moved)
 
 -- ---- ranges
 

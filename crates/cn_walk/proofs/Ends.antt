@@ -8,13 +8,12 @@ use Rattle.cn_wiring.specs.declared.end.End.{End}
 use Rattle.cn_wiring.specs.declared.end.End.TheVariants.{Balancer, Exit}
 use Rattle.cn_wiring.specs.Table.{Stands, Table, is_end, sum_at}
 use Rattle.cn_ledger.specs.Ledger.{IsSound, IsTight, Ledger, put}
-use Rattle.cn_walk.proofs.Sole.{once-in}
 use Rattle.cn_walk.specs.declared.view.Start.{Start}
 use Rattle.cn_walk.specs.declared.view.View.{View}
 use Rattle.cn_walk.specs.Ends.{NobodyInside}
 use Rattle.cn_walk.specs.Rule.{IsCarried, IsKept, IsStart, ledger_of}
 use Rattle.cn_walk.specs.Words.{count_in, word_count}
-use Rattle.cn_spec.proofs.CallerLemmas.{sum_below-zero, total_where-agree}
+use Rattle.cn_spec.proofs.CallerLemmas.{once_in, sum_below-zero, total_where-agree}
 use Rattle.cn_ledger.proofs.CallerLemmas.{tight}
 
 -- ---- the ledger of words alone
@@ -58,7 +57,7 @@ module _ (t : Table) (words : List ℕ) where
     once = λ c i v name. omega (arith, no_more (eqb 0 c) (ltb v (count_in t words (Exit i))) (eqb (name_of t.width i v) name));
     apart = λ c d i v differ. omega (arith, not_both c d differ (ltb v (count_in t words (Exit i))) (eqb (name_of t.width i v) (name_of t.width i v)) (eqb (name_of t.width i v) (name_of t.width i v)));
     told = λ i v h g.
-        let below : v < count_in t words (Exit i) = once-in (count_in t words (Exit i)) v (omega (arith, g)) in (
+        let below : v < count_in t words (Exit i) = once_in (count_in t words (Exit i)) v (omega (arith, g)) in (
           0,
           let one : ◌≡◌ {A = ℕ} (when (eqb 0 0 && (ltb v (count_in t words (Exit i)) && eqb (name_of t.width i v) (name_of t.width i v))) 1) 1 =
               rw (lt-ltb v (count_in t words (Exit i)) below, eq-eqb (name_of t.width i v) (name_of t.width i v) refl) refl in

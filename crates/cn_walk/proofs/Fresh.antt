@@ -1,6 +1,6 @@
 -- What lanes load from the words of the entries.
-use Rattle.std.proofs.Common.{◌≡◌, ℕ, zero, suc, ◌+◌, ◌≤◌, ◌<◌, inl, inr, Bool, true, false, eqb, List, [], ◌∷◌, ◌++◌, length, get_or, sum, All, sym, refl, ap, ◌∙◌, arith}
-use Rattle.std.proofs.lemmas.Bool.{cases_eq, eqb-true}
+use Rattle.std.proofs.Common.{◌≡◌, ℕ, zero, suc, ◌+◌, ◌≤◌, ◌<◌, Bool, true, false, eqb, List, [], ◌∷◌, ◌++◌, length, get_or, sum, All, sym, refl, ap, ◌∙◌, arith}
+use Rattle.std.proofs.lemmas.Bool.{eqb-true}
 use Rattle.std.proofs.lemmas.List.{length_push}
 use Rattle.std.proofs.lemmas.List.Sums.{sum_by-cons}
 use Rattle.cn_spec.specs.Sums.{sum_below}
@@ -11,7 +11,7 @@ use Rattle.cn_walk.specs.declared.view.View.{View}
 use Rattle.cn_walk.specs.Rule.{IsFresh, heard}
 use Rattle.cn_walk.specs.Views.{base, loaded, loaded_by}
 use Rattle.cn_walk.specs.Words.{clients_in, entered_in}
-use Rattle.cn_spec.proofs.CallerLemmas.{sum_below-front, sum_below-le, sum_below-same}
+use Rattle.cn_spec.proofs.CallerLemmas.{sum_below-fewer, sum_below-front, sum_below-le, sum_below-same}
 
 at_more : (ls : List ℕ) (u : ℕ) (g : ℕ → ℕ) → get_or (ls ++ g (length ls) ∷ []) u (g u) ≡ get_or ls u (g u)
 at_more [] zero g = refl
@@ -42,11 +42,6 @@ whole (x ∷ ls) g =
     let front = sum_below-front (length ls) (λ u. get_or (x ∷ ls) u (g u)) in
     omega (arith, whole ls (λ k. g (suc k)), sum_by-cons (λ (y : ℕ). y) x ls)
 
-pub shorter : (f : ℕ → ℕ) (m n : ℕ) → m ≤ n → sum_below m f ≤ sum_below n f
-unfolding sum_below
-shorter f m zero h = let e : m ≡ 0 = omega arith in rw e (omega arith)
-shorter f m (suc n) h = elim (cases_eq m (suc n)) [ inl e ↦ rw e (omega arith) | inr d ↦ omega (arith, shorter f m n (omega arith)) ]
-
 module _ (t : Table) (words : List ℕ) where
   abbrev word : ℕ → ℕ
   word = entered_in t words
@@ -59,7 +54,7 @@ module _ (t : Table) (words : List ℕ) where
   heard_all ls e = ap (λ (n : ℕ). sum_below n (λ u. get_or ls u (word u))) (sym e) ∙ whole ls word
 
   pub sum_few : (ls : List ℕ) → length ls ≤ t.entries → sum ls ≤ heard t words ls
-  sum_few ls few = omega (arith, whole ls word, shorter (λ u. get_or ls u (word u)) (length ls) t.entries few)
+  sum_few ls few = omega (arith, whole ls word, sum_below-fewer (λ u. get_or ls u (word u)) (length ls) t.entries few)
 
   pub heard_few : (ls : List ℕ) → ((u : ℕ) → get_or ls u 0 ≤ word u) → heard t words ls ≤ clients_in t words
   heard_few ls low = sum_below-le t.entries (λ u. get_or ls u (word u)) word (λ u less. at_low ls u (word u) (low u))

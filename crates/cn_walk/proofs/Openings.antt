@@ -17,7 +17,7 @@ use Rattle.cn_walk.specs.declared.view.View.{View}
 use Rattle.cn_walk.specs.Rule.{IsCarried, IsAccounted, IsFresh, IsKept, IsStart, ledger_of}
 use Rattle.cn_walk.specs.Views.{base, given_in, granted_in, new_view, on_in, standing_in, levels_in, inside_in}
 use Rattle.cn_walk.specs.Words.{clients_in, count_in, end_word, entered_in, entry_word, word_count}
-use Rattle.cn_spec.proofs.CallerLemmas.{sum_below-zero, times-nil}
+use Rattle.cn_spec.proofs.CallerLemmas.{sum_below-zero, times-nil, zero_at}
 use Rattle.cn_ledger.proofs.CallerLemmas.{IsNothing, sound-nothing}
 
 nothing : (b : Bool) → ◌≡◌ {A = ℕ} (when b 0) 0
@@ -25,11 +25,6 @@ nothing true = refl
 nothing false = refl
 
 -- ---- words that are all 0
-
-zero_at : (n i : ℕ) → ◌≡◌ {A = ℕ} (get_or (replicate n 0) i 0) 0
-zero_at zero i = refl
-zero_at (suc n) zero = refl
-zero_at (suc n) (suc i) = zero_at n i
 
 module _ (t : Table) where
   abbrev zeros : List ℕ

@@ -19,7 +19,7 @@ use Rattle.cn_walk.specs.Words.{count_in}
 use Rattle.cn_walk.proofs.Bounds.{count_risen}
 use Rattle.cn_walk.proofs.Walked.{no-levels}
 use Rattle.cn_walk.proofs.Totals.{mine_alone, part_le, total_same}
-use Rattle.cn_spec.proofs.CallerLemmas.{sum_below-one, sum_below-plus, sum_below-same, sum_below-total, sum_below-zero}
+use Rattle.cn_spec.proofs.CallerLemmas.{once_in, sum_below-one, sum_below-plus, sum_below-same, sum_below-total, sum_below-zero}
 use Rattle.cn_wiring.proofs.CallerLemmas.{levels}
 
 -- the numbers below c, of those below n
@@ -35,13 +35,6 @@ below-once (suc n) c h = elim (cases_lt n c) [
   | inr l ↦
       let here : ◌≡◌ {A = ℕ} (once_below c n) 0 = ap {B = ℕ} (λ b. cond b 1 0) (le-ltb n c l) in
       omega (arith, below-once n c l)
-]
-
--- who is counted below c is below c
-pub once-in : (c k : ℕ) → 1 ≤ once_below c k → k < c
-once-in c k h = elim (cases_lt k c) [
-  | inl l ↦ l
-  | inr l ↦ let none : ◌≡◌ {A = ℕ} (once_below c k) 0 = ap {B = ℕ} (λ b. cond b 1 0) (le-ltb k c l) in absurd (omega arith)
 ]
 
 -- a number below n, looked for among these
@@ -96,6 +89,6 @@ module _ (start : Start) (s : State (Unit {0}) View) (kept : IsKept start s) whe
       let each : (k : ℕ) → once_below c k + given_in end k v ≡ once_below n k = λ k.
       let all = mine_alone (given_in end k) (λ (x : View). length x.entries) s.views id v at (λ j x a z. none_given j x a z end k) mine in
       omega (arith, kept.sound.numbered end k stands) in
-      let low = own end v n (λ k h. once-in n k (omega (arith, each k))) in
+      let low = own end v n (λ k h. once_in n k (omega (arith, each k))) in
       let sums = sum_below-same n (λ k. once_below c k + given_in end k v) (once_below n) (λ k l. each k) in
       omega (arith, sum_below-plus n (once_below c) (λ k. given_in end k v), below-once n n (omega arith), below-once n c (count_risen start s kept end stands))

@@ -3,7 +3,6 @@ use Rattle.std.proofs.Common.{◌≡◌, ℕ, zero, suc, ◌+◌, ◌≤◌, Lis
 use mathlib.Core.Option.{some, some-injective, some-ne-none}
 use lib.ListN.{get_elem?}
 use Rattle.std.proofs.lemmas.List.Sums.{sum_by-cons}
-use Rattle.cn_spec.specs.Sums.{sum_below}
 
 module _ {X : Type 0} where
   -- the total where one view changes
@@ -51,8 +50,3 @@ module _ {X : Type 0} where
       let part = part_le g xs i v at in
       let none : g x ≡ 0 = omega (arith, sum_by-cons g x xs) in
       omega (arith, h 0 x refl none, sum_by-cons f x xs, mine_alone f g xs i v at (λ j y a. h (suc j) y a) (omega (arith, sum_by-cons g x xs)))
-
--- one place more
-pub sum_below-next : (f : ℕ → ℕ) (n : ℕ) → sum_below (n + 1) f ≡ sum_below n f + f n
-unfolding sum_below
-sum_below-next f n = let e : n + 1 ≡ suc n = omega arith in rw e refl

@@ -21,7 +21,7 @@ ghost use Rattle.cn_walk.specs.Words.{clients_in, word_count};
 use crate::fault::{JoinFault, LaneFault, OpenFault, SplitFault};
 use crate::view::{Grant, View};
 use atomic_table::Seat;
-use closing::{Room, clients_of, counts_since, passes_since};
+use closing::{Room, clients_of, read_since};
 use cn_balancer::output_of;
 use cn_core::Moved;
 use cn_exit::name_of;
@@ -390,8 +390,8 @@ impl<'a> Floor<'a> {
         } = lane;
         let Room {
             words,
-            counts,
-            passes,
+            mut counts,
+            mut passes,
         } = room;
         let words = counters.close(seat, words);
         let entered = clients_of(network, words.as_slice()) - carried;
@@ -403,8 +403,13 @@ impl<'a> Floor<'a> {
                 grants,
             });
         }
-        let counts = counts_since(network, words.as_slice(), before.as_slice(), counts);
-        let passes = passes_since(network, words.as_slice(), before.as_slice(), passes);
+        read_since(
+            network,
+            words.as_slice(),
+            before.as_slice(),
+            &mut counts,
+            &mut passes,
+        );
         Ok(Quiet {
             alloc,
             lane: told,

@@ -1,6 +1,6 @@
 //! A worker that walks its clients through one lane.
 
-ghost use Rattle.std.specs.Prelude.{◌≡◌, ℕ, ◌<◌, ◌≤◌, [], All, length};
+ghost use Rattle.std.specs.Prelude.{◌≡◌, ℕ, ◌+◌, ◌<◌, ◌≤◌, [], All, length};
 ghost use Rattle.cn_yard.specs.Lists.{tokens_in};
 ghost use Rattle.cn_walk.specs.Walks.{WalksAll, Walks, inside_by};
 
@@ -10,12 +10,13 @@ use cn_core::Client;
 use cn_wiring::End;
 use std::sync::Wait;
 
-/// Lets the clients in, one after the other.
+/// Lets the clients in, one after the other, where no more than `hand` are inside then. The hand is for the proof alone.
 fn walk_in<'a, G: Gate, R: Wait>(
     rt: &R,
     floor: &Floor<'a>,
     lane: &mut Lane,
     clients: &[Client],
+    _hand: u32,
     gate: &G,
     worker: u32,
 )
@@ -23,6 +24,7 @@ fn walk_in<'a, G: Gate, R: Wait>(
     requires entries { All (λ c. c.entry < floor.now.start.network.table.entries) clients.now }
     requires quota { length clients.now ≤ lane.old.view.quota }
     requires room { length clients.now ≤ lane.old.room }
+    requires hand { tokens_in lane.old.yard.lists + length clients.now ≤ _hand }
     ensures { Walks lane.old lane.new clients.now }
 {
     for client in clients {
@@ -79,7 +81,7 @@ pub fn walk_all<'a, G: Gate, R: Wait>(
     let mut rest = clients;
     while !rest.is_empty() {
         let (next, later) = rest.split_at(rest.len().min(hand as usize));
-        walk_in(rt, floor, &mut lane, next, gate, worker);
+        walk_in(rt, floor, &mut lane, next, hand, gate, worker);
         walk_out(rt, floor, &mut lane, gate, worker);
         rest = later;
     }

@@ -61,36 +61,23 @@ fn risen(to: &mut Vec<u64>, words: &[u64], before: &[u64], from: usize, count: u
     }
 }
 
-/// How many left by each exit, from the words before to the words now.
-pub(super) fn counts_since(
+/// How many left by each exit and passed each balancer, from the words before to the words now.
+pub(super) fn read_since(
     network: &Counting,
     words: &[u64],
     before: &[u64],
-    mut counts: Vec<u64>,
-) -> Vec<u64>
+    counts: &mut Vec<u64>,
+    passes: &mut Vec<u64>,
+)
     requires words { (length words.now ≡ word_count network.now.table) × (length before.now ≡ word_count network.now.table) }
     requires risen { NoneFell network.now.table before.now words.now }
-    requires room { (counts.items ≡ []) × (network.now.table.width ≤ vec_capacity counts) }
-    ensures { result.items ≡ counts_of (record { network = network.now; quota = 0; carried = before.now }) words.now }
-{
-    let first = 1 + network.entries() as usize + network.balancers() as usize;
-    risen(&mut counts, words, before, first, network.width());
-    counts
-}
-
-/// How many passed each balancer, from the words before to the words now.
-pub(super) fn passes_since(
-    network: &Counting,
-    words: &[u64],
-    before: &[u64],
-    mut passes: Vec<u64>,
-) -> Vec<u64>
-    requires words { (length words.now ≡ word_count network.now.table) × (length before.now ≡ word_count network.now.table) }
-    requires risen { NoneFell network.now.table before.now words.now }
-    requires room { (passes.items ≡ []) × (network.now.table.balancers ≤ vec_capacity passes) }
-    ensures { result.items ≡ passes_of (record { network = network.now; quota = 0; carried = before.now }) words.now }
+    requires counts { (counts.old.items ≡ []) × (network.now.table.width ≤ vec_capacity counts.old) }
+    requires passes { (passes.old.items ≡ []) × (network.now.table.balancers ≤ vec_capacity passes.old) }
+    ensures counts { counts.new.items ≡ counts_of (record { network = network.now; quota = 0; carried = before.now }) words.now }
+    ensures passes { passes.new.items ≡ passes_of (record { network = network.now; quota = 0; carried = before.now }) words.now }
 {
     let first = 1 + network.entries() as usize;
-    risen(&mut passes, words, before, first, network.balancers());
-    passes
+    let exits = first + network.balancers() as usize;
+    risen(passes, words, before, first, network.balancers());
+    risen(counts, words, before, exits, network.width());
 }

@@ -29,8 +29,8 @@ invariant_of-result c =
       quiet = subst (λ (z : Start × View). IsQuiet z.0 z.1 ws) (λ i. (about i, view i)) quiet;
       network = network ∙ ap (λ (s : Start). s.network) about;
       grants = c.lane.invariant.grants ∙ ap (λ (x : View). x.grants) view;
-      counts = c.counts_since-counts.ensures
+      counts = c.read_since.ensures.counts
           ∙ ((λ i. counts_of (record { network = network i; quota = 0; carried = (c.as_slice-3.ensures.value ∙ c.self.invariant.words) i }) (c.as_slice-2.ensures.value i)) ∙ ap (λ (s : Start). counts_of s ws) about);
-      passes = c.passes_since-passes.ensures
-          ∙ ((λ i. passes_of (record { network = network i; quota = 0; carried = (c.as_slice-5.ensures.value ∙ c.self.invariant.words) i }) (c.as_slice-4.ensures.value i)) ∙ ap (λ (s : Start). passes_of s ws) about);
+      passes = c.read_since.ensures.passes
+          ∙ ((λ i. passes_of (record { network = network i; quota = 0; carried = (c.as_slice-3.ensures.value ∙ c.self.invariant.words) i }) (c.as_slice-2.ensures.value i)) ∙ ap (λ (s : Start). passes_of s ws) about);
     }
