@@ -15,6 +15,8 @@ mod own_threads;
 #[cfg(test)]
 mod refusals;
 #[cfg(test)]
+mod sweeps;
+#[cfg(test)]
 mod threads;
 #[cfg(test)]
 mod two_lanes;

@@ -106,8 +106,8 @@ its next clients until it has H tokens in hand, walks them all out, and goes on
 so. With one worker the batch and H settle the output; with several it is open
 which client gets which name.
 
-Either form is held whole before it is written: a run that does not end well
-prints nothing.
+Either form is held whole before it is written: a run prints nothing before its
+last epoch has ended.
 
 A batch is refused at its first wrong record, by a line on standard error:
 

@@ -1,0 +1,122 @@
+//! The tokens of one wire go by its end in one step.
+
+ghost use Rattle.std.specs.Prelude.{◌≡◌};
+
+use crate::one_lane::step;
+use crate::walks::{close, enter, open};
+use cn_bitonic::bitonic;
+use cn_core::Moved;
+use cn_walk::{Floor, Grant, Lane, Sweep};
+use std::alloc::Global;
+use std::test::Fail;
+
+/// What a lane is answered, the grants that it has then, and the counts of the exits.
+#[derive(Clone, Copy, Debug, PartialEq, Eq)]
+struct Told {
+    step: Option<Moved>,
+    sweeps: [Option<Sweep>; 3],
+    grants: [Grant; 4],
+    counts: [u64; 2],
+}
+
+/// Sweeps a wire, where it is the lowest with a token.
+fn sweep(floor: &Floor<'_>, lane: &mut Lane, wire: u32) -> Option<Sweep>
+    requires { lane.old.home ≡ floor.now }
+    ensures { lane.new.home ≡ lane.old.home }
+{
+    match lane.lowest() {
+        Some(lowest) if lowest == wire => Some(floor.sweep(lane, lowest)),
+        _ => None,
+    }
+}
+
+/// Client 1 comes in by entry 1 and steps; 2, 3 and 4 come in by entry 0.
+fn come_in(floor: &Floor<'_>, lane: &mut Lane) -> Option<Option<Moved>>
+    requires { lane.old.home ≡ floor.now }
+    ensures { lane.new.home ≡ lane.old.home }
+{
+    let token = enter(floor, lane, 1, 1).ok()?;
+    let moved = step(floor, lane, token);
+    enter(floor, lane, 2, 0).ok()?;
+    enter(floor, lane, 3, 0).ok()?;
+    enter(floor, lane, 4, 0).ok()?;
+    Some(moved)
+}
+
+/// They come in, and the wires 0, 2 and 3 are swept.
+fn swept(floor: Floor<'_>, mut lane: Lane) -> Option<Told>
+    requires { lane.home ≡ floor }
+{
+    let step = come_in(&floor, &mut lane)?;
+    let sweeps = [
+        sweep(&floor, &mut lane, 0),
+        sweep(&floor, &mut lane, 2),
+        sweep(&floor, &mut lane, 3),
+    ];
+    let quiet = close(floor, lane)?;
+    let [a, b, c, d] = quiet.grants() else {
+        return None;
+    };
+    let [first, second] = quiet.counts() else {
+        return None;
+    };
+    Some(Told {
+        step,
+        sweeps,
+        grants: [*a, *b, *c, *d],
+        counts: [*first, *second],
+    })
+}
+
+/// The same, on a floor of its own.
+fn four_clients(alloc: Global) -> Option<Told> {
+    let network = bitonic(alloc, 2).ok()?;
+    let (floor, lane) = open(alloc, &network, 4)?;
+    swept(floor, lane)
+}
+
+fn grant(client: u64, exit: u32, visit: u64, name: u64) -> Grant {
+    Grant {
+        client,
+        exit,
+        visit,
+        name,
+    }
+}
+
+#[test]
+fn bulk_pass(rt: HostRuntime) -> Result<(), Fail> {
+    let wanted = Told {
+        step: Some(Moved::On {
+            balancer: 0,
+            number: 0,
+            wire: 2,
+        }),
+        sweeps: [
+            Some(Sweep::On {
+                balancer: 0,
+                first: 1,
+                tokens: 3,
+            }),
+            Some(Sweep::Out {
+                exit: 0,
+                first: 0,
+                tokens: 2,
+            }),
+            Some(Sweep::Out {
+                exit: 1,
+                first: 0,
+                tokens: 2,
+            }),
+        ],
+        grants: [
+            grant(1, 0, 0, 0),
+            grant(3, 0, 1, 2),
+            grant(2, 1, 0, 1),
+            grant(4, 1, 1, 3),
+        ],
+        counts: [2, 2],
+    };
+    assert_eq!(rt; four_clients(rt.alloc()), Some(wanted));
+    Ok(())
+}
