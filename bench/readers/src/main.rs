@@ -1,6 +1,11 @@
 //! The peers of the jobs that read CSV, in plain Rust without contracts: `readers check` reads a grant list of width 4 and
 //! prints the tight text, `readers run` reads a batch for the tree of width 2, walks each client straight through, and
-//! prints the report. `readers add` adds to an atomic word a hundred million times.
+//! prints the report. `readers walk NETWORK WIDTH WORKERS HAND FORM` reads a batch for the bitonic network or the tree and
+//! walks its clients as `renamer run` does, by single steps. `readers add` adds to an atomic word a hundred million times.
+
+#[path = "../../plain/src/network.rs"]
+mod network;
+mod walks;
 
 use csv::{ByteRecord, Reader, ReaderBuilder};
 use indexmap::IndexSet;
@@ -8,6 +13,7 @@ use std::fmt::Write as _;
 use std::io::{self, Stdin, Write as _};
 use std::process::ExitCode;
 use std::sync::atomic::{AtomicU64, Ordering};
+use walks::{Floor, Workers};
 
 type Refused = String;
 
@@ -114,12 +120,17 @@ fn check() -> Result<String, Refused> {
 
 // ---- run
 
-struct Epoch {
-    number: u64,
-    clients: Vec<u64>,
+struct Client {
+    id: u64,
+    entry: u64,
 }
 
-fn read_batch() -> Result<Vec<Epoch>, Refused> {
+struct Epoch {
+    number: u64,
+    clients: Vec<Client>,
+}
+
+fn read_batch(entries: u64) -> Result<Vec<Epoch>, Refused> {
     let mut rows = open([b"epoch", b"client", b"entry"])?;
     let mut row = ByteRecord::new();
     let mut epochs: Vec<Epoch> = Vec::new();
@@ -131,7 +142,7 @@ fn read_batch() -> Result<Vec<Epoch>, Refused> {
         if epochs.last().is_some_and(|latest| number < latest.number) {
             return Err(format!("record {at}: EpochBackwards"));
         }
-        if entry >= 1 {
+        if entry >= entries {
             return Err(format!("record {at}: EntryRange"));
         }
         if epochs.last().map_or(true, |latest| number > latest.number) {
@@ -141,7 +152,7 @@ fn read_batch() -> Result<Vec<Epoch>, Refused> {
         if !standing.insert(client) {
             return Err(format!("record {at}: Duplicate"));
         }
-        epochs.last_mut().unwrap().clients.push(client);
+        epochs.last_mut().unwrap().clients.push(Client { id: client, entry });
     }
     Ok(epochs)
 }
@@ -164,7 +175,7 @@ fn put_epoch(text: &mut String, epoch: &Epoch) {
     let tree = Tree::default();
     let mut holders = vec![0; epoch.clients.len()];
     for client in &epoch.clients {
-        holders[tree.walk() as usize] = *client;
+        holders[tree.walk() as usize] = client.id;
     }
     writeln!(text, "epoch {} clients {}", epoch.number, holders.len()).unwrap();
     for (exit, count) in tree.exits.iter().enumerate() {
@@ -176,13 +187,52 @@ fn put_epoch(text: &mut String, epoch: &Epoch) {
 }
 
 fn run() -> Result<String, Refused> {
-    let epochs = read_batch()?;
+    let epochs = read_batch(1)?;
     let mut text = String::from("network tree width 2 balancers 1 depth 1\n");
     for epoch in &epochs {
         put_epoch(&mut text, epoch);
     }
     let grants: usize = epochs.iter().map(|epoch| epoch.clients.len()).sum();
     writeln!(text, "end epochs {} grants {grants}", epochs.len()).unwrap();
+    Ok(text)
+}
+
+// ---- walk
+
+fn put_walked(text: &mut String, floor: &Floor, width: usize, epoch: &Epoch, holders: &[u64]) {
+    writeln!(text, "epoch {} clients {}", epoch.number, holders.len()).unwrap();
+    for exit in 0..width {
+        writeln!(text, "exit {exit} count {}", floor.count(exit)).unwrap();
+    }
+    for (name, client) in holders.iter().enumerate() {
+        writeln!(text, "name {name} client {client}").unwrap();
+    }
+}
+
+fn put_grants(text: &mut String, epoch: &Epoch, holders: &[u64]) {
+    for (name, client) in holders.iter().enumerate() {
+        writeln!(text, "{},{client},{name}", epoch.number).unwrap();
+    }
+}
+
+fn walk(words: &[String]) -> Result<String, Refused> {
+    let [kind, width, workers, hand, form] = words else {
+        return Err("readers walk NETWORK WIDTH WORKERS HAND FORM".to_string());
+    };
+    let size = |word: &String| word.parse::<usize>().map_err(|e| e.to_string());
+    let (width, workers, hand) = (size(width)?, size(workers)?, size(hand)?);
+    let floor = Floor::new(kind, width);
+    let mut workers = Workers::new(&floor, workers, hand);
+    let epochs = read_batch(floor.entries() as u64)?;
+    let mut text = String::new();
+    for epoch in &epochs {
+        let holders = workers.run(&floor, epoch);
+        if form == "grants" {
+            put_grants(&mut text, epoch, &holders);
+        } else {
+            put_walked(&mut text, &floor, width, epoch, &holders);
+        }
+    }
     Ok(text)
 }
 
@@ -196,11 +246,13 @@ fn add() -> Result<String, Refused> {
 }
 
 fn main() -> ExitCode {
-    let done = match std::env::args().nth(1).as_deref() {
+    let words: Vec<String> = std::env::args().skip(1).collect();
+    let done = match words.first().map(String::as_str) {
         Some("check") => check(),
         Some("run") => run(),
+        Some("walk") => walk(&words[1..]),
         Some("add") => add(),
-        _ => Err("readers check | run | add".to_string()),
+        _ => Err("readers check | run | walk | add".to_string()),
     };
     match done {
         Ok(text) => {

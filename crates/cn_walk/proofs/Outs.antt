@@ -3,8 +3,8 @@ use Rattle.std.proofs.Common.{◌≡◌, ℕ, suc, ◌+◌, ◌-◌, ◌<◌, �
 use Rattle.std.proofs.lemmas.List.{append_assoc, length_push}
 use Rattle.cn_spec.specs.Step.{name_of}
 use Rattle.cn_yard.specs.Deals.{Frees}
-use Rattle.cn_yard.specs.Lists.{IsThere, Releases, Yard, first_of, on, standing, times_in}
-use Rattle.cn_yard.proofs.CallerLemmas.{first-there, once-gone, rest-on, there-alike}
+use Rattle.cn_yard.specs.Lists.{IsThere, Releases, Yard, on, standing, times_in}
+use Rattle.cn_yard.proofs.CallerLemmas.{IsFirst, first-there, once-gone, rest-on, there-alike}
 use Rattle.cn_walk.specs.declared.view.Grant.{Grant}
 use Rattle.cn_walk.specs.Sweeps.{grants_out}
 
@@ -54,21 +54,6 @@ leaving width less i first wire old had once = record {
   once = once;
   wires = refl;
 }
-
--- the first token of those that stand there
-pub record IsFirst (wire : ℕ) (y : Yard) (token : ℕ) : Type 0 where
-  pub client : ℕ
-  pub after : List (ℕ × ℕ)
-  pub begins : on y.lists wire ≡ (token, client) ∷ after
-
-pub first-is : (wire token : ℕ) (y : Yard) → Some token ≡ first_of (on y.lists wire) → IsFirst wire y token
-first-is wire token y first = by (on y.lists wire) refl first
-  where
-    by : (es : List (ℕ × ℕ)) → on y.lists wire ≡ es → Some token ≡ first_of es → IsFirst wire y token
-    by [] is h = cc h
-    by (e ∷ es) is h =
-        let same : e.0 ≡ token = cc (sym h) in
-        record { client = e.1; after = es; begins = is ∙ (λ i. (same i, e.1) ∷ es) }
 
 module _ (width less i first wire : ℕ) (old y : Yard) (had has : List Grant) (visit token : ℕ) (is : IsLeaving width less i first wire old y had has visit)
     (inside : wire < length old.lists) (next : IsFirst wire y token) where
@@ -124,7 +109,3 @@ pub left-all : (width less i first wire : ℕ) (old now : Yard) (had has : List 
 left-all width less i first wire old now had has visit is none =
     let whole : on old.lists wire ≡ is.done = is.whole ∙ ap (λ (es : List (ℕ × ℕ)). is.done ++ es) (sym is.left ∙ none) ∙ append-nil is.done in
     (subst (λ (es : List (ℕ × ℕ)). Frees es old now) (sym whole) is.freed, is.granted ∙ ap (λ (es : List (ℕ × ℕ)). had ++ grants_out width less i first es) (sym whole))
-
-pub none-first : (es : List (ℕ × ℕ)) → ((token : ℕ) → first_of es ≡ Some token → ⊥) → es ≡ []
-none-first [] none = refl
-none-first (e ∷ es) none = absurd (none e.0 refl)

@@ -10,4 +10,4 @@ pub use Rattle.cn_yard.proofs.Keyed.{without-none, without-one}
 -- where a token stands
 pub use Rattle.cn_yard.proofs.There.{nobody-on, there, there-alike, there-stands}
 -- the first token of a wire, taken off it
-pub use Rattle.cn_yard.proofs.Taken.{first-there, once-gone, once-moved, others-on, rest-on}
+pub use Rattle.cn_yard.proofs.Taken.{IsFirst, first-is, first-there, none-first, once-gone, once-moved, others-on, rest-on}

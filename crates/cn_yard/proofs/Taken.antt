@@ -7,7 +7,7 @@ use Rattle.std.proofs.lemmas.List.{get_or_past}
 use Rattle.std.proofs.lemmas.List.Sums.{sum_by-append, sum_by-cons}
 use Rattle.cn_spec.specs.Sums.{sum_below, when}
 use Rattle.cn_spec.proofs.CallerLemmas.{sum_below-one, sum_below-part, sum_below-parts, sum_below-shift, sum_below-zero}
-use Rattle.cn_yard.specs.Lists.{IsThere, Lists, last_on, on, times_in, without}
+use Rattle.cn_yard.specs.Lists.{IsThere, Lists, Yard, first_of, last_on, on, times_in, without}
 use Rattle.cn_yard.proofs.Keyed.{found-once, last_on-sum}
 use Rattle.cn_yard.proofs.Standings.{standing-only}
 use Rattle.cn_yard.proofs.There.{there}
@@ -102,3 +102,24 @@ module _ (y : Lists) (token client wire : ℕ) (rest : List (ℕ × ℕ)) (once 
         λ u l. omega (arith, ap (sum_by f) (lists u), first-there.less u f) in
         let moved = sum_below-shift (length y) (λ u. sum_by f (on z u)) moved_from (λ u. sum_by f (on y u)) (λ _. 0) each in
         omega (arith, once k, all_z, moved, sum_below-zero (length y) (λ _. 0) (λ _. refl))
+
+-- ---- the first token of a wire, as a yard tells it
+
+pub record IsFirst (wire : ℕ) (y : Yard) (token : ℕ) : Type 0 where
+  pub client : ℕ
+  pub after : List (ℕ × ℕ)
+  pub begins : on y.lists wire ≡ (token, client) ∷ after
+
+pub first-is : (wire token : ℕ) (y : Yard) → Some token ≡ first_of (on y.lists wire) → IsFirst wire y token
+first-is wire token y first = by (on y.lists wire) refl first
+  where
+    by : (es : List (ℕ × ℕ)) → on y.lists wire ≡ es → Some token ≡ first_of es → IsFirst wire y token
+    by [] is h = cc h
+    by (e ∷ es) is h =
+        let same : e.0 ≡ token = cc (sym h) in
+        record { client = e.1; after = es; begins = is ∙ (λ i. (same i, e.1) ∷ es) }
+
+-- a wire without a first token is empty
+pub none-first : (es : List (ℕ × ℕ)) → ((token : ℕ) → first_of es ≡ Some token → ⊥) → es ≡ []
+none-first [] none = refl
+none-first (e ∷ es) none = absurd (none e.0 refl)

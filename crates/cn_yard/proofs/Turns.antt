@@ -5,7 +5,7 @@ use Rattle.std.proofs.lemmas.Bool.{cases_eq, eq-eqb, ne_eqb}
 use Rattle.std.proofs.lemmas.List.{append_assoc, length_push}
 use Rattle.cn_yard.specs.Deals.{Deals, IsDealt, every_second, out_of}
 use Rattle.cn_yard.specs.Lists.{Moves, Yard, first_of, last_on, on, standing, times_in, tokens_in, without}
-use Rattle.cn_yard.proofs.Taken.{first-there, once-moved, others-on, rest-on}
+use Rattle.cn_yard.proofs.Taken.{IsFirst, first-there, once-moved, others-on, rest-on}
 
 -- ---- one after the other
 
@@ -48,22 +48,7 @@ begins outs output wire old low once = record {
   wires = refl;
 }
 
--- the first token of those that stand there
-pub record IsNext (wire : ℕ) (y : Yard) (token : ℕ) : Type 0 where
-  pub client : ℕ
-  pub after : List (ℕ × ℕ)
-  pub begins : on y.lists wire ≡ (token, client) ∷ after
-
-pub next-of : (wire token : ℕ) (y : Yard) → Some token ≡ first_of (on y.lists wire) → IsNext wire y token
-next-of wire token y first = by (on y.lists wire) refl first
-  where
-    by : (es : List (ℕ × ℕ)) → on y.lists wire ≡ es → Some token ≡ first_of es → IsNext wire y token
-    by [] is h = cc h
-    by (e ∷ es) is h =
-        let same : e.0 ≡ token = cc (sym h) in
-        record { client = e.1; after = es; begins = is ∙ (λ i. (same i, e.1) ∷ es) }
-
-module _ (outs : ℕ → ℕ) (output wire : ℕ) (old y : Yard) (turn token : ℕ) (is : IsDealing outs output wire old y turn) (inside : wire < length old.lists) (next : IsNext wire y token) where
+module _ (outs : ℕ → ℕ) (output wire : ℕ) (old y : Yard) (turn token : ℕ) (is : IsDealing outs output wire old y turn) (inside : wire < length old.lists) (next : IsFirst wire y token) where
   within : wire < length y.lists
   within = omega (arith, inside, is.wires)
 
@@ -102,11 +87,6 @@ pub ends : (outs : ℕ → ℕ) (output wire : ℕ) (old now : Yard) (turn : ℕ
 ends outs output wire old now turn is none =
     let whole : on old.lists wire ≡ is.done = is.whole ∙ ap (λ (es : List (ℕ × ℕ)). is.done ++ es) (sym is.left ∙ none) ∙ append-nil is.done in
     subst (λ (es : List (ℕ × ℕ)). Deals outs output es old now) (sym whole) is.dealt
-
--- a wire without a first token is empty
-pub none-first : (es : List (ℕ × ℕ)) → ((token : ℕ) → first_of es ≡ Some token → ⊥) → es ≡ []
-none-first [] none = refl
-none-first (e ∷ es) none = absurd (none e.0 refl)
 
 -- ---- where the tokens stand then
 

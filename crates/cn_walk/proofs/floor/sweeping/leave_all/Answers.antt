@@ -1,7 +1,8 @@
 use Rattle.std.proofs.Common.{◌≡◌, ℕ, ◌-◌, ◌++◌, ◌∷◌, [], sym, ◌∙◌, arith, rules}
 use Rattle.cn_spec.specs.Step.{name_of}
 use Rattle.cn_yard.specs.Lists.{on}
-use Rattle.cn_walk.proofs.Outs.{IsFirst, client-is, first-is, has-many, leaves-on, leaving, left-all, none-first, one-less, some-left, stands}
+use Rattle.cn_yard.proofs.CallerLemmas.{IsFirst, first-is, none-first}
+use Rattle.cn_walk.proofs.Outs.{client-is, has-many, leaves-on, leaving, left-all, one-less, some-left, stands}
 use Rattle.cn_walk.proofs.floor.sweeping.leave_all.Goals as goal
 
 pub loop-token-init : goal.loop-token-init

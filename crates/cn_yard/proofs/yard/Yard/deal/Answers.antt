@@ -1,16 +1,17 @@
 use Rattle.std.proofs.Common.{◌≡◌, ◌<◌, ◌≢◌, ℕ, [], length, sym, ◌∙◌, arith, rules}
 use Rattle.cn_yard.specs.Deals.{Deals, out_of}
 use Rattle.cn_yard.specs.Lists.{Moves, on}
-use Rattle.cn_yard.proofs.Turns.{IsNext, begins, dealt, either-out, ends, fewer, goes-on, next-of, next-stands, none-first}
+use Rattle.cn_yard.proofs.Turns.{begins, dealt, either-out, ends, fewer, goes-on, next-stands}
+use Rattle.cn_yard.proofs.Taken.{IsFirst, first-is, none-first}
 use Rattle.cn_yard.proofs.yard.Yard.deal.Goals.{After-wire_of_output, After-yard_laws-in-Some, In_default}
 use Rattle.cn_yard.proofs.yard.Yard.deal.Goals as goal
 
 -- the first token of the wire is the next
-next : (c : After-wire_of_output) → IsNext c.args.wire c.loop-token.self c.in-Some.token
-next c = next-of c.args.wire c.in-Some.token c.loop-token.self (sym c.in-Some.is ∙ c.first.ensures)
+next : (c : After-wire_of_output) → IsFirst c.args.wire c.loop-token.self c.in-Some.token
+next c = first-is c.args.wire c.in-Some.token c.loop-token.self (sym c.in-Some.is ∙ c.first.ensures)
 
-moving : (c : After-yard_laws-in-Some) → IsNext c.args.wire c.loop-token.self c.in-Some.token
-moving c = next-of c.args.wire c.in-Some.token c.loop-token.self (sym c.in-Some.is ∙ c.first.ensures)
+moving : (c : After-yard_laws-in-Some) → IsFirst c.args.wire c.loop-token.self c.in-Some.token
+moving c = first-is c.args.wire c.in-Some.token c.loop-token.self (sym c.in-Some.is ∙ c.first.ensures)
 
 -- the wire that it comes to
 lands : (wires out0 out1 output to : ℕ) → to ≡ out_of out0 out1 output → out0 < wires → out1 < wires → to < wires

@@ -1,0 +1,89 @@
+#!/usr/bin/env bash
+# Compares the processor time of `renamer run` with a plain Rust peer that does the same work by single steps, with linked
+# tokens and words that are cleared, in turn: full batches (16 epochs of 65,536 clients with random identities and entries)
+# on bitonic 64 with hands of 1 and of 64 and on the tree of width 64, by one worker and by four; 65,536 epochs of one
+# client; and a Python script that keeps a dict from client to name. The last line is what one more balancer on a token's
+# way costs, in uncontended atomic adds. The peers take `csv` and `indexmap` from a folder of crates: the argument, or that
+# of Debian's packages librust-csv-dev and librust-indexmap-dev. Times by four workers are told beside those by one, with
+# the time by the clock: threads may wait.
+set -euo pipefail
+cd "$(dirname "$0")"
+crates=${1:-/usr/share/cargo/registry}
+
+../renamer --help > /dev/null
+(cd readers && cargo build --quiet --release --offline \
+    --config 'source.crates-io.replace-with="folder"' --config "source.folder.directory=\"$crates\"")
+proved=../crates/renamer/out/renamer
+plain=readers/target/release/readers
+
+work=$(mktemp -d)
+trap 'rm -rf -- "$work"' EXIT
+
+python3 - "$proved" "$plain" "$work" <<'P'
+import random, resource, subprocess, sys, time
+
+proved, plain, work = sys.argv[1:]
+EPOCHS, CLIENTS, RUNS = 16, 65_536, 5
+chance = random.Random(1996)
+
+def write(name, rows):
+    path = f"{work}/{name}"
+    with open(path, "w") as text:
+        text.write("epoch,client,entry\n")
+        text.writelines(f"{epoch},{client},{entry}\n" for epoch, client, entry in rows)
+    return path
+
+def full(entries):
+    return ((epoch, chance.getrandbits(64), chance.randrange(entries)) for epoch in range(EPOCHS) for _ in range(CLIENTS))
+
+many, one = write("many", full(64)), write("one", full(1))
+tiny = write("tiny", ((epoch, 7, 0) for epoch in range(65_536)))
+
+def spent(words, path):
+    before, began = resource.getrusage(resource.RUSAGE_CHILDREN), time.perf_counter()
+    with open(path) as text:
+        subprocess.run(words, stdin=text, stdout=subprocess.DEVNULL, check=True)
+    after, took = resource.getrusage(resource.RUSAGE_CHILDREN), time.perf_counter() - began
+    return after.ru_utime + after.ru_stime - before.ru_utime - before.ru_stime, took
+
+def ours(network, workers, hand, form="report"):
+    return [proved, "run", "--network", network, "--width", "64", "--workers", str(workers), "--hand", str(hand), "--form", form]
+
+def peer(network, workers, hand, form="report"):
+    return [plain, "walk", network, "64", str(workers), str(hand), form]
+
+def compare(name, first, second, path):
+    pairs = [(spent(first, path), spent(second, path)) for _ in range(RUNS)]
+    a, b = sum(p[0][0] for p in pairs), sum(p[1][0] for p in pairs)
+    c, d = sum(p[0][1] for p in pairs), sum(p[1][1] for p in pairs)
+    print(f"{name}: ratio {a / b:.2f} ({a:.2f} s, {b:.2f} s for {RUNS} runs each); by the clock {c / d:.2f} ({c:.2f} s, {d:.2f} s)", flush=True)
+    return a / RUNS
+
+compare("bitonic 64, one worker, hand 1", ours("bitonic", 1, 1), peer("bitonic", 1, 1), many)
+compare("bitonic 64, one worker, hand 64", ours("bitonic", 1, 64), peer("bitonic", 1, 64), many)
+compare("tree 64, one worker, hand 1", ours("tree", 1, 1), peer("tree", 1, 1), one)
+compare("bitonic 64, four workers, hand 1", ours("bitonic", 4, 1), peer("bitonic", 4, 1), many)
+compare("bitonic 64, four workers against one", ours("bitonic", 4, 1), ours("bitonic", 1, 1), many)
+compare("65,536 epochs of one client, grants", ours("bitonic", 1, 1, "grants"), peer("bitonic", 1, 1, "grants"), tiny)
+
+script = f"{work}/script.py"
+with open(script, "w") as text:
+    text.write("""import csv, sys
+rows = csv.reader(sys.stdin)
+next(rows)
+names, lines, latest = {}, ["epoch,client,name\\n"], None
+for epoch, client, entry in rows:
+    if epoch != latest:
+        latest, names = epoch, {}
+    names[int(client)] = len(names)
+    lines.append(f"{epoch},{client},{names[int(client)]}\\n")
+sys.stdout.writelines(lines)
+""")
+compare("bitonic 64 against a Python script, grants", ours("bitonic", 1, 1, "grants"), [sys.executable, script], many)
+
+adds = sum(spent([plain, "add"], "/dev/null")[0] for _ in range(2)) / 2 / 100_000_000
+deep = sum(spent(ours("bitonic", 1, 1), one)[0] for _ in range(RUNS)) / RUNS
+flat = sum(spent(ours("tree", 1, 1), one)[0] for _ in range(RUNS)) / RUNS
+step = (deep - flat) / (15 * EPOCHS * CLIENTS)
+print(f"one more balancer: {step / adds:.2f} adds ({step * 1e9:.1f} ns, {adds * 1e9:.1f} ns an add)")
+P
