@@ -7,8 +7,8 @@
 #
 # Of a core over the bitonic network of width 64, with 60,000 clients: where each is walked out before the next enters, so
 # that one token is inside, and where all enter and then each takes one step after the other; less what the enters take.
-# What a look-up in the table of clients takes is measured with look-ups in the place of the steps. The program, core/, is
-# proved and built in a copy of the crates that it uses.
+# What a look-up in the table of clients takes is measured with look-ups in the place of the steps. The program,
+# core/main.rattle, is proved and built in a copy of the crates that it uses.
 set -euo pipefail
 cd "$(dirname "$0")"
 crates=${1:-/usr/share/cargo/registry}
@@ -25,7 +25,8 @@ for crate in cn_spec cn_balancer cn_wiring cn_bitonic cn_yard cn_exit cn_names c
     cp -r "../crates/$crate" "$work/crates"
     grep "^$crate:" ../crates.txt >> "$work/crates.txt"
 done
-cp -r core "$work/crates/core_steps"
+mkdir -p "$work/crates/core_steps/src"
+cp core/main.rattle "$work/crates/core_steps/src/main.rt"
 echo 'core_steps: cn_bitonic cn_core' >> "$work/crates.txt"
 cp ../HANDLES "$work"
 (cd "$work/crates/core_steps" && rt run -- enter) >&2

@@ -9,7 +9,7 @@ use Rattle.cn_spec.specs.declared.limits.TheConstants.{MOST_TOKENS}
 use Rattle.cn_yard.specs.declared.yard.Yard.TheInside.{Inside}
 use Rattle.cn_yard.specs.declared.records.Record.{Record}
 use Rattle.cn_yard.specs.declared.lines.Line.{Line}
-use Rattle.cn_yard.specs.Lists.{Admits, Moves, Releases, standing, tokens_in}
+use Rattle.cn_yard.specs.Lists.{Admits, Moves, Releases, Yard, standing, tokens_in}
 use Rattle.cn_yard.specs.Chains.{moved}
 use Rattle.cn_yard.specs.Lines.{count_of, line_of, no_line}
 use Rattle.cn_yard.specs.Records.{IsClient, client_of, wire_of}
@@ -113,52 +113,28 @@ last-free y order k some =
     let once = k.lined.links.linked.once (line_of y.lines.items y.wires).last y.wires within in
     (last-below y.records.items y.lines.items order k.lined.links.linked y.wires within some, (grind (arith, nat_tests)))
 
--- a yard to which free records were added where it had none, and the last of them
-pub record HasFree (y z : Inside) (t : ℕ) : Type 0 where
-  pub filled : Filled y z
-  pub order_then : ℕ → List ℕ
-  pub keeps : Keeps z order_then
-  pub lists : lists_of z ≡ lists_of y
-  pub one : count_of z.lines.items y.wires ≡ max 1 (count_of y.lines.items y.wires)
-  pub within : t < length z.records.items
-  pub free : wire_of z.records.items t ≡ y.wires
-
-pub has-free : (y z : Inside) (order : ℕ → List ℕ) (line : Line) → Keeps y order → Filled y z
-    → count_of z.lines.items y.wires ≡ max 1 (count_of y.lines.items y.wires)
-    → line ≡ get_or z.lines.items y.wires line → HasFree y z line.last
-has-free y z order line k fi one at =
-    let (order', keeps, same) = filled y z order k fi in
-    let rows = keeps.wires in let wires = fi.wires in
-    let e : line.last ≡ (line_of z.lines.items y.wires).last = ap (λ (l : Line). l.last) (get_or_read z.lines.items y.wires line (omega arith) at no_line) in
-    let (within, free) = last-free z order' keeps (rw wires (grind arith)) in
-    record {
-      filled = fi;
-      order_then = order';
-      keeps = keeps;
-      lists = lists-same y z order order' k keeps fi.wires same fi.more.client;
-      one = one;
-      within = rw e (rw wires at within);
-      free = rw e (rw wires at free);
-    }
+-- as the code reads the line
+pub free-read : (y : Inside) (order : ℕ → List ℕ) (line : Line) → Keeps y order → 1 ≤ count_of y.lines.items y.wires
+    → line ≡ get_or y.lines.items y.wires line → (line.last < length y.records.items) × (wire_of y.records.items line.last ≡ y.wires)
+free-read y order line k some at =
+    let rows = k.wires in
+    let e : line.last ≡ (line_of y.lines.items y.wires).last = ap (λ (l : Line). l.last) (get_or_read y.lines.items y.wires line (omega arith) at no_line) in
+    rw e (last-free y order k some)
 
 -- a free record that was moved to a wire, and then got a client, is a token that came in
-pub admits-renamed : (x y m z : Inside) (order : ℕ → List ℕ) (t to client : ℕ) → Keeps x order → HasFree x y t
-    → Relinked y m t to → Renamed m z t client → to < x.wires → Admits (yard_of x) (yard_of z) t client to
-admits-renamed x y m z order t to client k has re na h =
-    let order' = has.order_then in
-    let fi = has.filled in
-    let k'' = keeps-renamed m z (moved order' t to) t client (keeps-relinked y m order' t to has.keeps re) na in
+pub admits-renamed : (old : Yard) (y m z : Inside) (order : ℕ → List ℕ) (t to client : ℕ) → Keeps y order → lists_of y ≡ old.lists
+    → count_of y.lines.items y.wires ≡ max 1 old.spare → Relinked y m t to → Renamed m z t client
+    → wire_of y.records.items t ≡ y.wires → to < y.wires → Admits old (yard_of z) t client to
+admits-renamed old y m z order t to client k same spare re na free h =
+    let k' = keeps-renamed m z (moved order t to) t client (keeps-relinked y m order t to k re) na in
     let who = na.new.client t in
     let this : client_of z.records.items t ≡ client = grind (arith, nat_tests) in
-    let free = has.free in
-    let one = has.one in
-    let count = re.move.count x.wires in
-    let left : count_of z.lines.items x.wires ≡ count_of m.lines.items x.wires = ap (λ l. count_of l x.wires) na.lines in
-    let fewer : count_of m.lines.items x.wires + 1 ≡ count_of y.lines.items x.wires = grind (arith, nat_tests) in
-    let len = fi.more.len in let more = fi.more.more in let len' = re.move.len in let len'' = na.new.len in
+    let count = re.move.count y.wires in
+    let left : count_of z.lines.items y.wires ≡ count_of m.lines.items y.wires = ap (λ l. count_of l y.wires) na.lines in
+    let fewer : count_of m.lines.items y.wires + 1 ≡ count_of y.lines.items y.wires = grind (arith, nat_tests) in
     rw (← this)
-    (admits-of x y z order order' t to k has.keeps k'' fi.wires (na.wires ∙ re.wires ∙ fi.wires) has.lists
-    (λ n o. let c = na.new.client n in let d = re.move.client n in grind (arith, nat_tests)) h free (omega arith) (grind arith))
+    (admits-of old y z order t to k k' (na.wires ∙ re.wires) same spare
+    (λ n o. let c = na.new.client n in let d = re.move.client n in grind (arith, nat_tests)) h free (na.new.len ∙ re.move.len) (omega arith))
 
 -- ---- what the bodies leave in the fields
 

@@ -1,6 +1,5 @@
 -- What callers see when a token comes, moves or goes.
-use Rattle.std.proofs.Common.{◌≡◌, ◌≢◌, ℕ, ◌+◌, ◌-◌, ◌<◌, inl, inr, true, false, nat_eq, eqb, List, [], ◌++◌, length, get_or, refl, sym, ap, ◌∙◌, arith, subst, None}
-use Rattle.std.specs.Map.{lookup}
+use Rattle.std.proofs.Common.{max, ◌≡◌, ◌≢◌, ℕ, ◌+◌, ◌-◌, ◌<◌, inl, inr, true, false, eqb, List, [], ◌++◌, length, get_or, refl, sym, ap, ◌∙◌, arith, subst, None}
 use Rattle.std.proofs.lemmas.Bool.{cases_eq, cases_lt}
 use Rattle.std.proofs.lemmas.Bool.Decides.{nat_tests}
 use Rattle.std.proofs.lemmas.List.{append-nil, ext_get_or}
@@ -8,7 +7,7 @@ use Rattle.cn_spec.specs.Sums.{sum_below, times}
 use Rattle.cn_yard.specs.declared.yard.Yard.TheInside.{Inside}
 use Rattle.cn_yard.specs.declared.records.Record.{Record}
 use Rattle.cn_yard.specs.declared.lines.Line.{Line}
-use Rattle.cn_yard.specs.Lists.{Admits, Lists, Moves, Releases, last_on, on, standing, standing_below, tokens_in, without}
+use Rattle.cn_yard.specs.Lists.{Admits, Lists, Moves, Releases, Yard, last_on, on, standing, tokens_in, without}
 use Rattle.cn_yard.specs.Chains.{moved}
 use Rattle.cn_yard.specs.Lines.{count_of}
 use Rattle.cn_yard.specs.Records.{IsClient, client_of, next_of, prev_of, wire_of}
@@ -124,47 +123,38 @@ tokens-same old new e = ap (λ l. sum_below (length l) (λ u. length (get_or l u
 
 -- ---- a move from the free records
 
-pub admits-of : (x y z : Inside) (order order' : ℕ → List ℕ) (t to : ℕ) → Keeps x order → Keeps y order'
-    → Keeps z (moved order' t to) → y.wires ≡ x.wires → z.wires ≡ x.wires → lists_of y ≡ lists_of x
-    → ((n : ℕ) → n ≢ t → client_of z.records.items n ≡ client_of y.records.items n) → to < x.wires
-    → wire_of y.records.items t ≡ x.wires
-    → length z.records.items + count_of x.lines.items x.wires ≡ length x.records.items + count_of z.lines.items x.wires + 1
-    → count_of z.lines.items x.wires ≡ count_of x.lines.items x.wires - 1
-    → Admits (yard_of x) (yard_of z) t (client_of z.records.items t) to
-admits-of x y z order order' t to i k k' wires wires' same clients h free len count =
-    let old = lists_of x in
-    let new = lists_of z in
-    let rows = wires-are x order i in
-    let rows' = wires-are z (moved order' t to) k' in
-    let there : length new ≡ length old = rows' ∙ wires' ∙ sym rows in
-    let fresh : standing old t ≡ None =
-    let mid : standing (lists_of y) t ≡ None = standing-free y order' k t (rw (free, wires) (omega arith)) in
-    let e : length (lists_of y) ≡ length old = ap length same in
-    let mid' : standing_below (length old) (lists_of y) t ≡ None = rw e at mid in
-    sym (standing-same (length old) old (lists_of y) t (λ u. ap (λ l. lookup (nat_eq t) (get_or l u [])) same)) ∙ mid' in
-    record {
+-- the yard before is seen from its lists, since free records may have come since
+pub admits-of : (old : Yard) (y z : Inside) (order : ℕ → List ℕ) (t to : ℕ) → Keeps y order → Keeps z (moved order t to)
+    → z.wires ≡ y.wires → lists_of y ≡ old.lists → count_of y.lines.items y.wires ≡ max 1 old.spare
+    → ((n : ℕ) → n ≢ t → client_of z.records.items n ≡ client_of y.records.items n) → to < y.wires
+    → wire_of y.records.items t ≡ y.wires → length z.records.items ≡ length y.records.items
+    → count_of z.lines.items y.wires + 1 ≡ count_of y.lines.items y.wires
+    → Admits old (yard_of z) t (client_of z.records.items t) to
+admits-of old y z order t to k k' wires same spare clients h free len count =
+    let rows = wires-are y order k in
+    let there : length (lists_of z) ≡ length (lists_of y) = wires-are z (moved order t to) k' ∙ wires ∙ sym rows in
+    let fresh : standing (lists_of y) t ≡ None = standing-free y order k t (rw free (omega arith)) in
+    let client = client_of z.records.items t in
+    let left : count_of z.lines.items z.wires ≡ old.spare - 1 = rw wires (grind arith) in
+    subst (λ (ls : Lists). Admits (record { lists = ls; spare = old.spare }) (yard_of z) t client to) same (record {
       fresh = fresh;
       wires = there;
       lists = lists;
-      spare = rw wires' count;
-      standing_now = standing-added old new t (client_of z.records.items t) to there (omega (arith, rows))
-          (λ u l. rw (lists u) (lookup-added t (client_of z.records.items t) to u (on old u) (lookup-absent (length old) old t fresh u l)))
-          (λ other u n. rw (lists u) (lookup-last other t (client_of z.records.items t) to u (on old u) n));
-      tokens = let a = tokens-are x order i in let b = tokens-at z (moved order' t to) k' x.wires wires' in omega arith;
-    }
+      spare = left;
+      standing_now = standing-added (lists_of y) (lists_of z) t client to there (omega (arith, rows))
+          (λ u l. rw (lists u) (lookup-added t client to u (on (lists_of y) u) (lookup-absent (length (lists_of y)) (lists_of y) t fresh u l)))
+          (λ other u n. rw (lists u) (lookup-last other t client to u (on (lists_of y) u) n));
+      tokens = let a = tokens-are y order k in let b = tokens-at z (moved order t to) k' y.wires wires in omega arith;
+    })
   where
-    here : (u : ℕ) → on (lists_of y) u ≡ on (lists_of x) u
-    here u = ap (λ l. get_or l u []) same
-
-    lists : (u : ℕ) → on (lists_of z) u ≡ on (lists_of x) u ++ last_on t (client_of z.records.items t) to u
-    lists u = elim (cases_lt u x.wires) [
+    lists : (u : ℕ) → on (lists_of z) u ≡ on (lists_of y) u ++ last_on t (client_of z.records.items t) to u
+    lists u = elim (cases_lt u y.wires) [
       | inl l ↦
           let rows = k.wires in
-          let once = k.lined.links.linked.once t u (omega (arith, wires)) in
-          let none : times t (order' u) ≡ 0 = grind (arith, nat_tests) in
-          let l' : u < y.wires = omega (arith, wires) in
-          let at = on-wire y order' k u l' in
-          let out : without t (on (lists_of y) u) ≡ on (lists_of y) u = ap (λ es. without t es) at ∙ without-clients (client_of y.records.items) t (order' u) ∙ ap (λ xs. with_clients (client_of y.records.items) xs) (but-out t (order' u) none) ∙ sym at in
-          on-moved y z order' t to k k' (wires' ∙ sym wires) (λ n i o. clients n o) u l' ∙ ap (λ es. es ++ last_on t (client_of z.records.items t) to u) (out ∙ here u)
-      | inr l ↦ let f : eqb to u ≡ false = grind (arith, nat_tests) in rw (on-beyond z (moved order' t to) k' u (omega (arith, wires')), on-beyond x order i u l, f) refl
+          let once = k.lined.links.linked.once t u (omega arith) in
+          let none : times t (order u) ≡ 0 = grind (arith, nat_tests) in
+          let at = on-wire y order k u l in
+          let out : without t (on (lists_of y) u) ≡ on (lists_of y) u = ap (λ es. without t es) at ∙ without-clients (client_of y.records.items) t (order u) ∙ ap (λ xs. with_clients (client_of y.records.items) xs) (but-out t (order u) none) ∙ sym at in
+          on-moved y z order t to k k' wires (λ n i o. clients n o) u l ∙ ap (λ es. es ++ last_on t (client_of z.records.items t) to u) out
+      | inr l ↦ let f : eqb to u ≡ false = grind (arith, nat_tests) in rw (on-beyond z (moved order t to) k' u (omega (arith, wires)), on-beyond y order k u l, f) refl
     ]

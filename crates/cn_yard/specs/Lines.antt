@@ -50,8 +50,8 @@ line_with line number = record {
 }
 
 -- what stays when a record is taken off its line: all but the links, and one is missing there
-pub record IsOff (records : List Record) (lines : List Line) (records' : List Record) (lines' : List Line)
-    (number : ℕ) : Type 0 where
+pub record IsOff (records : List Record) (lines : List Line)
+    (records' : List Record) (lines' : List Line) (number : ℕ) : Type 0 where
   pub len : length records' ≡ length records
   pub rows : length lines' ≡ length lines
   pub wire : (n : ℕ) → wire_of records' n ≡ wire_of records n
@@ -59,8 +59,8 @@ pub record IsOff (records : List Record) (lines : List Line) (records' : List Re
   pub count : (u : ℕ) → count_of lines' u + when (wire_of records number == u) 1 ≡ count_of lines u
 
 -- what stays when a record is put on a line: all but the links, and one more is there
-pub record IsOn (records : List Record) (lines : List Line) (records' : List Record) (lines' : List Line)
-    (number to : ℕ) : Type 0 where
+pub record IsOn (records : List Record) (lines : List Line)
+    (records' : List Record) (lines' : List Line) (number to : ℕ) : Type 0 where
   pub len : length records' ≡ length records
   pub rows : length lines' ≡ length lines
   pub wire : (n : ℕ) → wire_of records' n ≡ (if n == number then to else wire_of records n)

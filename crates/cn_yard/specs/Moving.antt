@@ -30,8 +30,8 @@ pub record IsLined (records : List Record) (lines : List Line) (words : List ℕ
   pub short : length words < 2 ^ 32
 
 -- what a move leaves
-pub record IsMove (records : List Record) (lines : List Line) (records' : List Record) (lines' : List Line)
-    (number to : ℕ) : Type 0 where
+pub record IsMove (records : List Record) (lines : List Line)
+    (records' : List Record) (lines' : List Line) (number to : ℕ) : Type 0 where
   pub len : length records' ≡ length records
   pub rows : length lines' ≡ length lines
   pub wire : (n : ℕ) → wire_of records' n ≡ (if n == number then to else wire_of records n)
@@ -40,16 +40,16 @@ pub record IsMove (records : List Record) (lines : List Line) (records' : List R
       ≡ count_of lines u + when (to == u) 1
 
 -- what an added record leaves
-pub record IsAdded (records : List Record) (lines : List Line) (records' : List Record) (lines' : List Line)
-    (wire : ℕ) : Type 0 where
+pub record IsAdded (records : List Record) (lines : List Line)
+    (records' : List Record) (lines' : List Line) (wire : ℕ) : Type 0 where
   pub len : length records' ≡ length records + 1
   pub rows : length lines' ≡ length lines
   pub client : (n : ℕ) → n < length records → client_of records' n ≡ client_of records n
   pub count : (u : ℕ) → count_of lines' u ≡ count_of lines u + when (wire == u) 1
 
 -- what records that are added to one line leave
-pub record IsMore (records : List Record) (lines : List Line) (records' : List Record) (lines' : List Line)
-    (to : ℕ) : Type 0 where
+pub record IsMore (records : List Record) (lines : List Line)
+    (records' : List Record) (lines' : List Line) (to : ℕ) : Type 0 where
   pub more : length records ≤ length records'
   pub len : length records' + count_of lines to ≡ length records + count_of lines' to
   pub rows : length lines' ≡ length lines

@@ -84,7 +84,8 @@ pub(crate) fn append(records: &mut [Record], lines: &mut [Line], number: u32, wi
         × OffLine lines.old order number }
     ensures kept { IsOn records.old lines.old records.new lines.new number wire }
     ensures linked { (order : ℕ → List ℕ) → Linked records.old lines.old order
-        → OffLine lines.old order number → Linked records.new lines.new (put_last order number wire) }
+        → OffLine lines.old order number
+        → Linked records.new lines.new (put_last order number wire) }
 {
     let at = wire as usize;
     let line = lines[at];

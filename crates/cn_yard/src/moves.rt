@@ -42,7 +42,8 @@ fn add(records: &mut Vec<Record>, lines: &mut [Line], marks: &mut [u64], wire: u
     requires few { length records.old.items < MOST_TOKENS }
     requires lined { (order : ℕ → List ℕ) × IsLined records.old.items lines.old marks.old order }
     ensures lined { (order : ℕ → List ℕ) → IsLined records.old.items lines.old marks.old order
-        → IsLined records.new.items lines.new marks.new (put_last order (length records.old.items) wire) }
+        → IsLined records.new.items lines.new marks.new
+        (put_last order (length records.old.items) wire) }
     ensures kept { IsAdded records.old.items lines.old records.new.items lines.new wire }
     ensures capacity { vec_capacity records.new ≡ vec_capacity records.old }
     ensures words { length marks.new ≡ length marks.old }
@@ -72,7 +73,8 @@ fn add_all(
     requires wire { wire < length lines.old }
     requires few { length records.old.items + (to - from) ≤ MOST_TOKENS }
     requires lined { (order : ℕ → List ℕ) × IsLined records.old.items lines.old marks.old order }
-    ensures lined { Fills records.old.items lines.old marks.old records.new.items lines.new marks.new wire }
+    ensures lined { Fills records.old.items lines.old marks.old
+        records.new.items lines.new marks.new wire }
     ensures kept { IsMore records.old.items lines.old records.new.items lines.new wire }
     ensures count { count_of lines.new wire ≡ count_of lines.old wire + (to - from) }
     ensures words { length marks.new ≡ length marks.old }
@@ -96,7 +98,8 @@ pub(crate) fn fill(
     requires wire { wire < length lines.old }
     requires few { length records.old.items + (wanted - count_of lines.old wire) ≤ MOST_TOKENS }
     requires lined { (order : ℕ → List ℕ) × IsLined records.old.items lines.old marks.old order }
-    ensures lined { Fills records.old.items lines.old marks.old records.new.items lines.new marks.new wire }
+    ensures lined { Fills records.old.items lines.old marks.old
+        records.new.items lines.new marks.new wire }
     ensures kept { IsMore records.old.items lines.old records.new.items lines.new wire }
     ensures words { length marks.new ≡ length marks.old }
     ensures ok { OnOk result (count_of lines.new wire ≡ max wanted (count_of lines.old wire)) }

@@ -112,13 +112,7 @@ impl Yard {
         ensures err { OnErr result (self.new ≡ self.old) }
         ensures reserved { 0 < self.old.spare → IsOk result }
     {
-        fill(
-            &mut self.records,
-            &mut self.lines,
-            &mut self.marks,
-            self.wires,
-            1,
-        )?;
+        self.reserve(1)?;
         let number = self.lines[self.wires as usize].last;
         relink(
             &mut self.records,
