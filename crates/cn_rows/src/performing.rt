@@ -562,6 +562,6 @@ fn wrong_fault(alloc: Global) -> Option<&'static [u8]> {
 
 #[test]
 fn each_fault_has_its_line_and_its_status(rt: HostRuntime) {
-    let told = (wrong_fault(rt.alloc()), are_told(rt.alloc()));
-    assert_eq!(rt; told, (None, Some([true, true])));
+    assert_eq!(rt; wrong_fault(rt.alloc()), None);
+    assert_eq!(rt; are_told(rt.alloc()), Some([true, true]));
 }
