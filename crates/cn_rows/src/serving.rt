@@ -487,6 +487,10 @@ fn wrong_write<R: Threads + Wait + Sync>(
 fn failing_writer(rt: HostRuntime) -> Result<(), Fail> {
     let wrong = wrong_write(&rt, rt.alloc(), RandomState::new(&rt)?);
     assert_eq!(rt; wrong, None);
+    assert_eq!(rt;
+        SINGLE_CLIENT_SERVED.get(..10),
+        Some(b"network bi".as_slice())
+    );
     Ok(())
 }
 

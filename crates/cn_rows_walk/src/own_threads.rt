@@ -7,7 +7,6 @@ use cn_core::Moved;
 use cn_walk::{Floor, Lane, Quiet};
 use std::alloc::Global;
 use std::sync::Wait;
-use std::test::Fail;
 use std::thread;
 use std::thread::{Promise, Threads};
 
