@@ -110,12 +110,18 @@ fn one_walks_out(
     })
 }
 
-fn one_dropped(alloc: Global) -> Option<Outcome> {
-    let network = bitonic(alloc, 2).ok()?;
-    let (floor, lane) = open(alloc, &network, 2)?;
+fn dropped(floor: Floor<'_>, lane: Lane) -> Option<Outcome>
+    requires { lane.home ≡ floor }
+{
     let (fault, lane) = not_split(&floor, lane)?;
     let (first, second) = split(&floor, lane, 1)?;
     one_walks_out(floor, first, second, fault)
+}
+
+fn one_dropped(alloc: Global) -> Option<Outcome> {
+    let network = bitonic(alloc, 2).ok()?;
+    let (floor, lane) = open(alloc, &network, 2)?;
+    dropped(floor, lane)
 }
 
 #[test]

@@ -7,11 +7,10 @@ use cn_core::Moved;
 use cn_tree::tree;
 use cn_walk::{Floor, Lane, Quiet};
 use cn_yard::Token;
-use std::alloc::{AllocError, Global};
-use std::test::Fail;
+use std::alloc::Global;
 
 /// What a floor tells of the three.
-#[derive(Debug, Drop, PartialEq, Eq)]
+#[derive(Drop)]
 struct Told {
     entered: u64,
     moves: Vec<Moved>,
@@ -99,47 +98,74 @@ fn three_clients(alloc: Global) -> Option<Told> {
     walked(alloc, floor, lane)
 }
 
-/// A passage, with its balancer, number and wire.
-fn on(balancer: u32, number: u64, wire: u32) -> Moved {
+/// Where each step leads.
+const MOVES: [Moved; 9] = [
     Moved::On {
-        balancer,
-        number,
-        wire,
-    }
-}
-
-/// A leave, with its exit and name: each exit is left once.
-fn out(exit: u32, name: u64) -> Moved {
+        balancer: 0,
+        number: 0,
+        wire: 1,
+    },
+    Moved::On {
+        balancer: 0,
+        number: 1,
+        wire: 2,
+    },
+    Moved::On {
+        balancer: 0,
+        number: 2,
+        wire: 1,
+    },
+    Moved::On {
+        balancer: 1,
+        number: 0,
+        wire: 3,
+    },
     Moved::Out {
-        exit,
+        exit: 0,
         visit: 0,
-        name,
-    }
+        name: 0,
+    },
+    Moved::On {
+        balancer: 1,
+        number: 1,
+        wire: 4,
+    },
+    Moved::Out {
+        exit: 2,
+        visit: 0,
+        name: 2,
+    },
+    Moved::On {
+        balancer: 2,
+        number: 0,
+        wire: 5,
+    },
+    Moved::Out {
+        exit: 1,
+        visit: 0,
+        name: 1,
+    },
+];
+
+/// Whether this is told: how many entered, each answer, the counts, the passes and the holders.
+fn is_told(told: &Told) -> [bool; 5] {
+    [
+        told.entered == 3,
+        told.moves.as_slice() == MOVES.as_slice(),
+        told.counts.as_slice() == [1, 1, 1, 0].as_slice(),
+        told.passes.as_slice() == [3, 2, 1].as_slice(),
+        told.holders.as_slice() == [30, 20, 10].as_slice(),
+    ]
 }
 
-fn wanted(alloc: Global) -> Result<Told, AllocError> {
-    let moves = [
-        on(0, 0, 1),
-        on(0, 1, 2),
-        on(0, 2, 1),
-        on(1, 0, 3),
-        out(0, 0),
-        on(1, 1, 4),
-        out(2, 2),
-        on(2, 0, 5),
-        out(1, 1),
-    ];
-    Ok(Told {
-        entered: 3,
-        moves: Vec::from_slice(alloc, &moves)?,
-        counts: vec![in alloc; 1, 1, 1, 0]?,
-        passes: vec![in alloc; 3, 2, 1]?,
-        holders: vec![in alloc; 30, 20, 10]?,
-    })
+fn are_told(alloc: Global) -> Option<[bool; 5]> {
+    match three_clients(alloc) {
+        Some(told) => Some(is_told(&told)),
+        None => None,
+    }
 }
 
 #[test]
-fn tree_on_one_lane(rt: HostRuntime) -> Result<(), Fail> {
-    assert_eq!(rt; three_clients(rt.alloc()), Some(wanted(rt.alloc())?));
-    Ok(())
+fn tree_on_one_lane(rt: HostRuntime) {
+    assert_eq!(rt; are_told(rt.alloc()), Some([true; 5]));
 }
