@@ -21,7 +21,7 @@ use std::marker::Model;
 /// The running network of one epoch: its counts, and its clients with their positions. One event is one atomic step of the
 /// network.
 ///
-/// An enter and a step make at most two hash look-ups each, and a step takes time in proportion to the tokens inside.
+/// An enter and a step make at most two hash look-ups each, and relink one record of the yard, however many tokens are inside.
 #[derive(Drop)]
 pub struct Core<'a> {
     alloc: Global,
