@@ -11,6 +11,8 @@ mod emitting;
 #[cfg(test)]
 mod grants;
 #[cfg(test)]
+mod grants_form;
+#[cfg(test)]
 mod meeting;
 #[cfg(test)]
 mod performing;

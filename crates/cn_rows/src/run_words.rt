@@ -6,43 +6,91 @@ use cn_wiring::{Kind, width_of};
 use cn_words::{Form, Job, Net, OptionFault, Options, WordsFault, parse_words};
 use std::alloc::Global;
 
-/// The words of runs, and the workers and the hand of each.
-const RUNS: [(&str, u32, u32); 9] = [
-    ("renamer run --network periodic --width 4", 1, 1),
-    ("renamer run --network periodic --width 4 --hand 1", 1, 1),
-    ("renamer run --network periodic --width 4 --hand 9", 1, 9),
-    ("renamer run --network periodic --width 4 --hand=64", 1, 64),
-    ("renamer run --network periodic --width 4 --workers 1", 1, 1),
-    ("renamer run --network periodic --width 4 --workers 2", 2, 1),
+/// The words of a run, and its workers, hand and form.
+type Run = (&'static str, u32, u32, Form);
+
+const RUNS: [Run; 11] = [
+    (
+        "renamer run --network periodic --width 4",
+        1,
+        1,
+        Form::Report,
+    ),
+    (
+        "renamer run --network periodic --width 4 --hand 1",
+        1,
+        1,
+        Form::Report,
+    ),
+    (
+        "renamer run --network periodic --width 4 --hand 9",
+        1,
+        9,
+        Form::Report,
+    ),
+    (
+        "renamer run --network periodic --width 4 --hand=64",
+        1,
+        64,
+        Form::Report,
+    ),
+    (
+        "renamer run --network periodic --width 4 --workers 1",
+        1,
+        1,
+        Form::Report,
+    ),
+    (
+        "renamer run --network periodic --width 4 --workers 2",
+        2,
+        1,
+        Form::Report,
+    ),
     (
         "renamer run --workers=64 --network periodic --width 4",
         64,
         1,
+        Form::Report,
     ),
     (
         "renamer run --network periodic --width 4 --form report",
         1,
         1,
+        Form::Report,
     ),
     (
         "renamer run --hand 2 --form report --width 4 --workers 3 --network periodic",
         3,
         2,
+        Form::Report,
+    ),
+    (
+        "renamer run --network periodic --width 4 --form grants",
+        1,
+        1,
+        Form::Grants,
+    ),
+    (
+        "renamer run --form=grants --hand 64 --width 4 --workers 8 --network periodic",
+        8,
+        64,
+        Form::Grants,
     ),
 ];
 
-/// Whether the words of a line ask for a run on the periodic network of width 4 with these workers and this hand.
-fn is_run(alloc: Global, line: &str, workers: u32, hand: u32) -> Option<bool> {
+/// Whether the words of a line ask for a run on the periodic network of width 4, so.
+fn is_run(alloc: Global, run: &Run) -> Option<bool> {
+    let (line, workers, hand, form) = *run;
     let net = Net::new(Kind::Periodic, 4).ok()?;
-    let options = Options::new(net, workers, hand, Form::Report).ok()?;
+    let options = Options::new(net, workers, hand, form).ok()?;
     Some(is_asked(alloc, line, Job::Run(options)))
 }
 
 /// The first line that asks for another job.
 fn wrong_run(alloc: Global) -> Option<&'static str> {
-    for (line, workers, hand) in &RUNS {
-        if is_run(alloc, line, *workers, *hand) != Some(true) {
-            return Some(*line);
+    for run in &RUNS {
+        if is_run(alloc, run) != Some(true) {
+            return Some(run.0);
         }
     }
     None
@@ -68,8 +116,8 @@ const REFUSED_RUNS: [&str; 18] = [
     "--hand 65",
     "--hand 02",
     "--hand 18446744073709551617",
-    "--form grants",
     "--form x",
+    "--form grant",
     "--form Report",
     "--carry",
     "batch.csv",
@@ -97,14 +145,10 @@ fn refused_runs(rt: HostRuntime) {
 }
 
 /// What follows the words of a run, and the text that it is refused with.
-const REFUSALS: [(&str, &str); 4] = [
+const REFUSALS: [(&str, &str); 3] = [
     ("--workers 65", "renamer: workers out of range\n"),
     ("--hand 0", "renamer: hand out of range\n"),
     ("--form x", "renamer: no such form\n"),
-    (
-        "--form grants",
-        "renamer: this build writes the report alone\n",
-    ),
 ];
 
 /// Whether a line is refused with this text.

@@ -120,10 +120,10 @@ const SEVEN_SERVED: &[u8] = b"network bitonic width 2 balancers 1 depth 1\n\
       name 0 client 7\n\
       end epochs 1 grants 1\n";
 
-fn options_of(asked: Asked) -> Option<Options> {
+fn options_of(asked: Asked, form: Form) -> Option<Options> {
     let (kind, width, workers, hand) = asked;
     let net = Net::new(kind, width).ok()?;
-    Options::new(net, workers, hand, Form::Report).ok()
+    Options::new(net, workers, hand, form).ok()
 }
 
 /// Serves a batch to a writer.
@@ -136,11 +136,11 @@ fn serve_to<I: io::Read + Drop, G: Gate + Sync, R: Threads + Wait + Sync>(
     writer: &mut Narrow,
     gate: &G,
 ) -> Option<Result<(), ServeFault>> {
-    let options = options_of(asked)?;
+    let options = options_of(asked, Form::Report)?;
     Some(serve(rt, alloc, reader, writer, &options, state, gate))
 }
 
-/// What serving a batch writes, where it ends well and the writer is flushed once.
+/// The report that serving a batch writes, where it ends well and the writer is flushed once.
 pub(crate) fn served<G: Gate + Sync, R: Threads + Wait + Sync>(
     rt: &R,
     alloc: Global,
@@ -152,6 +152,22 @@ pub(crate) fn served<G: Gate + Sync, R: Threads + Wait + Sync>(
     let mut writer = Narrow::new(alloc, usize::MAX, Then::TakesNothing);
     match serve_to(rt, alloc, state, asked, batch, &mut writer, gate) {
         Some(Ok(())) if writer.flushes == 1 => Some(writer.taken),
+        _ => None,
+    }
+}
+
+/// The grant list that it writes.
+pub(crate) fn granted<R: Threads + Wait + Sync>(
+    rt: &R,
+    alloc: Global,
+    state: RandomState,
+    asked: Asked,
+    batch: &[u8],
+) -> Option<Vec<u8>> {
+    let options = options_of(asked, Form::Grants)?;
+    let mut writer = Narrow::new(alloc, usize::MAX, Then::TakesNothing);
+    match serve(rt, alloc, batch, &mut writer, &options, state, &OpenGate) {
+        Ok(()) if writer.flushes == 1 => Some(writer.taken),
         _ => None,
     }
 }
