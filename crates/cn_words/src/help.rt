@@ -43,6 +43,24 @@ fn width_help(alloc: Global) -> Result<String, AllocError> {
 }
 
 const RENAMER: &str = "\
+Input is CSV on standard input, under one of these headers:
+
+  epoch,client,entry  a batch: run reads it
+  epoch,client,name   a grant list: run --form grants prints it, check reads it
+  op,client,wire      a schedule: replay reads it
+
+A batch, and a report of it:
+
+    $ printf 'epoch,client,entry\\n1,17,1\\n1,5,1\\n' |
+        renamer run --network bitonic --width 2
+    network bitonic width 2 balancers 1 depth 1
+    epoch 1 clients 2
+    exit 0 count 1
+    exit 1 count 1
+    name 0 client 17
+    name 1 client 5
+    end epochs 1 grants 2
+
 The help of each command shows an input and what is printed for it.
 
 Status:
