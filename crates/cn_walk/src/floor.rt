@@ -3,6 +3,7 @@
 mod closing;
 mod counters;
 mod lane;
+mod lone;
 mod plays;
 mod quiet;
 mod sweeping;

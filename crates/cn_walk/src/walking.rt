@@ -44,7 +44,13 @@ fn walk_out<'a, G: Gate, R: Wait>(rt: &R, floor: &Floor<'a>, lane: &mut Lane, ga
     ensures nobody { (f : ℕ → ℕ) → inside_by f lane.new.view ≡ 0 }
 {
     lane.lane_laws();
-    while let Some(wire) = lane.lowest() {
+    while let Some(lowest) = lane.lowest() {
+        let wire = if lane.inside() == 1 {
+            floor.pass_alone(rt, lane, lowest, gate, worker)
+        } else {
+            lowest
+        };
+        lane.lane_laws();
         let moment = match floor.network().end(wire) {
             End::Balancer(_) => Moment::Pass,
             End::Exit(_) => Moment::Leave,

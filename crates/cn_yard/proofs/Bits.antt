@@ -1,9 +1,10 @@
 -- Marks, 64 to a word.
-use Rattle.std.proofs.Common.{◌≡◌, ℕ, zero, suc, ◌+◌, ◌*◌, ◌/◌, ◌%◌, ◌^◌, ◌<◌, inl, inr, not, nat_eq, List, [], ◌∷◌, get_or, refl, ap, ◌∙◌, arith, Some, None, w64}
+use Rattle.std.proofs.Common.{◌≡◌, ℕ, zero, suc, ◌+◌, ◌*◌, ◌/◌, ◌%◌, ◌^◌, ◌-◌, ◌<◌, ◌≤◌, inl, inr, not, nat_eq, List, [], ◌∷◌, drop, get_or, refl, sym, ap, ◌∙◌, arith, Some, None, w64}
 use Rattle.std.specs.Prelude.{position}
 use Rattle.std.specs.Int.{bit_at, trailing_zeros}
 use Rattle.std.proofs.lemmas.Bool.{cases_lt}
 use Rattle.std.proofs.lemmas.Bool.Decides.{nat_tests}
+use Rattle.std.proofs.lemmas.List.{get_or-drop}
 use Rattle.std.proofs.lemmas.List.Quantifiers.{position-Some}
 use Rattle.std.proofs.lemmas.Nat.{div-mul-add, mod-mul-add}
 use Rattle.std.proofs.lemmas.Nat.Bits.{bit_at-trailing_zeros, bit_at-zero}
@@ -41,3 +42,27 @@ least-marked words at found fits =
             rw same (lower (n % 64) (omega arith))
       ],
     )
+
+-- the marks of the words from one on
+pub marked-drop : (words : List ℕ) (at n : ℕ) → marked (drop at words) n ≡ marked words (at * 64 + n)
+marked-drop words at n =
+    let word : at + n / 64 ≡ (at * 64 + n) / 64 = omega arith in
+    let place : n % 64 ≡ (at * 64 + n) % 64 = omega arith in
+    ap (λ (w : ℕ). bit_at w (n % 64)) (get_or-drop at words (n / 64) 0) ∙ (λ i. bit_at (get_or words (word i) 0) (place i))
+
+-- none of them has a bit
+pub none-from : (words : List ℕ) (at : ℕ) → ((n : ℕ) → marked (drop at words) n ≡ 0) → (n : ℕ) → 64 * at ≤ n → marked words n ≡ 0
+none-from words at none n from =
+    let same : at * 64 + (n - 64 * at) ≡ n = omega (arith, from) in
+    ap (marked words) (sym same) ∙ sym (marked-drop words at (n - 64 * at)) ∙ none (n - 64 * at)
+
+-- the least of them
+pub least-from : (words : List ℕ) (at least : ℕ) → marked (drop at words) least ≡ 1 → ((n : ℕ) → n < least → marked (drop at words) n ≡ 0)
+    → (64 * at ≤ at * 64 + least) × (marked words (at * 64 + least) ≡ 1) × ((n : ℕ) → 64 * at ≤ n → n < at * 64 + least → marked words n ≡ 0)
+least-from words at least one lower = (
+  omega arith,
+  sym (marked-drop words at least) ∙ one,
+  λ n from below.
+      let same : at * 64 + (n - 64 * at) ≡ n = omega (arith, from) in
+      ap (marked words) (sym same) ∙ sym (marked-drop words at (n - 64 * at)) ∙ lower (n - 64 * at) (omega (arith, from, below)),
+)

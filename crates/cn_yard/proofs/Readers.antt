@@ -1,5 +1,5 @@
 -- What a yard's readers tell.
-use Rattle.std.proofs.Common.{◌≡◌, ℕ, ◌<◌, ◌≤◌, inl, inr, true, false, cond, eqb, ltb, List, [], ◌∷◌, length, get_or, refl, sym, ap, ◌∙◌, arith, subst, Option, Some, None}
+use Rattle.std.proofs.Common.{◌≡◌, ℕ, ◌*◌, ◌<◌, ◌≤◌, inl, inr, true, false, cond, eqb, ltb, List, [], ◌∷◌, length, get_or, refl, sym, ap, ◌∙◌, arith, subst, Option, Some, None}
 use Rattle.std.specs.Prelude.{IsSome, IsTrue, ◌↔◌}
 use Rattle.std.proofs.lemmas.Bool.{cases_lt}
 use Rattle.std.proofs.lemmas.Bool.Decides.{nat_tests}
@@ -108,18 +108,26 @@ module _ (y : Inside) (order : ℕ → List ℕ) (k : Keeps y order) where
     | inr l ↦ on-beyond y order k u l
   ]
 
-  -- the least number with a mark is the lowest wire, where it is one of a wire
-  pub lowest-told : (wire : ℕ) → wire < y.wires
-      → (marked y.marks.items wire ≡ 1) × ((n : ℕ) → n < wire → marked y.marks.items n ≡ 0) → IsLowest (lists_of y) wire
-  lowest-told wire h (one, lower) = record {
-    some = let rows = k.wires in let m = k.lined.marks wire (omega arith) in rw (length-on y order k wire h) (grind (arith, nat_tests));
-    below = λ u l. nobody u (λ _. lower u l);
-  }
+  -- nobody stands below a wire: the least number with a mark, from a word on that begins there or before, is the lowest
+  -- wire, where it is one of a wire
+  module _ (from word : ℕ) (before : 64 * word ≤ from) (none : (u : ℕ) → u < from → on (lists_of y) u ≡ []) where
+    nobody-at : (u : ℕ) → (u < y.wires → 64 * word ≤ u → marked y.marks.items u ≡ 0) → on (lists_of y) u ≡ []
+    nobody-at u lower = elim (cases_lt u (64 * word)) [
+      | inl l ↦ none u (omega (arith, l, before))
+      | inr l ↦ nobody u (λ within. lower within l)
+    ]
 
-  -- where the least is beyond the wires, or there is none, nobody stands on any wire
-  pub none-told : (least : ℕ) → y.wires ≤ least → ((n : ℕ) → n < least → marked y.marks.items n ≡ 0) → (u : ℕ)
-      → on (lists_of y) u ≡ []
-  none-told least h lower u = nobody u (λ l. lower u (omega arith))
+    pub lowest-told : (wire : ℕ) → wire < y.wires → (marked y.marks.items wire ≡ 1)
+        → ((n : ℕ) → 64 * word ≤ n → n < wire → marked y.marks.items n ≡ 0) → IsLowest (lists_of y) wire
+    lowest-told wire h one lower = record {
+      some = let rows = k.wires in let m = k.lined.marks wire (omega arith) in rw (length-on y order k wire h) (grind (arith, nat_tests));
+      below = λ u l. nobody-at u (λ _ w. lower u w l);
+    }
 
-  pub nobody-told : ((n : ℕ) → marked y.marks.items n ≡ 0) → (u : ℕ) → on (lists_of y) u ≡ []
-  nobody-told none u = nobody u (λ l. none u)
+    -- where the least is beyond the wires, or there is none, nobody stands on any wire
+    pub none-told : (least : ℕ) → y.wires ≤ least → ((n : ℕ) → 64 * word ≤ n → n < least → marked y.marks.items n ≡ 0) → (u : ℕ)
+        → on (lists_of y) u ≡ []
+    none-told least h lower u = nobody-at u (λ l w. lower u w (omega arith))
+
+    pub nobody-told : ((n : ℕ) → 64 * word ≤ n → marked y.marks.items n ≡ 0) → (u : ℕ) → on (lists_of y) u ≡ []
+    nobody-told lower u = nobody-at u (λ _ w. lower u w)

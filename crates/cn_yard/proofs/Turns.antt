@@ -4,7 +4,7 @@ use Rattle.std.specs.Prelude.{◌==◌}
 use Rattle.std.proofs.lemmas.Bool.{cases_eq, eq-eqb, ne_eqb}
 use Rattle.std.proofs.lemmas.List.{append_assoc, length_push}
 use Rattle.cn_yard.specs.Deals.{Deals, IsDealt, every_second, out_of}
-use Rattle.cn_yard.specs.Lists.{Moves, Yard, first_of, last_on, on, standing, times_in, tokens_in, without}
+use Rattle.cn_yard.specs.Lists.{Moves, Yard, last_on, on, standing, times_in, tokens_in, without}
 use Rattle.cn_yard.proofs.Taken.{IsFirst, first-there, once-moved, others-on, rest-on}
 
 -- ---- one after the other

@@ -5,7 +5,7 @@ ghost use Rattle.cn_spec.specs.declared.limits.TheConstants.{MOST_TOKENS};
 ghost use Rattle.cn_yard.specs.Lists.{Admits, IsLowest, IsThere, Moves, Releases, after, empty, first_of, on, standing, times_in, tokens_in};
 
 use crate::lines::Line;
-use crate::marks::least;
+use crate::marks::least_from;
 use crate::moves::{fill, relink};
 use crate::records::{Record, set_client};
 use crate::token::Token;
@@ -191,7 +191,18 @@ impl Yard {
         ensures some { IfSome result (λ wire. IsLowest self.now.lists wire) }
         ensures none { result ≡ None → (wire : ℕ) → on self.now.lists wire ≡ [] }
     {
-        match least(&self.marks) {
+        self.lowest_from(0)
+    }
+
+    /// The least wire on which a token stands, if one does, where none stands below `from`, which is at most
+    /// [`Yard::wires`]: [`Yard::lowest`] for one who knows so much, and has no need to look there.
+    pub fn lowest_from(&self, from: u32) -> Option<u32>
+        requires from { from ≤ length self.now.lists }
+        requires none { (wire : ℕ) → wire < from → on self.now.lists wire ≡ [] }
+        ensures some { IfSome result (λ wire. IsLowest self.now.lists wire) }
+        ensures none { result ≡ None → (wire : ℕ) → on self.now.lists wire ≡ [] }
+    {
+        match least_from(&self.marks, from / 64) {
             Some(wire) if wire < self.wires as u64 => Some(wire as u32),
             _ => None,
         }
