@@ -14,6 +14,7 @@ mod Swept
 mod Openings
 mod Lanes
 mod Loading
+mod Lone
 mod Ends
 mod Sharing
 mod Closings

@@ -52,7 +52,7 @@ get-there (z ∷ xs) (suc i) (suc j) x y other e = get-there xs i j x y (λ same
 -- ---- the tokens of a wire, one after the other
 
 -- what stands on a wire of lists that are made anew
-relisted-on : (lists : List (List (ℕ × ℕ))) (token : ℕ) (more : ℕ → List (ℕ × ℕ)) → ((u : ℕ) → length lists ≤ u → more u ≡ [])
+pub relisted-on : (lists : List (List (ℕ × ℕ))) (token : ℕ) (more : ℕ → List (ℕ × ℕ)) → ((u : ℕ) → length lists ≤ u → more u ≡ [])
     → (u : ℕ) → on (relisted token more lists) u ≡ without token (on lists u) ++ more u
 relisted-on lists token more beyond u =
     let make : ℕ → List (ℕ × ℕ) = λ x. without token (on lists x) ++ more x in

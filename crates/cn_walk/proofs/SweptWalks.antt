@@ -7,13 +7,14 @@ use Rattle.cn_wiring.specs.declared.end.End.{End}
 use Rattle.cn_wiring.specs.declared.end.End.TheVariants.{Balancer, Exit}
 use Rattle.cn_wiring.specs.Table.{IsWellFormed, LeadsOn, Stands, Table, end_of, output_wire}
 use Rattle.cn_core.specs.declared.client.Client.{Client}
-use Rattle.cn_yard.specs.Lists.{IsThere, on, times_in}
+use Rattle.cn_yard.specs.Deals.{Frees}
+use Rattle.cn_yard.specs.Lists.{IsThere, Yard, on, times_in, without}
 use Rattle.cn_walk.specs.declared.view.Grant.{Grant}
 use Rattle.cn_walk.specs.declared.view.Start.{Start}
 use Rattle.cn_walk.specs.declared.view.Sweep.{Sweep}
 use Rattle.cn_walk.specs.declared.view.View.{View}
 use Rattle.cn_walk.specs.Lane.{LaneValue}
-use Rattle.cn_walk.specs.Sweeps.{SweepsOn, gone_by, grants_out, swept}
+use Rattle.cn_walk.specs.Sweeps.{PutsAll, SweepsOn, gone_by, grants_out, swept}
 use Rattle.cn_walk.specs.Views.{base, gone}
 use Rattle.cn_walk.specs.Walks.{Walks, inside_by, steps_left}
 use Rattle.cn_walk.proofs.Sweeps.{MayGo, goes-there, rest-may}
@@ -116,6 +117,12 @@ module _ (start : Start) (wire : ℕ) (end : End) (formed : IsWellFormed start.n
         no-more rest (gone token client end n v) (n + 1) (rest-may start wire end formed low ends stands n v token client rest may),
       )
 
+-- where nobody stands, nobody stands once others are gone
+freed-clear : (tokens : List (ℕ × ℕ)) (y z : Yard) (u : ℕ) → Frees tokens y z → on y.lists u ≡ [] → on z.lists u ≡ []
+unfolding Frees
+freed-clear [] y z u same clear = ap (λ (x : Yard). on x.lists u) same ∙ clear
+freed-clear (e ∷ rest) y z u (between, one, more) clear = freed-clear rest between z u more (one.lists u ∙ ap (without e.0) clear)
+
 -- a sweep is a part of a walk, and less is left after it
 module _ (a b : LaneValue) (wire n : ℕ) (answer : Sweep) (is : SweepsOn a b wire n answer) (held : IsHeld a) (some : 0 < length (on a.yard.lists wire)) where
   abbrev v : View
@@ -180,3 +187,13 @@ module _ (a b : LaneValue) (wire n : ℕ) (answer : Sweep) (is : SweepsOn a b wi
 
   pub sweeps : Walks a b [] × (steps_left b.view < steps_left a.view)
   sweeps = at-end (end_of a.home.start.network.table wire) refl
+
+  -- where none stands below the wire, none comes to stand there
+  pub clear-below : ((u : ℕ) → u < wire → on a.yard.lists u ≡ []) → (u : ℕ) → u < wire → on b.yard.lists u ≡ []
+  clear-below clear u low = by (end_of a.home.start.network.table wire) refl is.yard
+    where
+      by : (e : End) → end_of a.home.start.network.table wire ≡ e → PutsAll a.home.start wire e n a.yard b.yard → on b.yard.lists u ≡ []
+      by (Balancer c) ends dealt =
+          let forward : wire < a.home.start.network.table.entries + 2 * c = subst (LeadsOn a.home.start.network.table wire) ends (formed.forward wire inside) in
+          dealt.others u (λ same. omega (arith, same, low)) (λ same. omega (arith, same, low, forward)) (λ same. omega (arith, same, low, forward)) ∙ clear u low
+      by (Exit i) ends freed = freed-clear (on a.yard.lists wire) a.yard b.yard u freed (clear u low)

@@ -1,8 +1,8 @@
 //! A worker that walks its clients through one lane.
 
 ghost use Rattle.std.specs.Prelude.{◌≡◌, ℕ, ◌+◌, ◌<◌, ◌≤◌, [], All, length};
-ghost use Rattle.cn_yard.specs.Lists.{tokens_in};
-ghost use Rattle.cn_walk.specs.Walks.{WalksAll, Walks, inside_by};
+ghost use Rattle.cn_yard.specs.Lists.{IsLowest, tokens_in};
+ghost use Rattle.cn_walk.specs.Walks.{WalksAll, Walks, inside_by, steps_left};
 
 use crate::floor::{Floor, Lane};
 use crate::gate::{Gate, Moment};
@@ -36,7 +36,31 @@ fn walk_in<'a, G: Gate, R: Wait>(
     }
 }
 
-/// Sweeps the lowest wire that has a token, until nobody is inside.
+/// The lowest wire that has a token, given as it is now. A token that is alone in the lane passes all balancers on its way
+/// before, with its wire in a local: its sweeps would be the same steps.
+fn bring_on<'a, G: Gate, R: Wait>(
+    rt: &R,
+    floor: &Floor<'a>,
+    lane: &mut Lane,
+    lowest: u32,
+    gate: &G,
+    worker: u32,
+) -> u32
+    requires own { lane.old.home ≡ floor.now }
+    requires lowest { IsLowest lane.old.yard.lists lowest }
+    ensures walked { Walks lane.old lane.new [] }
+    ensures lowest { IsLowest lane.new.yard.lists result }
+    ensures left { steps_left lane.new.view ≤ steps_left lane.old.view }
+{
+    if lane.inside() == 1 {
+        floor.pass_alone(rt, lane, lowest, gate, worker)
+    } else {
+        lowest
+    }
+}
+
+/// Sweeps the lowest wire that has a token, until nobody is inside. Tokens go on to greater wires, so none stands below the
+/// wire that was swept last.
 fn walk_out<'a, G: Gate, R: Wait>(rt: &R, floor: &Floor<'a>, lane: &mut Lane, gate: &G, worker: u32)
     requires own { lane.old.home ≡ floor.now }
     ensures walked { Walks lane.old lane.new [] }
@@ -44,12 +68,9 @@ fn walk_out<'a, G: Gate, R: Wait>(rt: &R, floor: &Floor<'a>, lane: &mut Lane, ga
     ensures nobody { (f : ℕ → ℕ) → inside_by f lane.new.view ≡ 0 }
 {
     lane.lane_laws();
-    while let Some(lowest) = lane.lowest() {
-        let wire = if lane.inside() == 1 {
-            floor.pass_alone(rt, lane, lowest, gate, worker)
-        } else {
-            lowest
-        };
+    let mut from = 0;
+    while let Some(lowest) = lane.lowest_from(from) {
+        let wire = bring_on(rt, floor, lane, lowest, gate, worker);
         lane.lane_laws();
         let moment = match floor.network().end(wire) {
             End::Balancer(_) => Moment::Pass,
@@ -58,6 +79,7 @@ fn walk_out<'a, G: Gate, R: Wait>(rt: &R, floor: &Floor<'a>, lane: &mut Lane, ga
         gate.before(rt, worker, moment);
         floor.sweep(lane, wire);
         lane.lane_laws();
+        from = wire;
     }
 }
 

@@ -1,6 +1,6 @@
 //! A lane: a worker's own part of a floor.
 
-ghost use Rattle.std.specs.Prelude.{◌≡◌, ℕ, ◌+◌, ◌<◌, ◌≤◌, ◌↔◌, None, Some, max, length, IfSome, IsSome, IsTrue, OnErr, OnOk};
+ghost use Rattle.std.specs.Prelude.{◌≡◌, ℕ, ◌+◌, ◌<◌, ◌≤◌, ◌↔◌, None, Some, [], max, length, IfSome, IsSome, IsTrue, OnErr, OnOk};
 ghost use Rattle.cn_spec.specs.declared.limits.TheConstants.{MOST_CLIENTS, MOST_ROOM};
 ghost use Rattle.cn_yard.specs.Lists.{IsLowest, IsThere, after, first_of, on, standing, times_in, tokens_in};
 
@@ -123,6 +123,17 @@ impl Lane {
         ensures none { result ≡ None → (wire : ℕ) → length (on self.now.yard.lists wire) ≡ 0 }
     {
         self.yard.lowest()
+    }
+
+    /// The least wire on which one of its tokens stands, if one does, where none stands below `from`, which is at most the
+    /// number of wires of the network.
+    pub fn lowest_from(&self, from: u32) -> Option<u32>
+        requires from { from ≤ length self.now.yard.lists }
+        requires none { (wire : ℕ) → wire < from → on self.now.yard.lists wire ≡ [] }
+        ensures some { IfSome result (λ wire. IsLowest self.now.yard.lists wire) }
+        ensures none { result ≡ None → (wire : ℕ) → length (on self.now.yard.lists wire) ≡ 0 }
+    {
+        self.yard.lowest_from(from)
     }
 
     /// How many of its tokens stand on a wire of the network.

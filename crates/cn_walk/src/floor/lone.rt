@@ -1,7 +1,7 @@
 //! A lane's only token, walked with its wire in a local.
 
 ghost use Rattle.std.specs.Prelude.{◌≡◌, ◌<◌, ◌≤◌, [], length};
-ghost use Rattle.cn_yard.specs.Lists.{on, tokens_in};
+ghost use Rattle.cn_yard.specs.Lists.{IsLowest, on, tokens_in};
 ghost use Rattle.cn_walk.specs.Lone.{IsAlone, OnlyPassed};
 ghost use Rattle.cn_walk.specs.Walks.{Walks, steps_left};
 
@@ -41,9 +41,7 @@ impl<'a> Floor<'a> {
         while let End::Balancer(balancer) = self.network.end(at) {
             gate.before(rt, worker, Moment::Pass);
             let end = End::Balancer(balancer);
-            let number = self
-                .counters
-                .let_by::<Brand>(seat, token, client, at, end);
+            let number = self.counters.let_by::<Brand>(seat, token, client, at, end);
             at = self.network.entries() + 2 * balancer + output_of(number);
         }
         at
@@ -63,7 +61,7 @@ impl<'a> Floor<'a> {
         requires alone { tokens_in lane.old.yard.lists ≡ 1 }
         requires stands { 0 < length (on lane.old.yard.lists wire) }
         ensures walked { Walks lane.old lane.new [] }
-        ensures stands { 0 < length (on lane.new.yard.lists result) }
+        ensures lowest { IsLowest lane.new.yard.lists result }
         ensures left { steps_left lane.new.view ≤ steps_left lane.old.view }
     {
         lane.lane_laws();

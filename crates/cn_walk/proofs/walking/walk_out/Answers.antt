@@ -1,25 +1,40 @@
-use Rattle.std.proofs.Common.{rules, ◌≡◌, [], arith}
-use Rattle.cn_yard.specs.Lists.{tokens_in}
-use Rattle.cn_walk.proofs.SweptWalks.{sweeps}
-use Rattle.cn_walk.proofs.Walks.{IsHeld, nobody-there, none_by, walks_on}
+use Rattle.std.proofs.Common.{rules, ◌≡◌, ℕ, ◌<◌, [], ap, arith, length}
+use Rattle.cn_yard.specs.Lists.{on, tokens_in}
+use Rattle.cn_walk.specs.Lane.{Home}
+use Rattle.cn_walk.proofs.SweptWalks.{clear-below, sweeps}
+use Rattle.cn_walk.proofs.Walks.{IsHeld, lowest-inside, nobody-there, none_by, walks_on}
 use Rattle.cn_walk.proofs.walking.walk_out.Goals as goal
 
-pub loop-wire-smaller : goal.loop-wire-smaller
-loop-wire-smaller g c =
-    let (n, is) = c.sweep.ensures in
-    (sweeps _ _ c.in-Some.wire n _ is c.loop-wire.invariant.1 (omega (arith, c.in-Some.ensures.some.some))).1
-
-pub loop-wire-preserved : goal.loop-wire-preserved
-loop-wire-preserved g c =
+pub loop-lowest-smaller : goal.loop-lowest-smaller
+loop-lowest-smaller g c =
     let (n, is) = c.sweep.ensures in
     let laws = c.lane_laws-in-Some.ensures in
-    let held : IsHeld c.sweep.new.lane = record { start = laws.start; tokens = laws.tokens; wires = laws.wires; once = laws.once; there = laws.there } in
-    (walks_on _ _ _ [] [] c.loop-wire.invariant.0 (sweeps _ _ c.in-Some.wire n _ is c.loop-wire.invariant.1 (omega (arith, c.in-Some.ensures.some.some))).0, held)
+    let held : IsHeld c.bring_on-wire.new.lane = record { start = laws.start; tokens = laws.tokens; wires = laws.wires; once = laws.once; there = laws.there } in
+    let swept = sweeps _ _ c.bring_on-wire.result n _ is held (omega (arith, c.bring_on-wire.ensures.lowest.some)) in
+    omega (arith, c.bring_on-wire.ensures.left, swept.1)
+
+pub loop-lowest-preserved : goal.loop-lowest-preserved
+loop-lowest-preserved g c =
+    let (n, is) = c.sweep.ensures in
+    let laws = c.lane_laws-in-Some.ensures in
+    let later = c.lane_laws-in-Some-2.ensures in
+    let wire : ℕ = c.bring_on-wire.result in
+    let brought = c.bring_on-wire.ensures in
+    let held : IsHeld c.bring_on-wire.new.lane = record { start = laws.start; tokens = laws.tokens; wires = laws.wires; once = laws.once; there = laws.there } in
+    let some : 0 < length (on c.bring_on-wire.new.lane.yard.lists wire) = omega (arith, brought.lowest.some) in
+    let inside = lowest-inside c.bring_on-wire.new.lane.yard.lists wire brought.lowest in
+    let swept = sweeps _ _ wire n _ is held some in
+    record {
+      walks = walks_on _ _ _ [] [] (walks_on _ _ _ [] [] c.loop-lowest.invariant.walks brought.walked) swept.0;
+      held = record { start = later.start; tokens = later.tokens; wires = later.wires; once = later.once; there = later.there };
+      from = omega (arith, inside, laws.wires, later.wires, ap (λ (h : Home). length h.start.network.table.ends) swept.0.home);
+      clear = clear-below _ _ wire n _ is held some brought.lowest.below;
+    }
 
 pub returns-clause-out : goal.returns-clause-out
-returns-clause-out g c = nobody-there c.loop-wire.lane.yard.lists (search rules)
+returns-clause-out g c = nobody-there c.loop-lowest.lane.yard.lists (search rules)
 
 pub returns-clause-nobody : goal.returns-clause-nobody
 returns-clause-nobody g c f =
-    let out : tokens_in c.loop-wire.lane.yard.lists ≡ 0 = nobody-there c.loop-wire.lane.yard.lists (search rules) in
-    none_by c.loop-wire.lane c.loop-wire.invariant.1 out f
+    let out : tokens_in c.loop-lowest.lane.yard.lists ≡ 0 = nobody-there c.loop-lowest.lane.yard.lists (search rules) in
+    none_by c.loop-lowest.lane c.loop-lowest.invariant.held out f
