@@ -1,5 +1,5 @@
 -- A grant list that a run has written is tight.
-use Rattle.std.proofs.Common.{◌≡◌, ◌<◌, ◌^◌, ℕ, List, [], ◌∷◌, length, map, refl, arith, ap, ◌∙◌}
+use Rattle.std.proofs.Common.{◌≡◌, ◌<◌, ◌^◌, ℕ, Bool, List, [], ◌∷◌, length, map, refl, arith, ap, ◌∙◌}
 use Rattle.std.specs.List.{AllByRecursion, AllZip, sum_by}
 use Rattle.std.proofs.lemmas.List.Sorted.{All-permutation}
 use Rattle.std.proofs.lemmas.List.Sums.{sum_by-cons}
@@ -17,42 +17,42 @@ use Rattle.cn_report.specs.declared.reading.gathering.BatchEpoch.{BatchEpoch}
 use Rattle.cn_words.specs.Net.{Description, entries_of}
 use Rattle.cn_words.specs.declared.options.Form.TheVariants.{Grants}
 use Rattle.cn_renamer.specs.Headline.{IsRunOf, IsServed, served_epoch}
-use Rattle.cn_renamer.proofs.Headline.{as-many}
+use Rattle.cn_renamer.proofs.Headline.{AfterSome, as-many, each-served}
 
-later-numbers : (width n m : ℕ) (epochs : List BatchEpoch) (records : List EpochRecord) → m ≡ n → AllZip (IsServed width) epochs records
+later-numbers : (width n m : ℕ) (epochs : List BatchEpoch) (records : List EpochRecord) → m ≡ n → AllZip (AfterSome width) epochs records
     → AllByRecursion (λ e. n < e.number) epochs → AllByRecursion (λ r. m < r.number) records
 later-numbers width n m [] [] same served above = tt
 later-numbers width n m [] (r ∷ records) same served above = absurd served
 later-numbers width n m (e ∷ epochs) [] same served above = absurd served
 later-numbers width n m (e ∷ epochs) (r ∷ records) same served above =
-    (omega (arith, same, served.0.number, above.0), later-numbers width n m epochs records same served.1 above.1)
+    (omega (arith, same, served.0.1.number, above.0), later-numbers width n m epochs records same served.1 above.1)
 
 -- the records' numbers rise as the epochs' do
-rising : (width : ℕ) (epochs : List BatchEpoch) (records : List EpochRecord) → AllZip (IsServed width) epochs records → AreRising epochs → AreRisingRecords records
+rising : (width : ℕ) (epochs : List BatchEpoch) (records : List EpochRecord) → AllZip (AfterSome width) epochs records → AreRising epochs → AreRisingRecords records
 unfolding AreRising AreRisingRecords
 rising width [] [] served up = tt
 rising width [] (r ∷ records) served up = absurd served
 rising width (e ∷ epochs) [] served up = absurd served
 rising width (e ∷ epochs) (r ∷ records) served up =
-    (later-numbers width e.number r.number epochs records served.0.number served.1 up.0, rising width epochs records served.1 up.1)
+    (later-numbers width e.number r.number epochs records served.0.1.number served.1 up.0, rising width epochs records served.1 up.1)
 
-own-names : (width : ℕ) (e : BatchEpoch) (r : EpochRecord) → IsServed width e r → IsSmallEpoch e → HasOwnNames r
-own-names width e r served small = record {
+own-names : (width m : ℕ) (e : BatchEpoch) (r : EpochRecord) → IsServed width m e r → IsSmallEpoch e → HasOwnNames r
+own-names width m e r served small = record {
   number = omega (arith, served.number, small.number);
   clients = All-permutation (λ (client : ℕ). client < 2 ^ 64) (map (λ (c : Client). c.id) e.clients.items) r.holders.items served.holders small.clients;
-  holders = as-many width e r served;
+  holders = as-many width m e r served;
   once = served.once;
 }
 
-all-names : (width : ℕ) (epochs : List BatchEpoch) (records : List EpochRecord) → AllZip (IsServed width) epochs records → AllByRecursion IsSmallEpoch epochs → AllByRecursion HasOwnNames records
+all-names : (width : ℕ) (epochs : List BatchEpoch) (records : List EpochRecord) → AllZip (AfterSome width) epochs records → AllByRecursion IsSmallEpoch epochs → AllByRecursion HasOwnNames records
 all-names width [] [] served small = tt
 all-names width [] (r ∷ records) served small = absurd served
 all-names width (e ∷ epochs) [] served small = absurd served
 all-names width (e ∷ epochs) (r ∷ records) served small =
-    (own-names width e r served.0 small.0, all-names width epochs records served.1 small.1)
+    (own-names width served.0.0 e r served.0.1 small.0, all-names width epochs records served.1 small.1)
 
 -- they tell as many clients as came
-all-clients : (width : ℕ) (epochs : List BatchEpoch) (records : List EpochRecord) → AllZip (IsServed width) epochs records
+all-clients : (width : ℕ) (epochs : List BatchEpoch) (records : List EpochRecord) → AllZip (AfterSome width) epochs records
     → clients_of records ≡ sum_by (λ e. length e.clients.items) epochs
 all-clients width [] [] served = refl
 all-clients width [] (r ∷ records) served = absurd served
@@ -62,35 +62,38 @@ all-clients width (e ∷ epochs) (r ∷ records) served =
       arith,
       sum_by-cons (λ (x : EpochRecord). x.clients) r records,
       sum_by-cons (λ (x : BatchEpoch). length x.clients.items) e epochs,
-      served.0.clients,
+      served.0.1.clients,
       all-clients width epochs records served.1,
     )
 
-some-clients : (width : ℕ) (epochs : List BatchEpoch) (records : List EpochRecord) → AllZip (IsServed width) epochs records
+some-clients : (width : ℕ) (epochs : List BatchEpoch) (records : List EpochRecord) → AllZip (AfterSome width) epochs records
     → AllByRecursion (λ e. 0 < length e.clients.items) epochs → AllByRecursion (λ r. 0 < r.clients) records
 some-clients width [] [] served some = tt
 some-clients width [] (r ∷ records) served some = absurd served
 some-clients width (e ∷ epochs) [] served some = absurd served
 some-clients width (e ∷ epochs) (r ∷ records) served some =
-    (omega (arith, served.0.clients, some.0), some-clients width epochs records served.1 some.1)
+    (omega (arith, served.0.1.clients, some.0), some-clients width epochs records served.1 some.1)
 
-told-alike : (width w : ℕ) (epochs : List BatchEpoch) (records : List EpochRecord) → AllZip (IsServed width) epochs records
+told-alike : (width w : ℕ) (epochs : List BatchEpoch) (records : List EpochRecord) → AllZip (AfterSome width) epochs records
     → map (checked_epoch w) records ≡ map (served_epoch w) epochs
 told-alike width w [] [] served = refl
 told-alike width w [] (r ∷ records) served = absurd served
 told-alike width w (e ∷ epochs) [] served = absurd served
 told-alike width w (e ∷ epochs) (r ∷ records) served =
-    λ i. (served.0.number i, served.0.clients i, shares (served.0.clients i) w) ∷ told-alike width w epochs records served.1 i
+    λ i. (served.0.1.number i, served.0.1.clients i, shares (served.0.1.clients i) w) ∷ told-alike width w epochs records served.1 i
 
-module _ (net : Description) (bytes text : List ℕ) (run : IsRunOf net Grants bytes text) where
+module _ (net : Description) (carry : Bool) (bytes text : List ℕ) (run : IsRunOf net Grants carry bytes text) where
+  each : AllZip (AfterSome run.network.table.width) run.epochs run.records
+  each = each-served carry run.network.table.width 0 run.epochs run.records run.served
+
   tight : AreTight run.records
   tight =
       let width = run.network.table.width in
       let numbers = batch_numbers (entries_of net.kind net.width) (records_of bytes) run.epochs run.batch in
       record {
-        rising = rising width run.epochs run.records run.served run.batch.holds.rising;
-        names = all-names width run.epochs run.records run.served numbers.0;
-        few = omega (arith, all-clients width run.epochs run.records run.served, numbers.1);
+        rising = rising width run.epochs run.records each run.batch.holds.rising;
+        names = all-names width run.epochs run.records each numbers.0;
+        few = omega (arith, all-clients width run.epochs run.records each, numbers.1);
       }
 
   -- a check finds no flaw in it
@@ -102,5 +105,5 @@ module _ (net : Description) (bytes text : List ℕ) (run : IsRunOf net Grants b
   told w =
       let width = run.network.table.width in
       ap (λ (t : List ℕ). told_epochs w (records_of t)) run.written
-      ∙ told_back w run.records tight (some-clients width run.epochs run.records run.served run.batch.holds.some)
-      ∙ told-alike width w run.epochs run.records run.served
+      ∙ told_back w run.records tight (some-clients width run.epochs run.records each run.batch.holds.some)
+      ∙ told-alike width w run.epochs run.records each

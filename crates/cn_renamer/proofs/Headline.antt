@@ -1,16 +1,17 @@
 -- What a run has written of the epochs of its batch.
-use Rattle.std.proofs.Common.{◌≡◌, ℕ, List, [], ◌∷◌, ◌++◌, Option, length, subst, ap, ◌∙◌, sym}
+use Rattle.std.proofs.Common.{◌≡◌, ℕ, ◌+◌, ◌-◌, Bool, true, false, List, [], ◌∷◌, ◌++◌, Option, length, arith, refl, subst, ap, ◌∙◌, sym}
 use Rattle.std.specs.Prelude.{All, IfSome}
 use Rattle.std.specs.List.{AllZip}
 use Rattle.std.proofs.lemmas.List.{length-map}
 use Rattle.std.proofs.lemmas.List.Elements.{All-cons, All-nil}
 use Rattle.std.proofs.lemmas.List.FromFn.{length-map-range_with_len}
 use Rattle.std.proofs.lemmas.List.Sorted.{length_permutation}
+use Rattle.std.proofs.lemmas.List.Sums.{sum_by-cons}
 use Rattle.cn_spec.specs.Step.{share}
 use Rattle.cn_wiring.specs.Network.{Network}
 use Rattle.cn_core.specs.declared.client.Client.{Client}
 use Rattle.cn_epoch.specs.declared.record.EpochRecord.{EpochRecord}
-use Rattle.cn_report.specs.Reading.Batch.{IsBatch}
+use Rattle.cn_report.specs.Reading.Batch.{IsBatch, clients_of}
 use Rattle.cn_report.specs.Reading.Records.{records_of}
 use Rattle.cn_report.specs.declared.reading.gathering.BatchEpoch.{BatchEpoch}
 use Rattle.cn_report.proofs.CallerLemmas.{known_map}
@@ -20,38 +21,82 @@ use Rattle.cn_words.specs.Net.{Description, IsNetworkOf}
 use Rattle.cn_words.specs.declared.options.Form.{Form}
 use Rattle.cn_renamer.specs.declared.output_fault.OutputFault.{OutputFault}
 use Rattle.cn_renamer.specs.declared.output_fault.OutputFault.TheVariants as output
-use Rattle.cn_renamer.specs.Headline.{IsRunOf, IsRunOfKnown, IsServed, text_in}
+use Rattle.cn_renamer.specs.Headline.{AreServed, IsRunOf, IsRunOfKnown, IsServed, after, text_in}
 use Rattle.cn_renamer.specs.Outputs.{until_output}
 use Rattle.cn_renamer.specs.Serve.{fault_of_output, until_serve}
 
 -- who holds the names of an epoch that was served are as many as its clients
-pub as-many : (width : ℕ) (epoch : BatchEpoch) (r : EpochRecord) → IsServed width epoch r → length r.holders.items ≡ r.clients
-as-many width epoch r served =
+pub as-many : (width m : ℕ) (epoch : BatchEpoch) (r : EpochRecord) → IsServed width m epoch r → length r.holders.items ≡ r.clients
+as-many width m epoch r served =
     length_permutation _ _ served.holders ∙ length-map epoch.clients.items (λ (c : Client). c.id) ∙ sym served.clients
 
+-- the record is that of the epoch, served after some clients
+abbrev pub AfterSome : ℕ → BatchEpoch → EpochRecord → Type 0
+AfterSome width epoch r = (m : ℕ) × IsServed width m epoch r
+
+-- and so is each of epochs that were served one after another
+pub each-served : (carry : Bool) (width m : ℕ) (epochs : List BatchEpoch) (records : List EpochRecord) → AreServed carry width m epochs records → AllZip (AfterSome width) epochs records
+unfolding AreServed
+each-served carry width m [] [] served = tt
+each-served carry width m [] (r ∷ records) served = absurd served
+each-served carry width m (e ∷ epochs) [] served = absurd served
+each-served carry width m (e ∷ epochs) (r ∷ records) (one, rest) = ((m, one), each-served carry width (after carry m (length e.clients.items)) epochs records rest)
+
 -- records of epochs that were served are whole
-pub whole : (width : ℕ) (epochs : List BatchEpoch) (records : List EpochRecord) → AllZip (IsServed width) epochs records → All (IsWholeRecord width) records
-whole width [] [] served = All-nil (IsWholeRecord width)
-whole width [] (r ∷ records) served = absurd served
-whole width (e ∷ epochs) [] served = absurd served
-whole width (e ∷ epochs) (r ∷ records) (one, rest) =
+pub whole : (carry : Bool) (width m : ℕ) (epochs : List BatchEpoch) (records : List EpochRecord) → AreServed carry width m epochs records → All (IsWholeRecord width) records
+unfolding AreServed
+whole carry width m [] [] served = All-nil (IsWholeRecord width)
+whole carry width m [] (r ∷ records) served = absurd served
+whole carry width m (e ∷ epochs) [] served = absurd served
+whole carry width m (e ∷ epochs) (r ∷ records) (one, rest) =
     All-cons (IsWholeRecord width) r records
-    (ap length one.counts ∙ length-map-range_with_len (share r.clients width) 0 width, as-many width e r one)
-    (whole width epochs records rest)
+    (ap length one.counts ∙ length-map-range_with_len (λ i. share (m + r.clients) width i - share m width i) 0 width, as-many width m e r one)
+    (whole carry width (after carry m (length e.clients.items)) epochs records rest)
+
+-- how many clients come before the epoch after these
+came : Bool → ℕ → List BatchEpoch → ℕ
+came carry m [] = m
+came carry m (e ∷ epochs) = came carry (after carry m (length e.clients.items)) epochs
 
 -- where one more epoch was served
-pub served-more : (width : ℕ) (epochs : List BatchEpoch) (records : List EpochRecord) (e : BatchEpoch) (r : EpochRecord) → AllZip (IsServed width) epochs records → IsServed width e r
-    → AllZip (IsServed width) (epochs ++ e ∷ []) (records ++ r ∷ [])
-served-more width [] [] e r served one = (one, tt)
-served-more width [] (x ∷ records) e r served one = absurd served
-served-more width (x ∷ epochs) [] e r served one = absurd served
-served-more width (x ∷ epochs) (y ∷ records) e r (first, rest) one = (first, served-more width epochs records e r rest one)
+served-more : (carry : Bool) (width m : ℕ) (epochs : List BatchEpoch) (records : List EpochRecord) (e : BatchEpoch) (r : EpochRecord) → AreServed carry width m epochs records → IsServed width (came carry m epochs) e r
+    → AreServed carry width m (epochs ++ e ∷ []) (records ++ r ∷ [])
+unfolding AreServed came
+served-more carry width m [] [] e r served one = (one, tt)
+served-more carry width m [] (x ∷ records) e r served one = absurd served
+served-more carry width m (x ∷ epochs) [] e r served one = absurd served
+served-more carry width m (x ∷ epochs) (y ∷ records) e r (first, rest) one = (first, served-more carry width (after carry m (length x.clients.items)) epochs records e r rest one)
 
-module _ (net : Description) (form : Form) (network : Network) (built : IsNetworkOf net network) (known : Option (List ℕ)) (epochs : List BatchEpoch) (batch : IfSome known (λ bytes. IsBatch network.table.entries (records_of bytes) epochs)) (records : List EpochRecord) (served : AllZip (IsServed network.table.width) epochs records) where
+-- without carry none come before it, and with carry all come
+none-came : (epochs : List BatchEpoch) → came false 0 epochs ≡ 0
+unfolding came
+none-came [] = refl
+none-came (e ∷ epochs) = none-came epochs
+
+all-came : (m : ℕ) (epochs : List BatchEpoch) → came true m epochs ≡ m + clients_of epochs
+unfolding came
+all-came m [] = omega arith
+all-came m (e ∷ epochs) = all-came (m + length e.clients.items) epochs ∙ omega (arith, sum_by-cons (λ (x : BatchEpoch). length x.clients.items) e epochs)
+
+pub served-anew : (width : ℕ) (epochs : List BatchEpoch) (records : List EpochRecord) (e : BatchEpoch) (r : EpochRecord) → AreServed false width 0 epochs records → IsServed width 0 e r
+    → AreServed false width 0 (epochs ++ e ∷ []) (records ++ r ∷ [])
+served-anew width epochs records e r served one = served-more false width 0 epochs records e r served (subst (λ (m : ℕ). IsServed width m e r) (sym (none-came epochs)) one)
+
+pub served-after : (width : ℕ) (epochs : List BatchEpoch) (records : List EpochRecord) (e : BatchEpoch) (r : EpochRecord) → AreServed true width 0 epochs records → IsServed width (clients_of epochs) e r
+    → AreServed true width 0 (epochs ++ e ∷ []) (records ++ r ∷ [])
+served-after width epochs records e r served one =
+    served-more true width 0 epochs records e r served (subst (λ (m : ℕ). IsServed width m e r) (sym (all-came 0 epochs ∙ omega arith)) one)
+
+-- there are none before the first epoch
+pub none-served : (carry : Bool) (width m : ℕ) → AreServed carry width m [] []
+unfolding AreServed
+none-served carry width m = tt
+
+module _ (net : Description) (form : Form) (carry : Bool) (network : Network) (built : IsNetworkOf net network) (known : Option (List ℕ)) (epochs : List BatchEpoch) (batch : IfSome known (λ bytes. IsBatch network.table.entries (records_of bytes) epochs)) (records : List EpochRecord) (served : AreServed carry network.table.width 0 epochs records) where
   -- the text of epochs that were read is that of a run of the bytes that are them
-  run-is : (text : List ℕ) → text ≡ text_in form network records → IsRunOfKnown net form known text
+  run-is : (text : List ℕ) → text ≡ text_in form network records → IsRunOfKnown net form carry known text
   run-is text written =
-      known_map known (λ bytes. IsBatch network.table.entries (records_of bytes) epochs) (λ bytes. IsRunOf net form bytes text)
+      known_map known (λ bytes. IsBatch network.table.entries (records_of bytes) epochs) (λ bytes. IsRunOf net form carry bytes text)
       batch (λ bytes is. record {
         epochs = epochs;
         batch = subst (λ (entries : ℕ). IsBatch entries (records_of bytes) epochs) built.2.entries is;
@@ -64,6 +109,6 @@ module _ (net : Description) (form : Form) (network : Network) (built : IsNetwor
 
   -- and so where only a part was written
   pub written-until : {W : Type 0} (contents : W → Option (List ℕ)) (fault : OutputFault) (old new : W)
-      → HasWritten contents (λ text. text ≡ text_in form network records) (until_output fault) old new → HasWritten contents (IsRunOfKnown net form known) (until_serve (fault_of_output fault)) old new
+      → HasWritten contents (λ text. text ≡ text_in form network records) (until_output fault) old new → HasWritten contents (IsRunOfKnown net form carry known) (until_serve (fault_of_output fault)) old new
   written-until contents output.Memory old new same = same
   written-until contents (output.Write count) old new (text, is, few, grows) = (text, run-is text is, few, grows)

@@ -1,12 +1,15 @@
 -- The headline: for every accepted batch, each of the three networks, every number of workers and every interleaving of
 -- their steps, what a run writes gives, for each epoch of k clients, exit i the count ceiling((k - i) / w) and its clients
--- the names 0 to k-1, each once. (At every moment before that the rule of the floor holds: `cn_walk`'s `IsKept`.)
-use Rattle.std.specs.Prelude.{ℕ, ◌≡◌, ◌≤◌, IfSome, List, Option, length, map}
-use Rattle.std.specs.List.{AllZip}
+-- the names 0 to k-1, each once. Where counters are carried: for each epoch of k clients after m, exit i its share of m + k
+-- clients less its share of m. Without carry m is 0, and both are one. (At every moment before that the rule of the floor
+-- holds: `cn_walk`'s `IsKept`.)
+use Rattle.std.specs.Prelude.{ℕ, ◌≡◌, ◌+◌, ◌≤◌, [], ◌∷◌, Bool, IfSome, List, Option, length, map, ⊤}
 use Rattle.std.specs.List.Sorted.{IsPermutation}
 use Rattle.cn_spec.specs.Step.{shares}
-use Rattle.cn_spec.specs.Sums.{times}
+use Rattle.cn_spec.specs.Sums.{times, when}
 use Rattle.cn_wiring.specs.Network.{Network}
+use Rattle.cn_walk.specs.Carried.{shares_after}
+use Rattle.cn_walk.specs.Ends.{ListsHolders, QuietValue, counts_of}
 use Rattle.cn_epoch.specs.declared.record.EpochRecord.{EpochRecord}
 use Rattle.cn_report.specs.Reading.Batch.{IsBatch}
 use Rattle.cn_report.specs.Reading.Records.{records_of}
@@ -17,35 +20,54 @@ use Rattle.cn_words.specs.Net.{Description, IsNetworkOf, entries_of}
 use Rattle.cn_words.specs.declared.options.Form.{Form}
 use Rattle.cn_words.specs.declared.options.Form.TheVariants.{Report, Grants}
 
--- of an epoch of k clients each exit i of w has the count ceiling((k - i) / w), its share; and the clients, each once, are
--- the holders of the names 0 to k-1, in the order of these names
-pub record IsServed (w : ℕ) (epoch : BatchEpoch) (r : EpochRecord) : Type 0 where
+-- of an epoch of k clients after m each exit i of w has its share of m + k less its share of m, where the share of k is
+-- ceiling((k - i) / w); and the clients, each once, are the holders of the names 0 to k-1, in the order of these names
+pub record IsServed (w m : ℕ) (epoch : BatchEpoch) (r : EpochRecord) : Type 0 where
   pub number : r.number ≡ epoch.number
   pub clients : r.clients ≡ length epoch.clients.items
-  pub counts : r.counts.items ≡ shares r.clients w
+  pub counts : r.counts.items ≡ shares_after m r.clients w
   pub holders : IsPermutation (map (λ c. c.id) epoch.clients.items) r.holders.items
   pub once : (client : ℕ) → times client r.holders.items ≤ 1
+
+-- the record of an epoch, by the floor that it was run on
+pub record IsRecordOf (epoch : BatchEpoch) (quiet : QuietValue) (r : EpochRecord) : Type 0 where
+  pub number : r.number ≡ epoch.number
+  pub clients : r.clients ≡ length epoch.clients.items
+  pub counts : r.counts.items ≡ counts_of quiet.start quiet.words
+  pub holders : ListsHolders quiet.did.grants r.holders.items
+
+-- how many clients come before the epoch after one of k clients that come after m: with carry all of them, without it none
+abbrev pub after : Bool → ℕ → ℕ → ℕ
+after carry m k = when carry (m + k)
+
+-- the epochs were served one after another, where m clients come before the first
+unfoldable pub AreServed : Bool → ℕ → ℕ → List BatchEpoch → List EpochRecord → Type 0
+AreServed carry w m [] [] = ⊤
+AreServed carry w m [] (r ∷ records) = ⊥
+AreServed carry w m (e ∷ epochs) [] = ⊥
+AreServed carry w m (e ∷ epochs) (r ∷ records) =
+    IsServed w m e r × AreServed carry w (after carry m (length e.clients.items)) epochs records
 
 -- what is told of epochs in the asked form
 abbrev pub text_in : Form → Network → List EpochRecord → List ℕ
 text_in Report network records = report_text network records
 text_in Grants network records = grants_text records
 
--- the bytes that were read are a batch, each of its epochs was served on the network, and this is the text of that
-pub record IsRunOf (net : Description) (form : Form) (bytes text : List ℕ) : Type 0 where
+-- the bytes that were read are a batch, its epochs were served on the network, and this is the text of that
+pub record IsRunOf (net : Description) (form : Form) (carry : Bool) (bytes text : List ℕ) : Type 0 where
   pub epochs : List BatchEpoch
   pub batch : IsBatch (entries_of net.kind net.width) (records_of bytes) epochs
   pub network : Network
   pub built : IsNetworkOf net network
   pub records : List EpochRecord
-  pub served : AllZip (IsServed network.table.width) epochs records
+  pub served : AreServed carry network.table.width 0 epochs records
   pub written : text ≡ text_in form network records
 
 -- the same, where the bytes that a reader has left are known
-abbrev pub IsRunOfKnown : Description → Form → Option (List ℕ) → List ℕ → Type 0
-IsRunOfKnown net form known text = IfSome known (λ bytes. IsRunOf net form bytes text)
+abbrev pub IsRunOfKnown : Description → Form → Bool → Option (List ℕ) → List ℕ → Type 0
+IsRunOfKnown net form carry known text = IfSome known (λ bytes. IsRunOf net form carry bytes text)
 
 -- what a check of the grant list tells of an epoch of a run: its number, its k clients, and for each exit how many of its
--- names n have `n % w` equal to the exit, which is the exit's share
+-- names n have `n % w` equal to the exit, which is the exit's share, with carry too
 abbrev pub served_epoch : ℕ → BatchEpoch → ℕ × ℕ × List ℕ
 served_epoch w epoch = (epoch.number, length epoch.clients.items, shares (length epoch.clients.items) w)

@@ -25,7 +25,7 @@ IsBuiltFor other = Unit {0}
 
 -- the text of a job, by the bytes that its reader has left, where they are known
 abbrev pub IsTextOf : Job → Option (List ℕ) → List ℕ → Type 0
-IsTextOf (job.Run options) known text = IsRunOfKnown options.net options.form known text
+IsTextOf (job.Run options) known text = IsRunOfKnown options.net options.form options.carry known text
 IsTextOf (job.Replay net) known text = IsReplayOfKnown net known text
 IsTextOf (job.Check width) known text = IsCheckOfKnown width known text
 IsTextOf (job.Show net) known text = IsWiringOf net text

@@ -1,8 +1,10 @@
 //! The laws of what jobs write. Each function does nothing: its contract is the law, and a caller opens it by a call.
 
-ghost use Rattle.std.specs.Prelude.{◌≡◌, ℕ, List, map};
+ghost use Rattle.std.specs.Prelude.{◌≡◌, ℕ, Bool, List, length, map};
+ghost use Rattle.cn_spec.specs.Step.{shares};
 ghost use Rattle.cn_wiring.specs.Network.{Network, IsNetwork};
 ghost use Rattle.cn_epoch.specs.declared.command.Command.{Command};
+ghost use Rattle.cn_epoch.specs.declared.record.EpochRecord.{EpochRecord};
 ghost use Rattle.cn_report.specs.Reading.Batch.{IsBatch};
 ghost use Rattle.cn_report.specs.Reading.Grants.{IsTightList};
 ghost use Rattle.cn_report.specs.Reading.Records.{records_of};
@@ -10,9 +12,11 @@ ghost use Rattle.cn_report.specs.Reading.Told.{told_epochs};
 ghost use Rattle.cn_report.specs.declared.reading.gathering.BatchEpoch.{BatchEpoch};
 ghost use Rattle.cn_words.specs.Net.{Description, entries_of};
 ghost use Rattle.cn_words.specs.declared.options.Form.TheVariants.{Grants};
-ghost use Rattle.cn_renamer.specs.Headline.{IsRunOf, served_epoch};
+ghost use Rattle.cn_renamer.specs.Headline.{IsRunOf, IsServed, served_epoch};
 ghost use Rattle.cn_renamer.specs.Replay.{IsReplayOf, IsReplayOfCommands, IsReplayText};
 ghost use Rattle.cn_renamer.specs.Show.{IsWiringOf};
+
+use cn_walk::laws::first_shares_are_shares;
 
 /// On one network commands have one text; so have commands, and the bytes of a schedule, on a network told by its kind and
 /// width.
@@ -30,12 +34,20 @@ pub fn a_wiring_has_one_text()
     ensures { (net : Description) (text other : List ℕ) → IsWiringOf net text → IsWiringOf net other → text ≡ other }
 {}
 
-/// What a run writes in the grants form is a list that a check takes for tight; and a check by any width tells the epochs
+/// Without carry each exit of each epoch of a run has its share of the epoch's clients for its count.
+pub fn counts_are_shares()
+    ensures { (w : ℕ) (epoch : BatchEpoch) (r : EpochRecord) → IsServed w 0 epoch r
+        → r.counts.items ≡ shares (length epoch.clients.items) w }
+{
+    first_shares_are_shares();
+}
+
+/// What a run writes in the grants form, with carry or without, is a list that a check takes for tight; and a check by any width tells the epochs
 /// of the batch, with as many names `n` of `n mod w = i` as the share of exit i.
 pub fn written_grants_are_accepted()
-    ensures tight { (net : Description) (bytes text : List ℕ) → IsRunOf net Grants bytes text
+    ensures tight { (net : Description) (carry : Bool) (bytes text : List ℕ) → IsRunOf net Grants carry bytes text
         → IsTightList (records_of text) }
-    ensures told { (net : Description) (bytes text : List ℕ) → IsRunOf net Grants bytes text
+    ensures told { (net : Description) (carry : Bool) (bytes text : List ℕ) → IsRunOf net Grants carry bytes text
         → (epochs : List BatchEpoch) × IsBatch (entries_of net.kind net.width) (records_of bytes) epochs
         × ((w : ℕ) → told_epochs w (records_of text) ≡ map (served_epoch w) epochs) }
 {}

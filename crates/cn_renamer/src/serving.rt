@@ -1,17 +1,20 @@
 //! A batch, served by many workers.
 
-ghost use Rattle.std.specs.Prelude.{◌≤◌, IfErr, IfOk, length, take, vec_capacity, vec_len};
-ghost use Rattle.std.specs.List.{AllZip};
+ghost use Rattle.std.specs.Prelude.{◌≡◌, ◌+◌, ◌≤◌, IfErr, IfOk, false, length, take, true, vec_capacity, vec_len};
+ghost use Rattle.cn_spec.specs.declared.limits.TheConstants.{MOST_CARRIED, MOST_RECORDS};
+ghost use Rattle.cn_walk.specs.Carried.{clients_of};
 ghost use Rattle.cn_report.specs.Reading.Batch.{AreServable, MayCome};
+ghost use Rattle.cn_report.specs.Reading.Batch.{clients_of as clients_in};
 ghost use Rattle.cn_report.specs.Writing.Written.{HasWritten, written_by};
-ghost use Rattle.cn_renamer.specs.Headline.{IsRunOfKnown, IsServed};
+ghost use Rattle.cn_renamer.specs.Headline.{AreServed, IsRecordOf, IsRunOfKnown, IsServed};
 ghost use Rattle.cn_renamer.specs.Serve.{IsServeFault, until_serve};
 
 use crate::forms::write_epochs;
 use crate::serve_fault::ServeFault;
 use cn_epoch::EpochRecord;
 use cn_report::{BatchEpoch, read_batch};
-use cn_walk::{Gate, RunFault, run_epoch};
+use cn_walk::laws::first_shares_are_shares;
+use cn_walk::{Gate, Quiet, RunFault, Words, run_epoch, run_epoch_after};
 use cn_wiring::Counting;
 use cn_words::Options;
 use std::alloc::{AllocError, Global};
@@ -19,6 +22,22 @@ use std::hash::RandomState;
 use std::io::{Read, Write};
 use std::sync::Wait;
 use std::thread::Threads;
+
+/// The record of an epoch of a batch, by the floor that it was run on.
+fn record_of(
+    alloc: Global,
+    epoch: &BatchEpoch,
+    quiet: &Quiet<'_>,
+) -> Result<EpochRecord, AllocError>
+    ensures { IfOk result (IsRecordOf epoch.now quiet.now) }
+{
+    Ok(EpochRecord {
+        number: epoch.number,
+        clients: epoch.clients.len() as u64,
+        counts: Vec::from_slice(alloc, quiet.counts())?,
+        holders: quiet.holders()?,
+    })
+}
 
 /// Runs an epoch of a batch by as many workers as the options have: its record, with the batch's number for it.
 fn run_one<G: Gate + Sync, R: Threads + Wait + Sync>(
@@ -30,16 +49,12 @@ fn run_one<G: Gate + Sync, R: Threads + Wait + Sync>(
     gate: &G,
 ) -> Result<EpochRecord, AllocError>
     requires { MayCome network.now.table.entries epoch.now.clients.items }
-    ensures { IfOk result (IsServed network.now.table.width epoch.now) }
+    ensures { IfOk result (IsServed network.now.table.width 0 epoch.now) }
 {
+    first_shares_are_shares();
     let (workers, hand) = (options.workers(), options.hand());
     match run_epoch(rt, alloc, network, &epoch.clients, workers, hand, gate) {
-        Ok(quiet) => Ok(EpochRecord {
-            number: epoch.number,
-            clients: epoch.clients.len() as u64,
-            counts: Vec::from_slice(alloc, quiet.counts())?,
-            holders: quiet.holders()?,
-        }),
+        Ok(quiet) => record_of(alloc, epoch, &quiet),
         Err(fault) => {
             // An epoch of a batch is refused for want of memory alone.
             prove!(matches!(fault, RunFault::Memory));
@@ -48,7 +63,7 @@ fn run_one<G: Gate + Sync, R: Threads + Wait + Sync>(
     }
 }
 
-/// Runs epochs of a batch, one after another: their records.
+/// Runs epochs of a batch, one after another, each from counters of 0: their records.
 fn run_epochs<G: Gate + Sync, R: Threads + Wait + Sync>(
     rt: &R,
     alloc: Global,
@@ -58,7 +73,7 @@ fn run_epochs<G: Gate + Sync, R: Threads + Wait + Sync>(
     gate: &G,
 ) -> Result<Vec<EpochRecord>, AllocError>
     requires { AreServable network.now.table.entries epochs.now }
-    ensures { IfOk result (λ records. AllZip (IsServed network.now.table.width) epochs.now records.items) }
+    ensures { IfOk result (λ records. AreServed false network.now.table.width 0 epochs.now records.items) }
 {
     let mut records = Vec::with_capacity(alloc, epochs.len())?;
     for epoch in epochs {
@@ -66,6 +81,75 @@ fn run_epochs<G: Gate + Sync, R: Threads + Wait + Sync>(
         records.push_reserved(served);
     }
     Ok(records)
+}
+
+/// Runs an epoch of a batch that goes on from the words of earlier ones: its record, and the words at its end.
+fn run_after<'n, G: Gate + Sync, R: Threads + Wait + Sync>(
+    rt: &R,
+    alloc: Global,
+    words: &Words<'n>,
+    options: &Options,
+    epoch: &BatchEpoch,
+    gate: &G,
+) -> Result<(EpochRecord, Words<'n>), AllocError>
+    requires come { MayCome words.now.network.table.entries epoch.now.clients.items }
+    requires few { clients_of words.now ≤ MOST_CARRIED }
+    ensures served { IfOk result (λ r. IsServed words.now.network.table.width (clients_of words.now) epoch.now r.0) }
+    ensures network { IfOk result (λ r. r.1.network ≡ words.now.network) }
+    ensures came { IfOk result (λ r. clients_of r.1 ≡ clients_of words.now + length epoch.now.clients.items) }
+{
+    let (workers, hand) = (options.workers(), options.hand());
+    match run_epoch_after(rt, alloc, words, &epoch.clients, workers, hand, gate) {
+        Ok(quiet) => Ok((record_of(alloc, epoch, &quiet)?, quiet.into_words())),
+        Err(fault) => {
+            // So is one that goes on from others.
+            prove!(matches!(fault, RunFault::Memory));
+            Err(AllocError)
+        }
+    }
+}
+
+/// Runs epochs of a batch, one after another, each from the counters of the one before: their records. No word is cleared.
+fn run_carried<G: Gate + Sync, R: Threads + Wait + Sync>(
+    rt: &R,
+    alloc: Global,
+    network: &Counting,
+    options: &Options,
+    epochs: &[BatchEpoch],
+    gate: &G,
+) -> Result<Vec<EpochRecord>, AllocError>
+    requires servable { AreServable network.now.table.entries epochs.now }
+    requires few { clients_in epochs.now ≤ MOST_RECORDS }
+    ensures { IfOk result (λ records. AreServed true network.now.table.width 0 epochs.now records.items) }
+{
+    let mut records = Vec::with_capacity(alloc, epochs.len())?;
+    let mut words = Words::zero(alloc, network)?;
+    for epoch in epochs {
+        let (record, next) = run_after(rt, alloc, &words, options, epoch, gate)?;
+        records.push_reserved(record);
+        words = next;
+    }
+    Ok(records)
+}
+
+/// Runs epochs of a batch as the options have it, with their counters carried or without.
+fn run_all<G: Gate + Sync, R: Threads + Wait + Sync>(
+    rt: &R,
+    alloc: Global,
+    network: &Counting,
+    options: &Options,
+    epochs: &[BatchEpoch],
+    gate: &G,
+) -> Result<Vec<EpochRecord>, AllocError>
+    requires servable { AreServable network.now.table.entries epochs.now }
+    requires few { clients_in epochs.now ≤ MOST_RECORDS }
+    ensures { IfOk result (λ records. AreServed options.now.carry network.now.table.width 0 epochs.now records.items) }
+{
+    if options.carries() {
+        run_carried(rt, alloc, network, options, epochs, gate)
+    } else {
+        run_epochs(rt, alloc, network, options, epochs, gate)
+    }
 }
 
 /// Reads a batch, runs its epochs one after another, and writes what came of them in the options' form: the report, which
@@ -78,6 +162,10 @@ fn run_epochs<G: Gate + Sync, R: Threads + Wait + Sync>(
 /// names 0 to k-1, each once (Aspnes, Herlihy, Shavit, *Counting Networks*, JACM 1994, section 2; renaming by Attiya,
 /// Bar-Noy, Dolev, Peleg, Reischuk, JACM 1990). It holds of every interleaving of the workers' steps; which client holds
 /// which name is theirs to settle.
+///
+/// Where the options carry counters, no word is cleared between epochs: of each epoch of k clients after m exit i has the
+/// count of its share of m + k clients less its share of m, and the names are 0 to k-1 still, each below the number of
+/// clients that entered in the epoch.
 ///
 /// The gate is asked before each step, and `serve` returns only if it lets each worker on. The random state is for the
 /// clients of a batch's epoch as they are read. Nothing is written before every epoch has ended.
@@ -95,13 +183,13 @@ pub fn serve<I: Read + Drop, W: Write, G: Gate + Sync, R: Threads + Wait + Sync>
     state: RandomState,
     gate: &G,
 ) -> Result<(), ServeFault>
-    ensures headline { let Is = IsRunOfKnown options.now.net options.now.form (I.remaining reader) in
+    ensures headline { let Is = IsRunOfKnown options.now.net options.now.form options.now.carry (I.remaining reader) in
         HasWritten W.contents Is (written_by until_serve result) writer.old writer.new }
     ensures refused { IfErr result (IsServeFault options.now.net (I.remaining reader)) }
 {
     let network = options.net().build(alloc)?;
     let batch = read_batch(alloc, reader, network.entries(), state)?;
-    let records = run_epochs(rt, alloc, &network, options, &batch.epochs, gate)?;
+    let records = run_all(rt, alloc, &network, options, &batch.epochs, gate)?;
     write_epochs(alloc, writer, &network, options.form(), &records)?;
     Ok(())
 }

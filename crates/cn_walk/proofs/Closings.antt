@@ -162,6 +162,14 @@ module _ (start : Start) (s : State (Unit {0}) View) (id : ℕ) (v : View) (kept
         came = all;
         entered = own;
         numbered = numbers;
+        visits = λ i n low.
+            omega (
+              arith,
+              numbers (Exit i) n low,
+              ap (λ (c : ℕ). once_below c n) ((tight-before start kept.began).counts i low),
+              ap (λ (c : ℕ). once_below c n) (end.counts i low),
+              ap (λ (m : ℕ). once_below (share m t.width i) n) all,
+            );
         tight = end;
         shares = shares-at end all;
         heeded = omega (arith, f.heeded, heard_few t s.words v.loads f.low);

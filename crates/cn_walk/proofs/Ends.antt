@@ -10,6 +10,7 @@ use Rattle.cn_wiring.specs.Table.{Stands, Table, is_end, sum_at}
 use Rattle.cn_ledger.specs.Ledger.{IsSound, IsTight, Ledger, put}
 use Rattle.cn_walk.specs.declared.view.Start.{Start}
 use Rattle.cn_walk.specs.declared.view.View.{View}
+use Rattle.cn_walk.specs.Carried.{AreTight, IsClosed, WordsValue}
 use Rattle.cn_walk.specs.Ends.{NobodyInside}
 use Rattle.cn_walk.specs.Rule.{IsCarried, IsKept, IsStart, ledger_of}
 use Rattle.cn_walk.specs.Words.{count_in, word_count}
@@ -99,6 +100,12 @@ module _ (start : Start) (began : IsStart start) where
           let none = total_where-agree (is_end e) t.ends (Balancer 0) now.on (λ _. 0) (λ u l x. nobody u l) in
           omega (arith, is, none));
     }
+
+-- closed words are tight
+pub closed-tight : (w : WordsValue) → IsClosed w → AreTight w
+closed-tight w is =
+    let t = w.network.table in
+    tight t is.network.formed is.network.counts (ledger_of t w.words w.words []) is.carried.sound (λ u l. refl)
 
 pub ended : (start : Start) (s : State (Unit {0}) View) → IsKept start s → NobodyInside start s.views
     → IsTight start.network.table (ledger_of start.network.table start.carried s.words s.views)

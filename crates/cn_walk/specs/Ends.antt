@@ -4,6 +4,7 @@ use Rattle.std.specs.List.{range_with_len}
 use Rattle.cn_spec.specs.Step.{IsEachBelow, name_of, share}
 use Rattle.cn_spec.specs.Sums.{once_below, times}
 use Rattle.cn_wiring.specs.declared.end.End.{End}
+use Rattle.cn_wiring.specs.declared.end.End.TheVariants.{Exit}
 use Rattle.cn_wiring.specs.Table.{Stands}
 use Rattle.cn_ledger.specs.Ledger.{IsTight}
 use Rattle.cn_walk.specs.declared.view.Grant.{Grant}
@@ -49,6 +50,10 @@ pub record IsQuiet (start : Start) (v : View) (words : List ℕ) : Type 0 where
   pub numbered : (end : End) (n : ℕ) → Stands start.network.table end
       → once_below (count_in start.network.table start.carried end) n + given_in end n v
       ≡ once_below (count_in start.network.table words end) n
+  -- so the visits on an exit are those from its share of the clients that came before up to, not including, its share of all
+  pub visits : (i n : ℕ) → i < start.network.table.width
+      → once_below (share (base start) start.network.table.width i) n + given_in (Exit i) n v
+      ≡ once_below (share (base start + length v.grants) start.network.table.width i) n
   -- the ledger of all that ever came is tight: each exit has let out its share, each balancer has passed what the full
   -- flow brings there, and each name is granted once
   pub tight : IsTight start.network.table (ledger_of start.network.table start.carried words (v ∷ []))

@@ -1,16 +1,19 @@
 -- What the laws of floors say.
-use Rattle.std.specs.Prelude.{◌≡◌, ℕ, ◌+◌, ◌*◌, ◌≤◌, length, sum_by}
+use Rattle.std.specs.Prelude.{◌≡◌, ℕ, ◌+◌, ◌*◌, ◌<◌, ◌≤◌, All, length, sum_by}
 use mathlib.Core.Option.{some}
 use lib.ListN.{get_elem?}
 use Rattle.atomic_table.specs.Table.{State}
+use Rattle.cn_spec.specs.Step.{share}
+use Rattle.cn_spec.specs.Sums.{once_below}
 use Rattle.cn_wiring.specs.declared.end.End.{End}
+use Rattle.cn_wiring.specs.declared.end.End.TheVariants.{Exit}
 use Rattle.cn_wiring.specs.Levels.{IsLevel}
 use Rattle.cn_wiring.specs.Table.{Stands}
 use Rattle.cn_ledger.specs.Ledger.{Ledger}
 use Rattle.cn_walk.specs.declared.view.Start.{Start}
 use Rattle.cn_walk.specs.declared.view.View.{View}
 use Rattle.cn_walk.specs.Rule.{IsKept, ledger_of}
-use Rattle.cn_walk.specs.Views.{given_in, inside_in, levels_in}
+use Rattle.cn_walk.specs.Views.{base, given_in, inside_in, levels_in}
 use Rattle.cn_walk.specs.Words.{clients_in, count_in}
 
 -- the words and the views of a floor
@@ -42,6 +45,18 @@ NumbersDiffer start s =
 abbrev pub HasFewWords : Start → Floor → Type 0
 HasFewWords start s =
     (end : End) → Stands start.network.table end → count_in start.network.table s.words end ≤ came_at start s
+
+-- the names that a lane holds are below the number that came since the floor began
+abbrev pub HoldsLowNames : Start → Floor → View → Type 0
+HoldsLowNames start s v = All (λ g. base start + g.name < came_at start s) v.grants
+
+-- the visits that lanes were given on an exit begin with its share of the clients that came before the floor began, and
+-- are those below its count, each once
+abbrev pub VisitsGoOn : Start → Floor → Type 0
+VisitsGoOn start s =
+    (i n : ℕ) → i < start.network.table.width
+    → once_below (share (base start) start.network.table.width i) n + sum_by (given_in (Exit i) n) s.views
+    ≡ once_below (count_in start.network.table s.words (Exit i)) n
 
 -- the passages are the depth for each grant, and the levels of those inside
 abbrev pub HasWalked : Start → View → Type 0

@@ -1,5 +1,5 @@
 -- What a run of an epoch gives, and why it is refused.
-use Rattle.std.specs.Prelude.{◌≡◌, ℕ, ◌<◌, ◌≤◌, All, List, length, map, slice_index_or}
+use Rattle.std.specs.Prelude.{◌≡◌, ℕ, ◌+◌, ◌-◌, ◌<◌, ◌≤◌, All, List, length, map, slice_index_or}
 use Rattle.std.specs.List.{range_with_len}
 use Rattle.cn_spec.specs.Step.{IsEachBelow, name_of, shares}
 use Rattle.cn_spec.specs.Sums.{times}
@@ -11,8 +11,10 @@ use Rattle.cn_wiring.specs.Table.{IsFullFlow, sum_at}
 use Rattle.cn_core.specs.declared.client.Client.{Client}
 use Rattle.cn_walk.specs.declared.running.RunFault.{RunFault}
 use Rattle.cn_walk.specs.declared.running.RunFault.TheVariants.{Workers, Hand, TooMany, NoSuchEntry, Memory}
+use Rattle.cn_walk.specs.Carried.{WordsValue, clients_of, shares_after}
 use Rattle.cn_walk.specs.Ends.{QuietValue, counts_of, passes_of}
 use Rattle.cn_walk.specs.Walks.{AreFor}
+use Rattle.cn_walk.specs.Words.{clients_in, count_in, entered_in}
 
 -- the client at a position comes by an entry that is there
 abbrev pub ComesByOne : ℕ → List Client → ℕ → Type 0
@@ -43,6 +45,29 @@ IsRefused entries clients workers hand TooMany = WorkersFit workers × HandFits 
 IsRefused entries clients workers hand (NoSuchEntry position) =
     WorkersFit workers × HandFits hand × AreFew clients × IsFirst (length clients) (ComesByOne entries clients) position
 IsRefused entries clients workers hand Memory = MayRun entries clients workers hand
+
+-- a floor that went on from words, on which these clients walked, and nobody else
+pub record IsRunAfter (before : WordsValue) (clients : List Client) (quiet : QuietValue) : Type 0 where
+  pub over : quiet.start.network ≡ before.network
+  pub after : quiet.start.carried ≡ before.words
+  -- they came after the clients of the words
+  pub came : clients_in before.network.table quiet.words ≡ clients_of before + length clients
+  -- each exit let out its share of all, less its share of those that came before
+  pub counts : counts_of quiet.start quiet.words ≡ shares_after (clients_of before) (length clients) before.network.table.width
+  -- each balancer passed what the full flow of all entries brings there, less what passed before
+  pub passes : (f : ℕ → ℕ) → IsFullFlow before.network.table f
+      → ((u : ℕ) → u < before.network.table.entries
+      → f u ≡ entered_in before.network.table before.words u + times u (map (λ c. c.entry) clients))
+      → passes_of quiet.start quiet.words
+      ≡ map (λ b. sum_at before.network.table (Balancer b) f - count_in before.network.table before.words (Balancer b))
+      (range_with_len 0 before.network.table.balancers)
+  -- the names are those below their number, each once, and each is so much less than that of its grant's exit and visit as
+  -- clients came before
+  pub names : IsEachBelow (length clients) (map (λ g. g.name) quiet.did.grants)
+  pub named : All (λ g. (g.exit < before.network.table.width)
+      × (g.name + clients_of before ≡ name_of before.network.table.width g.exit g.visit)) quiet.did.grants
+  -- and the grants are theirs, to each client as often as it is among them
+  pub theirs : AreFor clients quiet.did.grants
 
 -- a floor over the network on which these clients walked, and nobody else
 pub record IsRun (network : Network) (clients : List Client) (quiet : QuietValue) : Type 0 where

@@ -7,11 +7,14 @@ mod lone;
 mod plays;
 mod quiet;
 mod sweeping;
+mod words;
 
 ghost use Rattle.std.specs.Prelude.{◌≡◌, ℕ, ◌+◌, ◌-◌, ◌<◌, ◌≤◌, ◌↔◌, ◌++◌, [], length, replicate, vec_capacity, vec_len, IfErr, IfOk, IsErrOf, IsSome, OnErr};
-ghost use Rattle.cn_spec.specs.declared.limits.TheConstants.{MOST_CLIENTS};
+ghost use Rattle.cn_spec.specs.declared.limits.TheConstants.{MOST_CARRIED, MOST_CLIENTS};
 ghost use Rattle.cn_wiring.specs.Network.{IsNetwork};
 ghost use Rattle.cn_yard.specs.Lists.{standing, tokens_in};
+ghost use Rattle.cn_walk.specs.Carried.{start_after};
+ghost use Rattle.cn_walk.specs.Carried.{clients_of as told_by};
 ghost use Rattle.cn_walk.specs.Closing.{IsCloseRefused};
 ghost use Rattle.cn_walk.specs.Lane.{LetsIn, StepsOn, new_lane};
 ghost use Rattle.cn_walk.specs.Rule.{IsCarried, IsStart};
@@ -35,12 +38,14 @@ pub use quiet::Quiet;
 use std::alloc::{AllocError, Global};
 use std::marker::{Brand, Model};
 use std::snapshot::Snapshot;
+pub use words::Words;
 
 /// A counting network on atomic words, which lanes share: one word for each entry, each balancer and each exit. A client
 /// comes in, passes a balancer and leaves by one atomic add each, without a lock.
 ///
 /// A lane belongs to the floor that made it, and each call has the condition that its lanes are its own. Only
-/// [`Floor::open`], [`Floor::split`], [`Floor::join`], [`Floor::close`] and an [`Floor::enter`] without room take memory.
+/// [`Floor::open`], [`Floor::open_after`], [`Floor::split`], [`Floor::join`], [`Floor::close`] and an [`Floor::enter`] without
+/// room take memory.
 /// Lanes can be sent to threads, and a floor can be shared by them.
 #[derive(Drop)]
 pub struct Floor<'a> {
@@ -131,6 +136,34 @@ impl<'a> Floor<'a> {
             return Err(OpenFault::Memory);
         };
         match Floor::begin(alloc, network, quota, words, 0) {
+            Ok(opened) => Ok(opened),
+            Err(_memory) => Err(OpenFault::Memory),
+        }
+    }
+
+    /// A floor over the network of these words, which goes on from them: its numbers and visits begin with theirs, and its
+    /// names are those of its own clients. It has one lane with the whole quota. Over words that are all 0 it is that of
+    /// [`Floor::open`].
+    ///
+    /// # Errors
+    /// The first that stands: `Quota` (more than [`MOST_CLIENTS`]), `Memory`.
+    pub fn open_after(
+        alloc: Global,
+        words: &Words<'a>,
+        quota: u64,
+    ) -> Result<(Floor<'a>, Lane), OpenFault>
+        requires few { told_by words.now ≤ MOST_CARRIED }
+        ensures floor { IfOk result (λ r. r.0.start ≡ start_after words.now quota) }
+        ensures lane { IfOk result (λ r. r.1 ≡ new_lane r.0 quota) }
+        ensures quota { IsErrOf result OpenFault.Quota ↔ (MOST_CLIENTS < quota) }
+    {
+        if quota > MOST_CLIENTS {
+            return Err(OpenFault::Quota);
+        }
+        let Ok(carried) = Vec::from_slice(alloc, words.words.as_slice()) else {
+            return Err(OpenFault::Memory);
+        };
+        match Floor::begin(alloc, words.network, quota, carried, words.clients) {
             Ok(opened) => Ok(opened),
             Err(_memory) => Err(OpenFault::Memory),
         }
@@ -395,7 +428,8 @@ impl<'a> Floor<'a> {
             mut passes,
         } = room;
         let words = counters.close(seat, words);
-        let entered = clients_of(network, words.as_slice()) - carried;
+        let clients = clients_of(network, words.as_slice());
+        let entered = clients - carried;
         let granted = grants.len() as u64;
         if entered != granted {
             return Err(CloseFault::LanesMissing {
@@ -411,10 +445,14 @@ impl<'a> Floor<'a> {
             &mut counts,
             &mut passes,
         );
+        let words = Words {
+            network,
+            words,
+            clients,
+        };
         Ok(Quiet {
             alloc,
             lane: told,
-            network,
             words,
             counts,
             passes,

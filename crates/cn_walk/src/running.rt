@@ -1,9 +1,12 @@
 //! Epochs that many workers run.
 
 ghost use Rattle.std.specs.Prelude.{◌≡◌, ◌+◌, ◌<◌, ◌≤◌, All, IfErr, IfOk, OnOk, length};
-ghost use Rattle.cn_walk.specs.Runs.{IsRefused, IsRun, MayRun};
+ghost use Rattle.cn_spec.specs.declared.limits.TheConstants.{MOST_CARRIED};
+ghost use Rattle.cn_walk.specs.Carried.{clients_of, words_before, zero_words};
+ghost use Rattle.cn_walk.specs.Lane.{new_lane};
+ghost use Rattle.cn_walk.specs.Runs.{IsRefused, IsRun, IsRunAfter, MayRun};
 
-use crate::floor::{CloseFault, Floor, Quiet};
+use crate::floor::{CloseFault, Floor, Lane, Quiet, Words};
 use crate::forking::{make_lanes, walk_lanes};
 use crate::gate::Gate;
 use cn_core::Client;
@@ -51,34 +54,24 @@ fn may_run(network: &Counting, clients: &[Client], workers: u32, hand: u32) -> R
     Ok(())
 }
 
-/// Runs an epoch of these clients over the network, by so many workers, each with so many clients in hand
-/// ([`crate::walk_all`]). Of k clients, worker j of n has those at the positions from `j * k / n` up to, not including,
-/// `(j + 1) * k / n`, both rounded down. All lanes are made, and their memory is reserved, before the first worker starts.
-/// One worker starts no thread, and a fork that gets no thread has its halves walk one after the other.
-///
-/// It returns only if the gate lets each worker on: one that waits for another worker may not, where that one gets no
-/// thread.
-///
-/// # Errors
-/// The first that stands: `Workers`, `Hand`, `TooMany`, `NoSuchEntry`, `Memory`. Then no worker is left running.
-pub fn run_epoch<'a, G: Gate + Sync, R: Threads + Wait + Sync>(
+/// Runs these clients on a floor that was opened for them, and closes it.
+fn run_on<'a, G: Gate + Sync, R: Threads + Wait + Sync>(
     rt: &R,
     alloc: Global,
-    network: &'a Counting,
+    floor: Floor<'a>,
+    lane: Lane,
     clients: &[Client],
     workers: u32,
     hand: u32,
     gate: &G,
 ) -> Result<Quiet<'a>, RunFault>
-    ensures run { IfOk result (λ quiet. IsRun network.now clients.now quiet) }
-    ensures refused { IfErr result (λ fault. IsRefused network.now.table.entries clients.now workers hand fault) }
-    ensures allowed { OnOk result (MayRun network.now.table.entries clients.now workers hand) }
+    requires lane { lane ≡ new_lane floor (length clients.now) }
+    requires quota { floor.start.quota ≡ length clients.now }
+    requires allowed { MayRun floor.start.network.table.entries clients.now workers hand }
+    ensures run { IfOk result (λ quiet. IsRunAfter (words_before floor.entry.start) clients.now quiet) }
+    ensures refused { IfErr result (λ fault. fault ≡ RunFault.Memory) }
 {
-    may_run(network, clients, workers, hand)?;
     let many = clients.len() as u32;
-    let Ok((floor, lane)) = Floor::open(alloc, network, u64::from(many)) else {
-        return Err(RunFault::Memory);
-    };
     let Some(lanes) = make_lanes(alloc, &floor, lane, many, workers, 0, workers) else {
         return Err(RunFault::Memory);
     };
@@ -98,4 +91,62 @@ pub fn run_epoch<'a, G: Gate + Sync, R: Threads + Wait + Sync>(
             },
         ) => unreachable!(),
     }
+}
+
+/// Runs an epoch of these clients over the network, by so many workers, each with so many clients in hand
+/// ([`crate::walk_all`]). Of k clients, worker j of n has those at the positions from `j * k / n` up to, not including,
+/// `(j + 1) * k / n`, both rounded down. All lanes are made, and their memory is reserved, before the first worker starts.
+/// One worker starts no thread, and a fork that gets no thread has its halves walk one after the other.
+///
+/// It returns only if the gate lets each worker on: one that waits for another worker may not, where that one gets no
+/// thread. It is [`run_epoch_after`] of words that are all 0.
+///
+/// # Errors
+/// The first that stands: `Workers`, `Hand`, `TooMany`, `NoSuchEntry`, `Memory`. Then no worker is left running.
+pub fn run_epoch<'a, G: Gate + Sync, R: Threads + Wait + Sync>(
+    rt: &R,
+    alloc: Global,
+    network: &'a Counting,
+    clients: &[Client],
+    workers: u32,
+    hand: u32,
+    gate: &G,
+) -> Result<Quiet<'a>, RunFault>
+    ensures run { IfOk result (λ quiet. IsRun network.now clients.now quiet) }
+    ensures zero { IfOk result (λ quiet. IsRunAfter (zero_words network.now) clients.now quiet) }
+    ensures refused { IfErr result (λ fault. IsRefused network.now.table.entries clients.now workers hand fault) }
+    ensures allowed { OnOk result (MayRun network.now.table.entries clients.now workers hand) }
+{
+    may_run(network, clients, workers, hand)?;
+    let Ok((floor, lane)) = Floor::open(alloc, network, clients.len() as u64) else {
+        return Err(RunFault::Memory);
+    };
+    run_on(rt, alloc, floor, lane, clients, workers, hand, gate)
+}
+
+/// Runs an epoch of these clients as [`run_epoch`] does, on a floor that goes on from the words of earlier ones, and leaves
+/// the words as they were. Its counts and passes are those of this epoch, and its names are those below the number of its
+/// clients. The words of its [`Quiet`] can be gone on from in turn.
+///
+/// # Errors
+/// As those of [`run_epoch`], in its order.
+pub fn run_epoch_after<'a, G: Gate + Sync, R: Threads + Wait + Sync>(
+    rt: &R,
+    alloc: Global,
+    words: &Words<'a>,
+    clients: &[Client],
+    workers: u32,
+    hand: u32,
+    gate: &G,
+) -> Result<Quiet<'a>, RunFault>
+    requires few { clients_of words.now ≤ MOST_CARRIED }
+    ensures run { IfOk result (λ quiet. IsRunAfter words.now clients.now quiet) }
+    ensures refused { IfErr result (λ fault. IsRefused words.now.network.table.entries clients.now workers hand fault) }
+    ensures allowed { OnOk result (MayRun words.now.network.table.entries clients.now workers hand) }
+{
+    may_run(words.network(), clients, workers, hand)?;
+    let Ok((floor, lane)) = Floor::open_after(alloc, words, clients.len() as u64) else {
+        return Err(RunFault::Memory);
+    };
+    run_on(rt, alloc, floor, lane, clients, workers, hand, gate)
 }

@@ -1,5 +1,6 @@
 -- The command line, as clap is told of it.
 use Rattle.std.specs.Prelude.{true, codes, Some, [], ◌∷◌}
+use Rattle.clap.specs.declared.builder.action.ArgAction.TheVariants.{SetTrue}
 use Rattle.clap.specs.Words.{App, Rule, Text, new_app, new_rule, with_rule, with_subcommand}
 
 -- an option with one value, which has to be given
@@ -11,6 +12,10 @@ abbrev pub option_with : Text → Text → Rule
 option_with default name =
     record (new_rule name) { long = Some name; value_names = 1; defaults = default ∷ [] }
 
+-- a flag, which has no value
+abbrev pub flag_rule : Text → Rule
+flag_rule name = record (new_rule name) { long = Some name; action = Some SetTrue }
+
 -- SUBCOMMAND --network N --width W
 abbrev pub network_words : Text → App
 network_words name =
@@ -18,12 +23,16 @@ network_words name =
     (required_option (codes "width"))
 
 -- run --network N --width W [--workers K] [--hand H] [--form F]
-abbrev pub run_words : App
-run_words =
+abbrev pub run_with_values : App
+run_with_values =
     with_rule (with_rule (with_rule (network_words (codes "run"))
     (option_with (codes "1") (codes "workers")))
     (option_with (codes "1") (codes "hand")))
     (option_with (codes "report") (codes "form"))
+
+-- the same, with [--carry]
+abbrev pub run_words : App
+run_words = with_rule run_with_values (flag_rule (codes "carry"))
 
 -- replay --network N --width W
 abbrev pub replay_words : App

@@ -1,16 +1,18 @@
 -- What a run is asked for beside its batch.
-use Rattle.std.specs.Prelude.{ℕ, ◌≤◌}
+use Rattle.std.specs.Prelude.{ℕ, ◌≤◌, Bool}
 use Rattle.cn_spec.specs.declared.limits.TheConstants.{MOST_HAND, MOST_WORKERS}
 use Rattle.cn_wiring.specs.Widths.{IsWidth}
 use Rattle.cn_words.specs.Net.{Description}
 use Rattle.cn_words.specs.declared.options.Form.{Form}
 
--- a network, how many workers walk it, how many tokens each has in hand at most, and what is written
+-- a network, how many workers walk it, how many tokens each has in hand at most, what is written, and whether its counters
+-- are carried from epoch to epoch
 pub record Settings : Type 0 where
   pub net : Description
   pub workers : ℕ
   pub hand : ℕ
   pub form : Form
+  pub carry : Bool
 
 -- an epoch may have so many workers
 abbrev pub IsWorkers : ℕ → Type 0

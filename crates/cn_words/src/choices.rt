@@ -6,7 +6,7 @@ ghost use Rattle.clap.specs.Words.{first_of, found_of, rows_of};
 ghost use Rattle.cn_wiring.specs.declared.kind.Kind.{Kind};
 ghost use Rattle.cn_wiring.specs.Kinds.{kind_word};
 ghost use Rattle.cn_wiring.specs.Widths.{IsWidth};
-ghost use Rattle.cn_words.specs.Choices.{GivesNoNumber, GivesNumber, Names, NamesNoNet};
+ghost use Rattle.cn_words.specs.Choices.{Flags, GivesNoNumber, GivesNumber, Names, NamesNoNet};
 ghost use Rattle.cn_words.specs.Choices.{NamesNoRun, NamesNoWidth, NamesRun, NamesWidth, form_word};
 ghost use Rattle.cn_words.specs.Options.{IsWithin};
 ghost use Rattle.cn_words.specs.declared.choices.ChoiceFault.TheVariants as choice;
@@ -115,6 +115,16 @@ fn value_of<'a>(options: &ArgMatches<'a>, name: &str) -> Option<&'a str>
     options.get_str(name)
 }
 
+/// Whether a flag stands among the options.
+fn has_flag(options: &ArgMatches<'_>, name: &str) -> bool
+    ensures { Flags (rows_of (found_of options.now)) name.now result }
+{
+    match value_of(options, name) {
+        Some(value) => value == "true",
+        None => false,
+    }
+}
+
 /// The number that an option has for its value.
 fn chosen_number(
     alloc: Global,
@@ -179,5 +189,10 @@ pub(crate) fn chosen_options(
     let Some(form) = value_of(options, "form").and_then(form_named) else {
         return Err(ChoiceFault::Form);
     };
-    Ok(Options::new(net, workers, hand, form)?)
+    let run = Options::new(net, workers, hand, form)?;
+    if has_flag(options, "carry") {
+        Ok(run.carried())
+    } else {
+        Ok(run)
+    }
 }

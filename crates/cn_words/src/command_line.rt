@@ -2,12 +2,12 @@
 
 ghost use Rattle.std.specs.Prelude.{◌≡◌, false, true, codes, IfOk};
 ghost use Rattle.clap.specs.Words.{app_of, rule_of, with_subcommand};
-ghost use Rattle.cn_words.specs.CommandLine.{check_words, command_line, network_words, option_with};
+ghost use Rattle.cn_words.specs.CommandLine.{check_words, command_line, flag_rule, network_words, option_with};
 ghost use Rattle.cn_words.specs.CommandLine.{renamer_words, replay_words, required_option};
-ghost use Rattle.cn_words.specs.CommandLine.{run_words, show_words};
+ghost use Rattle.cn_words.specs.CommandLine.{run_with_values, run_words, show_words};
 
 use crate::help::HelpTexts;
-use clap::{Arg, Command};
+use clap::{Arg, ArgAction, Command};
 use std::alloc::{AllocError, Global};
 
 fn option<'a>(alloc: Global, name: &'a str, value: &'a str, help: &'a str) -> Arg<'a>
@@ -38,6 +38,16 @@ fn option_or<'a>(
         .help(help)
 }
 
+fn flag<'a>(alloc: Global, name: &'a str, help: &'a str) -> Arg<'a>
+    ensures rule { rule_of result ≡ flag_rule name.entry.now }
+    ensures local { result.global ≡ false }
+{
+    Arg::new(alloc, name)
+        .long(name)
+        .action(ArgAction::SetTrue)
+        .help(help)
+}
+
 fn width_option<'a>(alloc: Global, help: &'a HelpTexts) -> Arg<'a>
     ensures rule { rule_of result ≡ required_option (codes "width") }
     ensures local { result.global ≡ false }
@@ -59,8 +69,9 @@ fn network_command<'a>(
         .arg(width_option(alloc, help))
 }
 
-fn run_command<'a>(alloc: Global, help: &'a HelpTexts) -> Result<Command<'a>, AllocError>
-    ensures { IfOk result (λ command. app_of command ≡ run_words) }
+/// The subcommand `run`, with those of its options that have values.
+fn run_with_values<'a>(alloc: Global, help: &'a HelpTexts) -> Result<Command<'a>, AllocError>
+    ensures { IfOk result (λ command. app_of command ≡ run_with_values) }
 {
     let forms = "What is written: report or grants";
     network_command(alloc, "run", help)?
@@ -69,6 +80,13 @@ fn run_command<'a>(alloc: Global, help: &'a HelpTexts) -> Result<Command<'a>, Al
         .arg(option_or(alloc, "workers", "K", "1", &help.workers))?
         .arg(option_or(alloc, "hand", "H", "1", &help.hand))?
         .arg(option_or(alloc, "form", "F", "report", forms))
+}
+
+fn run_command<'a>(alloc: Global, help: &'a HelpTexts) -> Result<Command<'a>, AllocError>
+    ensures { IfOk result (λ command. app_of command ≡ run_words) }
+{
+    let carry = "Keep the counters of the network from epoch to epoch";
+    run_with_values(alloc, help)?.arg(flag(alloc, "carry", carry))
 }
 
 fn replay_command<'a>(alloc: Global, help: &'a HelpTexts) -> Result<Command<'a>, AllocError>

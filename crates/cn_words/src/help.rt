@@ -124,6 +124,10 @@ its next clients until it has H tokens in hand, walks them all out, and goes on
 so. With one worker the batch and H settle the output; with several it is open
 which client gets which name.
 
+With `--carry` the network's counters are not cleared between epochs. The k
+clients of an epoch after m earlier ones have the names 0 to k-1 as ever, and
+each exit tells its share of m + k clients less its share of m.
+
 Either form is held whole before it is written: a run prints nothing before its
 last epoch has ended.
 
@@ -228,7 +232,8 @@ and the k grants have the names 0 to k-1.
 
 const CHECK_OUTPUT: &str = "
 Output for it of `renamer check --width 4`; the counts tell how many names of
-the epoch have the remainders 0, 1, 2 and 3 when divided by the width:
+the epoch have the remainders 0, 1, 2 and 3 when divided by the width, also of
+a list that `renamer run --carry` printed:
 
     epoch 1 clients 5 counts 2 1 1 1
     tight epochs 1 grants 5

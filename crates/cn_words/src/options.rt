@@ -1,6 +1,6 @@
 //! What a run is asked for beside its batch.
 
-ghost use Rattle.std.specs.Prelude.{◌≡◌, ◌↔◌, IfOk, IsErrOf};
+ghost use Rattle.std.specs.Prelude.{◌≡◌, ◌↔◌, IfOk, IsErrOf, false, true};
 ghost use Rattle.cn_words.specs.Options.{IsHand, IsWithin, IsWorkers, Settings};
 
 use crate::net::Net;
@@ -18,14 +18,16 @@ pub enum Form {
 }
 
 /// What a run is asked for beside its batch: a network, how many workers walk each epoch, how many
-/// tokens each of them has in hand at most, and what is written. To contracts it is these four, and
-/// both numbers are within their limits.
+/// tokens each of them has in hand at most, what is written, and whether the network's counters are
+/// carried from epoch to epoch. To contracts it is these five, and both numbers are within their
+/// limits.
 #[derive(Clone, Copy, Debug, PartialEq, Eq)]
 pub struct Options {
     net: Net,
     workers: u32,
     hand: u32,
     form: Form,
+    carry: bool,
 }
 
 impl Model for Options {
@@ -38,6 +40,7 @@ impl Model for Options {
       workers = options.workers;
       hand = options.hand;
       form = options.form;
+      carry = options.carry;
     } };
 
     ghost invariant = { λ options. IsWithin (record {
@@ -45,6 +48,7 @@ impl Model for Options {
       workers = options.workers;
       hand = options.hand;
       form = options.form;
+      carry = options.carry;
     }) };
 
     ghost inverse = { λ settings. record {
@@ -52,6 +56,7 @@ impl Model for Options {
       workers = settings.workers;
       hand = settings.hand;
       form = settings.form;
+      carry = settings.carry;
     } };
 }
 
@@ -77,14 +82,14 @@ impl OptionFault {
 
 impl Options {
     /// A run on this network, by so many workers with so many tokens in hand each, which writes this
-    /// form.
+    /// form. It carries no counters.
     ///
     /// # Errors
     /// `OptionFault::Workers` where `workers` is not from 1 to [`MOST_WORKERS`]; else
     /// `OptionFault::Hand` where `hand` is not from 1 to [`MOST_HAND`].
     pub fn new(net: Net, workers: u32, hand: u32, form: Form) -> Result<Options, OptionFault>
         ensures ok { IfOk result (λ options. options
-            ≡ record { net = net; workers = workers; hand = hand; form = form }) }
+            ≡ record { net = net; workers = workers; hand = hand; form = form; carry = false }) }
         ensures workers { IsErrOf result OptionFault.Workers ↔ (¬ IsWorkers workers) }
         ensures hand { IsErrOf result OptionFault.Hand ↔ (IsWorkers workers × (¬ IsHand hand)) }
     {
@@ -100,6 +105,7 @@ impl Options {
                 workers,
                 hand,
                 form,
+                carry: false,
             })
         }
     }
@@ -133,5 +139,22 @@ impl Options {
         ensures { result ≡ self.now.form }
     {
         self.form
+    }
+
+    /// The same run, which carries the network's counters from epoch to epoch.
+    pub fn carried(self) -> Options
+        ensures { result ≡ record self { carry = true } }
+    {
+        Options {
+            carry: true,
+            ..self
+        }
+    }
+
+    /// Whether the network's counters are carried from epoch to epoch.
+    pub fn carries(&self) -> bool
+        ensures { result ≡ self.now.carry }
+    {
+        self.carry
     }
 }

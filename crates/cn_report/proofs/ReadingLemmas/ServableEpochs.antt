@@ -1,10 +1,11 @@
 -- The epochs that were gathered can be served, whatever was read.
-use Rattle.std.proofs.Common.{◌≡◌, ◌<◌, ◌≤◌, ℕ, List, [], ◌∷◌, ◌++◌, Bool, true, false, cond, None, length, map, refl, arith, sym, ap, ◌∙◌, length-append}
+use Rattle.std.proofs.Common.{◌≡◌, ◌+◌, ◌<◌, ◌≤◌, ℕ, List, [], ◌∷◌, ◌++◌, Bool, true, false, cond, None, length, map, refl, arith, sym, ap, ◌∙◌, length-append}
 use Rattle.std.specs.Prelude.{◌||◌, nat_eq, nat_le}
 use Rattle.std.specs.List.{list_any}
 use Rattle.std.proofs.lemmas.List.{map-append}
 use Rattle.std.proofs.lemmas.List.Elements.{All-nil, All-push}
 use Rattle.std.proofs.lemmas.Bool.{lt-ltb, le-ltb}
+use Rattle.std.proofs.lemmas.List.Sums.{sum_by_push}
 use Rattle.std.proofs.lemmas.Bool.Decides.{nat_tests}
 use Rattle.std.proofs.Math.Dec.{eqb, leb}
 use Rattle.cn_core.specs.declared.client.Client.{Client}
@@ -13,8 +14,8 @@ use Rattle.cn_spec.specs.declared.limits.TheConstants.{MOST_CLIENTS}
 use Rattle.cn_spec.proofs.CallerLemmas.{times-append, times-cons, times-nil}
 use Rattle.cn_report.specs.declared.reading.gathering.BatchEpoch.{BatchEpoch}
 use Rattle.cn_report.specs.declared.reading.gathering.Gathering.{Gathering}
-use Rattle.cn_report.specs.Reading.Batch.{AreRising, AreServable, MayCome}
-use Rattle.cn_report.specs.Reading.Gathered.{Keeps, joining_cause, over_after}
+use Rattle.cn_report.specs.Reading.Batch.{AreRising, AreServable, MayCome, clients_of}
+use Rattle.cn_report.specs.Reading.Gathered.{Keeps, gathered, joining_cause, over_after}
 use Rattle.cn_report.proofs.ReadingLemmas.GatheredEpochs.{over_below, rising_more}
 
 -- no client is few
@@ -42,6 +43,15 @@ over_servable g entries keeps = by g.latest.clients.items refl
       some = All-push (λ (x : BatchEpoch). 0 < length x.clients.items) g.over.items g.latest keeps.over.some (omega (arith, ap length e));
       come = All-push (λ (x : BatchEpoch). MayCome entries x.clients.items) g.over.items g.latest keeps.over.come keeps.latest;
     })
+
+-- and has the clients of all
+pub all_over : (g : Gathering) → clients_of (over_after g) ≡ gathered g
+all_over g = by g.latest.clients.items refl
+  where
+    by : (cs : List Client) → g.latest.clients.items ≡ cs → clients_of (over_after g) ≡ gathered g
+    by [] e = rw (le-ltb 0 (length g.latest.clients.items) (omega (arith, ap length e))) (omega (arith, ap length e))
+    by (c ∷ cs) e =
+        rw (lt-ltb 0 (length g.latest.clients.items) (omega (arith, ap length e))) (sum_by_push (λ (x : BatchEpoch). length x.clients.items) g.over.items g.latest)
 
 -- once it has come to a later epoch
 pub turned_keeps : (old new : Gathering) (n entries : ℕ) → old.latest.number < n → new.over.items ≡ over_after old → new.latest.number ≡ n

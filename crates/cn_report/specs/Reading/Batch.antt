@@ -1,6 +1,6 @@
 -- Which records are a batch, and what is wrong with those that are none.
 use Rattle.std.specs.Prelude.{ℕ, ◌≡◌, ◌<◌, ◌≤◌, ◌⊎◌, ◌∷◌, [], All, Bool, List, drop, length, map, Option, Some, None, Result, MatchResult, codes, if◌then◌else◌, ⊤}
-use Rattle.std.specs.List.{AllByRecursion, flat_map}
+use Rattle.std.specs.List.{AllByRecursion, flat_map, sum_by}
 use Rattle.std.specs.Cmp.Lexicographic.{pointwise}
 use Rattle.std.specs.Str.{bytes_eq}
 use Rattle.cn_core.specs.declared.client.Client.{Client}
@@ -86,6 +86,10 @@ pub record AreServable (entries : ℕ) (epochs : List BatchEpoch) : Type 0 where
   pub rising : AreRising epochs
   pub some : All (λ e. 0 < length e.clients.items) epochs
   pub come : All (λ e. MayCome entries e.clients.items) epochs
+
+-- how many clients epochs have
+abbrev pub clients_of : List BatchEpoch → ℕ
+clients_of epochs = sum_by (λ e. length e.clients.items) epochs
 
 -- the records are a batch of these epochs: none has a cause, and the epochs spell those after the header
 pub record IsBatch (entries : ℕ) (rows : List Record) (epochs : List BatchEpoch) : Type 0 where

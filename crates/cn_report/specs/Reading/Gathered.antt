@@ -1,10 +1,10 @@
 -- What was gathered of a batch so far.
-use Rattle.std.specs.Prelude.{ℕ, ◌≡◌, ◌<◌, ◌++◌, ◌∷◌, [], List, length, map, nat_eq, nat_lt, nat_le, Option, Some, None, if◌then◌else◌}
+use Rattle.std.specs.Prelude.{ℕ, ◌≡◌, ◌<◌, ◌+◌, ◌++◌, ◌∷◌, [], List, length, map, nat_eq, nat_lt, nat_le, Option, Some, None, if◌then◌else◌}
 use Rattle.std.specs.List.{AllByRecursion, flat_map, list_any}
 use Rattle.cn_core.specs.declared.client.Client.{Client}
 use Rattle.cn_spec.specs.declared.limits.TheConstants.{MOST_CLIENTS, MOST_RECORDS}
 use Rattle.cn_report.specs.Reading.Arrival.{last_epoch}
-use Rattle.cn_report.specs.Reading.Batch.{AreRising, AreServable, MayCome, arrivals_of}
+use Rattle.cn_report.specs.Reading.Batch.{AreRising, AreServable, MayCome, arrivals_of, clients_of}
 use Rattle.cn_report.specs.declared.reading.arrival.Arrival.{Arrival}
 use Rattle.cn_report.specs.declared.reading.batch_fault.BatchCause.{BatchCause}
 use Rattle.cn_report.specs.declared.reading.batch_fault.BatchCause.TheVariants.{Duplicate, EpochFull, BatchFull}
@@ -31,6 +31,10 @@ pub record Keeps (entries : ℕ) (g : Gathering) : Type 0 where
   pub below : AllByRecursion (λ e. e.number < g.latest.number) g.over.items
   pub latest : MayCome entries g.latest.clients.items
   pub standing : g.standing.keys ≡ map (λ c. c.id) g.latest.clients.items
+
+-- how many clients the gathering has
+abbrev pub gathered : Gathering → ℕ
+gathered g = clients_of g.over.items + length g.latest.clients.items
 
 -- the epochs that are over once the latest is
 abbrev pub over_after : Gathering → List BatchEpoch

@@ -5,8 +5,8 @@ ghost use Rattle.std.specs.Bool.{MatchBool};
 ghost use Rattle.cn_spec.specs.declared.limits.TheConstants.{MOST_RECORDS};
 ghost use Rattle.cn_report.specs.declared.reading.arrival.Arrival.{Arrival};
 ghost use Rattle.cn_report.specs.Reading.Arrival.{arrival_cause, arrival_in, spelled_cause};
-ghost use Rattle.cn_report.specs.Reading.Batch.{AnswersBatch, AreServable, IsBatchFault, header_cause};
-ghost use Rattle.cn_report.specs.Reading.Gathered.{IsGathered, Keeps};
+ghost use Rattle.cn_report.specs.Reading.Batch.{AnswersBatch, AreServable, IsBatchFault, clients_of, header_cause};
+ghost use Rattle.cn_report.specs.Reading.Gathered.{IsGathered, Keeps, gathered};
 ghost use Rattle.cn_report.specs.Reading.Records.{HasRead, IsPlain, Record, records_of};
 
 use crate::reading::arrival::arrival_of;
@@ -64,6 +64,8 @@ fn take_arrival<R: Read>(
         ⊎ (cause ≡ BatchCause.Read) ⊎ (cause ≡ BatchCause.Memory)) }
     ensures few { IfOk result (λ found. found ≡ true → at ≤ MOST_RECORDS) }
     ensures keeps { OnOk result (Keeps entries gathering.old → Keeps entries gathering.new) }
+    ensures more { IfOk result (λ found. MatchBool found (gathered gathering.new ≡ gathered gathering.old + 1)
+        (gathered gathering.new ≡ gathered gathering.old)) }
 {
     if !next_row(rows, row)? {
         return Ok(false);
@@ -87,6 +89,7 @@ fn take_arrivals<R: Read>(
     ensures answer { (text : List ℕ) → HasRead R.remaining rows.old text []
         → AnswersBatch entries (records_of text) result }
     ensures fits { IfOk result (λ batch. AreServable entries batch.epochs.items) }
+    ensures few { IfOk result (λ batch. clients_of batch.epochs.items ≤ MOST_RECORDS) }
 {
     let mut gathering = Gathering::new(alloc, state);
     if let Err(cause) = take_header(rows, row) {
@@ -113,7 +116,7 @@ fn take_arrivals<R: Read>(
 
 /// The epochs of a batch: a header `epoch,client,entry`, and then a record of three numbers for each client, as `csv`
 /// reads them. An epoch is a run of records of one number, and the numbers rise. Whatever the reader gives, the epochs are
-/// such as a network with `entries` entries can serve.
+/// such as a network with `entries` entries can serve, and all of them have no more clients than a batch has records.
 ///
 /// # Errors
 ///
@@ -127,6 +130,7 @@ pub fn read_batch<R: Read + Drop>(
 ) -> Result<Batch, BatchFault>
     ensures answer { IfSome (R.remaining reader) (λ text. AnswersBatch entries (records_of text) result) }
     ensures fits { IfOk result (λ batch. AreServable entries batch.epochs.items) }
+    ensures few { IfOk result (λ batch. clients_of batch.epochs.items ≤ MOST_RECORDS) }
 {
     let mut rows = open_rows(alloc, reader);
     let mut row = ByteRecord::new(alloc);

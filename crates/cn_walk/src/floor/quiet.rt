@@ -4,8 +4,8 @@ ghost use Rattle.std.specs.Prelude.{◌≡◌, IfOk};
 ghost use Rattle.cn_walk.specs.Ends.{IsQuiet, ListsHolders, counts_of, passes_of};
 
 use super::lane::Lane;
+use super::words::Words;
 use crate::view::Grant;
-use cn_wiring::Counting;
 use std::alloc::{AllocError, Global};
 use std::marker::Model;
 use std::snapshot::Snapshot;
@@ -15,8 +15,7 @@ use std::snapshot::Snapshot;
 pub struct Quiet<'a> {
     pub(super) alloc: Global,
     pub(super) lane: Snapshot<Lane>,
-    pub(super) network: &'a Counting,
-    pub(super) words: Vec<u64>,
+    pub(super) words: Words<'a>,
     pub(super) counts: Vec<u64>,
     pub(super) passes: Vec<u64>,
     pub(super) grants: Vec<Grant>,
@@ -64,6 +63,20 @@ impl<'a> Quiet<'a> {
         ensures { result.now ≡ passes_of self.now.start self.now.words }
     {
         self.passes.as_slice()
+    }
+
+    /// The words of the floor, with which another may begin.
+    pub fn words(&self) -> &Words<'a>
+        ensures { result.now ≡ record { network = self.now.start.network; words = self.now.words } }
+    {
+        &self.words
+    }
+
+    /// The same words, without the floor's grants.
+    pub fn into_words(self) -> Words<'a>
+        ensures { result ≡ record { network = self.entry.start.network; words = self.entry.words } }
+    {
+        self.words
     }
 
     /// The clients by rising name: `holders[n]` is the client with name n.

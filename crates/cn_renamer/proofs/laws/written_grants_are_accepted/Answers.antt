@@ -5,4 +5,4 @@ pub returns-clause-tight : goal.returns-clause-tight
 returns-clause-tight c = accepted
 
 pub returns-clause-told : goal.returns-clause-told
-returns-clause-told c = λ net bytes text run. (run.epochs, run.batch, told net bytes text run)
+returns-clause-told c = λ net carry bytes text run. (run.epochs, run.batch, told net carry bytes text run)

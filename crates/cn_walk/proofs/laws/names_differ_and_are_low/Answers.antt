@@ -1,6 +1,7 @@
 use Rattle.cn_ledger.proofs.CallerLemmas.{bounded, names-differ}
 use Rattle.cn_walk.specs.Laws.{ledger_at}
-use Rattle.std.proofs.Common.{refl}
+use Rattle.cn_walk.proofs.Fresh.{heard_few}
+use Rattle.std.proofs.Common.{arith, refl}
 use Rattle.cn_walk.proofs.laws.names_differ_and_are_low.Goals as goal
 
 pub returns-clause-differ : goal.returns-clause-differ
@@ -11,3 +12,8 @@ pub returns-clause-low : goal.returns-clause-low
 returns-clause-low c start s kept =
     let net = kept.began.network in
     bounded start.network.table net.formed net.counts (ledger_at start s) kept.sound
+
+pub returns-clause-late : goal.returns-clause-late
+returns-clause-late c start s kept id v at k d low =
+    let f = kept.fresh id v at in
+    omega (arith, f.names k d low, heard_few start.network.table s.words v.loads f.low)

@@ -1,3 +1,4 @@
+use Rattle.std.proofs.Common.{arith}
 use Rattle.cn_walk.proofs.Bounds.{count_few, few_came}
 use Rattle.cn_walk.proofs.laws.words_are_few.Goals as goal
 
@@ -6,3 +7,6 @@ returns-clause-counts c start s kept = count_few start s kept
 
 pub returns-clause-came : goal.returns-clause-came
 returns-clause-came c start s kept = few_came start s kept
+
+pub returns-clause-few : goal.returns-clause-few
+returns-clause-few c start s kept = omega (arith, kept.began.few, kept.began.quota)

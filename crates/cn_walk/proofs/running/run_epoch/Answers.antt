@@ -1,36 +1,8 @@
-use Rattle.std.proofs.Common.{rules, ℕ, arith, length, ap, ◌∙◌, subst}
-use Rattle.cn_walk.specs.declared.floor.CloseFault.{CloseFault}
-use Rattle.cn_walk.specs.declared.view.Start.{Start}
-use Rattle.cn_walk.specs.Closing.{IsCloseRefused}
-use Rattle.cn_walk.specs.Halves.{AreReady, whole}
-use Rattle.cn_walk.specs.Views.{base}
-use Rattle.cn_walk.proofs.Halves.{whole_ready}
-use Rattle.cn_walk.proofs.Runs.{all-first, all-theirs, new_nothing, none-missing, ran}
+use Rattle.std.proofs.lemmas.Result.{IfOk-weaker}
+use Rattle.cn_walk.proofs.Runs.{from-zero}
 use Rattle.cn_walk.proofs.running.run_epoch.Goals as goal
 
-pub make_lanes-requires-clause-nothing : goal.make_lanes-requires-clause-nothing
-make_lanes-requires-clause-nothing g c = new_nothing _ _ _ c.in-Ok.ensures.lane
-
-pub walk_lanes-lane-requires-clause-ready : goal.walk_lanes-lane-requires-clause-ready
-walk_lanes-lane-requires-clause-ready g c κs within =
-    subst (λ (n : ℕ). AreReady c.in-Ok.floor n c.in-Some.lanes) (all-first (length c.args.clients.now) c.args.workers (search rules)) c.in-Some.ensures.ready
-
-pub unreachable-requires-in-Err-LanesMissing : goal.unreachable-requires-in-Err-LanesMissing
-unreachable-requires-in-Err-LanesMissing g c =
-    let k : ℕ = length c.args.clients.now in
-    let ready = subst (λ (n : ℕ). AreReady c.in-Ok.floor n c.in-Some.lanes) (all-first k c.args.workers (search rules)) c.in-Some.ensures.ready in
-    let none = (whole_ready c.in-Ok.floor k c.in-Some.lanes ready).nothing in
-    let theirs = (all-theirs (whole c.in-Some.lanes) c.walk_lanes-lane.result c.args.clients.now none c.walk_lanes-lane.ensures).1 in
-    let why = subst (λ (f : CloseFault). IsCloseRefused c.in-Ok.floor c.walk_lanes-lane.result f) c.in-Err-LanesMissing.field-0-is c.in-Err-LanesMissing.ensures.refused in
-    none-missing c.in-Ok.floor.start c.walk_lanes-lane.result.view c.in-Err-LanesMissing._entered why.3
-    (omega (arith, theirs.as_many, c.in-Ok.ensures.floor.1, c.from.ensures))
-
-pub returns-in-Ok-close-clause-run : goal.returns-in-Ok-close-clause-run
-returns-in-Ok-close-clause-run g c =
-    let k : ℕ = length c.args.clients.now in
-    let ready = subst (λ (n : ℕ). AreReady c.in-Ok.floor n c.in-Some.lanes) (all-first k c.args.workers (search rules)) c.in-Some.ensures.ready in
-    let none = (whole_ready c.in-Ok.floor k c.in-Some.lanes ready).nothing in
-    let quiet = c.in-Ok-close.ensures.quiet in
-    let opened = c.in-Ok.ensures in
-    ran c.in-Ok-close.quiet c.args.network.now (whole c.in-Some.lanes) c.walk_lanes-lane.result c.args.clients.now (ap (λ (s : Start). s.network) quiet.0 ∙ opened.floor.0) (ap (λ (s : Start). base s) quiet.0 ∙ opened.base)
-    (ap (λ (s : Start). s.carried) quiet.0 ∙ opened.zero) c.quiet_laws.ensures quiet.1 none c.walk_lanes-lane.ensures
+pub returns-clause-run : goal.returns-clause-run
+returns-clause-run g c =
+    let network = c.args.network.now in
+    IfOk-weaker c.run_on.result _ _ (λ q is. from-zero network c.args.clients.now q (rw (c.in-Ok.ensures.floor.0, c.in-Ok.ensures.zero) at is)) c.run_on.ensures.run

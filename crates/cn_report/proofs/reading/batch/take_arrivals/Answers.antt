@@ -11,6 +11,7 @@ loop-at-init g c = record {
   few = omega arith;
   plain = c.in_default.ensures.plain;
   keeps = c.new-gathering.ensures.keeps c.args.entries;
+  count = omega (arith, c.new-gathering.ensures.nobody);
   taken = λ text read.
       let (fields, now, e) = c.in_default.ensures.ok text read in
       (fields ∷ [], [], now, refl, taken_header c.args.entries fields e, c.new-gathering.ensures.none);
@@ -24,6 +25,10 @@ returns-in-Ok-clause-answer g c = λ text read.
 
 pub returns-in-Ok-clause-fits : goal.returns-in-Ok-clause-fits
 returns-in-Ok-clause-fits g c = c.in-Ok.ensures.fits c.args.entries (c.in-Ok-false.ensures.keeps c.loop-at.invariant.keeps)
+
+pub returns-in-Ok-clause-few : goal.returns-in-Ok-clause-few
+returns-in-Ok-clause-few g c =
+    omega (arith, c.in-Ok.ensures.all, c.loop-at.invariant.count, c.loop-at.invariant.few, rw c.in-Ok-false.field-0-test at c.in-Ok-false.ensures.more)
 
 pub returns-in-Err-finish-clause-answer : goal.returns-in-Err-finish-clause-answer
 returns-in-Err-finish-clause-answer g c = λ text read.
@@ -46,6 +51,7 @@ loop-at-preserved g c = record {
   few = omega (arith, c.in-Ok-true.ensures.few c.in-Ok-true.field-0-test);
   plain = c.in-Ok-true.ensures.plain;
   keeps = c.in-Ok-true.ensures.keeps c.loop-at.invariant.keeps;
+  count = omega (arith, c.loop-at.invariant.count, rw c.in-Ok-true.field-0-test at c.in-Ok-true.ensures.more);
   taken = λ text read.
       let (before, arrivals, now, size, t, gathered) = c.loop-at.invariant.taken text read in
       let (fields, arrival, next, is, none, more) = rw c.in-Ok-true.field-0-test at (c.in-Ok-true.ensures.found text before arrivals now gathered (omega (arith, t.counted, size))) in (

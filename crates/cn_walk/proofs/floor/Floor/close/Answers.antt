@@ -2,6 +2,7 @@ use Rattle.std.proofs.Common.{◌≡◌, ℕ, ◌+◌, List, length, rules, sym,
 use Rattle.cn_yard.specs.Lists.{tokens_in}
 use Rattle.cn_walk.specs.declared.view.Start.{Start}
 use Rattle.cn_walk.specs.declared.view.View.{View}
+use Rattle.cn_walk.specs.Carried.{IsClosed, clients_of}
 use Rattle.cn_walk.specs.Ends.{IsQuiet, counts_of, passes_of}
 use Rattle.cn_walk.specs.Lane.{Home, LaneValue}
 use Rattle.cn_walk.specs.Views.{base, inside_in}
@@ -21,7 +22,7 @@ invariant_of-result c =
     let about : start ≡ c.of-told.result.value.home.start = ap (λ (h : Home). h.start) (c.self.view_is ∙ sym c.requires.own ∙ ap (λ (l : LaneValue). l.home) (sym lane)) in
     let nobody : tokens_in c.lane.inside.yard.lists ≡ 0 = search rules in
     let out : inside_in v ≡ 0 = inside-yard c.lane.inside.yard v c.lane.invariant.tokens ∙ nobody in
-    let clients : c.clients_of.result ≡ clients_in start.network.table ws = c.clients_of.ensures ∙ (λ i. clients_in (network i).table (c.as_slice.ensures.value i)) in
+    let clients : c.clients_of-clients.result ≡ clients_in start.network.table ws = c.clients_of-clients.ensures ∙ (λ i. clients_in (network i).table (c.as_slice.ensures.value i)) in
     let granted : c.len-granted.result ≡ length v.grants = search rules in
     let came : clients_in start.network.table ws ≡ base start + length v.grants = omega (arith, e.granted, c.self.invariant.carried, c.if-entered-granted.false) in
     let quiet : IsQuiet start v ws = e.quiet out came in
@@ -33,4 +34,29 @@ invariant_of-result c =
           ∙ ((λ i. counts_of (record { network = network i; quota = 0; carried = (c.as_slice-3.ensures.value ∙ c.self.invariant.words) i }) (c.as_slice-2.ensures.value i)) ∙ ap (λ (s : Start). counts_of s ws) about);
       passes = c.read_since.ensures.passes
           ∙ ((λ i. passes_of (record { network = network i; quota = 0; carried = (c.as_slice-3.ensures.value ∙ c.self.invariant.words) i }) (c.as_slice-2.ensures.value i)) ∙ ap (λ (s : Start). passes_of s ws) about);
+    }
+
+pub invariant_of-words : goal.invariant_of-words
+invariant_of-words c =
+    let start : Start = c.self.inside.counters.start in
+    let v : View = c.lane.inside.seat.me.0 in
+    let ws : List ℕ = c.close-words.result.items in
+    let e = c.close-words.ensures in
+    let began = c.self.invariant.began in
+    let network : c.self.inside.network.now ≡ start.network = sym c.self.invariant.network in
+    let nobody : tokens_in c.lane.inside.yard.lists ≡ 0 = search rules in
+    let out : inside_in v ≡ 0 = inside-yard c.lane.inside.yard v c.lane.invariant.tokens ∙ nobody in
+    let clients : c.clients_of-clients.result ≡ clients_in start.network.table ws = c.clients_of-clients.ensures ∙ (λ i. clients_in (network i).table (c.as_slice.ensures.value i)) in
+    let granted : c.len-granted.result ≡ length v.grants = search rules in
+    let came : clients_in start.network.table ws ≡ base start + length v.grants = omega (arith, e.granted, c.self.invariant.carried, c.if-entered-granted.false) in
+    let quiet : IsQuiet start v ws = e.quiet out came in
+    let closed : IsClosed (record { network = start.network; words = ws }) = record {
+      network = began.network;
+      carried = quiet.closed;
+      few = omega (arith, e.few, began.few, began.quota);
+    } in
+    let same : record { network = start.network; words = ws } ≡ record { network = c.self.inside.network.now; words = ws } = λ i. record { network = sym network i; words = ws } in
+    record {
+      closed = subst IsClosed same closed;
+      clients = clients ∙ ap clients_of same;
     }

@@ -1,4 +1,6 @@
-use Rattle.std.proofs.Common.{◌≡◌, ◌∙◌, true, sym, inl, inr, arith, rules}
+use Rattle.std.proofs.Common.{◌≡◌, ◌∙◌, ◌∷◌, [], length, true, sym, ap, inl, inr, arith, rules, length-append}
+use Rattle.cn_core.specs.declared.client.Client.{Client}
+use Rattle.cn_report.specs.Reading.Batch.{clients_of}
 use Rattle.std.specs.Result.{is_ok}
 use Rattle.cn_report.proofs.ReadingLemmas.GatheredEpochs.{backwards, out_of_range, taken_of, told_of}
 use Rattle.cn_report.proofs.ReadingLemmas.ServableEpochs.{joined_keeps}
@@ -41,3 +43,12 @@ returns-clause-keeps c =
     on_ok_map c.join.result c.join.ensures.ok (λ j keeps.
     let (none, over, number, clients, keys) = j in
     joined_keeps c.reach.new.self c.join.new.self c.args.at c.args.entries _ none (omega (arith, c.from.ensures, c.if-arrival-from.false)) over number clients keys (reached c.args.entries keeps))
+
+pub returns-clause-more : goal.returns-clause-more
+returns-clause-more c =
+    let good : is_ok c.reach.result ≡ true = search rules in
+    let same = on_ok c.reach.result good c.reach.ensures.same in
+    on_ok_map c.join.result c.join.ensures.ok (λ j.
+    let (none, over, number, clients, keys) = j in
+    let client : Client = record { id = c.args.arrival.client; entry = c.args.arrival.entry } in
+    omega (arith, same, ap (λ es. clients_of es.items) over, ap length clients, length-append c.reach.new.self.latest.clients.items (client ∷ [])))
