@@ -1,5 +1,6 @@
 -- What is read: the records of a text, their numbers, and the schedule that they spell.
 pub mod Arrival
+pub mod Heading
 pub mod Batch
 pub mod Checked
 pub mod Command

@@ -7,6 +7,7 @@ mod command;
 mod gathering;
 mod grant;
 mod granting;
+mod heading;
 mod marks;
 mod number;
 mod numbers;

@@ -10,8 +10,11 @@ use Rattle.std.proofs.lemmas.List.Sums.{sum_by-cons}
 use Rattle.std.proofs.lemmas.Option.{none-some}
 use Rattle.cn_spec.specs.declared.limits.TheConstants.{MOST_RECORDS}
 use Rattle.cn_core.specs.declared.client.Client.{Client}
-use Rattle.cn_report.specs.Reading.Arrival.{arrival_cause, arrival_in, arrivals_in, arriving, spelled_cause}
+use Rattle.cn_report.specs.Reading.Arrival.{arrival_cause, arrival_in, arrivals_in, arriving, entry_by_rule, ruled_arrival, spelled_cause, told_arrival}
 use Rattle.cn_report.specs.Reading.Batch.{IsBatch, arrivals_of, batch_cause, header_cause, record_cause}
+use Rattle.cn_report.specs.Reading.Heading.{heading_in}
+use Rattle.cn_report.specs.declared.reading.heading.Heading.{Heading}
+use Rattle.cn_report.specs.declared.reading.heading.Heading.TheVariants.{Told, ByRule}
 use Rattle.cn_report.specs.Reading.Faults.{IsClean}
 use Rattle.cn_report.specs.Reading.Number.{number_in}
 use Rattle.cn_report.specs.Reading.Records.{Record}
@@ -40,19 +43,31 @@ arriving_small (Some x) (Some y) (Some z) a e c is =
     let same : record { epoch = x; client = y; entry = z } ≡ a = cc is in
     subst IsSmall same (e x refl, c y refl)
 
-arrival_small : (row : Record) (a : Arrival) → result_ok (arrival_in row) ≡ Some a → IsSmall a
-unfolding arrival_in
-arrival_small [] a is = absurd (none-some a is)
-arrival_small (e ∷ []) a is = absurd (none-some a is)
-arrival_small (e ∷ c ∷ []) a is = absurd (none-some a is)
-arrival_small (e ∷ c ∷ n ∷ []) a is = arriving_small (number_in e) (number_in c) (number_in n) a (number_small e) (number_small c) is
-arrival_small (e ∷ c ∷ n ∷ d ∷ row) a is = absurd (none-some a is)
+told_small : (row : Record) (a : Arrival) → result_ok (told_arrival row) ≡ Some a → IsSmall a
+unfolding told_arrival
+told_small [] a is = absurd (none-some a is)
+told_small (e ∷ []) a is = absurd (none-some a is)
+told_small (e ∷ c ∷ []) a is = absurd (none-some a is)
+told_small (e ∷ c ∷ n ∷ []) a is = arriving_small (number_in e) (number_in c) (number_in n) a (number_small e) (number_small c) is
+told_small (e ∷ c ∷ n ∷ d ∷ row) a is = absurd (none-some a is)
 
-arrivals_small : (rows : List Record) → AllByRecursion IsSmall (arrivals_in rows)
-arrivals_small [] = tt
-arrivals_small (row ∷ rows) = by (result_ok (arrival_in row)) (arrival_small row) (arrivals_small rows)
+ruled_small : (entries : ℕ) (row : Record) (a : Arrival) → result_ok (ruled_arrival entries row) ≡ Some a → IsSmall a
+unfolding ruled_arrival
+ruled_small entries [] a is = absurd (none-some a is)
+ruled_small entries (e ∷ []) a is = absurd (none-some a is)
+ruled_small entries (e ∷ c ∷ []) a is = arriving_small (number_in e) (number_in c) (entry_by_rule entries (number_in c)) a (number_small e) (number_small c) is
+ruled_small entries (e ∷ c ∷ n ∷ row) a is = absurd (none-some a is)
+
+arrival_small : (heading : Heading) (entries : ℕ) (row : Record) (a : Arrival) → result_ok (arrival_in heading entries row) ≡ Some a → IsSmall a
+arrival_small Told entries row a is = told_small row a is
+arrival_small ByRule entries row a is = ruled_small entries row a is
+
+arrivals_small : (heading : Heading) (entries : ℕ) (rows : List Record) → AllByRecursion IsSmall (arrivals_in heading entries rows)
+arrivals_small heading entries [] = tt
+arrivals_small heading entries (row ∷ rows) = by (result_ok (arrival_in heading entries row)) (arrival_small heading entries row) (arrivals_small heading entries rows)
   where
-    by : (spelled : Option Arrival) → ((a : Arrival) → spelled ≡ Some a → IsSmall a) → AllByRecursion IsSmall (arrivals_in rows) → AllByRecursion IsSmall (cons_option spelled (arrivals_in rows))
+    by : (spelled : Option Arrival) → ((a : Arrival) → spelled ≡ Some a → IsSmall a) → AllByRecursion IsSmall (arrivals_in heading entries rows)
+        → AllByRecursion IsSmall (cons_option spelled (arrivals_in heading entries rows))
     by None small more = more
     by (Some a) small more = (small a refl, more)
 
@@ -92,21 +107,29 @@ at_most_one : (spelled : Option Arrival) → length (cons_option spelled []) ≤
 at_most_one None = omega arith
 at_most_one (Some a) = omega arith
 
-few_arrivals : (entries : ℕ) (header : Record) (rows : List Record) → IsClean (batch_cause entries) (header ∷ rows) → length (arrivals_in rows) ≤ MOST_RECORDS
+few_arrivals : (entries : ℕ) (header : Record) (rows : List Record) → IsClean (batch_cause entries) (header ∷ rows)
+    → length (arrivals_in (heading_in (header ∷ rows)) entries rows) ≤ MOST_RECORDS
 few_arrivals entries header [] clean = omega arith
 few_arrivals entries header (row ∷ rows) clean =
     let all = row ∷ rows in
     let n = length rows in
     let last = get_or all n [] in
+    let heading = heading_in (header ∷ all) in
     let parted : all ≡ take n all ++ last ∷ [] = sym (take_all (n + 1) all (omega arith)) ∙ take_more all n [] (omega arith) in
     let none : record_cause entries (header ∷ take n all) last ≡ None =
     sym (cause_later header_cause (record_cause entries) (header ∷ all) (suc n) (omega arith) (omega arith)) ∙ clean (suc n) in
-    let few = few_before entries (arrivals_in (take n all)) (arrival_in last) none in
-    let size : length (arrivals_in all) ≡ length (arrivals_in (take n all) ++ arrivals_in (last ∷ [])) =
-    ap (λ (l : List Record). length (arrivals_in l)) parted ∙ ap length (filter_map-append (λ r. result_ok (arrival_in r)) (take n all) (last ∷ [])) in
-    omega (arith, few, size, length-append (arrivals_in (take n all)) (arrivals_in (last ∷ [])), at_most_one (result_ok (arrival_in last)))
+    let few = few_before entries (arrivals_in heading entries (take n all)) (arrival_in heading entries last) none in
+    let size : length (arrivals_in heading entries all) ≡ length (arrivals_in heading entries (take n all) ++ arrivals_in heading entries (last ∷ [])) =
+    ap (λ (l : List Record). length (arrivals_in heading entries l)) parted ∙ ap length (filter_map-append (λ r. result_ok (arrival_in heading entries r)) (take n all) (last ∷ [])) in
+    omega (
+      arith,
+      few,
+      size,
+      length-append (arrivals_in heading entries (take n all)) (arrivals_in heading entries (last ∷ [])),
+      at_most_one (result_ok (arrival_in heading entries last)),
+    )
 
-few_in : (entries : ℕ) (rows : List Record) → IsClean (batch_cause entries) rows → length (arrivals_in (drop 1 rows)) ≤ MOST_RECORDS
+few_in : (entries : ℕ) (rows : List Record) → IsClean (batch_cause entries) rows → length (arrivals_in (heading_in rows) entries (drop 1 rows)) ≤ MOST_RECORDS
 few_in entries [] clean = omega arith
 few_in entries (header ∷ rows) clean = few_arrivals entries header rows clean
 
@@ -125,6 +148,6 @@ pub batch_numbers : (entries : ℕ) (rows : List Record) (epochs : List BatchEpo
     → AllByRecursion IsSmallEpoch epochs × (sum_by (λ e. length e.clients.items) epochs ≤ MOST_RECORDS)
 batch_numbers entries rows epochs batch =
     let spells = batch.holds.spells in (
-      epochs_small epochs batch.holds.some (subst (AllByRecursion IsSmall) (sym spells) (arrivals_small (drop 1 rows))),
+      epochs_small epochs batch.holds.some (subst (AllByRecursion IsSmall) (sym spells) (arrivals_small (heading_in rows) entries (drop 1 rows))),
       omega (arith, ap length spells, arrivals_many epochs, few_in entries rows batch.clean),
     )

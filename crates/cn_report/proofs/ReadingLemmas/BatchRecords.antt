@@ -4,45 +4,64 @@ use Rattle.std.specs.Prelude.{Ok}
 use Rattle.std.proofs.lemmas.List.Elements.{filter_map-append}
 use Rattle.std.specs.Result.{result_ok}
 use Rattle.cn_report.specs.Reading.Arrival.{arrival_cause, arrival_in, arrivals_in, spelled_cause}
-use Rattle.cn_report.specs.Reading.Batch.{IsBatch, AreEpochs, header_cause, record_cause}
+use Rattle.cn_report.specs.Reading.Batch.{IsBatch, AreEpochs, cause_of_heading, header_cause, record_cause}
+use Rattle.cn_report.specs.Reading.Heading.{heading_in, heading_of, heading_or}
 use Rattle.cn_report.specs.Reading.Records.{Record}
 use Rattle.cn_report.specs.declared.reading.arrival.Arrival.{Arrival}
 use Rattle.cn_report.specs.declared.reading.batch_fault.BatchCause.{BatchCause}
 use Rattle.cn_report.specs.declared.reading.gathering.BatchEpoch.{BatchEpoch}
+use Rattle.cn_report.specs.declared.reading.heading.Heading.{Heading}
 use Rattle.cn_report.proofs.ReadingLemmas.FirstFaults.{AreClean, clean_all, clean_header, clean_more}
 
 -- the records so far: a header, and a record for each arrival
-pub record AreTaken (entries : ℕ) (rows : List Record) (arrivals : List Arrival) : Type 0 where
+pub record AreTaken (heading : Heading) (entries : ℕ) (rows : List Record) (arrivals : List Arrival) : Type 0 where
+  pub headed : heading_in rows ≡ heading
   pub clean : AreClean header_cause (record_cause entries) rows
-  pub spells : arrivals_in (drop 1 rows) ≡ arrivals
+  pub spells : arrivals_in heading entries (drop 1 rows) ≡ arrivals
   pub counted : length arrivals + 1 ≡ length rows
 
-pub taken_header : (entries : ℕ) (fields : Record) → header_cause fields ≡ None → AreTaken entries (fields ∷ []) []
-taken_header entries fields e = record { clean = clean_header header_cause (record_cause entries) fields e; spells = refl; counted = refl }
+pub taken_header : (heading : Heading) (entries : ℕ) (fields : Record) → heading_of fields ≡ Some heading → AreTaken heading entries (fields ∷ []) []
+taken_header heading entries fields e = record {
+  headed = ap heading_or e;
+  clean = clean_header header_cause (record_cause entries) fields (ap cause_of_heading e);
+  spells = refl;
+  counted = refl;
+}
 
 -- the arrivals of one record more
-arrivals_next : (rows : List Record) (fields : Record) (arrival : Arrival) → arrival_in fields ≡ Ok arrival → arrivals_in (rows ++ fields ∷ []) ≡ arrivals_in rows ++ arrival ∷ []
-arrivals_next rows fields arrival is =
-    filter_map-append (λ (row : Record). result_ok (arrival_in row)) rows (fields ∷ []) ∙ ap (λ (l : List Arrival). arrivals_in rows ++ l) (one fields arrival is)
+arrivals_next : (heading : Heading) (entries : ℕ) (rows : List Record) (fields : Record) (arrival : Arrival) → arrival_in heading entries fields ≡ Ok arrival
+    → arrivals_in heading entries (rows ++ fields ∷ []) ≡ arrivals_in heading entries rows ++ arrival ∷ []
+arrivals_next heading entries rows fields arrival is =
+    filter_map-append (λ (row : Record). result_ok (arrival_in heading entries row)) rows (fields ∷ [])
+    ∙ ap (λ (l : List Arrival). arrivals_in heading entries rows ++ l) (one fields arrival is)
   where
-    one : (row : Record) (a : Arrival) → arrival_in row ≡ Ok a → arrivals_in (row ∷ []) ≡ a ∷ []
+    one : (row : Record) (a : Arrival) → arrival_in heading entries row ≡ Ok a → arrivals_in heading entries (row ∷ []) ≡ a ∷ []
     one row a e = rw e refl
 
-pub taken_next : (entries : ℕ) (rows : List Record) (arrivals : List Arrival) (fields : Record) (arrival : Arrival) → AreTaken entries rows arrivals
-    → arrival_in fields ≡ Ok arrival → arrival_cause entries arrivals arrival ≡ None → AreTaken entries (rows ++ fields ∷ []) (arrivals ++ arrival ∷ [])
-taken_next entries [] arrivals fields arrival t is none = absurd (omega (arith, t.clean.some))
-taken_next entries (r ∷ rows) arrivals fields arrival t is none = record {
-  clean = clean_more header_cause (record_cause entries) (r ∷ rows) fields t.clean (ap (spelled_cause entries (arrivals_in rows)) is ∙ ap (λ (l : List Arrival). arrival_cause entries l arrival) t.spells ∙ none);
-  spells = arrivals_next rows fields arrival is ∙ ap (λ (l : List Arrival). l ++ arrival ∷ []) t.spells;
+-- what a record spells after those before it, told by the arrivals before it
+spelled-same : (heading : Heading) (entries : ℕ) (rows : List Record) (arrivals : List Arrival) (fields : Record) → AreTaken heading entries rows arrivals
+    → record_cause entries rows fields ≡ spelled_cause entries arrivals (arrival_in heading entries fields)
+spelled-same heading entries rows arrivals fields t =
+    ap (λ (h : Heading). spelled_cause entries (arrivals_in h entries (drop 1 rows)) (arrival_in h entries fields)) t.headed
+    ∙ ap (λ (l : List Arrival). spelled_cause entries l (arrival_in heading entries fields)) t.spells
+
+pub taken_next : (heading : Heading) (entries : ℕ) (rows : List Record) (arrivals : List Arrival) (fields : Record) (arrival : Arrival) → AreTaken heading entries rows arrivals
+    → arrival_in heading entries fields ≡ Ok arrival → arrival_cause entries arrivals arrival ≡ None → AreTaken heading entries (rows ++ fields ∷ []) (arrivals ++ arrival ∷ [])
+taken_next heading entries [] arrivals fields arrival t is none = absurd (omega (arith, t.clean.some))
+taken_next heading entries (r ∷ rows) arrivals fields arrival t is none = record {
+  headed = t.headed;
+  clean = clean_more header_cause (record_cause entries) (r ∷ rows) fields t.clean (spelled-same heading entries (r ∷ rows) arrivals fields t ∙ ap (spelled_cause entries arrivals) is ∙ none);
+  spells = arrivals_next heading entries rows fields arrival is ∙ ap (λ (l : List Arrival). l ++ arrival ∷ []) t.spells;
   counted = omega (arith, t.counted, length-append arrivals (arrival ∷ []), length-append (r ∷ rows) (fields ∷ []));
 }
 
-pub taken_all : (entries : ℕ) (all rows : List Record) (arrivals : List Arrival) (epochs : List BatchEpoch) → AreTaken entries rows arrivals → all ≡ rows → AreEpochs epochs arrivals
-    → IsBatch entries all epochs
-taken_all entries all rows arrivals epochs t e are =
-    rw e (record { clean = clean_all header_cause (record_cause entries) rows t.clean; holds = rw t.spells are })
+pub taken_all : (heading : Heading) (entries : ℕ) (all rows : List Record) (arrivals : List Arrival) (epochs : List BatchEpoch) → AreTaken heading entries rows arrivals → all ≡ rows
+    → AreEpochs epochs arrivals → IsBatch entries all epochs
+taken_all heading entries all rows arrivals epochs t e are =
+    let spells : arrivals_in (heading_in rows) entries (drop 1 rows) ≡ arrivals = ap (λ (h : Heading). arrivals_in h entries (drop 1 rows)) t.headed ∙ t.spells in
+    rw e (record { clean = clean_all header_cause (record_cause entries) rows t.clean; holds = rw spells are })
 
 -- the cause of the next record, told by the arrivals before it
-pub at_arrivals : (entries : ℕ) (rows : List Record) (arrivals : List Arrival) (fields : Record) → AreTaken entries rows arrivals → (cause : BatchCause)
-    → spelled_cause entries arrivals (arrival_in fields) ≡ Some cause → record_cause entries rows fields ≡ Some cause
-at_arrivals entries rows arrivals fields t cause e = ap (λ (l : List Arrival). spelled_cause entries l (arrival_in fields)) t.spells ∙ e
+pub at_arrivals : (heading : Heading) (entries : ℕ) (rows : List Record) (arrivals : List Arrival) (fields : Record) → AreTaken heading entries rows arrivals → (cause : BatchCause)
+    → spelled_cause entries arrivals (arrival_in heading entries fields) ≡ Some cause → record_cause entries rows fields ≡ Some cause
+at_arrivals heading entries rows arrivals fields t cause e = spelled-same heading entries rows arrivals fields t ∙ e

@@ -1,11 +1,13 @@
 -- What the records of a batch say, one by one.
-use Rattle.std.specs.Prelude.{ℕ, ◌==◌, ◌∷◌, [], List, length, nat_lt, nat_le, Option, Some, None, Result, Ok, Err, if◌then◌else◌}
+use Rattle.std.specs.Prelude.{ℕ, ◌%◌, ◌==◌, ◌∷◌, [], List, length, nat_lt, nat_le, Option, Some, None, Result, Ok, Err, if◌then◌else◌}
 use Rattle.std.specs.List.{filter, filter_map, fold, list_any}
 use Rattle.std.specs.Result.{result_ok}
 use Rattle.cn_spec.specs.declared.limits.TheConstants.{MOST_CLIENTS, MOST_RECORDS}
 use Rattle.cn_report.specs.Reading.Number.{number_in}
 use Rattle.cn_report.specs.Reading.Records.{Record}
 use Rattle.cn_report.specs.declared.reading.arrival.Arrival.{Arrival}
+use Rattle.cn_report.specs.declared.reading.heading.Heading.{Heading}
+use Rattle.cn_report.specs.declared.reading.heading.Heading.TheVariants.{Told, ByRule}
 use Rattle.cn_report.specs.declared.reading.batch_fault.BatchCause.{BatchCause}
 use Rattle.cn_report.specs.declared.reading.batch_fault.BatchCause.TheVariants.{FieldCount, EpochNumber, ClientNumber, EntryNumber, EpochBackwards, EntryRange, Duplicate, EpochFull, BatchFull}
 
@@ -16,14 +18,29 @@ arriving (Some epoch) None entry = Err ClientNumber
 arriving (Some epoch) (Some client) None = Err EntryNumber
 arriving (Some epoch) (Some client) (Some entry) = Ok (record { epoch = epoch; client = client; entry = entry })
 
--- the arrival that a record spells, or what is wrong with it
-unfoldable pub arrival_in : Record → Result Arrival BatchCause
-arrival_in (epoch ∷ client ∷ entry ∷ []) = arriving (number_in epoch) (number_in client) (number_in entry)
-arrival_in fields = Err FieldCount
+-- the entry of a client by rule: its identity modulo the number of entries
+abbrev pub entry_by_rule : ℕ → Option ℕ → Option ℕ
+entry_by_rule entries None = None
+entry_by_rule entries (Some client) = Some (client % entries)
+
+-- the arrival that a record of three numbers spells, or what is wrong with it
+unfoldable pub told_arrival : Record → Result Arrival BatchCause
+told_arrival (epoch ∷ client ∷ entry ∷ []) = arriving (number_in epoch) (number_in client) (number_in entry)
+told_arrival fields = Err FieldCount
+
+-- the arrival that a record of two numbers spells, its entry by rule, or what is wrong with it
+unfoldable pub ruled_arrival : ℕ → Record → Result Arrival BatchCause
+ruled_arrival entries (epoch ∷ client ∷ []) = arriving (number_in epoch) (number_in client) (entry_by_rule entries (number_in client))
+ruled_arrival entries fields = Err FieldCount
+
+-- the arrival that a record spells under a heading, or what is wrong with it
+abbrev pub arrival_in : Heading → ℕ → Record → Result Arrival BatchCause
+arrival_in Told entries fields = told_arrival fields
+arrival_in ByRule entries fields = ruled_arrival entries fields
 
 -- the arrivals of these records
-abbrev pub arrivals_in : List Record → List Arrival
-arrivals_in rows = filter_map (λ row. result_ok (arrival_in row)) rows
+abbrev pub arrivals_in : Heading → ℕ → List Record → List Arrival
+arrivals_in heading entries rows = filter_map (λ row. result_ok (arrival_in heading entries row)) rows
 
 -- those of them that come in this epoch
 abbrev pub of_epoch : ℕ → List Arrival → List Arrival

@@ -1,15 +1,15 @@
 -- Which records are a batch, and what is wrong with those that are none.
-use Rattle.std.specs.Prelude.{ℕ, ◌≡◌, ◌<◌, ◌≤◌, ◌⊎◌, ◌∷◌, [], All, Bool, List, drop, length, map, Option, Some, None, Result, MatchResult, codes, if◌then◌else◌, ⊤}
+use Rattle.std.specs.Prelude.{ℕ, ◌≡◌, ◌<◌, ◌≤◌, ◌⊎◌, ◌∷◌, [], All, List, drop, length, map, Option, Some, None, Result, MatchResult, codes, ⊤}
 use Rattle.std.specs.List.{AllByRecursion, flat_map, sum_by}
-use Rattle.std.specs.Cmp.Lexicographic.{pointwise}
-use Rattle.std.specs.Str.{bytes_eq}
 use Rattle.cn_core.specs.declared.client.Client.{Client}
 use Rattle.cn_spec.specs.Sums.{times}
 use Rattle.cn_spec.specs.declared.limits.TheConstants.{MOST_CLIENTS}
 use Rattle.cn_report.specs.Reading.Arrival.{arrival_in, arrivals_in, spelled_cause}
 use Rattle.cn_report.specs.Reading.Faults.{IsClean, IsFirstFault, cause_by}
+use Rattle.cn_report.specs.Reading.Heading.{heading_in, heading_of}
 use Rattle.cn_report.specs.Reading.Records.{Record}
 use Rattle.cn_report.specs.declared.reading.arrival.Arrival.{Arrival}
+use Rattle.cn_report.specs.declared.reading.heading.Heading.{Heading}
 use Rattle.cn_report.specs.declared.reading.rows.RowFault.{RowFault}
 use Rattle.cn_report.specs.declared.reading.rows.RowFault.TheVariants as row
 use Rattle.cn_report.specs.declared.reading.batch_fault.BatchCause.{BatchCause}
@@ -38,17 +38,18 @@ abbrev pub batch_cause_of_row : RowFault → BatchCause
 batch_cause_of_row row.Read = Read
 batch_cause_of_row row.Memory = Memory
 
--- the fields of the header of a batch
-abbrev pub is_batch_header : Record → Bool
-is_batch_header fields = pointwise bytes_eq fields (codes "epoch" ∷ codes "client" ∷ codes "entry" ∷ [])
+-- the cause of record 0, which is to head a batch
+abbrev pub cause_of_heading : Option Heading → Option BatchCause
+cause_of_heading (Some heading) = None
+cause_of_heading None = Some Header
 
--- the cause of record 0
 abbrev pub header_cause : Record → Option BatchCause
-header_cause fields = if is_batch_header fields then None else Some Header
+header_cause fields = cause_of_heading (heading_of fields)
 
 -- the cause of a record after those before it, the header first
 abbrev pub record_cause : ℕ → List Record → Record → Option BatchCause
-record_cause entries before fields = spelled_cause entries (arrivals_in (drop 1 before)) (arrival_in fields)
+record_cause entries before fields =
+    spelled_cause entries (arrivals_in (heading_in before) entries (drop 1 before)) (arrival_in (heading_in before) entries fields)
 
 -- the first cause of the record with this number, if it has one
 abbrev pub batch_cause : ℕ → List Record → ℕ → Option BatchCause
@@ -94,7 +95,7 @@ clients_of epochs = sum_by (λ e. length e.clients.items) epochs
 -- the records are a batch of these epochs: none has a cause, and the epochs spell those after the header
 pub record IsBatch (entries : ℕ) (rows : List Record) (epochs : List BatchEpoch) : Type 0 where
   pub clean : IsClean (batch_cause entries) rows
-  pub holds : AreEpochs epochs (arrivals_in (drop 1 rows))
+  pub holds : AreEpochs epochs (arrivals_in (heading_in rows) entries (drop 1 rows))
 
 -- the fault tells the first record with a cause, and its first cause
 abbrev pub IsBatchFault : ℕ → List Record → BatchFault → Type 0

@@ -74,3 +74,10 @@ pub(crate) fn is_header(row: &ByteRecord, first: &[u8], second: &[u8], third: &[
 {
     row.len() == 3 && field(row, 0) == first && field(row, 1) == second && field(row, 2) == third
 }
+
+/// Whether the record has these two fields.
+pub(crate) fn is_short_header(row: &ByteRecord, first: &[u8], second: &[u8]) -> bool
+    ensures { result ≡ pointwise bytes_eq (fields_of row.now) (first.now ∷ second.now ∷ []) }
+{
+    row.len() == 2 && field(row, 0) == first && field(row, 1) == second
+}

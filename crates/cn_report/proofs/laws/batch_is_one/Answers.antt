@@ -1,7 +1,8 @@
 use Rattle.std.proofs.Common.{drop}
 use Rattle.cn_report.specs.Reading.Arrival.{arrivals_in}
+use Rattle.cn_report.specs.Reading.Heading.{heading_in}
 use Rattle.cn_report.proofs.ReadingLemmas.UniqueBatch.{unique}
 use Rattle.cn_report.proofs.laws.batch_is_one.Goals as goal
 
 pub returns : goal.returns
-returns c = λ entries rows one other x y. unique one other (arrivals_in (drop 1 rows)) x.holds y.holds
+returns c = λ entries rows one other x y. unique one other (arrivals_in (heading_in rows) entries (drop 1 rows)) x.holds y.holds

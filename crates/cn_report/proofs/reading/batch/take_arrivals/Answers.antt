@@ -9,26 +9,26 @@ use Rattle.cn_report.proofs.reading.batch.take_arrivals.Goals as goal
 pub loop-at-init : goal.loop-at-init
 loop-at-init g c = record {
   few = omega arith;
-  plain = c.in_default.ensures.plain;
+  plain = c.in-Ok.ensures.plain;
   keeps = c.new-gathering.ensures.keeps c.args.entries;
   count = omega (arith, c.new-gathering.ensures.nobody);
   taken = λ text read.
-      let (fields, now, e) = c.in_default.ensures.ok text read in
-      (fields ∷ [], [], now, refl, taken_header c.args.entries fields e, c.new-gathering.ensures.none);
+      let (fields, now, e) = c.in-Ok.ensures.ok text read in
+      (fields ∷ [], [], now, refl, taken_header c.in-Ok.heading c.args.entries fields e, c.new-gathering.ensures.none);
 }
 
-pub returns-in-Ok-clause-answer : goal.returns-in-Ok-clause-answer
-returns-in-Ok-clause-answer g c = λ text read.
+pub returns-in-Ok-finish-clause-answer : goal.returns-in-Ok-finish-clause-answer
+returns-in-Ok-finish-clause-answer g c = λ text read.
     let (before, arrivals, now, size, t, gathered) = c.loop-at.invariant.taken text read in
     let (all, ended) = rw c.in-Ok-false.field-0-test at (c.in-Ok-false.ensures.found text before arrivals now gathered (omega (arith, t.counted, size))) in
-    taken_all c.args.entries (records_of text) before arrivals c.in-Ok.epochs.items t all (c.in-Ok.ensures.epochs arrivals ended)
+    taken_all c.in-Ok.heading c.args.entries (records_of text) before arrivals c.in-Ok-finish.epochs.items t all (c.in-Ok-finish.ensures.epochs arrivals ended)
 
-pub returns-in-Ok-clause-fits : goal.returns-in-Ok-clause-fits
-returns-in-Ok-clause-fits g c = c.in-Ok.ensures.fits c.args.entries (c.in-Ok-false.ensures.keeps c.loop-at.invariant.keeps)
+pub returns-in-Ok-finish-clause-fits : goal.returns-in-Ok-finish-clause-fits
+returns-in-Ok-finish-clause-fits g c = c.in-Ok-finish.ensures.fits c.args.entries (c.in-Ok-false.ensures.keeps c.loop-at.invariant.keeps)
 
-pub returns-in-Ok-clause-few : goal.returns-in-Ok-clause-few
-returns-in-Ok-clause-few g c =
-    omega (arith, c.in-Ok.ensures.all, c.loop-at.invariant.count, c.loop-at.invariant.few, rw c.in-Ok-false.field-0-test at c.in-Ok-false.ensures.more)
+pub returns-in-Ok-finish-clause-few : goal.returns-in-Ok-finish-clause-few
+returns-in-Ok-finish-clause-few g c =
+    omega (arith, c.in-Ok-finish.ensures.all, c.loop-at.invariant.count, c.loop-at.invariant.few, rw c.in-Ok-false.field-0-test at c.in-Ok-false.ensures.more)
 
 pub returns-in-Err-finish-clause-answer : goal.returns-in-Err-finish-clause-answer
 returns-in-Err-finish-clause-answer g c = λ text read.
@@ -42,7 +42,7 @@ returns-in-Err-take_arrival-clause-answer g c = λ text read.
       | inl w ↦
           let (fields, next, e) = w in
           rw (← size) (stop_at header_cause (record_cause c.args.entries) IsOfReading g.R.Read.remaining c.take_arrival.new.rows text before fields c.in-Err-take_arrival.cause t.clean next
-          (at_arrivals c.args.entries before arrivals fields t c.in-Err-take_arrival.cause e))
+          (at_arrivals c.in-Ok.heading c.args.entries before arrivals fields t c.in-Err-take_arrival.cause e))
       | inr w ↦ rw (← size) (stop_before header_cause (record_cause c.args.entries) IsOfReading g.R.Read.remaining c.loop-at.rows text before c.in-Err-take_arrival.cause t.clean now w)
     ]
 
@@ -59,7 +59,7 @@ loop-at-preserved g c = record {
         arrivals ++ arrival ∷ [],
         next,
         omega (arith, size, length-append before (fields ∷ [])),
-        taken_next c.args.entries before arrivals fields arrival t is none,
+        taken_next c.in-Ok.heading c.args.entries before arrivals fields arrival t is none,
         more,
       );
 }

@@ -14,5 +14,5 @@ invariant-loop-at g l = record {
   count : gathered l.gathering + 1 ≡ l.at;
   taken : (text : List ℕ) → HasRead g.R.Read.remaining l.fn.rows text []
       → (before : List Record) × (arrivals : List Arrival) × HasRead g.R.Read.remaining l.rows text before × (length before ≡ l.at)
-      × AreTaken l.fn.entries before arrivals × IsGathered l.gathering arrivals;
+      × AreTaken l.heading l.fn.entries before arrivals × IsGathered l.gathering arrivals;
 }

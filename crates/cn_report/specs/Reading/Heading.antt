@@ -1,0 +1,28 @@
+-- The header of a batch, by which its records tell the entries of clients or leave them to the rule.
+use Rattle.std.specs.Prelude.{◌∷◌, [], Bool, List, Option, Some, None, codes, if◌then◌else◌, slice_index_or}
+use Rattle.std.specs.Cmp.Lexicographic.{pointwise}
+use Rattle.std.specs.Str.{bytes_eq}
+use Rattle.cn_report.specs.Reading.Records.{Record}
+use Rattle.cn_report.specs.declared.reading.heading.Heading.{Heading}
+use Rattle.cn_report.specs.declared.reading.heading.Heading.TheVariants.{Told, ByRule}
+
+-- the header of a batch that tells entries
+abbrev pub is_batch_header : Record → Bool
+is_batch_header fields = pointwise bytes_eq fields (codes "epoch" ∷ codes "client" ∷ codes "entry" ∷ [])
+
+-- the header of a batch whose clients' entries follow by rule
+abbrev pub is_short_header : Record → Bool
+is_short_header fields = pointwise bytes_eq fields (codes "epoch" ∷ codes "client" ∷ [])
+
+-- what a record heads, if it is a header
+abbrev pub heading_of : Record → Option Heading
+heading_of fields = if is_batch_header fields then Some Told else if is_short_header fields then Some ByRule else None
+
+-- this heading, where there is one
+abbrev pub heading_or : Option Heading → Heading
+heading_or (Some heading) = heading
+heading_or None = Told
+
+-- the heading of these records, which is told by the first
+abbrev pub heading_in : List Record → Heading
+heading_in rows = heading_or (heading_of (slice_index_or rows 0 []))
