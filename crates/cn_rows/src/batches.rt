@@ -59,13 +59,15 @@ fn fault_of<I: io::Read + Drop>(
     }
 }
 
-/// Batches and their arrivals: one of five clients, only a header, and the records that csv reads.
-const READ: [(&[u8], &[Arrival]); 8] = [
+/// Batches and their arrivals: one of five clients, only a header, entries by rule, and the records that csv reads.
+const READ: [(&[u8], &[Arrival]); 10] = [
     (
         FIVE_ON_ONE_ENTRY,
         &[(1, 17, 3), (1, 5, 3), (1, 99, 3), (1, 23, 3), (1, 42, 3)],
     ),
     (b"epoch,client,entry\n", &[]),
+    (b"epoch,client\n", &[]),
+    (b"epoch,client\n1,9\n1,10\n", &[(1, 9, 1), (1, 10, 2)]),
     (
         b"epoch,client,entry\n1,7,0\n3,7,1\n",
         &[(1, 7, 0), (3, 7, 1)],
@@ -148,13 +150,19 @@ fn identity_fields(rt: HostRuntime) -> Result<(), Fail> {
 }
 
 /// Inputs, at which record each is refused, and why.
-const REFUSED: [(&[u8], u64, BatchCause); 22] = [
+const REFUSED: [(&[u8], u64, BatchCause); 28] = [
     (b"", 0, BatchCause::Header),
     (b"\n\n", 0, BatchCause::Header),
     (b"1,17,0\n", 0, BatchCause::Header),
-    (b"epoch,client\n", 0, BatchCause::Header),
+    (b"epoch,client,\n", 0, BatchCause::Header),
     (b"epoch,client,name\n", 0, BatchCause::Header),
     (b"\"epoch,client,entry\"\n", 0, BatchCause::Header),
+    (b"epoch,client\n1,17,0\n", 1, BatchCause::FieldCount),
+    (b"epoch,client\n1\n", 1, BatchCause::FieldCount),
+    (b"epoch,client\nx,y\n", 1, BatchCause::EpochNumber),
+    (b"epoch,client\n1,y\n", 1, BatchCause::ClientNumber),
+    (b"epoch,client\n2,9\n1,9\n", 2, BatchCause::EpochBackwards),
+    (b"epoch,client\n1,9\n1,9\n", 2, BatchCause::Duplicate),
     (b"epoch,client,entry\n1,17\n", 1, BatchCause::FieldCount),
     (b"epoch,client,entry\n1\n", 1, BatchCause::FieldCount),
     (b"epoch,client,entry\n1,17,0,0\n", 1, BatchCause::FieldCount),

@@ -15,7 +15,7 @@ const BITONIC_FOUR: Asked = (Kind::Bitonic, 4, 1, 1);
 /// What a run is asked for, a batch, and the grant list that is written of it.
 type Row = (Asked, &'static [u8], &'static [u8]);
 
-const ROWS: [Row; 9] = [
+const ROWS: [Row; 10] = [
     (
         BITONIC_FOUR,
         b"epoch,client,entry\n",
@@ -30,6 +30,11 @@ const ROWS: [Row; 9] = [
         BITONIC_FOUR,
         b"epoch,client,entry\n1,17,3\n1,5,3\n1,99,3\n1,23,3\n1,42,3\n",
         b"epoch,client,name\n1,17,0\n1,5,1\n1,99,2\n1,23,3\n1,42,4\n",
+    ),
+    (
+        BITONIC_FOUR,
+        b"epoch,client\n1,9\n1,10\n",
+        b"epoch,client,name\n1,9,0\n1,10,1\n",
     ),
     (
         BITONIC_FOUR,

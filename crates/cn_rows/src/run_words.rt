@@ -191,7 +191,7 @@ const REFUSED_CHECKS: [&str; 9] = [
     "renamer check --width 1",
     "renamer check --width 3",
     "renamer check --width 04",
-    "renamer check --width 128",
+    "renamer check --width 512",
     "renamer check --network tree --width 4",
     "renamer check --width 4 --width 4",
 ];

@@ -575,17 +575,18 @@ fn is_one_too_many<R: Threads + Wait + Sync>(
     alloc: Global,
     state: RandomState,
 ) -> Option<bool> {
-    let batch = batch_of(alloc, 65_537)?;
+    let batch = batch_of(alloc, 262_145)?;
     let row = (
         TREE_SIXTY_FOUR,
         batch.as_slice(),
-        65_537,
+        262_145,
         BatchCause::EpochFull,
     );
     Some(is_refused(rt, alloc, state, &row))
 }
 
-/// Whether such batches of some clients and of as many as can be have their reports, and one more is refused.
+/// Whether such batches of some clients and of one more than 65,536 have their reports, and one of more than can be is
+/// refused.
 fn are_limits<R: Threads + Wait + Sync>(
     rt: &R,
     alloc: Global,
@@ -593,7 +594,7 @@ fn are_limits<R: Threads + Wait + Sync>(
 ) -> [Option<bool>; 3] {
     [
         is_in_order(rt, alloc, state, 3_000),
-        is_in_order(rt, alloc, state, 65_536),
+        is_in_order(rt, alloc, state, 65_537),
         is_one_too_many(rt, alloc, state),
     ]
 }

@@ -70,7 +70,7 @@ const REFUSED: [&str; 43] = [
     "renamer replay --network bitonic --width 3",
     "renamer replay --network bitonic --width 0",
     "renamer replay --network bitonic --width 1",
-    "renamer replay --network bitonic --width 128",
+    "renamer replay --network bitonic --width 512",
     "renamer replay --network bitonic --width -2",
     "renamer replay --network bitonic --width two",
     "renamer replay --network bitonic --width +2",

@@ -257,7 +257,7 @@ fn refusal(core: &mut Core<'_>, client: u64, entry: u64) -> Option<EnterFault> {
 
 /// Whether as many clients enter as can.
 fn is_filled(core: &mut Core<'_>) -> bool {
-    for client in 0..65_536 {
+    for client in 0..262_144 {
         if refusal(core, client, 0).is_some() {
             return false;
         }
@@ -271,8 +271,8 @@ type Full = (bool, [Option<EnterFault>; 3]);
 fn full(core: &mut Core<'_>) -> Full {
     let is_filled = is_filled(core);
     let refused = [
-        refusal(core, 65_536, 0),
-        refusal(core, 65_536, 1),
+        refusal(core, 262_144, 0),
+        refusal(core, 262_144, 1),
         refusal(core, 0, 0),
     ];
     (is_filled, refused)

@@ -239,7 +239,7 @@ fn sizes(alloc: Global, kind: Kind, width: u32) -> Result<Sizes, BuildFault> {
 }
 
 /// The sizes of the networks of each width.
-const SIX_WIDTHS: [Sizes; 18] = [
+const EIGHT_WIDTHS: [Sizes; 24] = [
     (Bitonic, [2, 2, 1], 1),
     (Periodic, [2, 2, 1], 1),
     (Tree, [1, 2, 1], 1),
@@ -258,11 +258,17 @@ const SIX_WIDTHS: [Sizes; 18] = [
     (Bitonic, [64, 64, 672], 21),
     (Periodic, [64, 64, 1_152], 36),
     (Tree, [1, 64, 63], 6),
+    (Bitonic, [128, 128, 1_792], 28),
+    (Periodic, [128, 128, 3_136], 49),
+    (Tree, [1, 128, 127], 7),
+    (Bitonic, [256, 256, 4_608], 36),
+    (Periodic, [256, 256, 8_192], 64),
+    (Tree, [1, 256, 255], 8),
 ];
 
 /// The first network, by its kind and width, with other sizes.
 fn wrong_sizes(alloc: Global) -> Option<(Kind, u32)> {
-    for (kind, wires, depth) in &SIX_WIDTHS {
+    for (kind, wires, depth) in &EIGHT_WIDTHS {
         let width = wires[1];
         if sizes(alloc, *kind, width) != Ok((*kind, *wires, *depth)) {
             return Some((*kind, width));
@@ -272,13 +278,13 @@ fn wrong_sizes(alloc: Global) -> Option<(Kind, u32)> {
 }
 
 #[test]
-fn six_widths(rt: HostRuntime) {
+fn eight_widths(rt: HostRuntime) {
     assert_eq!(rt; wrong_sizes(rt.alloc()), None);
 }
 
 /// The first of other widths at which a network of a kind is not refused for its width.
 fn built_at(alloc: Global, kind: Kind) -> Option<u32> {
-    for width in [0, 1, 3, 63, 65, 128, 256, u32::MAX] {
+    for width in [0, 1, 3, 63, 65, 255, 257, 512, u32::MAX] {
         if sizes(alloc, kind, width) != Err(BuildFault::Width) {
             return Some(width);
         }
@@ -294,8 +300,8 @@ fn other_widths(rt: HostRuntime) {
 
 #[test]
 fn widths(rt: HostRuntime) {
-    for width in 0..300 {
-        assert_eq!(rt; is_width(width), [2, 4, 8, 16, 32, 64].contains(&width));
+    for width in 0..600 {
+        assert_eq!(rt; is_width(width), [2, 4, 8, 16, 32, 64, 128, 256].contains(&width));
     }
     assert!(rt; !is_width(u32::MAX));
 }

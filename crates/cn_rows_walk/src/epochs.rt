@@ -11,7 +11,7 @@ use std::sync::atomic::{AtomicU64, Ordering};
 use std::thread::Threads;
 
 /// Runs an epoch.
-fn run<'a, G: Gate + Sync, R: Threads + Wait + Sync>(
+pub(crate) fn run<'a, G: Gate + Sync, R: Threads + Wait + Sync>(
     rt: &R,
     alloc: Global,
     network: &'a Counting,
@@ -181,9 +181,9 @@ fn refusal<R: Threads + Wait + Sync>(
 const REFUSED: [(u64, u32, u32, RunFault); 6] = [
     (3, 0, 0, RunFault::Workers),
     (3, 65, 65, RunFault::Workers),
-    (65_537, 64, 0, RunFault::Hand),
-    (65_537, 1, 65, RunFault::Hand),
-    (65_537, 1, 64, RunFault::TooMany),
+    (262_145, 64, 0, RunFault::Hand),
+    (262_145, 1, 65, RunFault::Hand),
+    (262_145, 1, 64, RunFault::TooMany),
     (3, 1, 1, RunFault::NoSuchEntry(1)),
 ];
 
@@ -205,19 +205,19 @@ fn refused_in_order(rt: HostRuntime) {
 /// Whether each exit is left by 1,024 clients, and client n has name n.
 fn are_in_order(quiet: &Quiet<'_>) -> [bool; 2] {
     let in_order = match quiet.holders() {
-        Ok(holders) => holders.iter().copied().eq(0..65_536),
+        Ok(holders) => holders.iter().copied().eq(0..262_144),
         Err(_) => false,
     };
-    [quiet.counts() == [1_024; 64].as_slice(), in_order]
+    [quiet.counts() == [1_024; 256].as_slice(), in_order]
 }
 
-/// Runs clients over tree 64.
+/// Runs clients over tree 256.
 fn is_full<R: Threads + Wait + Sync>(
     rt: &R,
     alloc: Global,
     clients: &[Client],
 ) -> Option<[bool; 2]> {
-    let network = tree(alloc, 64).ok()?;
+    let network = tree(alloc, 256).ok()?;
     match run(rt, alloc, &network, clients, 1, 1, &OpenGate) {
         Ok(quiet) => Some(are_in_order(&quiet)),
         Err(_) => None,
@@ -226,7 +226,7 @@ fn is_full<R: Threads + Wait + Sync>(
 
 /// As many clients as an epoch may have.
 fn full_epoch<R: Threads + Wait + Sync>(rt: &R, alloc: Global) -> Option<[bool; 2]> {
-    let clients = many_clients(alloc, 65_536, 0)?;
+    let clients = many_clients(alloc, 262_144, 0)?;
     is_full(rt, alloc, &clients)
 }
 

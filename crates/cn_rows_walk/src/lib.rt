@@ -22,3 +22,5 @@ mod threads;
 mod two_lanes;
 #[cfg(test)]
 mod walks;
+#[cfg(test)]
+mod widest;

@@ -174,7 +174,7 @@ fn open_refusal(alloc: Global, quota: u64) -> Option<OpenFault> {
 
 #[test]
 fn too_much_quota(rt: HostRuntime) -> Result<(), Fail> {
-    let faults = [0, 65_536, 65_537].map(|quota| open_refusal(rt.alloc(), quota));
+    let faults = [0, 262_144, 262_145].map(|quota| open_refusal(rt.alloc(), quota));
     assert_eq!(rt; faults, [None, None, Some(OpenFault::Quota)]);
     Ok(())
 }

@@ -10,9 +10,9 @@ ghost use Rattle.cn_spec.specs.declared.limits.TheConstants.{MOST_ARRIVALS, MOST
 
 /// What each limit is, in numbers. Clauses and code cite the limits by name; only here are they told.
 pub fn limits_are()
-    ensures widths { MOST_LEVEL ≡ 6 }
+    ensures widths { MOST_LEVEL ≡ 8 }
     ensures wirings { (MOST_ENDS ≡ 4_096) × (MOST_BALANCERS ≡ 65_536) }
-    ensures epochs { (MOST_CLIENTS ≡ 65_536) × (MOST_CARRIED ≡ 2_147_483_648) }
+    ensures epochs { (MOST_CLIENTS ≡ 262_144) × (MOST_CARRIED ≡ 2_147_483_648) }
     ensures texts { (MOST_RECORDS ≡ 1_048_576) × (MOST_DIGITS ≡ 20) }
     ensures counts { MOST_ARRIVALS ≡ 2 ^ 32 }
     ensures yards { (MOST_TOKENS ≡ 4_194_304) × (MOST_ROOM ≡ 1_048_576) }

@@ -1,7 +1,7 @@
 //! The limits of the service.
 
 /// The greatest level of a network: its width is 2 to the power of the level, and the least level is 1.
-pub const MOST_LEVEL: u32 = 6;
+pub const MOST_LEVEL: u32 = 8;
 
 /// The most entries that a wiring may have, and the most exits.
 pub const MOST_ENDS: u32 = 4_096;
@@ -10,7 +10,7 @@ pub const MOST_ENDS: u32 = 4_096;
 pub const MOST_BALANCERS: u32 = 65_536;
 
 /// The most clients of one epoch.
-pub const MOST_CLIENTS: u64 = 65_536;
+pub const MOST_CLIENTS: u64 = 262_144;
 
 /// The most clients that may have come before an epoch that goes on from the counts of earlier ones.
 pub const MOST_CARRIED: u64 = 2_147_483_648;

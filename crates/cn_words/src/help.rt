@@ -46,6 +46,7 @@ const RENAMER: &str = "\
 Input is CSV on standard input, under one of these headers:
 
   epoch,client,entry  a batch: run reads it
+  epoch,client        a batch whose entries follow by rule: run reads it
   epoch,client,name   a grant list: run --form grants prints it, check reads it
   op,client,wire      a schedule: replay reads it
 
@@ -80,7 +81,8 @@ client: the epoch that it is in, its identity, and the entry that it comes to.
 All are numbers below 2^64 in decimal digits. The records of an epoch stand
 together, and the numbers of epochs rise. Entries are 0 to W-1, and a tree has
 entry 0 alone. An epoch has at most {MOST_CLIENTS} clients, and a batch at most
-{MOST_RECORDS} records besides the header.
+{MOST_RECORDS} records besides the header. Under the header `epoch,client` a
+record has no entry: client C comes to entry C modulo the number of entries.
 
     epoch,client,entry
     1,17,3

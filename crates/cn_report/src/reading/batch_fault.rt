@@ -28,7 +28,7 @@ pub enum BatchCause {
     EntryRange,
     /// The client stands in this epoch already.
     Duplicate,
-    /// The epoch has 65,536 clients already.
+    /// The epoch has as many clients as it takes ([`cn_spec::limits::MOST_CLIENTS`]).
     EpochFull,
     /// There are more than 1,048,576 records after the header.
     BatchFull,
