@@ -20,7 +20,7 @@ struct Outcome {
     joined: JoinFault,
     entered: u64,
     granted: u64,
-    grant: Option<Grant>,
+    grant: Grant,
 }
 
 /// More than the lane has cannot be split off; what is told then, and the lane.
@@ -45,9 +45,8 @@ fn not_joined(floor: &Floor<'_>, first: Lane, second: Lane) -> Option<(JoinFault
     }
 }
 
-/// What a lane with at most one grant, which lacks a client's, is told when the floor is closed: how many came in, how many
-/// grants it has, and the one.
-pub(crate) fn missed(floor: Floor<'_>, lane: Lane) -> Option<(u64, u64, Option<Grant>)>
+/// What a lane that lacks a client's grant is told when the floor is closed.
+fn missed(floor: Floor<'_>, lane: Lane) -> Option<(u64, u64, Grant)>
     requires { lane.home ≡ floor }
 {
     let Err(
@@ -60,11 +59,10 @@ pub(crate) fn missed(floor: Floor<'_>, lane: Lane) -> Option<(u64, u64, Option<G
     else {
         return None;
     };
-    match grants.as_slice() {
-        [] => Some((entered, granted, None)),
-        [grant] => Some((entered, granted, Some(*grant))),
-        _ => None,
-    }
+    let [grant] = grants.as_slice() else {
+        return None;
+    };
+    Some((entered, granted, *grant))
 }
 
 /// What the first lane is told while both have a client inside.
@@ -147,12 +145,12 @@ fn dropped_lane(rt: HostRuntime) -> Result<(), Fail> {
         joined: JoinFault::StillWalking,
         entered: 2,
         granted: 1,
-        grant: Some(Grant {
+        grant: Grant {
             client: 7,
             exit: 0,
             visit: 0,
             name: 0,
-        }),
+        },
     };
     assert_eq!(rt; one_dropped(rt.alloc()), Some(wanted));
     Ok(())
