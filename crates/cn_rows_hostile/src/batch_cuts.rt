@@ -1,4 +1,5 @@
-//! A batch that is cut at each of its bytes: the answer is that to the records that csv gives for what is left.
+//! A batch that is cut at each of its bytes, and batches that are no plain lines: the answer is that to the records that csv
+//! gives.
 
 use crate::serving::{Answer, Asked, is_answered};
 use cn_renamer::{BatchCause, Form};
@@ -83,9 +84,50 @@ fn wrong_cut<R: Threads + Wait + Sync>(
     (None, cuts)
 }
 
+/// Batches with other line ends and quotes than plain ones, or with two causes in a record, and the answers: a lone carriage
+/// return ends a record; a quote that is left open runs to the end; a quote inside a field is no digit; of causes the first.
+const ODD: [(&[u8], Answer); 6] = [
+    (
+        b"epoch,client,entry\r1,17,3\r1,5,3\r",
+        Answer::Written(b"epoch,client,name\n1,17,0\n1,5,1\n"),
+    ),
+    (
+        b"epoch,client,entry\n1,17,\"3",
+        Answer::Written(b"epoch,client,name\n1,17,0\n"),
+    ),
+    (
+        b"epoch,client,entry\n1,\"17,3\n1,5,3\n",
+        Answer::Refused(1, BatchCause::FieldCount),
+    ),
+    (
+        b"epoch,client,entry\n1,1\"7\",3\n",
+        Answer::Refused(1, BatchCause::ClientNumber),
+    ),
+    (
+        b"epoch,client,entry\n2,17,0\n1,18,x\n",
+        Answer::Refused(2, BatchCause::EntryNumber),
+    ),
+    (
+        b"epoch,client,entry\n1,17,3\n\xff\xfe",
+        Answer::Refused(2, BatchCause::FieldCount),
+    ),
+];
+
+/// The place of the first of them that is answered otherwise.
+fn wrong_odd<R: Threads + Wait + Sync>(rt: &R, alloc: Global, state: RandomState) -> Option<usize> {
+    for (place, (batch, wanted)) in ODD.iter().enumerate() {
+        if !is_answered(rt, alloc, state, BITONIC_FOUR, *batch, &OpenGate, *wanted) {
+            return Some(place);
+        }
+    }
+    None
+}
+
 #[test]
 fn hostile_batches(rt: HostRuntime) -> Result<(), Fail> {
-    let wrong = wrong_cut(&rt, rt.alloc(), RandomState::new(&rt)?);
-    assert_eq!(rt; wrong, (None, FIVE_ON_ONE_ENTRY.len() + 1));
+    let (alloc, state) = (rt.alloc(), RandomState::new(&rt)?);
+    let cut = wrong_cut(&rt, alloc, state);
+    let odd = wrong_odd(&rt, alloc, state);
+    assert_eq!(rt; (cut, odd), ((None, FIVE_ON_ONE_ENTRY.len() + 1), None));
     Ok(())
 }
