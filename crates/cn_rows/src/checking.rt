@@ -1,12 +1,11 @@
 //! Grant lists, checked end to end by the library.
 
-use crate::writers::{Broken, Narrow, Then};
+use crate::writers::{Narrow, Then};
 use cn_renamer::{CheckFault, Flaw, check};
 use cn_wiring::is_width;
 use std::alloc::Global;
-use std::io;
 
-const TWO_EPOCHS: &[u8] = b"epoch,client,name\n\
+pub(crate) const TWO_EPOCHS: &[u8] = b"epoch,client,name\n\
       1,11,1\n\
       1,10,0\n\
       2,10,0\n";
@@ -16,13 +15,9 @@ const TWO_EPOCHS_TIGHT: &[u8] = b"epoch 1 clients 2 counts 1 1 0 0\n\
       tight epochs 2 grants 3\n";
 
 /// Checks a list for width 4.
-fn checked<I: io::Read + Drop>(
-    alloc: Global,
-    reader: I,
-    writer: &mut Narrow,
-) -> Option<Result<(), CheckFault>> {
+fn checked(alloc: Global, list: &[u8], writer: &mut Narrow) -> Option<Result<(), CheckFault>> {
     if is_width(4) {
-        Some(check(alloc, reader, writer, 4))
+        Some(check(alloc, list, writer, 4))
     } else {
         None
     }
@@ -36,7 +31,7 @@ fn is_tight(alloc: Global, list: &[u8], wanted: &[u8]) -> bool {
 }
 
 /// Lists and what is written of them.
-const TIGHT: [(&[u8], &[u8]); 3] = [
+pub(crate) const TIGHT: [(&[u8], &[u8]); 3] = [
     (TWO_EPOCHS, TWO_EPOCHS_TIGHT),
     (b"epoch,client,name\n", b"tight epochs 0 grants 0\n"),
     (
@@ -61,9 +56,9 @@ fn tight_lists_are_told(rt: HostRuntime) {
 }
 
 /// Whether a list has this flaw, and nothing is written.
-fn has_flaw<I: io::Read + Drop>(alloc: Global, reader: I, flaw: Flaw) -> bool {
+fn has_flaw(alloc: Global, list: &[u8], flaw: Flaw) -> bool {
     let mut writer = Narrow::new(alloc, usize::MAX, Then::TakesNothing);
-    let done = checked(alloc, reader, &mut writer);
+    let done = checked(alloc, list, &mut writer);
     done == Some(Err(CheckFault::Flaw(flaw))) && writer.taken.is_empty() && writer.flushes == 0
 }
 
@@ -97,36 +92,4 @@ fn wrong_flaw(alloc: Global) -> Option<Flaw> {
 #[test]
 fn grant_list_verdicts(rt: HostRuntime) {
     assert_eq!(rt; wrong_flaw(rt.alloc()), None);
-}
-
-#[test]
-fn failing_reads(rt: HostRuntime) {
-    let first = has_flaw(rt.alloc(), Broken { left: b"" }, Flaw::Read(0));
-    let left = &TWO_EPOCHS[..25];
-    let third = has_flaw(rt.alloc(), Broken { left }, Flaw::Read(2));
-    assert_eq!(rt; (first, third), (true, true));
-}
-
-/// Whether a check to a writer with this room fails after as many bytes, which the writer has taken.
-fn is_cut(alloc: Global, room: usize) -> bool {
-    let mut writer = Narrow::new(alloc, room, Then::FailsOnce);
-    let done = checked(alloc, TWO_EPOCHS, &mut writer);
-    let written = room as u64;
-    let is_taken = Some(writer.taken.as_slice()) == TWO_EPOCHS_TIGHT.get(..room);
-    done == Some(Err(CheckFault::Write { written })) && is_taken
-}
-
-/// The first room of a writer at which a check to it fails otherwise.
-fn wrong_write(alloc: Global) -> Option<usize> {
-    for room in [0, 10, TWO_EPOCHS_TIGHT.len() - 1] {
-        if !is_cut(alloc, room) {
-            return Some(room);
-        }
-    }
-    None
-}
-
-#[test]
-fn failing_writes(rt: HostRuntime) {
-    assert_eq!(rt; wrong_write(rt.alloc()), None);
 }

@@ -1,6 +1,6 @@
 //! Batches, served in the grants form, and the lists that are written given to a check.
 
-use crate::serving::{Asked, granted};
+use crate::serving::{Asked, Row, granted};
 use crate::writers::{Narrow, Then};
 use cn_renamer::check;
 use cn_wiring::{Kind, is_width};
@@ -13,9 +13,7 @@ use std::thread::Threads;
 const BITONIC_FOUR: Asked = (Kind::Bitonic, 4, 1, 1);
 
 /// What a run is asked for, a batch, and the grant list that is written of it.
-type Row = (Asked, &'static [u8], &'static [u8]);
-
-const ROWS: [Row; 10] = [
+pub(crate) const ROWS: [Row; 10] = [
     (
         BITONIC_FOUR,
         b"epoch,client,entry\n",

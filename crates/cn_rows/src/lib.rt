@@ -7,6 +7,8 @@ mod batches;
 #[cfg(test)]
 mod checking;
 #[cfg(test)]
+mod cuts;
+#[cfg(test)]
 mod emitting;
 #[cfg(test)]
 mod grants;

@@ -95,7 +95,7 @@ fn job(asked: Asked, kind: Kind, width: u32) -> Option<Job> {
 }
 
 /// Whether networks of a job's width are built.
-fn is_built(job: &Job) -> bool
+pub(crate) fn is_built(job: &Job) -> bool
     ensures { IsTrue result → IsBuiltFor job.now }
 {
     match job {

@@ -1,15 +1,13 @@
 //! Schedules, replayed end to end by the library.
 
-use crate::writers::{Broken, Narrow, Then};
-use cn_renamer::{Net, ReplayFault, ScheduleCause, ScheduleFault, replay};
+use cn_renamer::{Net, ReplayFault, replay};
 use cn_spec::limits::MOST_CLIENTS;
 use cn_wiring::Kind;
 use std::alloc::{AllocError, Global};
 use std::hash::RandomState;
-use std::io;
 use std::test::Fail;
 
-const TWO_CLIENTS: &[u8] = b"op,client,wire\n\
+pub(crate) const TWO_CLIENTS: &[u8] = b"op,client,wire\n\
       enter,7,0\n\
       enter,9,1\n\
       step,9,\n\
@@ -174,14 +172,14 @@ fn replayed(
 }
 
 /// A kind and a width, and a schedule and what its replay writes, each in parts.
-type Row = (
+pub(crate) type Row = (
     Kind,
     u32,
     &'static [&'static [u8]],
     &'static [&'static [u8]],
 );
 
-const ROWS: [Row; 10] = [
+pub(crate) const ROWS: [Row; 10] = [
     (Kind::Bitonic, 2, &[TWO_CLIENTS], &[TWO_CLIENTS_REPLAYED]),
     (
         Kind::Bitonic,
@@ -434,11 +432,7 @@ fn a_full_epoch_refuses_a_client(rt: HostRuntime) -> Result<(), Fail> {
 }
 
 /// The fault of a schedule that is refused, and how many bytes are written.
-fn refusal(
-    alloc: Global,
-    state: RandomState,
-    input: impl io::Read + Drop,
-) -> Option<(ReplayFault, usize)> {
+fn refusal(alloc: Global, state: RandomState, input: &[u8]) -> Option<(ReplayFault, usize)> {
     let net = Net::new(Kind::Bitonic, 2).ok()?;
     let mut written = Vec::new(alloc);
     match replay(alloc, input, &mut written, &net, state) {
@@ -512,69 +506,5 @@ fn wrong_refusal(alloc: Global, state: RandomState) -> Option<&'static [u8]> {
 fn schedule_refusals(rt: HostRuntime) -> Result<(), Fail> {
     let wrong = wrong_refusal(rt.alloc(), RandomState::new(&rt)?);
     assert_eq!(rt; wrong, None);
-    Ok(())
-}
-
-/// The fault of a read that fails after so many lines.
-fn read_fault(at: u64) -> ReplayFault {
-    let cause = ScheduleCause::Read;
-    ReplayFault::Schedule(ScheduleFault { at, cause })
-}
-
-/// The first number of bytes, at the end of a line, after which a read that fails is told otherwise.
-fn wrong_read(alloc: Global, state: RandomState) -> Option<usize> {
-    let mut lines = 0u64;
-    for end in 0..=TWO_CLIENTS.len() {
-        let left = &TWO_CLIENTS[..end];
-        if left.is_empty() || left.ends_with(b"\n") {
-            if refusal(alloc, state, Broken { left }) != Some((read_fault(lines), 0)) {
-                return Some(end);
-            }
-            lines = lines.saturating_add(1);
-        }
-    }
-    None
-}
-
-#[test]
-fn read_cut_anywhere(rt: HostRuntime) -> Result<(), Fail> {
-    let wrong = wrong_read(rt.alloc(), RandomState::new(&rt)?);
-    assert_eq!(rt; wrong, None);
-    Ok(())
-}
-
-/// Whether a replay of two clients to a writer fails after these bytes, which the writer has taken.
-fn is_cut(alloc: Global, state: RandomState, mut writer: Narrow, wanted: &[u8]) -> Option<bool> {
-    let net = Net::new(Kind::Bitonic, 2).ok()?;
-    let fault = replay(alloc, TWO_CLIENTS, &mut writer, &net, state).err()?;
-    let written = wanted.len() as u64;
-    Some(fault == ReplayFault::Write { written } && writer.taken.as_slice() == wanted)
-}
-
-/// The first room of a writer at which a replay to it fails otherwise.
-fn wrong_write(alloc: Global, state: RandomState, then: Then) -> Option<usize> {
-    for room in 0..TWO_CLIENTS_REPLAYED.len() {
-        let writer = Narrow::new(alloc, room, then);
-        if is_cut(alloc, state, writer, &TWO_CLIENTS_REPLAYED[..room]) != Some(true) {
-            return Some(room);
-        }
-    }
-    None
-}
-
-#[test]
-fn write_cut_anywhere(rt: HostRuntime) -> Result<(), Fail> {
-    let (alloc, state) = (rt.alloc(), RandomState::new(&rt)?);
-    let nothing = wrong_write(alloc, state, Then::TakesNothing);
-    let once = wrong_write(alloc, state, Then::FailsOnce);
-    assert_eq!(rt; (nothing, once), (None, None));
-    Ok(())
-}
-
-#[test]
-fn a_failed_flush_is_a_failed_write(rt: HostRuntime) -> Result<(), Fail> {
-    let (alloc, state) = (rt.alloc(), RandomState::new(&rt)?);
-    let told = is_cut(alloc, state, Narrow::unflushed(alloc), TWO_CLIENTS_REPLAYED);
-    assert_eq!(rt; told, Some(true));
     Ok(())
 }

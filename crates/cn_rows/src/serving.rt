@@ -17,11 +17,11 @@ pub(crate) type Asked = (Kind, u32, u32, u32);
 
 const BITONIC_TWO: Asked = (Kind::Bitonic, 2, 1, 1);
 
-const BITONIC_FOUR: Asked = (Kind::Bitonic, 4, 1, 1);
+pub(crate) const BITONIC_FOUR: Asked = (Kind::Bitonic, 4, 1, 1);
 
 const TREE_SIXTY_FOUR: Asked = (Kind::Tree, 64, 1, 1);
 
-const FIVE_ON_ONE_ENTRY: &[u8] = b"epoch,client,entry\n\
+pub(crate) const FIVE_ON_ONE_ENTRY: &[u8] = b"epoch,client,entry\n\
       1,17,3\n\
       1,5,3\n\
       1,99,3\n\
@@ -120,7 +120,7 @@ const SEVEN_SERVED: &[u8] = b"network bitonic width 2 balancers 1 depth 1\n\
       name 0 client 7\n\
       end epochs 1 grants 1\n";
 
-fn options_of(asked: Asked, form: Form) -> Option<Options> {
+pub(crate) fn options_of(asked: Asked, form: Form) -> Option<Options> {
     let (kind, width, workers, hand) = asked;
     let net = Net::new(kind, width).ok()?;
     Options::new(net, workers, hand, form).ok()
@@ -173,9 +173,9 @@ pub(crate) fn granted<R: Threads + Wait + Sync>(
 }
 
 /// What a run is asked for, a batch, and the text that is written of it.
-type Row = (Asked, &'static [u8], &'static [u8]);
+pub(crate) type Row = (Asked, &'static [u8], &'static [u8]);
 
-const ROWS: [Row; 11] = [
+pub(crate) const ROWS: [Row; 11] = [
     (
         BITONIC_FOUR,
         b"epoch,client,entry\n",

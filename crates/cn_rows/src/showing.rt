@@ -1,11 +1,10 @@
 //! Wirings, shown end to end by the library.
 
-use crate::writers::{Narrow, Then};
-use cn_renamer::{Net, ShowFault, show};
+use cn_renamer::{Net, show};
 use cn_wiring::Kind;
 use std::alloc::Global;
 
-const TREE_FOUR: &[u8] = b"network tree width 4 balancers 3 depth 2\n\
+pub(crate) const TREE_FOUR: &[u8] = b"network tree width 4 balancers 3 depth 2\n\
       wire 0 balancer 0\n\
       wire 1 balancer 1\n\
       wire 2 balancer 2\n\
@@ -50,36 +49,4 @@ fn widest(alloc: Global) -> Option<(bool, bool, usize)> {
 #[test]
 fn the_widest_bitonic_network_is_shown(rt: HostRuntime) {
     assert_eq!(rt; widest(rt.alloc()), Some((true, true, 1_410)));
-}
-
-/// Whether showing the tree of width 4 to a writer fails after these bytes, which the writer has taken.
-fn is_cut(alloc: Global, mut writer: Narrow, wanted: &[u8]) -> Option<bool> {
-    let net = Net::new(Kind::Tree, 4).ok()?;
-    let fault = show(alloc, &mut writer, &net).err()?;
-    let written = wanted.len() as u64;
-    Some(fault == ShowFault::Write { written } && writer.taken.as_slice() == wanted)
-}
-
-/// The first room of a writer at which showing to it fails otherwise.
-fn wrong_write(alloc: Global, then: Then) -> Option<usize> {
-    for room in 0..TREE_FOUR.len() {
-        let writer = Narrow::new(alloc, room, then);
-        if is_cut(alloc, writer, &TREE_FOUR[..room]) != Some(true) {
-            return Some(room);
-        }
-    }
-    None
-}
-
-#[test]
-fn write_cut_anywhere(rt: HostRuntime) {
-    let nothing = wrong_write(rt.alloc(), Then::TakesNothing);
-    let once = wrong_write(rt.alloc(), Then::FailsOnce);
-    assert_eq!(rt; (nothing, once), (None, None));
-}
-
-#[test]
-fn a_failed_flush_is_a_failed_write(rt: HostRuntime) {
-    let told = is_cut(rt.alloc(), Narrow::unflushed(rt.alloc()), TREE_FOUR);
-    assert_eq!(rt; told, Some(true));
 }

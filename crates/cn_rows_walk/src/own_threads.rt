@@ -10,6 +10,8 @@ use std::sync::Wait;
 use std::thread;
 use std::thread::{Promise, Threads};
 
+mod without_a_list;
+
 /// Lets a client in by an entry of bitonic 4, and walks it out: its name.
 fn name_of(floor: &Floor<'_>, lane: &mut Lane, client: u64, entry: u64) -> Option<u64>
     requires { lane.old.home ≡ floor.now }

@@ -1,0 +1,204 @@
+//! Workers of whom one is held before one of its moments until the other has come to its last: whatever it is held at,
+//! the counts and names are those of four clients. Where it is held from the start, the other has the first names.
+
+use crate::serving::{Asked, ran};
+use cn_bitonic::bitonic;
+use cn_core::Client;
+use cn_renamer::Form;
+use cn_walk::{Gate, Moment, Quiet, run_epoch};
+use cn_wiring::Kind;
+use std::alloc::Global;
+use std::hash::RandomState;
+use std::sync::Wait;
+use std::sync::atomic::{AtomicU64, Ordering};
+use std::test::Fail;
+use std::thread::Threads;
+
+/// To how many moments a worker comes: each of its two clients comes in, passes three balancers, and leaves.
+const MOMENTS: u64 = 10;
+
+/// Counts the moments to which two workers come, and holds one of them before one of its moments.
+#[derive(Drop)]
+struct Stall {
+    held: u32,
+    moment: u64,
+    come: [AtomicU64; 2],
+    late: AtomicU64,
+}
+
+/// Whether a worker comes to its last moment within 100,000,000 turns.
+fn is_there(come: &AtomicU64) -> bool {
+    for _ in 0..100_000_000u64 {
+        if come.load(Ordering::SeqCst) >= MOMENTS {
+            return true;
+        }
+    }
+    false
+}
+
+impl Gate for Stall {
+    fn before<R: Wait>(&self, _rt: &R, worker: u32, _moment: Moment) {
+        let [first, second] = &self.come;
+        let (own, other) = match worker {
+            0 => (first, second),
+            _ => (second, first),
+        };
+        let earlier = own.fetch_add(1, Ordering::SeqCst);
+        if worker == self.held && earlier == self.moment && !is_there(other) {
+            self.late.store(1, Ordering::SeqCst);
+        }
+    }
+}
+
+/// A gate that holds this worker before this one of its moments, counted from 0.
+fn stalled(held: u32, moment: u64) -> Stall {
+    Stall {
+        held,
+        moment,
+        come: [AtomicU64::new(0), AtomicU64::new(0)],
+        late: AtomicU64::new(0),
+    }
+}
+
+/// Whether the worker was held no longer than it may be, and both came to all their moments.
+fn has_held(gate: &Stall) -> bool {
+    let [first, second] = &gate.come;
+    let come = (first.load(Ordering::SeqCst), second.load(Ordering::SeqCst));
+    gate.late.load(Ordering::SeqCst) == 0 && come == (MOMENTS, MOMENTS)
+}
+
+/// Whether the four clients, two of each worker, have the names 0 to 3, and those of the worker that is not held have the
+/// first ones in their order where the other is held from the start.
+fn are_named(holders: &[u64], gate: &Stall) -> bool {
+    let first = if gate.held == 1 { [0, 1] } else { [2, 3] };
+    let are_all = (0..4).all(|client| holders.contains(&client));
+    holders.len() == 4 && are_all && (gate.moment > 0 || holders.starts_with(&first))
+}
+
+const CLIENTS: [Client; 4] = [
+    Client { id: 0, entry: 0 },
+    Client { id: 1, entry: 1 },
+    Client { id: 2, entry: 2 },
+    Client { id: 3, entry: 3 },
+];
+
+/// Whether one client left by each exit, and the clients are named.
+fn are_counted(quiet: &Quiet<'_>, gate: &Stall) -> bool {
+    let are_named = match quiet.holders() {
+        Ok(holders) => are_named(&holders, gate),
+        Err(_) => false,
+    };
+    are_named && quiet.counts() == [1, 1, 1, 1].as_slice()
+}
+
+/// Whether the run of an epoch is told so.
+fn is_epoch_right<R: Threads + Wait + Sync>(rt: &R, alloc: Global, gate: &Stall) -> bool {
+    let Ok(network) = bitonic(alloc, 4) else {
+        return false;
+    };
+    match run_epoch(rt, alloc, &network, &CLIENTS, 2, 1, gate) {
+        Ok(quiet) => are_counted(&quiet, gate),
+        Err(_) => false,
+    }
+}
+
+const BATCH: &[u8] = b"epoch,client,entry\n1,0,0\n1,1,1\n1,2,2\n1,3,3\n";
+
+const ASKED: Asked = Asked {
+    kind: Kind::Bitonic,
+    width: 4,
+    workers: 2,
+    form: Form::Report,
+};
+
+const COUNTED: &[u8] = b"network bitonic width 4 balancers 6 depth 3\n\
+      epoch 1 clients 4\n\
+      exit 0 count 1\n\
+      exit 1 count 1\n\
+      exit 2 count 1\n\
+      exit 3 count 1\n";
+
+/// The client, of one digit, to whom a line of a report gives this name.
+fn client_of(line: &[u8], name: u8) -> Option<u64> {
+    let digit = *line.get(14)?;
+    let mut wanted = *b"name 0 client 0\n";
+    wanted[5] = name;
+    wanted[14] = digit;
+    if line == wanted.as_slice() {
+        Some(u64::from(digit.checked_sub(b'0')?))
+    } else {
+        None
+    }
+}
+
+/// The clients to whom a report of these counts gives the names 0 to 3, in this order.
+fn holders_of(report: &[u8]) -> Option<[u64; 4]> {
+    let names = report
+        .strip_prefix(COUNTED)?
+        .strip_suffix(b"end epochs 1 grants 4\n")?;
+    if names.len() != 64 {
+        return None;
+    }
+    Some([
+        client_of(&names[..16], b'0')?,
+        client_of(&names[16..32], b'1')?,
+        client_of(&names[32..48], b'2')?,
+        client_of(&names[48..], b'3')?,
+    ])
+}
+
+/// Whether the run of a batch is told so.
+fn is_batch_right<R: Threads + Wait + Sync>(
+    rt: &R,
+    alloc: Global,
+    state: RandomState,
+    gate: &Stall,
+) -> bool {
+    let Some((Ok(()), report)) = ran(rt, alloc, state, ASKED, BATCH, gate) else {
+        return false;
+    };
+    match holders_of(&report) {
+        Some(holders) => are_named(&holders, gate),
+        None => false,
+    }
+}
+
+/// Whether the run of an epoch and that of a batch are told so, where this worker is held before this moment.
+fn are_right<R: Threads + Wait + Sync>(
+    rt: &R,
+    alloc: Global,
+    state: RandomState,
+    held: u32,
+    moment: u64,
+) -> [bool; 4] {
+    let (one, other) = (stalled(held, moment), stalled(held, moment));
+    [
+        is_epoch_right(rt, alloc, &one),
+        has_held(&one),
+        is_batch_right(rt, alloc, state, &other),
+        has_held(&other),
+    ]
+}
+
+/// The first worker and moment at which they are not.
+fn wrong_stall<R: Threads + Wait + Sync>(
+    rt: &R,
+    alloc: Global,
+    state: RandomState,
+) -> Option<(u32, u64)> {
+    for held in 0..2 {
+        for moment in 0..MOMENTS {
+            if are_right(rt, alloc, state, held, moment) != [true; 4] {
+                return Some((held, moment));
+            }
+        }
+    }
+    None
+}
+
+#[test]
+fn stalled_worker(rt: HostRuntime) -> Result<(), Fail> {
+    let wrong = wrong_stall(&rt, rt.alloc(), RandomState::new(&rt)?);
+    assert_eq!(rt; wrong, None);
+    Ok(())
+}
