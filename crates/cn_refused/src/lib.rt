@@ -11,7 +11,11 @@ macro_rules! with_memory {
 }
 
 #[cfg(test)]
+mod callers;
+#[cfg(test)]
 mod cores;
+#[cfg(test)]
+mod cuts;
 #[cfg(test)]
 mod drafts;
 #[cfg(test)]

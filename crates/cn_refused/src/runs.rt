@@ -6,8 +6,8 @@ use cn_renamer::Form;
 use cn_wiring::Kind::{Bitonic, Periodic, Tree};
 
 macro_rules! refused {
-    ($batch:expr, $line:expr $(,)?) => {
-        (BITONIC_TWO, ($batch, false), Takes::All, ("", $line, 1))
+    ($asked:expr, $batch:expr, $line:expr $(,)?) => {
+        ($asked, ($batch, false), Takes::All, ("", $line, 1))
     };
 }
 
@@ -238,22 +238,27 @@ const IDENTITIES: [Row; 7] = [
         ),
     ),
     refused!(
+        BITONIC_TWO,
         "epoch,client,entry/1,18446744073709551616,0/",
         "renamer: record 1: ClientNumber/",
     ),
     refused!(
+        BITONIC_TWO,
         "epoch,client,entry/1,+7,0/",
         "renamer: record 1: ClientNumber/",
     ),
     refused!(
+        BITONIC_TWO,
         "epoch,client,entry/1,,0/",
         "renamer: record 1: ClientNumber/",
     ),
     refused!(
+        BITONIC_TWO,
         "epoch,client,entry/1,000000000000000000007,0/",
         "renamer: record 1: ClientNumber/",
     ),
     refused!(
+        BITONIC_TWO,
         "epoch,client,entry/1,007,0/1,7,1/",
         "renamer: record 2: Duplicate/",
     ),
@@ -265,7 +270,11 @@ fn identity_fields(rt: HostRuntime) {
 }
 
 const REFUSALS: [Row; 6] = [
-    refused!("epoch,client,entry/1,17/", "renamer: record 1: FieldCount/"),
+    refused!(
+        BITONIC_FOUR,
+        "epoch,client,entry/1,17/",
+        "renamer: record 1: FieldCount/"
+    ),
     (
         Asked::Run(Tree, 4, 1, 1, Form::Report),
         ("epoch,client,entry/1,17,1/", false),
@@ -273,10 +282,12 @@ const REFUSALS: [Row; 6] = [
         ("", "renamer: record 1: EntryRange/", 1),
     ),
     refused!(
+        BITONIC_FOUR,
         "epoch,client,entry/2,17,0/1,18,9/",
         "renamer: record 2: EpochBackwards/",
     ),
     refused!(
+        BITONIC_FOUR,
         "epoch,client,entry/1,17,0/1,17,1/",
         "renamer: record 2: Duplicate/",
     ),
