@@ -2,7 +2,7 @@
 
 ghost use Rattle.std.specs.Prelude.{◌≡◌, IfSome};
 
-use crate::lanes::{Closed, close, join, open, split, step, token_of};
+use crate::lanes::{Closed, close, holders_of, join, open, split, step, token_of};
 use crate::seen::Seen;
 use cn_bitonic::bitonic;
 use cn_core::Moved;
@@ -106,18 +106,14 @@ fn name_by_two<G: Shared + Sync, R: Threads + Wait>(
     )
 }
 
-/// Whether all clients have names, and ten left by each exit; asked for again where there is no memory.
+/// Whether all clients have names, and ten left by each exit.
 fn are_named(quiet: &Quiet<'_>) -> bool {
-    let holders = match quiet.holders() {
-        Ok(holders) => Ok(holders),
-        Err(_) => quiet.holders(),
-    };
-    let all = match holders {
-        Ok(holders) => {
+    let all = match holders_of(quiet) {
+        Some(holders) => {
             holders.len() as u64 == 2 * EACH
                 && (0..2 * EACH).all(|client| holders.contains(&client))
         }
-        Err(_) => false,
+        None => false,
     };
     all && quiet.counts() == [10; 4].as_slice()
 }

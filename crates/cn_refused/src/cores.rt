@@ -3,7 +3,7 @@
 
 ghost use Rattle.std.specs.Prelude.{◌≡◌};
 
-use crate::seen::Seen;
+use crate::seen::{BOTH, Seen};
 use cn_bitonic::bitonic;
 use cn_core::{Core, EnterFault, Event, Moved, Reply, StepFault};
 use cn_tree::tree;
@@ -95,11 +95,11 @@ fn are_holders(core: &Core<'_>, wanted: &[u64]) -> bool {
     if core.inside() > 0 {
         return wanted.is_empty();
     }
-    let first = match core.holders() {
-        Ok(holders) => return holders.as_slice() == wanted,
+    let holders = match core.holders() {
+        Ok(holders) => Ok(holders),
         Err(_) => core.holders(),
     };
-    match first {
+    match holders {
         Ok(holders) => holders.as_slice() == wanted,
         Err(_) => false,
     }
@@ -118,11 +118,7 @@ fn called(core: &mut Core<'_>, row: &Row) -> Seen {
 
 /// The replies of one run; where it finds no memory for them, those of another on the same core. `None` where the refused
 /// run changed something.
-pub(crate) fn firm_replies(
-    core: &mut Core<'_>,
-    events: &[Event],
-    clients: [u64; 3],
-) -> Option<Vec<Reply>> {
+fn firm_replies(core: &mut Core<'_>, events: &[Event], clients: [u64; 3]) -> Option<Vec<Reply>> {
     let before = told_by(core, clients);
     match core.run(events) {
         Ok(replies) => Some(replies),
@@ -145,7 +141,7 @@ fn ran(core: &mut Core<'_>, row: &Row) -> Seen {
 
 /// How the events are given.
 #[derive(Clone, Copy, Debug, PartialEq, Eq)]
-enum Calls {
+pub(crate) enum Calls {
     Single,
     Run,
 }
@@ -173,8 +169,6 @@ fn seen_by_both(alloc: Global, state: RandomState, row: &Row) -> [Seen; 2] {
         with_memory!(seen(alloc, state, row, Calls::Run)),
     ]
 }
-
-const BOTH: [Seen; 2] = [Seen::Row, Seen::Row];
 
 const TWO_CLIENTS: Row = (
     (Kind::Bitonic, 2),

@@ -2,7 +2,7 @@
 //! walked to their end.
 
 use crate::cores::built;
-use crate::lanes::are_holders;
+use crate::lanes::{are_holders, holders_of};
 use crate::seen::Seen;
 use cn_core::Client;
 use cn_walk::{Gate, Moment, Quiet, RunFault, run_epoch};
@@ -43,17 +43,13 @@ enum Wanted {
 /// Clients on bitonic 4, the workers and the hand; what the run ends with, and how often the gate is asked then.
 type Row = (&'static [Client], [u32; 2], Wanted, u64);
 
-/// Whether these clients have names, in any order; asked for again where there is no memory.
+/// Whether these clients have names, in any order.
 fn are_named(quiet: &Quiet<'_>, wanted: &[u64]) -> bool {
-    let holders = match quiet.holders() {
-        Ok(holders) => Ok(holders),
-        Err(_) => quiet.holders(),
-    };
-    match holders {
-        Ok(holders) => {
+    match holders_of(quiet) {
+        Some(holders) => {
             holders.len() == wanted.len() && wanted.iter().all(|client| holders.contains(client))
         }
-        Err(_) => false,
+        None => false,
     }
 }
 

@@ -1,7 +1,7 @@
 //! Epochs by their single calls and by runs; and an epoch of forty clients, whose tables grow while they enter.
 
-use crate::cores::built;
-use crate::seen::Seen;
+use crate::cores::{Calls, built};
+use crate::seen::{BOTH, Seen};
 use cn_core::{EnterFault, Moved, Reply, StepFault};
 use cn_epoch::{Answer, Command, EpochRecord, Epochs, TurnFault};
 use cn_wiring::{BuildFault, Counting, Kind};
@@ -178,13 +178,6 @@ fn ran(epochs: &mut Epochs<'_>, row: &Row) -> Seen {
     Seen::memory_if(refused.iter().any(|other| are_answers(&answers, other)))
 }
 
-/// How the commands are given.
-#[derive(Clone, Copy, Debug, PartialEq, Eq)]
-enum Calls {
-    Single,
-    Run,
-}
-
 fn seen_on(alloc: Global, network: &Counting, state: RandomState, row: &Row, calls: Calls) -> Seen {
     match (Epochs::new(alloc, network, state), calls) {
         (Ok(mut epochs), Calls::Single) => called(&mut epochs, row),
@@ -207,8 +200,6 @@ fn seen_by_both(alloc: Global, state: RandomState, row: &Row) -> [Seen; 2] {
         with_memory!(seen(alloc, state, row, Calls::Run)),
     ]
 }
-
-const BOTH: [Seen; 2] = [Seen::Row, Seen::Row];
 
 const TURNS: Row = (
     &[

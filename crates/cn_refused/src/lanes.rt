@@ -262,14 +262,18 @@ pub(crate) fn not_closed<'a>(floor: Floor<'a>, lane: Lane) -> Option<(Floor<'a>,
     }
 }
 
-/// Whether the clients by name are these; asked for again where there is no memory.
+/// The clients by name; asked for again where there is no memory.
+pub(crate) fn holders_of(quiet: &Quiet<'_>) -> Option<Vec<u64>> {
+    match quiet.holders() {
+        Ok(holders) => Some(holders),
+        Err(_) => quiet.holders().ok(),
+    }
+}
+
+/// Whether the clients by name are these.
 pub(crate) fn are_holders(quiet: &Quiet<'_>, wanted: &[u64]) -> bool {
-    let holders = match quiet.holders() {
-        Ok(holders) => Ok(holders),
-        Err(_) => quiet.holders(),
-    };
-    match holders {
-        Ok(holders) => holders.as_slice() == wanted,
-        Err(_) => false,
+    match holders_of(quiet) {
+        Some(holders) => holders.as_slice() == wanted,
+        None => false,
     }
 }

@@ -23,3 +23,6 @@ impl Seen {
         if holds { Seen::Memory } else { Seen::Wrong }
     }
 }
+
+/// The row by single calls, and by a run.
+pub(crate) const BOTH: [Seen; 2] = [Seen::Row, Seen::Row];
