@@ -1,0 +1,6 @@
+use Rattle.std.proofs.Common.{◌≡◌}
+use Rattle.cn_refused.proofs.callers.name_all.Given as goal
+
+-- the lane stays on its floor
+abbrev pub invariant-loop-client : goal.invariant-loop-client
+invariant-loop-client l = l.lane.home ≡ l.fn.lane.home
