@@ -5,6 +5,8 @@
 #[cfg(test)]
 mod ample_memory;
 #[cfg(test)]
+mod carried;
+#[cfg(test)]
 mod epochs;
 #[cfg(test)]
 mod missing_lane;
