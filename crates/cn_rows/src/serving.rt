@@ -21,14 +21,14 @@ const BITONIC_FOUR: Asked = (Kind::Bitonic, 4, 1, 1);
 
 const TREE_SIXTY_FOUR: Asked = (Kind::Tree, 64, 1, 1);
 
-const FIVE_ON_ONE_ENTRY: &[u8] = b"epoch,client,entry\n\
+pub(crate) const FIVE_ON_ONE_ENTRY: &[u8] = b"epoch,client,entry\n\
       1,17,3\n\
       1,5,3\n\
       1,99,3\n\
       1,23,3\n\
       1,42,3\n";
 
-const FIVE_ON_ONE_ENTRY_SERVED: &[u8] = b"network bitonic width 4 balancers 6 depth 3\n\
+pub(crate) const FIVE_ON_ONE_ENTRY_SERVED: &[u8] = b"network bitonic width 4 balancers 6 depth 3\n\
       epoch 1 clients 5\n\
       exit 0 count 2\n\
       exit 1 count 1\n\
@@ -120,7 +120,7 @@ const SEVEN_SERVED: &[u8] = b"network bitonic width 2 balancers 1 depth 1\n\
       name 0 client 7\n\
       end epochs 1 grants 1\n";
 
-fn options_of(asked: Asked, form: Form) -> Option<Options> {
+pub(crate) fn options_of(asked: Asked, form: Form) -> Option<Options> {
     let (kind, width, workers, hand) = asked;
     let net = Net::new(kind, width).ok()?;
     Options::new(net, workers, hand, form).ok()
