@@ -8,6 +8,7 @@ use cn_bitonic::bitonic;
 use cn_core::{Client, Moved};
 use cn_spec::limits::{MOST_CARRIED, MOST_CLIENTS};
 use cn_walk::{Floor, Lane, OpenFault, OpenGate, Quiet, RunFault, Words, run_epoch_after};
+use cn_wiring::Counting;
 use std::alloc::Global;
 use std::sync::Wait;
 use std::test::Fail;
@@ -139,7 +140,9 @@ fn run_after<'a, R: Threads + Wait + Sync>(
     words: &Words<'a>,
     clients: &[Client],
     workers: u32,
-) -> Result<Quiet<'a>, Option<RunFault>> {
+) -> Result<Quiet<'a>, Option<RunFault>>
+    ensures { IfOk result (λ quiet. quiet.start.network ≡ words.now.network) }
+{
     if words.clients() > MOST_CARRIED {
         return Err(None);
     }
@@ -206,4 +209,39 @@ fn are_left<R: Threads + Wait + Sync>(rt: &R, alloc: Global) -> Option<[[bool; 3
 #[test]
 fn epochs_go_on(rt: HostRuntime) {
     assert_eq!(rt; are_left(&rt, rt.alloc()), Some([[true; 3]; 2]));
+}
+
+/// What words of bitonic 4 tell of its first and last entries, of the two balancers behind the entries, and of its first
+/// and last exits.
+fn tell(words: &Words<'_>, network: &Counting) -> Option<[u64; 6]>
+    requires { words.now.network ≡ network.now }
+{
+    if network.entries() != 4 || network.balancers() != 6 || network.width() != 4 {
+        return None;
+    }
+    Some([
+        words.entry_count(0),
+        words.entry_count(3),
+        words.pass_count(0),
+        words.pass_count(1),
+        words.exit_count(0),
+        words.exit_count(3),
+    ])
+}
+
+/// What they tell after the five.
+fn five_told<R: Threads + Wait + Sync>(rt: &R, alloc: Global) -> Option<[u64; 6]> {
+    let network = bitonic(alloc, 4).ok()?;
+    let Ok(zero) = Words::zero(alloc, &network) else {
+        return None;
+    };
+    let Ok(quiet) = run_after(rt, alloc, &zero, &FIVE, 1) else {
+        return None;
+    };
+    tell(quiet.words(), &network)
+}
+
+#[test]
+fn words_tell(rt: HostRuntime) {
+    assert_eq!(rt; five_told(&rt, rt.alloc()), Some([0, 5, 0, 5, 2, 1]));
 }
