@@ -2,8 +2,9 @@
 # Compares the processor time of `renamer run` with a plain Rust peer that does the same work by single steps, with linked
 # tokens and words that are cleared, in turn: full batches (16 epochs of 65,536 clients with random identities and entries)
 # on bitonic 64 with hands of 1 and of 64 and on the tree of width 64, by one worker and by four; 65,536 epochs of one
-# client; and a Python script that keeps a dict from client to name. The last line is what one more balancer on a token's
-# way costs, in uncontended atomic adds. The peers take `csv` and `indexmap` from a folder of crates: the argument, or that
+# client; runs with `--carry` with runs without, of the full batch and of the epochs of one client; and a Python script that
+# keeps a dict from client to name. The last line is what one more balancer on a token's way costs, in uncontended atomic
+# adds. The peers take `csv` and `indexmap` from a folder of crates: the argument, or that
 # of Debian's packages librust-csv-dev and librust-indexmap-dev. Times by four workers are told beside those by one, with
 # the time by the clock: threads may wait.
 set -euo pipefail
@@ -65,6 +66,8 @@ compare("tree 64, one worker, hand 1", ours("tree", 1, 1), peer("tree", 1, 1), o
 compare("bitonic 64, four workers, hand 1", ours("bitonic", 4, 1), peer("bitonic", 4, 1), many)
 compare("bitonic 64, four workers against one", ours("bitonic", 4, 1), ours("bitonic", 1, 1), many)
 compare("65,536 epochs of one client, grants", ours("bitonic", 1, 1, "grants"), peer("bitonic", 1, 1, "grants"), tiny)
+compare("bitonic 64, carried against not", ours("bitonic", 1, 1) + ["--carry"], ours("bitonic", 1, 1), many)
+compare("65,536 epochs of one client, carried against not", ours("bitonic", 1, 1, "grants") + ["--carry"], ours("bitonic", 1, 1, "grants"), tiny)
 
 script = f"{work}/script.py"
 with open(script, "w") as text:

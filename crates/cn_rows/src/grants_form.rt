@@ -98,7 +98,7 @@ fn batches_are_granted(rt: HostRuntime) -> Result<(), Fail> {
 }
 
 /// What a check of a list by width 4 writes.
-fn checked(alloc: Global, list: &[u8]) -> Option<Vec<u8>> {
+pub(crate) fn checked(alloc: Global, list: &[u8]) -> Option<Vec<u8>> {
     let mut writer = Narrow::new(alloc, usize::MAX, Then::TakesNothing);
     if is_width(4) && check(alloc, list, &mut writer, 4).is_ok() {
         Some(writer.taken)

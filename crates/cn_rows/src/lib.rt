@@ -5,6 +5,8 @@
 #[cfg(test)]
 mod batches;
 #[cfg(test)]
+mod carried;
+#[cfg(test)]
 mod checking;
 #[cfg(test)]
 mod cuts;

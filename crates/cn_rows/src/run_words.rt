@@ -96,13 +96,51 @@ fn wrong_run(alloc: Global) -> Option<&'static str> {
     None
 }
 
+/// Words of runs that carry their counters, with their form.
+const CARRIED_RUNS: [(&str, Form); 3] = [
+    (
+        "renamer run --network periodic --width 4 --carry",
+        Form::Report,
+    ),
+    (
+        "renamer run --carry --width 4 --network periodic",
+        Form::Report,
+    ),
+    (
+        "renamer run --network periodic --carry --width 4 --form grants",
+        Form::Grants,
+    ),
+];
+
+/// Whether the words of a line ask for a run that carries its counters.
+fn is_carried_run(alloc: Global, line: &str, form: Form) -> Option<bool> {
+    let net = Net::new(Kind::Periodic, 4).ok()?;
+    let options = Options::new(net, 1, 1, form).ok()?;
+    Some(is_asked(alloc, line, Job::Run(options.carried())))
+}
+
+/// The first line that asks for another job.
+fn wrong_carried_run(alloc: Global) -> Option<&'static str> {
+    for (line, form) in &CARRIED_RUNS {
+        if is_carried_run(alloc, line, *form) != Some(true) {
+            return Some(*line);
+        }
+    }
+    None
+}
+
+#[test]
+fn carried_runs(rt: HostRuntime) {
+    assert_eq!(rt; wrong_carried_run(rt.alloc()), None);
+}
+
 #[test]
 fn runs(rt: HostRuntime) {
     assert_eq!(rt; wrong_run(rt.alloc()), None);
 }
 
 /// What follows the words of a run whose network is built, where all of it is refused.
-const REFUSED_RUNS: [&str; 18] = [
+const REFUSED_RUNS: [&str; 20] = [
     "--workers 0",
     "--workers 65",
     "--workers 01",
@@ -119,7 +157,9 @@ const REFUSED_RUNS: [&str; 18] = [
     "--form x",
     "--form grant",
     "--form Report",
-    "--carry",
+    "--carry 1",
+    "--carry=yes",
+    "--carry --carry",
     "batch.csv",
 ];
 
@@ -184,7 +224,7 @@ fn refusals_tell_what_is_amiss(rt: HostRuntime) {
 }
 
 /// Words of checks that are refused.
-const REFUSED_CHECKS: [&str; 9] = [
+const REFUSED_CHECKS: [&str; 10] = [
     "renamer check",
     "renamer check --width",
     "renamer check --width 0",
@@ -194,6 +234,7 @@ const REFUSED_CHECKS: [&str; 9] = [
     "renamer check --width 512",
     "renamer check --network tree --width 4",
     "renamer check --width 4 --width 4",
+    "renamer check --width 4 --carry",
 ];
 
 /// The first of them that is not.

@@ -28,7 +28,7 @@ pub(crate) const FIVE_ON_ONE_ENTRY: &[u8] = b"epoch,client,entry\n\
       1,23,3\n\
       1,42,3\n";
 
-const FIVE_ON_ONE_ENTRY_SERVED: &[u8] = b"network bitonic width 4 balancers 6 depth 3\n\
+pub(crate) const FIVE_ON_ONE_ENTRY_SERVED: &[u8] = b"network bitonic width 4 balancers 6 depth 3\n\
       epoch 1 clients 5\n\
       exit 0 count 2\n\
       exit 1 count 1\n\

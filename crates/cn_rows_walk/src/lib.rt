@@ -5,6 +5,8 @@
 #[cfg(test)]
 mod ample_memory;
 #[cfg(test)]
+mod carried;
+#[cfg(test)]
 mod dropped_lanes;
 #[cfg(test)]
 mod epochs;

@@ -1,0 +1,247 @@
+//! Floors that go on from the words of others.
+
+ghost use Rattle.std.specs.Prelude.{◌≡◌, IfOk};
+
+use crate::one_lane::step;
+use crate::walks::{close, enter, entered};
+use cn_bitonic::bitonic;
+use cn_core::{Client, Moved};
+use cn_spec::limits::{MOST_CARRIED, MOST_CLIENTS};
+use cn_walk::{Floor, Lane, OpenFault, OpenGate, Quiet, RunFault, Words, run_epoch_after};
+use cn_wiring::Counting;
+use std::alloc::Global;
+use std::sync::Wait;
+use std::test::Fail;
+use std::thread::Threads;
+
+/// What a floor of one client tells on bitonic 2: how many came in, both answers, the counts, the passes, and how many came
+/// by its words.
+#[derive(Clone, Copy, Debug, PartialEq, Eq)]
+struct Told {
+    entered: u64,
+    moves: [Option<Moved>; 2],
+    counts: [u64; 2],
+    passes: u64,
+    clients: u64,
+}
+
+/// A floor that goes on from words.
+fn open_after<'a>(
+    alloc: Global,
+    words: &Words<'a>,
+    quota: u64,
+) -> Result<(Floor<'a>, Lane), Option<OpenFault>>
+    ensures { IfOk result (λ r. r.1.home ≡ r.0) }
+{
+    if words.clients() > MOST_CARRIED {
+        return Err(None);
+    }
+    match Floor::open_after(alloc, words, quota) {
+        Ok(opened) => Ok(opened),
+        Err(fault) => Err(Some(fault)),
+    }
+}
+
+/// Client 7 comes in by entry 0, and goes out.
+fn seven(floor: Floor<'_>, mut lane: Lane) -> Option<(u64, [Option<Moved>; 2], Quiet<'_>)>
+    requires { lane.home ≡ floor }
+{
+    let token = enter(&floor, &mut lane, 7, 0).ok()?;
+    let moves = [
+        step(&floor, &mut lane, token),
+        step(&floor, &mut lane, token),
+    ];
+    let entered = entered(&floor, &mut lane);
+    Some((entered, moves, close(floor, lane)?))
+}
+
+/// What a floor tells on which it did, and its words.
+fn walked<'a>(alloc: Global, words: &Words<'a>) -> Option<(Told, Words<'a>)> {
+    let (floor, lane) = open_after(alloc, words, 1).ok()?;
+    let (entered, moves, quiet) = seven(floor, lane)?;
+    let [first, second] = quiet.counts() else {
+        return None;
+    };
+    let [passes] = quiet.passes() else {
+        return None;
+    };
+    let told = Told {
+        entered,
+        moves,
+        counts: [*first, *second],
+        passes: *passes,
+        clients: quiet.words().clients(),
+    };
+    Some((told, quiet.into_words()))
+}
+
+/// A floor from words of 0, and another that goes on from it.
+fn twice(alloc: Global) -> Option<[Told; 2]> {
+    let network = bitonic(alloc, 2).ok()?;
+    let zero = Words::zero(alloc, &network).ok()?;
+    let (first, words) = walked(alloc, &zero)?;
+    let (second, _) = walked(alloc, &words)?;
+    Some([first, second])
+}
+
+fn on(number: u64, wire: u32) -> Option<Moved> {
+    Some(Moved::On {
+        balancer: 0,
+        number,
+        wire,
+    })
+}
+
+/// The first to leave by an exit has name 0.
+fn out(exit: u32) -> Option<Moved> {
+    Some(Moved::Out {
+        exit,
+        visit: 0,
+        name: 0,
+    })
+}
+
+#[test]
+fn carried_twice(rt: HostRuntime) -> Result<(), Fail> {
+    let first = Told {
+        entered: 1,
+        moves: [on(0, 2), out(0)],
+        counts: [1, 0],
+        passes: 1,
+        clients: 1,
+    };
+    let second = Told {
+        entered: 1,
+        moves: [on(1, 3), out(1)],
+        counts: [0, 1],
+        passes: 1,
+        clients: 2,
+    };
+    assert_eq!(rt; twice(rt.alloc()), Some([first, second]));
+    Ok(())
+}
+
+/// A floor of more clients than an epoch takes.
+fn wide_quota(alloc: Global) -> Option<Option<OpenFault>> {
+    let network = bitonic(alloc, 2).ok()?;
+    let zero = Words::zero(alloc, &network).ok()?;
+    open_after(alloc, &zero, MOST_CLIENTS + 1).err()
+}
+
+#[test]
+fn quota_is_refused(rt: HostRuntime) {
+    assert_eq!(rt; wide_quota(rt.alloc()), Some(Some(OpenFault::Quota)));
+}
+
+/// An epoch that goes on from words.
+fn run_after<'a, R: Threads + Wait + Sync>(
+    rt: &R,
+    alloc: Global,
+    words: &Words<'a>,
+    clients: &[Client],
+    workers: u32,
+) -> Result<Quiet<'a>, Option<RunFault>>
+    ensures { IfOk result (λ quiet. quiet.start.network ≡ words.now.network) }
+{
+    if words.clients() > MOST_CARRIED {
+        return Err(None);
+    }
+    match run_epoch_after(rt, alloc, words, clients, workers, 1, &OpenGate) {
+        Ok(quiet) => Ok(quiet),
+        Err(fault) => Err(Some(fault)),
+    }
+}
+
+const FIVE: [Client; 5] = [
+    Client { id: 17, entry: 3 },
+    Client { id: 5, entry: 3 },
+    Client { id: 99, entry: 3 },
+    Client { id: 23, entry: 3 },
+    Client { id: 42, entry: 3 },
+];
+
+const THREE: [Client; 3] = [
+    Client { id: 1, entry: 0 },
+    Client { id: 2, entry: 0 },
+    Client { id: 3, entry: 0 },
+];
+
+/// What is told of an epoch of bitonic 4: how many left by each exit, the clients by name, and how many came by its words.
+type Left = ([u64; 4], Vec<u64>, u64);
+
+fn left_by<'a>(quiet: Quiet<'a>) -> Option<(Left, Words<'a>)> {
+    let [a, b, c, d] = quiet.counts() else {
+        return None;
+    };
+    let counts = [*a, *b, *c, *d];
+    let holders = quiet.holders().ok()?;
+    let words = quiet.into_words();
+    let clients = words.clients();
+    Some(((counts, holders, clients), words))
+}
+
+/// Three clients after five, by one worker.
+fn three_after_five<R: Threads + Wait + Sync>(rt: &R, alloc: Global) -> Option<[Left; 2]> {
+    let network = bitonic(alloc, 4).ok()?;
+    let zero = Words::zero(alloc, &network).ok()?;
+    let (first, words) = left_by(run_after(rt, alloc, &zero, &FIVE, 1).ok()?)?;
+    let (second, _) = left_by(run_after(rt, alloc, &words, &THREE, 1).ok()?)?;
+    Some([first, second])
+}
+
+/// Whether this is told of an epoch.
+fn is_left(left: &Left, counts: [u64; 4], holders: &[u64], clients: u64) -> [bool; 3] {
+    [
+        left.0 == counts,
+        left.1.as_slice() == holders,
+        left.2 == clients,
+    ]
+}
+
+fn are_left<R: Threads + Wait + Sync>(rt: &R, alloc: Global) -> Option<[[bool; 3]; 2]> {
+    let [first, second] = three_after_five(rt, alloc)?;
+    Some([
+        is_left(&first, [2, 1, 1, 1], &[17, 5, 99, 23, 42], 5),
+        is_left(&second, [0, 1, 1, 1], &[1, 2, 3], 8),
+    ])
+}
+
+#[test]
+fn epochs_go_on(rt: HostRuntime) {
+    assert_eq!(rt; are_left(&rt, rt.alloc()), Some([[true; 3]; 2]));
+}
+
+/// What words of bitonic 4 tell of its first and last entries, of the two balancers behind the entries, and of its first
+/// and last exits.
+fn tell(words: &Words<'_>, network: &Counting) -> Option<[u64; 6]>
+    requires { words.now.network ≡ network.now }
+{
+    if network.entries() != 4 || network.balancers() != 6 || network.width() != 4 {
+        return None;
+    }
+    Some([
+        words.entry_count(0),
+        words.entry_count(3),
+        words.pass_count(0),
+        words.pass_count(1),
+        words.exit_count(0),
+        words.exit_count(3),
+    ])
+}
+
+/// What they tell after the five.
+fn five_told<R: Threads + Wait + Sync>(rt: &R, alloc: Global) -> Option<[u64; 6]> {
+    let network = bitonic(alloc, 4).ok()?;
+    let Ok(zero) = Words::zero(alloc, &network) else {
+        return None;
+    };
+    let Ok(quiet) = run_after(rt, alloc, &zero, &FIVE, 1) else {
+        return None;
+    };
+    tell(quiet.words(), &network)
+}
+
+#[test]
+fn words_tell(rt: HostRuntime) {
+    assert_eq!(rt; five_told(&rt, rt.alloc()), Some([0, 5, 0, 5, 2, 1]));
+}
