@@ -1,5 +1,5 @@
 -- A state that agrees with a history answers by it.
-use Rattle.std.proofs.Common.{◌≡◌, ℕ, ◌+◌, ◌<◌, cond, nat_eq, List, [], ◌∷◌, length, get_or, refl, ap, arith, Some, None, sym, length-append, inl, inr, subst, drop, drop-cons, add-one}
+use Rattle.std.proofs.Common.{◌≡◌, ℕ, ◌+◌, ◌<◌, ◌≤◌, cond, nat_eq, List, [], ◌∷◌, length, get_or, refl, ap, arith, Some, None, sym, ◌∙◌, length-append, inl, inr, subst, drop, drop-cons, add-one}
 use Rattle.std.specs.Prelude.{count_by}
 use Rattle.std.specs.Map.{values_of}
 use Rattle.std.proofs.lemmas.Bool.Decides.{nat_tests}
@@ -19,22 +19,23 @@ use Rattle.cn_core.specs.declared.reply.EnterFault.TheVariants.{NoSuchEntry, Alr
 use Rattle.cn_core.specs.declared.reply.StepFault.TheVariants.{Stranger, HasName}
 use Rattle.cn_core.specs.declared.reply.Reply.{Reply}
 use Rattle.cn_core.specs.declared.reply.Reply.TheVariants.{Entered, EnterRefused, Stepped, StepRefused}
-use Rattle.cn_core.specs.State.{State, IsState, position_in, with_position, position_past, past, after_enter, after_step, start, is_named, is_inside, inside_in}
-use Rattle.cn_core.specs.History.{position_after, leaves_of, inside_of, end_at, is_leave, IsHistory, Agrees, MayAnswerAll, grown}
+use Rattle.cn_core.specs.State.{State, IsState, position_in, with_position, position_past, past, after_carry, after_enter, after_step, start, is_named, is_inside, inside_in}
+use Rattle.cn_core.specs.SinceCleared.{Carried, position_after, leaves_of, inside_of, end_at, is_leave, IsHistory, Agrees, AgreesAfter, MayAnswerAll, carried_by, grown, steps_before}
 use Rattle.cn_core.specs.Calls.{EntersTo, StepsTo, TakesTo, IsLedgerEvent, AnswersByHistory, RunsByHistory, RunsTo}
 use Rattle.cn_yard.proofs.CallerLemmas.{lookup-push, lookup-set, count-push, count-set}
 use Rattle.cn_core.proofs.StateLemmas.{stands-at}
 
-pub Agrees-start : (network : Network) → Agrees (start network) []
-Agrees-start network = record { accepted = tt; positions = λ q. refl; entered = λ e. zero_at network.table.entries e; total = refl; left = refl; counts = none }
+pub Agrees-start : (network : Network) → Agrees (start network) [] []
+Agrees-start network = (tt, record { base = refl; accepted = tt; positions = λ q. refl; entered = λ e. zero_at network.table.entries e; total = refl; left = refl; counts = none })
   where
     none : (end : End) → past (start network) end ≡ 0
     none (Balancer b) = zero_at network.table.balancers b
     none (Exit i) = zero_at network.table.width i
 
-pub Agrees-after_enter : (s : State) (h : List Event) (client entry : ℕ) → IsState s → entry < s.network.table.entries → position_in s.clients client ≡ None → length s.clients < MOST_CLIENTS
-    → Agrees s h → Agrees (after_enter s client entry) (Enter client entry ∷ h)
-Agrees-after_enter s h client entry is within absent room a = record {
+pub AgreesAfter-after_enter : (s : State) (h : List Event) (k : Carried) (client entry : ℕ) → IsState s → entry < s.network.table.entries → position_in s.clients client ≡ None → length s.clients < MOST_CLIENTS
+    → AgreesAfter s h k → AgreesAfter (after_enter s client entry) (Enter client entry ∷ h) k
+AgreesAfter-after_enter s h k client entry is within absent room a = record {
+  base = a.base;
   accepted = (grind (arith, nat_tests, a.positions client, a.total), a.accepted);
   positions = λ q. rw (lookup-push s.clients client (On entry) q absent, a.positions q) refl;
   entered = λ e. rw (one_more_at s.entered entry e (omega (arith, is.entries)), a.entered e) refl;
@@ -59,63 +60,73 @@ pub network-after_step : (s : State) (client : ℕ) (end : End) → (after_step 
 network-after_step s client (Balancer b) = refl
 network-after_step s client (Exit i) = refl
 
+pub base-after_step : (s : State) (client : ℕ) (end : End) → (after_step s client end).base ≡ s.base
+base-after_step s client (Balancer b) = refl
+base-after_step s client (Exit i) = refl
+
 pub entered-after_step : (s : State) (client : ℕ) (end : End) → (after_step s client end).entered ≡ s.entered
 entered-after_step s client (Balancer b) = refl
 entered-after_step s client (Exit i) = refl
 
-pub clients-after_step : (s : State) (client : ℕ) (end : End) → (after_step s client end).clients ≡ with_position s.clients client (position_past s.network.table end (past s end))
+pub clients-after_step : (s : State) (client : ℕ) (end : End) → (after_step s client end).clients ≡ with_position s.clients client (position_past s.network.table s.base end (past s end))
 clients-after_step s client (Balancer b) = refl
 clients-after_step s client (Exit i) = refl
 
 -- a token that goes past an exit has a name, and past a balancer it has none
-named-past : (table : Table) (end : End) (n : ℕ) → is_named (position_past table end n) ≡ is_leave (Some end)
-named-past table (Balancer b) n = refl
-named-past table (Exit i) n = refl
+named-past : (table : Table) (base : ℕ) (end : End) (n : ℕ) → is_named (position_past table base end n) ≡ is_leave (Some end)
+named-past table base (Balancer b) n = refl
+named-past table base (Exit i) n = refl
 
-pub Agrees-after_step : (s : State) (h : List Event) (client wire : ℕ) (end : End) → IsState s → position_in s.clients client ≡ Some (On wire) → end_of s.network.table wire ≡ end
-    → Agrees s h → Agrees (after_step s client end) (Step client ∷ h)
-Agrees-after_step s h client wire end is on ends a = record {
-  accepted = subst (λ (n : Network). IsHistory n.table (Step client ∷ h)) (sym (network-after_step s client end)) (rw (← a.positions client, on) refl, a.accepted);
-  positions = λ q. rw (clients-after_step s client end, network-after_step s client end, lookup-set s.clients client (position_past s.network.table end (past s end)) (On wire) q on, a.positions q, here, a.counts end) refl;
+pub AgreesAfter-after_step : (s : State) (h : List Event) (k : Carried) (client wire : ℕ) (end : End) → IsState s → position_in s.clients client ≡ Some (On wire) → end_of s.network.table wire ≡ end
+    → AgreesAfter s h k → AgreesAfter (after_step s client end) (Step client ∷ h) k
+AgreesAfter-after_step s h k client wire end is on ends a = record {
+  base = rw (base-after_step s client end) a.base;
+  accepted = subst (λ (n : Network). IsHistory n.table (Step client ∷ h) k) (sym (network-after_step s client end)) (rw (← a.positions client, on) refl, a.accepted);
+  positions = λ q. rw (clients-after_step s client end, network-after_step s client end, lookup-set s.clients client (position_past s.network.table s.base end (past s end)) (On wire) q on, a.positions q, here, a.counts end, a.base) refl;
   entered = λ e. rw (entered-after_step s client end) (a.entered e);
-  total = rw (clients-after_step s client end, length-set_value (nat_eq client) s.clients (position_past s.network.table end (past s end))) a.total;
+  total = rw (clients-after_step s client end, length-set_value (nat_eq client) s.clients (position_past s.network.table s.base end (past s end))) a.total;
   left = rw (clients-after_step s client end, network-after_step s client end, here)
-      (let more = count-set is_named s.clients client (position_past s.network.table end (past s end)) (On wire) on in
-      let same = ap {B = ℕ} (λ b. cond b 1 0) (named-past s.network.table end (past s end)) in
-      let kept : leaves_of (after_step s client end).network.table h ≡ leaves_of s.network.table h = ap (λ (n : Network). leaves_of n.table h) (network-after_step s client end) in
+      (let more = count-set is_named s.clients client (position_past s.network.table s.base end (past s end)) (On wire) on in
+      let same = ap {B = ℕ} (λ b. cond b 1 0) (named-past s.network.table s.base end (past s end)) in
+      let kept : leaves_of (after_step s client end).network.table h k ≡ leaves_of s.network.table h k = ap (λ (n : Network). leaves_of n.table h k) (network-after_step s client end) in
       omega (arith, a.left));
   counts = λ other. rw (network-after_step s client end, past-after_step s client wire end other is (is.on_wires client wire on) ends, a.counts other, here) refl;
 }
   where
-    here : end_at s.network.table (position_after s.network.table h client) ≡ Some end
+    here : end_at s.network.table (position_after s.network.table h k client) ≡ Some end
     here = rw (← a.positions client, on) (ap Some ends)
 
 pub history-enter : (old : State) (client entry : ℕ) (reply : Reply) (new : State) → IsState old → EntersTo old client entry reply new
     → AnswersByHistory old (Enter client entry) reply new
-history-enter old client entry Entered new is (within, absent, room, e) h a =
-    (inl (grind (arith, nat_tests, a.positions client, a.total)), rw e (Agrees-after_enter old h client entry is within absent room a))
-history-enter old client entry (EnterRefused NoSuchEntry) new is (beyond, e) h a = (inl (grind (arith, nat_tests)), rw e a)
-history-enter old client entry (EnterRefused AlreadyIn) new is (within, there, e) h a = (inl (grind (arith, nat_tests, a.positions client)), rw e a)
-history-enter old client entry (EnterRefused EpochFull) new is (within, absent, full, e) h a = (inl (grind (arith, nat_tests, a.positions client, a.total)), rw e a)
-history-enter old client entry (EnterRefused Memory) new is (within, absent, room, e) h a = (inr (grind (arith, nat_tests, a.positions client, a.total), refl), rw e a)
-history-enter old client entry (Stepped moved) new is none h a = absurd none
-history-enter old client entry (StepRefused fault) new is none h a = absurd none
+history-enter old client entry Entered new is (within, absent, room, e) h earlier (epochs, a) =
+    (inl (grind (arith, nat_tests, a.positions client, a.total)), rw e (epochs, AgreesAfter-after_enter old h (carried_by old.network.table earlier) client entry is within absent room a))
+history-enter old client entry (EnterRefused NoSuchEntry) new is (beyond, e) h earlier a = (inl (grind (arith, nat_tests)), rw e a)
+history-enter old client entry (EnterRefused AlreadyIn) new is (within, there, e) h earlier a = (inl (grind (arith, nat_tests, a.1.positions client)), rw e a)
+history-enter old client entry (EnterRefused EpochFull) new is (within, absent, full, e) h earlier a = (inl (grind (arith, nat_tests, a.1.positions client, a.1.total)), rw e a)
+history-enter old client entry (EnterRefused Memory) new is (within, absent, room, e) h earlier a = (inr (grind (arith, nat_tests, a.1.positions client, a.1.total), refl), rw e a)
+history-enter old client entry (Stepped moved) new is none h earlier a = absurd none
+history-enter old client entry (StepRefused fault) new is none h earlier a = absurd none
+
+pub Agrees-after_step : (s : State) (h : List Event) (earlier : List (List Event)) (client wire : ℕ) (end : End) → IsState s → position_in s.clients client ≡ Some (On wire) → end_of s.network.table wire ≡ end
+    → Agrees s h earlier → Agrees (after_step s client end) (Step client ∷ h) earlier
+Agrees-after_step s h earlier client wire (Balancer b) is on ends (epochs, a) = (epochs, AgreesAfter-after_step s h (carried_by s.network.table earlier) client wire (Balancer b) is on ends a)
+Agrees-after_step s h earlier client wire (Exit i) is on ends (epochs, a) = (epochs, AgreesAfter-after_step s h (carried_by s.network.table earlier) client wire (Exit i) is on ends a)
 
 pub history-step : (old : State) (client : ℕ) (reply : Reply) (new : State) → IsState old → StepsTo old client reply new
     → AnswersByHistory old (Step client) reply new
-history-step old client (Stepped moved) new is (wire, on, m, e) h a =
-    (inl (rw (← a.positions client, on, m, a.counts (end_of old.network.table wire)) refl), rw e (Agrees-after_step old h client wire (end_of old.network.table wire) is on refl a))
-history-step old client (StepRefused Stranger) new is (none, e) h a = (inl (rw (← a.positions client, none) refl), rw e a)
-history-step old client (StepRefused (HasName name)) new is (named, e) h a = (inl (rw (← a.positions client, named) refl), rw e a)
-history-step old client Entered new is none h a = absurd none
-history-step old client (EnterRefused fault) new is none h a = absurd none
+history-step old client (Stepped moved) new is (wire, on, m, e) h earlier a =
+    (inl (rw (← a.1.positions client, on, m, ← a.1.base, a.1.counts (end_of old.network.table wire)) refl), rw e (Agrees-after_step old h earlier client wire (end_of old.network.table wire) is on refl a))
+history-step old client (StepRefused Stranger) new is (none, e) h earlier a = (inl (rw (← a.1.positions client, none) refl), rw e a)
+history-step old client (StepRefused (HasName name)) new is (named, e) h earlier a = (inl (rw (← a.1.positions client, named) refl), rw e a)
+history-step old client Entered new is none h earlier a = absurd none
+history-step old client (EnterRefused fault) new is none h earlier a = absurd none
 
 -- a run is an answer and the run of the rest
 pub runs-cons : (old mid new : State) (c : Event) (cs : List Event) (r : Reply) (rs : List Reply)
     → AnswersByHistory old c r mid → mid.network ≡ old.network → RunsByHistory mid cs rs new → RunsByHistory old (c ∷ cs) (r ∷ rs) new
-runs-cons old mid new c cs r rs answered same runs h a =
-    let rest = runs (grown h c r) (answered h a).1 in
-    (((answered h a).0, subst (λ (n : Network). MayAnswerAll n.table (grown h c r) cs rs) same rest.0), rest.1)
+runs-cons old mid new c cs r rs answered same runs h earlier a =
+    let rest = runs (grown h c r) earlier (answered h earlier a).1 in
+    (((answered h earlier a).0, subst (λ (n : Network). MayAnswerAll n.table (grown h c r) (carried_by n.table earlier) cs rs) same rest.0), rest.1)
 
 -- the same, from the i-th event on
 pub runs-at : (old mid new : State) (cs : List Event) (i : ℕ) (d : Event) (r : Reply) (rs : List Reply) → i < length cs
@@ -139,5 +150,42 @@ inside_or_named ((c, On wire) ∷ rest) =
 inside_or_named ((c, Holds name) ∷ rest) =
     omega (arith, inside_or_named rest, sum_by-cons (λ (p : Position). cond (is_inside p) 1 0) (Holds name) (values_of rest), sum_by-cons (λ (p : Position). cond (is_named p) 1 0) (Holds name) (values_of rest))
 
-pub inside-by_history : (s : State) (h : List Event) → Agrees s h → inside_in s ≡ inside_of s.network.table h
-inside-by_history s h a = omega (arith, inside_or_named s.clients, a.total, a.left)
+pub inside-by_history : (s : State) (h : List Event) (k : Carried) → AgreesAfter s h k → inside_in s ≡ inside_of s.network.table h k
+inside-by_history s h k a = omega (arith, inside_or_named s.clients, a.total, a.left)
+
+-- an epoch that is over is one of the earlier ones
+pub Agrees-after_carry : (s : State) (h : List Event) (earlier : List (List Event)) → inside_in s ≡ 0 → Agrees s h earlier → Agrees (after_carry s) [] (h ∷ earlier)
+Agrees-after_carry s h earlier quiet (epochs, a) = (
+  (a.accepted, sym (inside-by_history s h (carried_by s.network.table earlier) a) ∙ quiet, epochs),
+  record {
+    base = omega (arith, a.base, a.total);
+    accepted = tt;
+    positions = λ q. refl;
+    entered = a.entered;
+    total = refl;
+    left = refl;
+    counts = counts;
+  },
+)
+  where
+    counts : (end : End) → past (after_carry s) end ≡ steps_before s.network.table h (carried_by s.network.table earlier) end
+    counts (Balancer b) = a.counts (Balancer b)
+    counts (Exit i) = a.counts (Exit i)
+
+-- an event lets in one client at most
+pub came-after : (old new : State) (event : Event) (reply : Reply) → TakesTo old event reply new → new.base + length new.clients ≤ old.base + length old.clients + 1
+came-after old new (Enter client entry) Entered (within, absent, room, e) = rw e (omega (arith, length-append old.clients ((client, On entry) ∷ [])))
+came-after old new (Enter client entry) (EnterRefused NoSuchEntry) (beyond, e) = rw e (omega arith)
+came-after old new (Enter client entry) (EnterRefused AlreadyIn) (within, there, e) = rw e (omega arith)
+came-after old new (Enter client entry) (EnterRefused EpochFull) (within, absent, full, e) = rw e (omega arith)
+came-after old new (Enter client entry) (EnterRefused Memory) (within, absent, room, e) = rw e (omega arith)
+came-after old new (Enter client entry) (Stepped moved) none = absurd none
+came-after old new (Enter client entry) (StepRefused fault) none = absurd none
+came-after old new (Step client) (Stepped moved) (wire, on, m, e) =
+    let end : End = end_of old.network.table wire in
+    let same = ap length (clients-after_step old client end) ∙ length-set_value (nat_eq client) old.clients (position_past old.network.table old.base end (past old end)) in
+    rw e (omega (arith, base-after_step old client end))
+came-after old new (Step client) (StepRefused Stranger) (none, e) = rw e (omega arith)
+came-after old new (Step client) (StepRefused (HasName name)) (named, e) = rw e (omega arith)
+came-after old new (Step client) Entered none = absurd none
+came-after old new (Step client) (EnterRefused fault) none = absurd none

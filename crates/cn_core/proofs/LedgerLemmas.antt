@@ -1,10 +1,10 @@
 -- Each event of a core is an event of its ledger, and so its ledger is sound.
-use Rattle.std.proofs.Common.{◌≡◌, ℕ, ◌+◌, ◌%◌, ◌/◌, ◌<◌, Bool, true, false, cond, nat_eq, List, [], ◌∷◌, length, refl, ap, arith, Some, None, sym, ◌∙◌, slice_index, inl, inr, ◌&&◌, eqb, ap₂, add-zero, add_comm}
+use Rattle.std.proofs.Common.{◌≡◌, ℕ, ◌+◌, ◌-◌, ◌%◌, ◌/◌, ◌<◌, Bool, true, false, cond, nat_eq, List, [], ◌∷◌, length, refl, ap, arith, Some, None, sym, ◌∙◌, slice_index, inl, inr, ◌&&◌, eqb, ap₂, add-zero, add_comm}
 use Rattle.std.specs.Prelude.{count_by, nat_lt, ◌==◌}
 use Rattle.std.specs.Map.{values_of}
 use Rattle.std.proofs.lemmas.Bool.{cases_eq, cases_lt, eq-eqb, ne_eqb, lt-ltb, le-ltb}
 use Rattle.std.proofs.lemmas.List.Sums.{sum_by-cons}
-use Rattle.cn_spec.specs.Step.{name_of}
+use Rattle.cn_spec.specs.Step.{name_of, share}
 use Rattle.cn_spec.specs.Sums.{when, once_below}
 use Rattle.cn_spec.specs.declared.limits.TheConstants.{MOST_CLIENTS}
 use Rattle.cn_spec.proofs.CallerLemmas.{exit_of-name_of, one_more_at, zero_at}
@@ -17,17 +17,17 @@ use Rattle.cn_core.specs.declared.position.Position.TheVariants.{On}
 use Rattle.cn_core.specs.declared.event.Event.{Event}
 use Rattle.cn_core.specs.declared.event.Event.TheVariants.{Enter, Step}
 use Rattle.cn_core.specs.State.{State, IsState, position_in, with_position, position_past, past, after_enter, after_step, start}
-use Rattle.cn_core.specs.History.{position_after, steps_before, end_at, moved_past, Agrees}
+use Rattle.cn_core.specs.SinceCleared.{AgreesAfter, ByHistories, Carried, carried_by, position_after, steps_before, end_at, moved_past, nothing}
 use Rattle.cn_core.specs.Passages.{passages_of, times_passed, with_passage}
 use Rattle.cn_ledger.specs.Ledger.{IsSound}
 use Rattle.cn_ledger.specs.Events.{Enters, Passes, Leaves, one_number}
 use Rattle.cn_core.specs.declared.reply.Moved.{Moved}
 use Rattle.cn_core.specs.declared.reply.Reply.TheVariants.{Stepped}
 use Rattle.cn_core.specs.Calls.{IsMoveOf, MovesLedger, StepsTo}
-use Rattle.cn_core.specs.StateLedger.{is_on, holds, held_in, given_in, ledger_of, IsCore}
+use Rattle.cn_core.specs.StateLedger.{is_on, holds, given_before, given_in, ledger_of, HasSoundLedger, IsCore}
 use Rattle.cn_yard.proofs.CallerLemmas.{count-push, count-set, count_pair-push, count_pair-set}
-use Rattle.cn_core.proofs.StateLemmas.{stands-at, IsState-start, IsState-after_enter, IsState-after_step}
-use Rattle.cn_core.proofs.HistoryLemmas.{past-after_step, Agrees-start, Agrees-after_enter, Agrees-after_step}
+use Rattle.cn_core.proofs.StateLemmas.{name-later, share-zero, stands-at, IsState-start, IsState-after_enter, IsState-after_step}
+use Rattle.cn_core.proofs.HistoryLemmas.{past-after_step, Agrees-start, AgreesAfter-after_enter, AgreesAfter-after_step}
 use Rattle.cn_core.proofs.PassageLemmas.{sound_passages}
 use Rattle.cn_ledger.proofs.CallerLemmas.{eqb-sym, is_end-sym, sound-enters, sound-leaves, sound-nothing, sound-passes}
 
@@ -37,26 +37,26 @@ and-sym true false = refl
 and-sym false true = refl
 and-sym false false = refl
 
-pub ledger-enters : (s : State) (h : List Event) (client entry : ℕ) → IsState s → entry < s.network.table.entries
-    → Enters s.network.table (ledger_of s h) (ledger_of (after_enter s client entry) (Enter client entry ∷ h)) client entry
-ledger-enters s h client entry is within = record {
+pub ledger-enters : (s : State) (h : List Event) (k : Carried) (client entry : ℕ) → IsState s → entry < s.network.table.entries
+    → Enters s.network.table (ledger_of s h k) (ledger_of (after_enter s client entry) (Enter client entry ∷ h) k) client entry
+ledger-enters s h k client entry is within = record {
   inside = within;
   entered = λ e. one_more_at s.entered entry e (omega (arith, is.entries)) ∙ ap (λ (b : Bool). slice_index s.entered e + cond b 1 0) (eqb-sym e entry);
   count = λ end. refl;
   on = λ wire. count-push (is_on wire) s.clients client (On entry);
   standing = λ wire d. count_pair-push (is_on wire) d s.clients client (On entry) ∙ ap (λ (b : Bool). count_by (λ e. nat_eq d e.0 && is_on wire e.1) s.clients + cond b 1 0) (and-sym (nat_eq d client) (entry == wire) ∙ ap (λ (b : Bool). (entry == wire) && b) (eqb-sym d client));
   given = given;
-  granted = λ d i v name. ap (λ (k : ℕ). when (nat_lt i s.network.table.width && (name_of s.network.table.width i v == name)) k)
-      (count_pair-push (holds name) d s.clients client (On entry) ∙ none (nat_eq d client) (count_by (λ e. nat_eq d e.0 && holds name e.1) s.clients));
+  granted = λ d i v name. ap (λ (n : ℕ). when (nat_lt i s.network.table.width && (name_of s.network.table.width i v == name)) (when (0 == d) (given_before s i v) + n))
+      (count_pair-push (holds s.base name) d s.clients client (On entry) ∙ none (nat_eq d client) (count_by (λ e. nat_eq d e.0 && holds s.base name e.1) s.clients));
 }
   where
     none : (b : Bool) (n : ℕ) → n + cond (b && false) 1 0 ≡ n
     none true n = omega arith
     none false n = omega arith
 
-    given : (end : End) (n : ℕ) → given_in (after_enter s client entry) (Enter client entry ∷ h) end n ≡ given_in s h end n
+    given : (end : End) (n : ℕ) → given_in (after_enter s client entry) (Enter client entry ∷ h) k end n ≡ given_in s h k end n
     given (Balancer b) n = refl
-    given (Exit i) v = ap (λ (k : ℕ). when (nat_lt i s.network.table.width) k) (count-push (holds (name_of s.network.table.width i v)) s.clients client (On entry) ∙ none true _)
+    given (Exit i) v = ap (λ (n : ℕ). when (nat_lt i s.network.table.width) (given_before s i v + n)) (count-push (holds s.base (name_of s.network.table.width i v)) s.clients client (On entry) ∙ none true _)
 
 -- what passages and leaves have in common
 count-after : (s : State) (client wire : ℕ) (end other : End) → IsState s → wire < length s.network.table.ends → end_of s.network.table wire ≡ end
@@ -77,20 +77,20 @@ standing-after s client wire to u d on =
     both false b = refl
 
 -- where the passages of a history are, once a client steps off a wire with this end
-passages-after : (s : State) (h : List Event) (client wire : ℕ) (end : End) → position_in s.clients client ≡ Some (On wire) → end_of s.network.table wire ≡ end → Agrees s h
-    → passages_of s.network.table (Step client ∷ h) ≡ with_passage s.network.table h (Some end) (passages_of s.network.table h)
-passages-after s h client wire end on ends a =
-    let here : end_at s.network.table (position_after s.network.table h client) ≡ Some end = rw (← a.positions client, on) (ap Some ends) in
-    ap (λ e. with_passage s.network.table h e (passages_of s.network.table h)) here
+passages-after : (s : State) (h : List Event) (k : Carried) (client wire : ℕ) (end : End) → position_in s.clients client ≡ Some (On wire) → end_of s.network.table wire ≡ end → AgreesAfter s h k
+    → passages_of s.network.table (Step client ∷ h) k ≡ with_passage s.network.table h k (Some end) (passages_of s.network.table h k)
+passages-after s h k client wire end on ends a =
+    let here : end_at s.network.table (position_after s.network.table h k client) ≡ Some end = rw (← a.positions client, on) (ap Some ends) in
+    ap (λ e. with_passage s.network.table h k e (passages_of s.network.table h k)) here
 
 -- a change of position between two that hold no name, or hold another
 held-after : (s : State) (name client wire : ℕ) (to : Position) → position_in s.clients client ≡ Some (On wire)
-    → count_by (holds name) (values_of (with_position s.clients client to)) ≡ count_by (holds name) (values_of s.clients) + when (holds name to) 1
-held-after s name client wire to on = omega (arith, count-set (holds name) s.clients client to (On wire) on)
+    → count_by (holds s.base name) (values_of (with_position s.clients client to)) ≡ count_by (holds s.base name) (values_of s.clients) + when (holds s.base name to) 1
+held-after s name client wire to on = omega (arith, count-set (holds s.base name) s.clients client to (On wire) on)
 
 held_pair-after : (s : State) (name client wire : ℕ) (to : Position) (d : ℕ) → position_in s.clients client ≡ Some (On wire)
-    → count_by (λ e. nat_eq d e.0 && holds name e.1) (with_position s.clients client to) ≡ count_by (λ e. nat_eq d e.0 && holds name e.1) s.clients + when (nat_eq d client && holds name to) 1
-held_pair-after s name client wire to d on = omega (arith, count_pair-set (holds name) d s.clients client to (On wire) on, none (nat_eq d client))
+    → count_by (λ e. nat_eq d e.0 && holds s.base name e.1) (with_position s.clients client to) ≡ count_by (λ e. nat_eq d e.0 && holds s.base name e.1) s.clients + when (nat_eq d client && holds s.base name to) 1
+held_pair-after s name client wire to d on = omega (arith, count_pair-set (holds s.base name) d s.clients client to (On wire) on, none (nat_eq d client))
   where
     none : (b : Bool) → ◌≡◌ {A = ℕ} (cond (b && false) 1 0) 0
     none true = refl
@@ -100,9 +100,9 @@ and-false : (b : Bool) → (b && false) ≡ false
 and-false true = refl
 and-false false = refl
 
-pub ledger-passes : (s : State) (h : List Event) (client wire b : ℕ) → IsState s → position_in s.clients client ≡ Some (On wire) → end_of s.network.table wire ≡ Balancer b → Agrees s h
-    → Passes s.network.table (ledger_of s h) (ledger_of (after_step s client (Balancer b)) (Step client ∷ h)) client wire b
-ledger-passes s h client wire b is on ends a = record {
+pub ledger-passes : (s : State) (h : List Event) (k : Carried) (client wire b : ℕ) → IsState s → position_in s.clients client ≡ Some (On wire) → end_of s.network.table wire ≡ Balancer b → AgreesAfter s h k
+    → Passes s.network.table (ledger_of s h k) (ledger_of (after_step s client (Balancer b)) (Step client ∷ h) k) client wire b
+ledger-passes s h k client wire b is on ends a = record {
   goes = record {
     inside = is.on_wires client wire on;
     ends = ends;
@@ -112,24 +112,26 @@ ledger-passes s h client wire b is on ends a = record {
     standing = λ u d. standing-after s client wire to u d on;
     given = given;
   };
-  granted = λ d i v name. ap (λ (k : ℕ). when (nat_lt i s.network.table.width && (name_of s.network.table.width i v == name)) k)
-      (held_pair-after s name client wire to d on ∙ ap (λ (q : Bool). count_by (λ e. nat_eq d e.0 && holds name e.1) s.clients + when q 1) (and-false (nat_eq d client)) ∙ add-zero (count_by (λ e. nat_eq d e.0 && holds name e.1) s.clients));
+  granted = λ d i v name. ap (λ (n : ℕ). when (nat_lt i s.network.table.width && (name_of s.network.table.width i v == name)) (when (0 == d) (given_before s i v) + n))
+      (held_pair-after s name client wire to d on ∙ ap (λ (q : Bool). count_by (λ e. nat_eq d e.0 && holds s.base name e.1) s.clients + when q 1) (and-false (nat_eq d client)) ∙ add-zero (count_by (λ e. nat_eq d e.0 && holds s.base name e.1) s.clients));
 }
   where
     to : Position
-    to = position_past s.network.table (Balancer b) (slice_index s.passes b)
+    to = position_past s.network.table s.base (Balancer b) (slice_index s.passes b)
 
-    given : (other : End) (n : ℕ) → given_in (after_step s client (Balancer b)) (Step client ∷ h) other n ≡ given_in s h other n + one_number (Balancer b) (slice_index s.passes b) other n
+    given : (other : End) (n : ℕ) → given_in (after_step s client (Balancer b)) (Step client ∷ h) k other n ≡ given_in s h k other n + one_number (Balancer b) (slice_index s.passes b) other n
     given (Balancer c) n =
-        let m : ℕ = steps_before s.network.table h (Balancer b) in
+        let m : ℕ = steps_before s.network.table h k (Balancer b) in
         let same : slice_index s.passes b ≡ m = a.counts (Balancer b) in
-        ap (times_passed c n) (passages-after s h client wire (Balancer b) on ends a)
-        ∙ sum_by-cons (λ (p : ℕ × ℕ). cond ((c == p.0) && (n == p.1)) 1 0) (b, m) (passages_of s.network.table h)
-        ∙ add_comm (cond ((c == b) && (n == m)) 1 0) (times_passed c n (passages_of s.network.table h))
-        ∙ ap (λ (q : Bool). times_passed c n (passages_of s.network.table h) + cond ((c == b) && q) 1 0) (eqb-sym n m ∙ ap (λ (k : ℕ). k == n) (sym same))
+        ap (λ (t : ℕ). once_below (k.steps (Balancer c)) n + t)
+        (ap (times_passed c n) (passages-after s h k client wire (Balancer b) on ends a)
+        ∙ sum_by-cons (λ (p : ℕ × ℕ). cond ((c == p.0) && (n == p.1)) 1 0) (b, m) (passages_of s.network.table h k)
+        ∙ add_comm (cond ((c == b) && (n == m)) 1 0) (times_passed c n (passages_of s.network.table h k))
+        ∙ ap (λ (q : Bool). times_passed c n (passages_of s.network.table h k) + cond ((c == b) && q) 1 0) (eqb-sym n m ∙ ap (λ (i : ℕ). i == n) (sym same)))
+        ∙ omega arith
     given (Exit i) v =
-        ap (λ (k : ℕ). when (nat_lt i s.network.table.width) k) (held-after s (name_of s.network.table.width i v) client wire to on ∙ add-zero (count_by (holds (name_of s.network.table.width i v)) (values_of s.clients)))
-        ∙ sym (add-zero (held_in s i v))
+        ap (λ (n : ℕ). when (nat_lt i s.network.table.width) (given_before s i v + n)) (held-after s (name_of s.network.table.width i v) client wire to on ∙ add-zero (count_by (holds s.base (name_of s.network.table.width i v)) (values_of s.clients)))
+        ∙ sym (add-zero (given_in s h k (Exit i) v))
 
 -- two names are the same exactly where exits and visits are
 names-same : (w i j x v : ℕ) → i < w → j < w → eqb (name_of w i x) (name_of w j v) ≡ (eqb j i && eqb x v)
@@ -194,9 +196,9 @@ granted-leave w i j x v name c d m n li more =
         bools true true false = refl
         bools true true true = refl
 
-pub ledger-leaves : (s : State) (h : List Event) (client wire i : ℕ) → IsState s → position_in s.clients client ≡ Some (On wire) → end_of s.network.table wire ≡ Exit i → Agrees s h
-    → Leaves s.network.table (ledger_of s h) (ledger_of (after_step s client (Exit i)) (Step client ∷ h)) client wire i
-ledger-leaves s h client wire i is on ends a = record {
+pub ledger-leaves : (s : State) (h : List Event) (k : Carried) (client wire i : ℕ) → IsState s → position_in s.clients client ≡ Some (On wire) → end_of s.network.table wire ≡ Exit i → AgreesAfter s h k
+    → Leaves s.network.table (ledger_of s h k) (ledger_of (after_step s client (Exit i)) (Step client ∷ h) k) client wire i
+ledger-leaves s h k client wire i is on ends a = record {
   goes = record {
     inside = is.on_wires client wire on;
     ends = ends;
@@ -207,29 +209,45 @@ ledger-leaves s h client wire i is on ends a = record {
     given = given;
   };
   granted = λ d j v name.
-      granted-leave s.network.table.width i j (slice_index s.visits i) v name client d
-      (count_by (λ e. nat_eq d e.0 && holds name e.1) s.clients) (count_by (λ e. nat_eq d e.0 && holds name e.1) (with_position s.clients client to))
-      below (held_pair-after s name client wire to d on);
+      granted-leave w i j (slice_index s.visits i) v name client d
+      (when (0 == d) (given_before s j v) + count_by (λ e. nat_eq d e.0 && holds s.base name e.1) s.clients)
+      (when (0 == d) (given_before s j v) + count_by (λ e. nat_eq d e.0 && holds s.base name e.1) (with_position s.clients client to))
+      below
+      (ap (λ (n : ℕ). when (0 == d) (given_before s j v) + n)
+      (held_pair-after s name client wire to d on ∙ ap (λ (n : ℕ). count_by (λ e. nat_eq d e.0 && holds s.base name e.1) s.clients + when (nat_eq d client && (n == name)) 1) whole)
+      ∙ omega arith);
 }
   where
-    to : Position
-    to = position_past s.network.table (Exit i) (slice_index s.visits i)
+    w : ℕ
+    w = s.network.table.width
 
-    below : i < s.network.table.width
+    to : Position
+    to = position_past s.network.table s.base (Exit i) (slice_index s.visits i)
+
+    below : i < w
     below = stands-at s.network is.network wire (Exit i) (is.on_wires client wire on) ends
 
-    given : (other : End) (n : ℕ) → given_in (after_step s client (Exit i)) (Step client ∷ h) other n ≡ given_in s h other n + one_number (Exit i) (slice_index s.visits i) other n
-    given (Balancer b) n = ap (times_passed b n) (passages-after s h client wire (Exit i) on ends a) ∙ sym (add-zero (times_passed b n (passages_of s.network.table h)))
+    -- the name that is told, with the base
+    whole : name_of w i (slice_index s.visits i) - s.base + s.base ≡ name_of w i (slice_index s.visits i)
+    whole = omega (arith, name-later s is i below)
+
+    given : (other : End) (n : ℕ) → given_in (after_step s client (Exit i)) (Step client ∷ h) k other n ≡ given_in s h k other n + one_number (Exit i) (slice_index s.visits i) other n
+    given (Balancer b) n =
+        ap (λ (t : List (ℕ × ℕ)). once_below (k.steps (Balancer b)) n + times_passed b n t) (passages-after s h k client wire (Exit i) on ends a)
+        ∙ sym (add-zero (given_in s h k (Balancer b) n))
     given (Exit j) v =
-        given-leave s.network.table.width i j (slice_index s.visits i) v
-        (count_by (holds (name_of s.network.table.width j v)) (values_of s.clients)) (count_by (holds (name_of s.network.table.width j v)) (values_of (with_position s.clients client to)))
-        below (held-after s (name_of s.network.table.width j v) client wire to on)
+        given-leave w i j (slice_index s.visits i) v
+        (given_before s j v + count_by (holds s.base (name_of w j v)) (values_of s.clients)) (given_before s j v + count_by (holds s.base (name_of w j v)) (values_of (with_position s.clients client to)))
+        below
+        (ap (λ (n : ℕ). given_before s j v + n)
+        (held-after s (name_of w j v) client wire to on ∙ ap (λ (n : ℕ). count_by (holds s.base (name_of w j v)) (values_of s.clients) + when (n == name_of w j v) 1) whole)
+        ∙ omega arith)
 
 -- ---- every state is a sound ledger
 
 -- a ledger whose numbers are those of another is as sound
-sound-like : (s : State) (h k : List Event) → Agrees s h → Agrees s k → IsSound s.network.table (ledger_of s h) → IsSound s.network.table (ledger_of s k)
-sound-like s h k a b sound = record {
+sound-like : (s : State) (h g : List Event) (k m : Carried) → AgreesAfter s g m → IsSound s.network.table (ledger_of s h k) → IsSound s.network.table (ledger_of s g m)
+sound-like s h g k m b sound = record {
   balanced = sound.balanced;
   clients = sound.clients;
   numbered = numbered;
@@ -239,79 +257,109 @@ sound-like s h k a b sound = record {
   told = sound.told;
 }
   where
-    numbered : (end : End) (n : ℕ) → Stands s.network.table end → given_in s k end n ≡ once_below (past s end) n
-    numbered (Balancer c) n there = sound_passages s.network.table k c n ∙ ap (λ m. once_below m n) (sym (b.counts (Balancer c)))
+    numbered : (end : End) (n : ℕ) → Stands s.network.table end → given_in s g m end n ≡ once_below (past s end) n
+    numbered (Balancer c) n there = sound_passages s.network.table g m c n ∙ ap (λ m. once_below m n) (sym (b.counts (Balancer c)))
     numbered (Exit i) n there = sound.numbered (Exit i) n there
 
--- by every history that the state agrees with
-pub sound-by_history : (s : State) → IsCore s → (k : List Event) → Agrees s k → IsSound s.network.table (ledger_of s k)
-sound-by_history s is k b = let (h, a, sound) = is.reached in sound-like s h k a b sound
+-- by every history and earlier epochs that the state agrees with
+pub sound-by_history : (s : State) → IsCore s → ByHistories s (HasSoundLedger s)
+sound-by_history s is g others b =
+    let (h, earlier, a, sound) = is.reached in
+    sound-like s h g (carried_by s.network.table earlier) (carried_by s.network.table others) b.1 sound
 
 pub IsCore-start : (network : Network) → IsNetwork network → IsCore (start network)
 IsCore-start network is = record {
   state = IsState-start network is;
   reached = (
     [],
+    [],
     Agrees-start network,
-    sound-nothing network.table (ledger_of (start network) [])
-        (record { entered = zero_at network.table.entries; count = count; on = λ u. refl; standing = λ u c. refl; given = given; granted = λ c i v name. cond-zero (nat_lt i network.table.width && (name_of network.table.width i v == name)) }),
+    sound-nothing network.table (ledger_of (start network) [] nothing)
+        (record { entered = zero_at network.table.entries; count = count; on = λ u. refl; standing = λ u c. refl; given = given; granted = granted }),
   );
 }
   where
-    cond-zero : (b : Bool) → when b 0 ≡ 0
-    cond-zero true = refl
-    cond-zero false = refl
+    none-below : (m n : ℕ) → m ≡ 0 → once_below m n ≡ 0
+    none-below m n e = rw e (ap {B = ℕ} (λ b. when b 1) (le-ltb n 0 (omega arith)))
 
     count : (end : End) → past (start network) end ≡ 0
     count (Balancer b) = zero_at network.table.balancers b
     count (Exit i) = zero_at network.table.width i
 
-    given : (end : End) (n : ℕ) → given_in (start network) [] end n ≡ 0
-    given (Balancer b) n = refl
-    given (Exit i) n = cond-zero (nat_lt i network.table.width)
+    before : (i v : ℕ) → i < network.table.width → given_before (start network) i v ≡ 0
+    before i v within = none-below (share 0 network.table.width i) v (share-zero network.table.width i within)
+
+    given : (end : End) (n : ℕ) → given_in (start network) [] nothing end n ≡ 0
+    given (Balancer b) n = omega (arith, none-below 0 n refl)
+    given (Exit i) v = elim (cases_lt i network.table.width) [
+      | inl within ↦ rw (lt-ltb i network.table.width within) (omega (arith, before i v within))
+      | inr beyond ↦ rw (le-ltb i network.table.width beyond) refl
+    ]
+
+    granted : (c i v name : ℕ) → when (nat_lt i network.table.width && (name_of network.table.width i v == name)) (when (0 == c) (given_before (start network) i v) + 0) ≡ 0
+    granted c i v name = elim (cases_lt i network.table.width) [
+      | inl within ↦ rw (before i v within) (cond-zero (nat_lt i network.table.width && (name_of network.table.width i v == name)) (0 == c))
+      | inr beyond ↦ rw (le-ltb i network.table.width beyond) refl
+    ]
+      where
+        cond-zero : (b d : Bool) → when b (when d 0 + 0) ≡ 0
+        cond-zero true true = refl
+        cond-zero true false = refl
+        cond-zero false d = refl
 
 pub IsCore-after_enter : (s : State) (client entry : ℕ) → IsCore s → entry < s.network.table.entries → position_in s.clients client ≡ None → length s.clients < MOST_CLIENTS
     → IsCore (after_enter s client entry)
 IsCore-after_enter s client entry is within absent room =
-    let (h, a, sound) = is.reached in
+    let (h, earlier, (epochs, a), sound) = is.reached in
+    let k : Carried = carried_by s.network.table earlier in
     record {
       state = IsState-after_enter s client entry is.state within absent room;
       reached = (
         Enter client entry ∷ h,
-        Agrees-after_enter s h client entry is.state within absent room a,
-        sound-enters s.network.table (ledger_of s h) (ledger_of (after_enter s client entry) (Enter client entry ∷ h)) client entry (ledger-enters s h client entry is.state within) sound,
+        earlier,
+        (epochs, AgreesAfter-after_enter s h k client entry is.state within absent room a),
+        sound-enters s.network.table (ledger_of s h k) (ledger_of (after_enter s client entry) (Enter client entry ∷ h) k) client entry (ledger-enters s h k client entry is.state within) sound,
       );
     }
 
 pub IsCore-after_step : (s : State) (client wire : ℕ) (end : End) → IsCore s → position_in s.clients client ≡ Some (On wire) → end_of s.network.table wire ≡ end
     → IsCore (after_step s client end)
 IsCore-after_step s client wire (Balancer b) is on ends =
-    let (h, a, sound) = is.reached in
+    let (h, earlier, (epochs, a), sound) = is.reached in
+    let k : Carried = carried_by s.network.table earlier in
     record {
       state = IsState-after_step s client wire (Balancer b) is.state on ends;
       reached = (
         Step client ∷ h,
-        Agrees-after_step s h client wire (Balancer b) is.state on ends a,
-        sound-passes s.network.table (ledger_of s h) (ledger_of (after_step s client (Balancer b)) (Step client ∷ h)) client wire b (ledger-passes s h client wire b is.state on ends a) sound,
+        earlier,
+        (epochs, AgreesAfter-after_step s h k client wire (Balancer b) is.state on ends a),
+        sound-passes s.network.table (ledger_of s h k) (ledger_of (after_step s client (Balancer b)) (Step client ∷ h) k) client wire b (ledger-passes s h k client wire b is.state on ends a) sound,
       );
     }
 IsCore-after_step s client wire (Exit i) is on ends =
-    let (h, a, sound) = is.reached in
+    let (h, earlier, (epochs, a), sound) = is.reached in
+    let k : Carried = carried_by s.network.table earlier in
     record {
       state = IsState-after_step s client wire (Exit i) is.state on ends;
       reached = (
         Step client ∷ h,
-        Agrees-after_step s h client wire (Exit i) is.state on ends a,
-        sound-leaves s.network.table is.state.network.formed (ledger_of s h) (ledger_of (after_step s client (Exit i)) (Step client ∷ h)) client wire i (ledger-leaves s h client wire i is.state on ends a) sound,
+        earlier,
+        (epochs, AgreesAfter-after_step s h k client wire (Exit i) is.state on ends a),
+        sound-leaves s.network.table is.state.network.formed (ledger_of s h k) (ledger_of (after_step s client (Exit i)) (Step client ∷ h) k) client wire i (ledger-leaves s h k client wire i is.state on ends a) sound,
       );
     }
 
 -- ---- each accepted call is one event on the ledger
 
 pub ledger-step : (old : State) (client : ℕ) (moved : Moved) (new : State) → IsState old → StepsTo old client (Stepped moved) new → MovesLedger old client moved new
-ledger-step old client moved new is (wire, on, m, e) h a = rw (m, e) (by (end_of old.network.table wire) refl)
+ledger-step old client moved new is (wire, on, m, e) h earlier (epochs, a) = rw (m, e) (by (end_of old.network.table wire) refl)
   where
+    k : Carried
+    k = carried_by old.network.table earlier
+
     by : (end : End) → end_of old.network.table wire ≡ end
-        → IsMoveOf old.network.table 0 (ledger_of old h) (ledger_of (after_step old client end) (Step client ∷ h)) client (moved_past old.network.table end (past old end))
-    by (Balancer b) ends = (wire, ledger-passes old h client wire b is on ends a, refl, refl)
-    by (Exit i) ends = (wire, ledger-leaves old h client wire i is on ends a, refl, add-zero (name_of old.network.table.width i (slice_index old.visits i)))
+        → IsMoveOf old.network.table old.base (ledger_of old h k) (ledger_of (after_step old client end) (Step client ∷ h) k) client (moved_past old.network.table old.base end (past old end))
+    by (Balancer b) ends = (wire, ledger-passes old h k client wire b is on ends a, refl, refl)
+    by (Exit i) ends =
+        let below : i < old.network.table.width = stands-at old.network is.network wire (Exit i) (is.on_wires client wire on) ends in
+        (wire, ledger-leaves old h k client wire i is on ends a, refl, omega (arith, name-later old is i below))

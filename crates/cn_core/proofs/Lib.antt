@@ -4,6 +4,8 @@ pub mod HistoryLemmas
 pub mod PassageLemmas
 pub mod LedgerLemmas
 pub mod TightLemmas
+pub mod CarryLemmas
+pub mod EarlierLemmas
 pub mod Holders
 pub mod OneHolder
 pub mod CallerLemmas

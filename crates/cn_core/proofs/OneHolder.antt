@@ -1,5 +1,5 @@
 -- No two clients hold one name: by any history, whether its events were accepted or not.
-use Rattle.std.proofs.Common.{◌≡◌, ℕ, ◌%◌, ◌/◌, ◌<◌, inl, inr, List, [], ◌∷◌, length, refl, ap, arith, sym, ◌∙◌, Option, Some, None}
+use Rattle.std.proofs.Common.{◌≡◌, ℕ, ◌-◌, ◌%◌, ◌/◌, ◌<◌, inl, inr, List, [], ◌∷◌, length, refl, ap, arith, sym, ◌∙◌, Option, Some, None}
 use Rattle.std.specs.Option.{option_map}
 use Rattle.std.proofs.lemmas.Bool.{cases_eq, cases_lt, eq-eqb, ne_eqb}
 use Rattle.std.proofs.lemmas.List.{get_or_past}
@@ -13,7 +13,9 @@ use Rattle.cn_core.specs.declared.event.Event.{Event}
 use Rattle.cn_core.specs.declared.event.Event.TheVariants.{Enter, Step}
 use Rattle.cn_core.specs.declared.position.Position.{Position}
 use Rattle.cn_core.specs.declared.position.Position.TheVariants.{On, Holds}
-use Rattle.cn_core.specs.History.{end_at, position_after, steps_before}
+use Rattle.cn_core.specs.History.{position_after}
+use Rattle.cn_core.specs.SinceCleared as since
+use Rattle.cn_core.specs.SinceCleared.{end_at, nothing}
 use Rattle.cn_core.specs.State.{position_past}
 use Rattle.cn_core.proofs.StateLemmas.{stands-at}
 
@@ -29,24 +31,24 @@ module _ (network : Network) (is : IsNetwork network) where
     exit : ℕ
     below : exit < network.table.width
     from : end_at network.table p ≡ Some (Exit exit)
-    named : name ≡ name_of network.table.width exit (steps_before network.table h (Exit exit))
+    named : name ≡ name_of network.table.width exit (since.steps_before network.table h nothing (Exit exit))
 
   left : (h : List Event) (p : Option Position) (name : ℕ)
-      → option_map (λ end. position_past network.table end (steps_before network.table h end)) (end_at network.table p) ≡ Some (Holds name) → Left h p name
+      → option_map (λ end. position_past network.table 0 end (since.steps_before network.table h nothing end)) (end_at network.table p) ≡ Some (Holds name) → Left h p name
   left h None name e = absurd (cc)
   left h (Some (Holds other)) name e = absurd (cc)
   left h (Some (On wire)) name e = by (end_of network.table wire) refl e
     where
-      by : (end : End) → end_of network.table wire ≡ end → Some (position_past network.table end (steps_before network.table h end)) ≡ Some (Holds name) → Left h (Some (On wire)) name
+      by : (end : End) → end_of network.table wire ≡ end → Some (position_past network.table 0 end (since.steps_before network.table h nothing end)) ≡ Some (Holds name) → Left h (Some (On wire)) name
       by (Balancer b) ends past = absurd (cc)
-      by (Exit i) ends past = record { exit = i; below = exit-below wire i ends; from = ap Some ends; named = cc }
+      by (Exit i) ends past = record { exit = i; below = exit-below wire i ends; from = ap Some ends; named = let told : name_of network.table.width i (since.steps_before network.table h nothing (Exit i)) - 0 ≡ name = cc in omega arith }
 
   -- what a step does to the positions: it changes its client's alone
   mine : (h : List Event) (b name : ℕ) → position_after network.table (Step b ∷ h) b ≡ Some (Holds name) → Left h (position_after network.table h b) name
   mine h b name e = left h (position_after network.table h b) name (rw (eq-eqb b b refl) at e)
 
   -- the visit of a name was made before
-  given : (h : List Event) (c name : ℕ) → position_after network.table h c ≡ Some (Holds name) → name / network.table.width < steps_before network.table h (Exit (name % network.table.width))
+  given : (h : List Event) (c name : ℕ) → position_after network.table h c ≡ Some (Holds name) → name / network.table.width < since.steps_before network.table h nothing (Exit (name % network.table.width))
   given [] c name e = absurd (cc)
   given (Enter b entry ∷ h) c name e = elim (cases_eq c b) [
     | inl same ↦ absurd (let z = eq-eqb c b same in cc)
@@ -55,7 +57,7 @@ module _ (network : Network) (is : IsNetwork network) where
   given (Step b ∷ h) c name e = elim (cases_eq c b) [
     | inl same ↦
         let l = mine h b name (rw same at e) in
-        let (exit, visit) = exit_of-name_of network.table.width l.exit (steps_before network.table h (Exit l.exit)) l.below in
+        let (exit, visit) = exit_of-name_of network.table.width l.exit (since.steps_before network.table h nothing (Exit l.exit)) l.below in
         grind (arith, l.from, l.named)
     | inr other ↦ let before = given h c name (rw (ne_eqb c b other) at e) in omega arith
   ]
@@ -63,9 +65,9 @@ module _ (network : Network) (is : IsNetwork network) where
   -- who leaves now has a name that nobody holds
   fresh : (h : List Event) (b c name : ℕ) → Left h (position_after network.table h b) name → position_after network.table h c ≡ Some (Holds name) → ⊥
   fresh h b c name l held =
-      let (exit, visit) = exit_of-name_of network.table.width l.exit (steps_before network.table h (Exit l.exit)) l.below in
+      let (exit, visit) = exit_of-name_of network.table.width l.exit (since.steps_before network.table h nothing (Exit l.exit)) l.below in
       let before = given h c name held in
-      let now : name / network.table.width ≡ steps_before network.table h (Exit (name % network.table.width)) = rw (l.named, exit, visit) refl in
+      let now : name / network.table.width ≡ since.steps_before network.table h nothing (Exit (name % network.table.width)) = rw (l.named, exit, visit) refl in
       omega arith
 
   pub one-holder : (h : List Event) (c d name : ℕ) → position_after network.table h c ≡ Some (Holds name) → position_after network.table h d ≡ Some (Holds name) → c ≡ d

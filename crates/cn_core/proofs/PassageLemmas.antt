@@ -9,24 +9,25 @@ use Rattle.cn_wiring.specs.declared.end.End.TheVariants.{Balancer, Exit}
 use Rattle.cn_wiring.specs.Table.{Table}
 use Rattle.cn_core.specs.declared.event.Event.{Event}
 use Rattle.cn_core.specs.declared.event.Event.TheVariants.{Enter, Step}
-use Rattle.cn_core.specs.History.{position_after, steps_before, end_at, is_same_end}
+use Rattle.cn_core.specs.SinceCleared.{Carried, position_after, steps_before, end_at, is_same_end}
 use Rattle.cn_core.specs.Passages.{with_passage, passages_of, times_passed}
 
-times-with_passage : (table : Table) (earlier : List Event) (end : Option End) (ps : List (ℕ × ℕ)) (b n : ℕ)
-    → times_passed b n ps ≡ cond (nat_lt n (steps_before table earlier (Balancer b))) 1 0
-    → times_passed b n (with_passage table earlier end ps) ≡ cond (nat_lt n (steps_before table earlier (Balancer b) + cond (is_same_end (Balancer b) end) 1 0)) 1 0
-times-with_passage table earlier None ps b n before = grind (arith, nat_tests)
-times-with_passage table earlier (Some (Exit i)) ps b n before = grind (arith, nat_tests)
-times-with_passage table earlier (Some (Balancer a)) ps b n before =
-    let m : ℕ = steps_before table earlier (Balancer a) in
+times-with_passage : (table : Table) (history : List Event) (carried : Carried) (end : Option End) (ps : List (ℕ × ℕ)) (b n : ℕ)
+    → once_below (carried.steps (Balancer b)) n + times_passed b n ps ≡ cond (nat_lt n (steps_before table history carried (Balancer b))) 1 0
+    → once_below (carried.steps (Balancer b)) n + times_passed b n (with_passage table history carried end ps) ≡ cond (nat_lt n (steps_before table history carried (Balancer b) + cond (is_same_end (Balancer b) end) 1 0)) 1 0
+times-with_passage table history carried None ps b n before = grind (arith, nat_tests)
+times-with_passage table history carried (Some (Exit i)) ps b n before = grind (arith, nat_tests)
+times-with_passage table history carried (Some (Balancer a)) ps b n before =
+    let m : ℕ = steps_before table history carried (Balancer a) in
     grind (arith, nat_tests, sum_by-cons (λ p. cond ((b == p.0) && (n == p.1)) 1 0) (a, m) ps)
 
--- the passage numbers of each balancer are those below its count, each once
-abbrev pub HasSoundPassages : Table → List Event → Type 0
-HasSoundPassages table history = (b n : ℕ) → times_passed b n (passages_of table history) ≡ once_below (steps_before table history (Balancer b)) n
+-- the passage numbers of each balancer, with those that are carried, are those below its count, each once
+abbrev pub HasSoundPassages : Table → List Event → Carried → Type 0
+HasSoundPassages table history carried =
+    (b n : ℕ) → once_below (carried.steps (Balancer b)) n + times_passed b n (passages_of table history carried) ≡ once_below (steps_before table history carried (Balancer b)) n
 
-pub sound_passages : (table : Table) (history : List Event) → HasSoundPassages table history
-sound_passages table [] b n = grind (arith, nat_tests)
-sound_passages table (Enter c entry ∷ earlier) b n = sound_passages table earlier b n
-sound_passages table (Step c ∷ earlier) b n =
-    times-with_passage table earlier (end_at table (position_after table earlier c)) (passages_of table earlier) b n (sound_passages table earlier b n)
+pub sound_passages : (table : Table) (history : List Event) (carried : Carried) → HasSoundPassages table history carried
+sound_passages table [] carried b n = omega arith
+sound_passages table (Enter c entry ∷ history) carried b n = sound_passages table history carried b n
+sound_passages table (Step c ∷ history) carried b n =
+    times-with_passage table history carried (end_at table (position_after table history carried c)) (passages_of table history carried) b n (sound_passages table history carried b n)

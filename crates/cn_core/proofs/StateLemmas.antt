@@ -1,11 +1,13 @@
 -- Each event keeps what each state keeps.
-use Rattle.std.proofs.Common.{◌≡◌, ℕ, ◌+◌, ◌*◌, ◌%◌, ◌<◌, ◌≤◌, nat_eq, List, [], ◌∷◌, ◌++◌, length, arith, Some, None, ◌∙◌, slice_index, length-set, length-append, subst}
+use Rattle.std.proofs.Common.{◌≡◌, ℕ, ◌+◌, ◌*◌, ◌%◌, ◌<◌, ◌≤◌, nat_eq, inl, inr, List, [], ◌∷◌, ◌++◌, length, arith, Some, None, ◌∙◌, slice_index, length-set, length-append, subst, ap}
 use Rattle.std.specs.Prelude.{replicate}
+use Rattle.std.proofs.lemmas.Bool.{cases_lt}
 use Rattle.std.proofs.lemmas.Bool.Decides.{nat_tests}
 use Rattle.std.proofs.lemmas.List.{length-replicate}
 use Rattle.std.proofs.lemmas.Map.{length-set_value}
-use Rattle.cn_spec.specs.declared.limits.TheConstants.{MOST_CLIENTS}
-use Rattle.cn_spec.proofs.CallerLemmas.{one_more_at, sum_below-change, sum_below-zero, zero_at}
+use Rattle.cn_spec.specs.declared.limits.TheConstants.{MOST_CARRIED, MOST_CLIENTS}
+use Rattle.cn_spec.proofs.CallerLemmas.{name-below, one_more_at, sum_below-change, sum_below-zero, zero_at}
+use Rattle.cn_spec.specs.Step.{name_of, share}
 use Rattle.cn_spec.specs.Sums.{one_more}
 use Rattle.cn_wiring.specs.declared.end.End.{End}
 use Rattle.cn_wiring.specs.declared.end.End.TheVariants.{Balancer, Exit}
@@ -13,7 +15,7 @@ use Rattle.cn_wiring.specs.Table.{end_of, Stands, LeadsOn}
 use Rattle.cn_wiring.specs.Network.{Network, IsNetwork}
 use Rattle.cn_core.specs.declared.position.Position.{Position}
 use Rattle.cn_core.specs.declared.position.Position.TheVariants.{On}
-use Rattle.cn_core.specs.State.{State, IsState, position_in, position_past, after_enter, after_step, start, times_entered}
+use Rattle.cn_core.specs.State.{State, IsState, came_in, position_in, position_past, after_carry, after_enter, after_step, start, times_entered}
 use Rattle.cn_yard.proofs.CallerLemmas.{lookup-push, lookup-set, times-push, times-absent, times-set}
 
 -- what a table says of the end of a wire
@@ -35,6 +37,8 @@ IsState-after_enter s client entry is within absent room = record {
   balancers = is.balancers;
   exits = is.exits;
   few = omega (arith, length-append s.clients ((client, On entry) ∷ []));
+  carried = is.carried;
+  shares = is.shares;
   once = once-push s.clients client (On entry) absent is.once;
   all = grind (
     arith,
@@ -64,13 +68,15 @@ IsState-after_step s client wire (Balancer b) is on ends = record {
   balancers = length-set s.passes b (slice_index s.passes b + 1) ∙ is.balancers;
   exits = is.exits;
   few = rw (length-set_value (nat_eq client) s.clients to) is.few;
+  carried = is.carried;
+  shares = is.shares;
   once = λ q. rw (times-set s.clients client to q) (is.once q);
   all = rw (length-set_value (nat_eq client) s.clients to) is.all;
   on_wires = λ q w h. grind (arith, within, lookup-set s.clients client to (On wire) q on, is.on_wires q w);
 }
   where
     to : Position
-    to = position_past s.network.table (Balancer b) (slice_index s.passes b)
+    to = position_past s.network.table s.base (Balancer b) (slice_index s.passes b)
 
     below : b < s.network.table.balancers
     below = stands-at s.network is.network wire (Balancer b) (is.on_wires client wire on) ends
@@ -89,19 +95,28 @@ IsState-after_step s client wire (Exit i) is on ends = record {
   balancers = is.balancers;
   exits = length-set s.visits i (slice_index s.visits i + 1) ∙ is.exits;
   few = rw (length-set_value (nat_eq client) s.clients to) is.few;
+  carried = is.carried;
+  shares = λ j within. grind (arith, nat_tests, is.shares j within, one_more_at s.visits i j in_range);
   once = λ q. rw (times-set s.clients client to q) (is.once q);
   all = rw (length-set_value (nat_eq client) s.clients to) is.all;
   on_wires = λ q w h. grind (arith, lookup-set s.clients client to (On wire) q on, is.on_wires q w);
 }
   where
     to : Position
-    to = position_past s.network.table (Exit i) (slice_index s.visits i)
+    to = position_past s.network.table s.base (Exit i) (slice_index s.visits i)
 
     below : i < s.network.table.width
     below = stands-at s.network is.network wire (Exit i) (is.on_wires client wire on) ends
 
     in_range : i < length s.visits
     in_range = omega (arith, is.exits, below)
+
+-- of nobody each exit's share is nothing
+pub share-zero : (w i : ℕ) → i < w → share 0 w i ≡ 0
+share-zero w i within = elim (cases_lt 0 (share 0 w i)) [
+  | inl some ↦ let below = (name-below 0 w i 0 within).0 some in absurd (omega arith)
+  | inr none ↦ omega arith
+]
 
 pub IsState-start : (network : Network) → IsNetwork network → IsState (start network)
 IsState-start network is = record {
@@ -110,7 +125,32 @@ IsState-start network is = record {
   balancers = length-replicate network.table.balancers 0;
   exits = length-replicate network.table.width 0;
   few = omega arith;
+  carried = omega arith;
+  shares = λ i within. omega (arith, share-zero network.table.width i within);
   once = λ q. omega arith;
   all = sum_below-zero network.table.entries (λ e. slice_index (replicate network.table.entries 0) e) (zero_at network.table.entries);
   on_wires = λ q w h. cc;
 }
+
+pub IsState-after_carry : (s : State) → IsState s → s.base + length s.clients ≤ MOST_CARRIED
+    → ((i : ℕ) → i < s.network.table.width → slice_index s.visits i ≡ share (came_in s) s.network.table.width i)
+    → IsState (after_carry s)
+IsState-after_carry s is room shared = record {
+  network = is.network;
+  entries = is.entries;
+  balancers = is.balancers;
+  exits = is.exits;
+  few = omega arith;
+  carried = room;
+  shares = λ i within. let at = shared i within ∙ ap (λ m. share m s.network.table.width i) is.all in omega arith;
+  once = λ q. omega arith;
+  all = omega (arith, is.all);
+  on_wires = λ q w h. cc;
+}
+
+-- the next name of an exit is none of those that were given before the epoch
+pub name-later : (s : State) → IsState s → (i : ℕ) → i < s.network.table.width → s.base ≤ name_of s.network.table.width i (slice_index s.visits i)
+name-later s is i within = elim (cases_lt (name_of s.network.table.width i (slice_index s.visits i)) s.base) [
+  | inr later ↦ later
+  | inl before ↦ let low = (name-below s.base s.network.table.width i (slice_index s.visits i) within).1 before in absurd (omega (arith, is.shares i within))
+]

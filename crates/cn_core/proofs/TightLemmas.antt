@@ -1,21 +1,22 @@
 -- What a core has given out: at any time, and when nobody is inside.
-use Rattle.std.proofs.Common.{◌≡◌, ℕ, ◌%◌, ◌/◌, ◌<◌, ◌≤◌, Bool, true, false, cond, nat_eq, List, [], ◌∷◌, length, map, refl, ap, arith, Option, Some, None, sym, ◌∙◌, slice_index, subst}
+use Rattle.std.proofs.Common.{◌≡◌, ℕ, ◌+◌, ◌%◌, ◌/◌, ◌<◌, inl, inr, ◌≤◌, Bool, true, false, cond, nat_eq, List, [], ◌∷◌, length, map, refl, ap, arith, Option, Some, None, sym, ◌∙◌, slice_index}
 use Rattle.std.specs.Prelude.{count_by, ◌==◌}
 use Rattle.std.specs.Map.{values_of}
-use Rattle.std.proofs.lemmas.Bool.{eq-eqb, lt-ltb}
+use Rattle.std.proofs.lemmas.Bool.{cases_eq, cases_lt, eq-eqb, le-ltb, lt-ltb, ne_eqb}
 use Rattle.std.proofs.lemmas.Nat.{mod_below}
 use Rattle.std.proofs.lemmas.List.Sums.{sum_by-cons}
-use Rattle.cn_spec.specs.Step.{name_of}
+use Rattle.cn_spec.specs.Step.{name_of, share}
 use Rattle.cn_spec.specs.Sums.{once_below, times}
-use Rattle.cn_spec.proofs.CallerLemmas.{each_below, name_of-exit_of, sum_below-part, times-cons, times-nil}
+use Rattle.cn_spec.proofs.CallerLemmas.{each_below, name-below, name_of-exit_of, sum_below-part, times-cons, times-nil}
 use Rattle.cn_spec.specs.declared.limits.TheConstants.{MOST_ARRIVALS}
 use Rattle.cn_wiring.specs.declared.end.End.{End}
 use Rattle.cn_wiring.specs.Table.{Stands}
 use Rattle.cn_core.specs.declared.position.Position.{Position}
 use Rattle.cn_core.specs.declared.position.Position.TheVariants.{On, Holds}
-use Rattle.cn_core.specs.State.{State, IsState, past, position_in, name_at, name_in, times_entered, is_inside, is_named, inside_in}
-use Rattle.cn_ledger.specs.Ledger.{IsQuiet, times_given}
-use Rattle.cn_core.specs.StateLedger.{is_on, holds, granted_in, ledger_of, IsCore}
+use Rattle.cn_core.specs.State.{State, IsState, came_in, past, position_in, name_at, name_in, times_entered, is_inside, is_named, inside_in}
+use Rattle.cn_ledger.specs.Ledger.{IsQuiet, Ledger, times_given}
+use Rattle.cn_core.specs.SinceCleared.{carried_by}
+use Rattle.cn_core.specs.StateLedger.{is_on, holds, given_before, granted_in, ledger_of, IsCore}
 use Rattle.cn_core.specs.Tight.{grants_in, IsTightState, IsBoundedState}
 use Rattle.cn_ledger.proofs.CallerLemmas.{bounded, counts-few, names-differ, tight}
 use Rattle.cn_yard.proofs.CallerLemmas.{count_pair-found}
@@ -26,35 +27,42 @@ named-position None name e = absurd (cc)
 named-position (Some (On wire)) name e = absurd (cc)
 named-position (Some (Holds other)) name e = ap (λ n. Some (Holds n)) (let same : other ≡ name = cc in same)
 
--- who holds a name was granted it
+-- who holds a name was granted it, with the base
 granted-name : (s : State) → IsState s → (client name : ℕ) → name_in s client ≡ Some name
-    → 1 ≤ granted_in s client (name % s.network.table.width) (name / s.network.table.width) name
+    → 1 ≤ granted_in s client ((name + s.base) % s.network.table.width) ((name + s.base) / s.network.table.width) (name + s.base)
 granted-name s is client name e =
     let w : ℕ = s.network.table.width in
+    let n : ℕ = name + s.base in
     let (least, most) = is.network.formed.width in
-    let below : name % w < w = mod_below name w (omega arith) in
-    let found = count_pair-found (holds name) client s.clients (Holds name) (named-position (position_in s.clients client) name e) (is.once client) in
-    rw (lt-ltb (name % w) w below, eq-eqb (name_of w (name % w) (name / w)) name (name_of-exit_of w name))
-    (rw (found, eq-eqb name name refl) (omega arith))
+    let below : n % w < w = mod_below n w (omega arith) in
+    let found = count_pair-found (holds s.base n) client s.clients (Holds name) (named-position (position_in s.clients client) name e) (is.once client) in
+    let one : ◌≡◌ {A = ℕ} (cond (holds s.base n (Holds name)) 1 0) 1 = ap {B = ℕ} (λ b. cond b 1 0) (eq-eqb n n refl) in
+    rw (lt-ltb (n % w) w below, eq-eqb (name_of w (n % w) (n / w)) n (name_of-exit_of w n)) (omega (arith, found, one))
 
 pub bounded-state : (s : State) → IsCore s → IsBoundedState s
 bounded-state s is =
-    let (h, a, sound) = is.reached in
-    let b = bounded s.network.table is.state.network.formed is.state.network.counts (ledger_of s h) sound in
+    let (h, earlier, a, sound) = is.reached in
+    let l : Ledger = ledger_of s h (carried_by s.network.table earlier) in
+    let b = bounded s.network.table is.state.network.formed is.state.network.counts l sound in
     let w : ℕ = s.network.table.width in
     record {
       passes = λ f brings. b.passes f brings.0 brings.1;
       counts = b.counts;
+      carried = is.state.shares;
       entries = λ entry within. sum_below-part s.network.table.entries entry (λ e. slice_index s.entered e) within;
-      ends = counts-few s.network.table is.state.network.formed (ledger_of s h) sound;
-      below = λ client name e. subst (λ n. name < n) is.state.all (b.names client (name % w) (name / w) name (granted-name s is.state client name e));
+      ends = counts-few s.network.table is.state.network.formed l sound;
+      below = λ client name e.
+          let n : ℕ = name + s.base in
+          let few = b.names client (n % w) (n / w) n (granted-name s is.state client name e) in
+          omega (arith, is.state.all);
       distinct = λ client other name e f.
-          (names-differ s.network.table (ledger_of s h) sound client other (name % w) (name % w) (name / w) (name / w) name name
+          let n : ℕ = name + s.base in
+          (names-differ s.network.table l sound client other (n % w) (n % w) (n / w) (n / w) n n
           (granted-name s is.state client name e) (granted-name s is.state other name f) refl).0;
     }
 
 -- who stands on a wire is inside
-on-inside : (u : ℕ) (clients : List (ℕ × Position)) → count_by (is_on u) (values_of clients) ≤ count_by is_inside (values_of clients)
+pub on-inside : (u : ℕ) (clients : List (ℕ × Position)) → count_by (is_on u) (values_of clients) ≤ count_by is_inside (values_of clients)
 on-inside u [] = omega arith
 on-inside u ((c, On wire) ∷ rest) =
     let one = less (wire == u) in
@@ -79,18 +87,41 @@ clients-grants_in q ((c, On wire) ∷ rest) =
 clients-grants_in q ((c, Holds name) ∷ rest) =
     omega (arith, clients-grants_in q rest, sum_by-cons (λ (e : ℕ × Position). cond (nat_eq q e.0) 1 0) (c, Holds name) rest, sum_by-cons (λ (grant : ℕ × ℕ). cond (nat_eq q grant.1) 1 0) (name, c) (grants_in rest))
 
-names-grants_in : (n : ℕ) (clients : List (ℕ × Position)) → times n (map (λ grant. grant.0) (grants_in clients)) ≡ count_by (holds n) (values_of clients)
-names-grants_in n [] = times-nil n
-names-grants_in n ((c, On wire) ∷ rest) =
-    omega (arith, names-grants_in n rest, sum_by-cons (λ (p : Position). cond (holds n p) 1 0) (On wire) (values_of rest))
-names-grants_in n ((c, Holds name) ∷ rest) =
-    omega (arith, names-grants_in n rest, times-cons n name (map (λ grant. grant.0) (grants_in rest)), sum_by-cons (λ (p : Position). cond (holds n p) 1 0) (Holds name) (values_of rest))
+eqb-shift : (m n base : ℕ) → (m + base == n + base) ≡ (m == n)
+eqb-shift m n base = elim (cases_eq m n) [
+  | inl e ↦ eq-eqb (m + base) (n + base) (omega arith) ∙ sym (eq-eqb m n e)
+  | inr d ↦ ne_eqb (m + base) (n + base) (λ e. d (omega arith)) ∙ sym (ne_eqb m n d)
+]
+
+names-grants_in : (base n : ℕ) (clients : List (ℕ × Position)) → times n (map (λ grant. grant.0) (grants_in clients)) ≡ count_by (holds base (n + base)) (values_of clients)
+names-grants_in base n [] = times-nil n
+names-grants_in base n ((c, On wire) ∷ rest) =
+    omega (arith, names-grants_in base n rest, sum_by-cons (λ (p : Position). cond (holds base (n + base) p) 1 0) (On wire) (values_of rest))
+names-grants_in base n ((c, Holds name) ∷ rest) =
+    let same : ◌≡◌ {A = ℕ} (cond (name + base == n + base) 1 0) (cond (name == n) 1 0) = ap {B = ℕ} (λ b. cond b 1 0) (eqb-shift name n base) in
+    omega (arith, names-grants_in base n rest, times-cons n name (map (λ grant. grant.0) (grants_in rest)), sum_by-cons (λ (p : Position). cond (holds base (n + base) p) 1 0) (Holds name) (values_of rest))
+
+-- a name from the base on was not given before
+not-before : (base w n : ℕ) → n % w < w → base ≤ n → once_below (share base w (n % w)) (n / w) ≡ 0
+not-before base w n below from =
+    elim (cases_lt (n / w) (share base w (n % w))) [
+      | inl low ↦ let early = (name-below base w (n % w) (n / w) below).0 low in absurd (omega (arith, name_of-exit_of w n))
+      | inr high ↦ ap {B = ℕ} (λ b. cond b 1 0) (le-ltb (n / w) (share base w (n % w)) high)
+    ]
+
+-- and is among all that came exactly where, less the base, it is among those of the epoch
+once-shift : (base k n all : ℕ) → all ≡ base + k → once_below all (n + base) ≡ once_below k n
+once-shift base k n all e = elim (cases_lt n k) [
+  | inl l ↦ ap {B = ℕ} (λ b. cond b 1 0) (lt-ltb (n + base) all (omega arith) ∙ sym (lt-ltb n k l))
+  | inr l ↦ ap {B = ℕ} (λ b. cond b 1 0) (le-ltb (n + base) all (omega arith) ∙ sym (le-ltb n k l))
+]
 
 pub tight-state : (s : State) → IsCore s → inside_in s ≡ 0 → IsTightState s
 tight-state s is none =
-    let (h, a, sound) = is.reached in
-    let quiet : IsQuiet s.network.table (ledger_of s h) = λ u within. omega (arith, on-inside u s.clients) in
-    let t = tight s.network.table is.state.network.formed is.state.network.counts (ledger_of s h) sound quiet in
+    let (h, earlier, a, sound) = is.reached in
+    let l : Ledger = ledger_of s h (carried_by s.network.table earlier) in
+    let quiet : IsQuiet s.network.table l = λ u within. omega (arith, on-inside u s.clients) in
+    let t = tight s.network.table is.state.network.formed is.state.network.counts l sound quiet in
     let w : ℕ = s.network.table.width in
     let (least, most) = is.state.network.formed.width in
     record {
@@ -99,16 +130,19 @@ tight-state s is none =
       tight = record {
         clients = λ q. omega (arith, clients-grants_in q s.clients, is.state.once q);
         names = each_below (length s.clients) (map (λ grant. grant.0) (grants_in s.clients)) (λ n.
-            let below : n % w < w = mod_below n w (omega arith) in
-            let given : times_given s.network.table (ledger_of s h) n ≡ count_by (holds n) (values_of s.clients) = rw (lt-ltb (n % w) w below, name_of-exit_of w n) refl in
-            names-grants_in n s.clients ∙ sym given ∙ t.names n ∙ ap (λ k. once_below k n) is.state.all);
+            let m : ℕ = n + s.base in
+            let below : m % w < w = mod_below m w (omega arith) in
+            let before : given_before s (m % w) (m / w) ≡ 0 = not-before s.base w m below (omega arith) in
+            let given : times_given s.network.table l m ≡ given_before s (m % w) (m / w) + count_by (holds s.base m) (values_of s.clients) = rw (lt-ltb (m % w) w below, name_of-exit_of w m) refl in
+            let among : once_below (came_in s) m ≡ once_below (length s.clients) n = once-shift s.base (length s.clients) n (came_in s) is.state.all in
+            omega (arith, names-grants_in s.base n s.clients, given, t.names m, before, among));
       };
     }
 
 -- each count has room for one more
 pub room-entered : (s : State) → IsState s → (entry : ℕ) → entry < s.network.table.entries → slice_index s.entered entry < MOST_ARRIVALS
 room-entered s is entry within =
-    omega (arith, is.few, is.all, sum_below-part s.network.table.entries entry (λ e. slice_index s.entered e) within)
+    omega (arith, is.few, is.carried, is.all, sum_below-part s.network.table.entries entry (λ e. slice_index s.entered e) within)
 
 pub room-past : (s : State) → IsCore s → (end : End) → Stands s.network.table end → past s end < MOST_ARRIVALS
-room-past s is end there = omega (arith, is.state.few, is.state.all, (bounded-state s is).ends end there)
+room-past s is end there = omega (arith, is.state.few, is.state.carried, is.state.all, (bounded-state s is).ends end there)

@@ -19,7 +19,7 @@ use Rattle.cn_ledger.specs.Ledger.{Ledger}
 use Rattle.cn_ledger.specs.Events.{Enters, Passes, Leaves}
 use Rattle.cn_core.specs.StateLedger.{ledger_of}
 use Rattle.cn_core.specs.State.{State, position_in, past, after_enter, after_step}
-use Rattle.cn_core.specs.History.{Agrees, MayAnswer, MayAnswerAll, grown, grown_by, moved_past}
+use Rattle.cn_core.specs.SinceCleared.{Agrees, ByHistories, carried_by, MayAnswer, MayAnswerAll, grown, grown_by, moved_past}
 
 -- the reply of an enter
 abbrev pub entered_reply : {U : Type 0} → Result U EnterFault → Reply
@@ -52,7 +52,7 @@ EntersTo old client entry (StepRefused fault) new = ⊥
 abbrev pub StepsTo : State → ℕ → Reply → State → Type 0
 StepsTo old client (Stepped moved) new =
     (wire : ℕ) × (position_in old.clients client ≡ Some (On wire))
-    × (moved ≡ moved_past old.network.table (end_of old.network.table wire) (past old (end_of old.network.table wire)))
+    × (moved ≡ moved_past old.network.table old.base (end_of old.network.table wire) (past old (end_of old.network.table wire)))
     × (new ≡ after_step old client (end_of old.network.table wire))
 StepsTo old client (StepRefused Stranger) new = (position_in old.clients client ≡ None) × (new ≡ old)
 StepsTo old client (StepRefused (HasName name)) new = (position_in old.clients client ≡ Some (Holds name)) × (new ≡ old)
@@ -64,18 +64,28 @@ abbrev pub TakesTo : State → Event → Reply → State → Type 0
 TakesTo old (Enter client entry) reply new = EntersTo old client entry reply new
 TakesTo old (Step client) reply new = StepsTo old client reply new
 
--- by every history that the old state agrees with this is an answer to the event, and the new state agrees with the history after it
+-- by every history and earlier epochs that the old state agrees with this is an answer to the event, and the new state
+-- agrees with the history after it
 abbrev pub AnswersByHistory : State → Event → Reply → State → Type 0
 AnswersByHistory old event reply new =
-    (history : List Event) → Agrees old history → MayAnswer old.network.table history event reply
-    × Agrees new (grown history event reply)
+    (history : List Event) (earlier : List (List Event)) → Agrees old history earlier
+    → MayAnswer old.network.table history (carried_by old.network.table earlier) event reply
+    × Agrees new (grown history event reply) earlier
 
--- by every history that the old state agrees with these are answers to the events, and the new state agrees with the history after them
+-- by every history and earlier epochs that the old state agrees with these are answers to the events, and the new state
+-- agrees with the history after them
 abbrev pub RunsByHistory : State → List Event → List Reply → State → Type 0
 RunsByHistory old events replies new =
-    (history : List Event) → Agrees old history
-    → MayAnswerAll old.network.table history events replies
-    × Agrees new (grown_by history events replies)
+    (history : List Event) (earlier : List (List Event)) → Agrees old history earlier
+    → MayAnswerAll old.network.table history (carried_by old.network.table earlier) events replies
+    × Agrees new (grown_by history events replies) earlier
+
+-- by every history and earlier epochs that the old state agrees with the new one agrees with no event after these and the
+-- epoch of the history
+abbrev pub CarriesByHistory : State → State → Type 0
+CarriesByHistory old new =
+    (history : List Event) (earlier : List (List Event)) → Agrees old history earlier
+    → Agrees new [] (history ∷ earlier)
 
 -- a step that moved a client so is one event on the ledger: a passage, or a leave. The name that is told is that of the
 -- visit less the base, the number of those that came in before the epoch.
@@ -90,14 +100,14 @@ IsMoveOf table base old new client (Out exit visit name) =
 -- an accepted enter is one event on the ledger
 abbrev pub EntersLedger : State → ℕ → ℕ → State → Type 0
 EntersLedger old client entry new =
-    (history : List Event) → Agrees old history
-    → Enters old.network.table (ledger_of old history) (ledger_of new (Enter client entry ∷ history)) client entry
+    ByHistories old (λ history carried.
+    Enters old.network.table (ledger_of old history carried) (ledger_of new (Enter client entry ∷ history) carried) client entry)
 
 -- an accepted step is one event on the ledger
 abbrev pub MovesLedger : State → ℕ → Moved → State → Type 0
 MovesLedger old client moved new =
-    (history : List Event) → Agrees old history
-    → IsMoveOf old.network.table 0 (ledger_of old history) (ledger_of new (Step client ∷ history)) client moved
+    ByHistories old (λ history carried.
+    IsMoveOf old.network.table old.base (ledger_of old history carried) (ledger_of new (Step client ∷ history) carried) client moved)
 
 -- where the event is accepted, it is one event on the ledger
 abbrev pub IsLedgerEvent : State → Event → Reply → State → Type 0

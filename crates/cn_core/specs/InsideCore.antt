@@ -9,6 +9,7 @@ use Rattle.cn_core.specs.InsideClients.{positions}
 abbrev pub state_of : Inside → State
 state_of c = record {
   network = c.network.now;
+  base = c.base;
   entered = c.entered.items;
   passes = c.passes.items;
   visits = c.exits;

@@ -1,4 +1,5 @@
 pub mod State
+pub mod SinceCleared
 pub mod History
 pub mod Passages
 pub mod StateLedger

@@ -1,10 +1,10 @@
 -- What a core keeps, as contracts see it: the state of a balancing network whose tokens belong to clients (Aspnes, Herlihy,
 -- Shavit, JACM 1994, section 2.1).
-use Rattle.std.specs.Prelude.{◌≡◌, ℕ, ◌%◌, ◌<◌, ◌≤◌, Bool, true, false, nat_eq, List, ◌∷◌, [], ◌++◌, Option, None, Some, slice_index, length, count_by, replicate}
+use Rattle.std.specs.Prelude.{◌≡◌, ℕ, ◌+◌, ◌-◌, ◌%◌, ◌<◌, ◌≤◌, Bool, true, false, nat_eq, List, ◌∷◌, [], ◌++◌, Option, None, Some, slice_index, length, count_by, replicate}
 use Rattle.std.specs.Map.{lookup, set_value, values_of}
-use Rattle.cn_spec.specs.Step.{name_of}
+use Rattle.cn_spec.specs.Step.{name_of, share}
 use Rattle.cn_spec.specs.Sums.{one_more, sum_below}
-use Rattle.cn_spec.specs.declared.limits.TheConstants.{MOST_CLIENTS}
+use Rattle.cn_spec.specs.declared.limits.TheConstants.{MOST_CARRIED, MOST_CLIENTS}
 use Rattle.cn_wiring.specs.declared.end.End.{End}
 use Rattle.cn_wiring.specs.declared.end.End.TheVariants.{Balancer, Exit}
 use Rattle.cn_wiring.specs.Table.{Table, output_wire}
@@ -12,9 +12,12 @@ use Rattle.cn_wiring.specs.Network.{Network, IsNetwork}
 use Rattle.cn_core.specs.declared.position.Position.{Position}
 use Rattle.cn_core.specs.declared.position.Position.TheVariants.{On, Holds}
 
--- a network with the counts of one epoch, and its clients in the order in which they entered
+-- a network with its counts since they were zero, and the clients of the epoch that stands open in the order in which they
+-- entered
 pub record State : Type 0 where
   pub network : Network
+  -- how many clients came in the earlier epochs whose counts are carried
+  pub base : ℕ
   -- how many came in by each entry, passed each balancer, and left by each exit
   pub entered : List ℕ
   pub passes : List ℕ
@@ -29,10 +32,10 @@ position_in clients client = lookup (nat_eq client) clients
 abbrev pub with_position : List (ℕ × Position) → ℕ → Position → List (ℕ × Position)
 with_position clients client position = set_value (nat_eq client) clients position
 
--- where the n-th token, from 0, comes to that goes past an end
-abbrev pub position_past : Table → End → ℕ → Position
-position_past table (Balancer b) n = On (output_wire table b (n % 2))
-position_past table (Exit i) n = Holds (name_of table.width i n)
+-- where the n-th token, from 0, comes to that goes past an end; names are less the base
+abbrev pub position_past : Table → ℕ → End → ℕ → Position
+position_past table base (Balancer b) n = On (output_wire table b (n % 2))
+position_past table base (Exit i) n = Holds (name_of table.width i n - base)
 
 -- how many tokens went past an end
 abbrev pub past : State → End → ℕ
@@ -47,6 +50,7 @@ came_in s = sum_below s.network.table.entries (λ entry. slice_index s.entered e
 abbrev pub after_enter : State → ℕ → ℕ → State
 after_enter s client entry = record {
   network = s.network;
+  base = s.base;
   entered = one_more s.entered entry;
   passes = s.passes;
   visits = s.visits;
@@ -57,26 +61,40 @@ after_enter s client entry = record {
 abbrev pub after_step : State → ℕ → End → State
 after_step s client (Balancer b) = record {
   network = s.network;
+  base = s.base;
   entered = s.entered;
   passes = one_more s.passes b;
   visits = s.visits;
-  clients = with_position s.clients client (position_past s.network.table (Balancer b) (slice_index s.passes b));
+  clients = with_position s.clients client (position_past s.network.table s.base (Balancer b) (slice_index s.passes b));
 }
 after_step s client (Exit i) = record {
   network = s.network;
+  base = s.base;
   entered = s.entered;
   passes = s.passes;
   visits = one_more s.visits i;
-  clients = with_position s.clients client (position_past s.network.table (Exit i) (slice_index s.visits i));
+  clients = with_position s.clients client (position_past s.network.table s.base (Exit i) (slice_index s.visits i));
 }
 
 -- a network that nobody has entered
 abbrev pub start : Network → State
 start network = record {
   network = network;
+  base = 0;
   entered = replicate network.table.entries 0;
   passes = replicate network.table.balancers 0;
   visits = replicate network.table.width 0;
+  clients = [];
+}
+
+-- the state once the epoch is over and its counts are carried on: its clients are of the base
+abbrev pub after_carry : State → State
+after_carry s = record {
+  network = s.network;
+  base = s.base + length s.clients;
+  entered = s.entered;
+  passes = s.passes;
+  visits = s.visits;
   clients = [];
 }
 
@@ -115,8 +133,11 @@ pub record IsState (s : State) : Type 0 where
   pub balancers : length s.passes ≡ s.network.table.balancers
   pub exits : length s.visits ≡ s.network.table.width
   pub few : length s.clients ≤ MOST_CLIENTS
+  -- each exit has let out its share of the base before anybody of the epoch left
+  pub carried : s.base ≤ MOST_CARRIED
+  pub shares : (i : ℕ) → i < s.network.table.width → share s.base s.network.table.width i ≤ slice_index s.visits i
   -- each client is there once, and each came in by an entry
   pub once : (client : ℕ) → times_entered client s.clients ≤ 1
-  pub all : came_in s ≡ length s.clients
+  pub all : came_in s ≡ s.base + length s.clients
   pub on_wires : (client wire : ℕ) → position_in s.clients client ≡ Some (On wire)
       → wire < length s.network.table.ends

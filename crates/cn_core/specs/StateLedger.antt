@@ -1,15 +1,16 @@
--- The ledger of a state.
-use Rattle.std.specs.Prelude.{ℕ, ◌==◌, ◌&&◌, Bool, false, nat_eq, nat_lt, List, slice_index, count_by}
+-- The ledger of a state: of all that came since the counts were zero. Of the clients that came in earlier epochs the state
+-- tells the number alone: in the ledger client 0 stands for each of them.
+use Rattle.std.specs.Prelude.{ℕ, ◌+◌, ◌==◌, ◌&&◌, Bool, false, nat_eq, nat_lt, List, slice_index, count_by}
 use Rattle.std.specs.Map.{values_of}
-use Rattle.cn_spec.specs.Step.{name_of}
-use Rattle.cn_spec.specs.Sums.{when}
+use Rattle.cn_spec.specs.Step.{name_of, share}
+use Rattle.cn_spec.specs.Sums.{when, once_below}
 use Rattle.cn_wiring.specs.declared.end.End.{End}
 use Rattle.cn_wiring.specs.declared.end.End.TheVariants.{Balancer, Exit}
 use Rattle.cn_core.specs.declared.event.Event.{Event}
 use Rattle.cn_core.specs.declared.position.Position.{Position}
 use Rattle.cn_core.specs.declared.position.Position.TheVariants.{On, Holds}
 use Rattle.cn_core.specs.State.{State, IsState, past}
-use Rattle.cn_core.specs.History.{Agrees}
+use Rattle.cn_core.specs.SinceCleared.{Agrees, Carried, carried_by}
 use Rattle.cn_core.specs.Passages.{passages_of, times_passed}
 use Rattle.cn_ledger.specs.Ledger.{Ledger, IsSound}
 
@@ -18,45 +19,53 @@ abbrev pub is_on : ℕ → Position → Bool
 is_on u (On wire) = wire == u
 is_on u (Holds name) = false
 
--- does the client hold this name?
-abbrev pub holds : ℕ → Position → Bool
-holds name (On wire) = false
-holds name (Holds other) = other == name
+-- does the client hold this name, which is told less the base?
+abbrev pub holds : ℕ → ℕ → Position → Bool
+holds base name (On wire) = false
+holds base name (Holds other) = other + base == name
+
+-- how often the name of a visit of an exit was given in earlier epochs: they gave each exit its share of the base
+abbrev pub given_before : State → ℕ → ℕ → ℕ
+given_before s i v = once_below (share s.base s.network.table.width i) v
 
 -- how many clients hold the name of a visit of an exit
 abbrev pub held_in : State → ℕ → ℕ → ℕ
-held_in s i v =
-    when (nat_lt i s.network.table.width) (count_by (holds (name_of s.network.table.width i v)) (values_of s.clients))
+held_in s i v = count_by (holds s.base (name_of s.network.table.width i v)) (values_of s.clients)
 
--- how often a number was given: a passage's in the history, a visit's to the clients that hold its name
-abbrev pub given_in : State → List Event → End → ℕ → ℕ
-given_in s history (Balancer b) n = times_passed b n (passages_of s.network.table history)
-given_in s history (Exit i) v = held_in s i v
+-- how often a number was given: before the epoch; and a passage's in the history, a visit's to the clients that hold its
+-- name
+abbrev pub given_in : State → List Event → Carried → End → ℕ → ℕ
+given_in s history carried (Balancer b) n =
+    once_below (carried.steps (Balancer b)) n + times_passed b n (passages_of s.network.table history carried)
+given_in s history carried (Exit i) v =
+    when (nat_lt i s.network.table.width) (given_before s i v + held_in s i v)
 
 -- how often a client was granted a visit of an exit and its name
 abbrev pub granted_in : State → ℕ → ℕ → ℕ → ℕ → ℕ
 granted_in s c i v name =
     when (nat_lt i s.network.table.width && (name_of s.network.table.width i v == name))
-    (count_by (λ e. nat_eq c e.0 && holds name e.1) s.clients)
+    (when (0 == c) (given_before s i v) + count_by (λ e. nat_eq c e.0 && holds s.base name e.1) s.clients)
 
--- the ledger of a state, with the passages of a history
-abbrev pub ledger_of : State → List Event → Ledger
-ledger_of s history = record {
+-- the ledger of a state, with the passages of a history after what is carried
+abbrev pub ledger_of : State → List Event → Carried → Ledger
+ledger_of s history carried = record {
   entered = λ entry. slice_index s.entered entry;
   count = past s;
   on = λ u. count_by (is_on u) (values_of s.clients);
   standing = λ u c. count_by (λ e. nat_eq c e.0 && is_on u e.1) s.clients;
-  given = given_in s history;
+  given = given_in s history carried;
   granted = granted_in s;
 }
 
--- the ledger is sound by this history
-abbrev pub HasSoundLedger : State → List Event → Type 0
-HasSoundLedger s history = IsSound s.network.table (ledger_of s history)
+-- the ledger is sound by this history after what is carried
+abbrev pub HasSoundLedger : State → List Event → Carried → Type 0
+HasSoundLedger s history carried = IsSound s.network.table (ledger_of s history carried)
 
--- some history leads to this state, and the ledger is sound by it
+-- some history and earlier epochs lead to this state, and the ledger is sound by them
 abbrev pub IsReached : State → Type 0
-IsReached s = (history : List Event) × Agrees s history × HasSoundLedger s history
+IsReached s =
+    (history : List Event) × (earlier : List (List Event))
+    × Agrees s history earlier × HasSoundLedger s history (carried_by s.network.table earlier)
 
 -- what each core keeps
 pub record IsCore (s : State) : Type 0 where

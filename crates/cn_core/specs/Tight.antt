@@ -6,10 +6,11 @@ use Rattle.std.specs.Map.{keys_of}
 use Rattle.cn_spec.specs.Step.{share, IsEachBelow}
 use Rattle.cn_spec.specs.Sums.{Agree}
 use Rattle.cn_wiring.specs.declared.end.End.{End}
-use Rattle.cn_wiring.specs.declared.end.End.TheVariants.{Balancer}
+use Rattle.cn_wiring.specs.declared.end.End.TheVariants.{Balancer, Exit}
 use Rattle.cn_wiring.specs.Table.{IsFullFlow, Stands, sum_at}
 use Rattle.cn_core.specs.declared.position.Position.{Position}
 use Rattle.cn_core.specs.declared.position.Position.TheVariants.{On, Holds}
+use Rattle.cn_core.specs.SinceCleared.{Carried}
 use Rattle.cn_core.specs.State.{State, came_in, name_in, past}
 
 -- the name and the client of each client that holds a name, in the order in which they entered
@@ -32,6 +33,11 @@ pub record IsTightState (s : State) : Type 0 where
   pub everyone : length (grants_in s.clients) ≡ length s.clients
   pub tight : IsTightEpoch (length s.clients) (grants_in s.clients)
 
+-- what earlier epochs left by each exit is its share of their clients
+abbrev pub HasShares : ℕ → Carried → Type 0
+HasShares width carried =
+    (exit : ℕ) → exit < width → carried.steps (Exit exit) ≡ share carried.enters width exit
+
 -- a full flow of all that came in
 abbrev pub BringsAll : State → (ℕ → ℕ) → Type 0
 BringsAll s f =
@@ -45,6 +51,9 @@ pub record IsBoundedState (s : State) : Type 0 where
   -- no exit has let out more than its share of what came in
   pub counts : (i : ℕ) → i < s.network.table.width
       → slice_index s.visits i ≤ share (came_in s) s.network.table.width i
+  -- nor less than its share of the base: the visits of the epoch begin there
+  pub carried : (i : ℕ) → i < s.network.table.width
+      → share s.base s.network.table.width i ≤ slice_index s.visits i
   -- no count is more than what came in
   pub entries : (entry : ℕ) → entry < s.network.table.entries
       → slice_index s.entered entry ≤ came_in s

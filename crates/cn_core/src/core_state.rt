@@ -1,7 +1,7 @@
-//! The running network of one epoch, by one thread.
+//! The running network of epochs, by one thread.
 
-ghost use Rattle.std.specs.Prelude.{◌≡◌, ℕ, ◌<◌, ◌≤◌, ◌↔◌, List, [], Some, length, slice_index, IfOk, OnOk, OnErr, IfSome, IsTrue};
-ghost use Rattle.cn_spec.specs.declared.limits.TheConstants.{MOST_ARRIVALS, MOST_CLIENTS};
+ghost use Rattle.std.specs.Prelude.{◌≡◌, ℕ, ◌+◌, ◌<◌, ◌≤◌, ◌↔◌, List, [], ◌∷◌, Some, length, slice_index, IfOk, OnOk, OnErr, IfSome, IsTrue};
+ghost use Rattle.cn_spec.specs.declared.limits.TheConstants.{MOST_ARRIVALS, MOST_CARRIED, MOST_CLIENTS};
 ghost use Rattle.cn_spec.specs.Step.{share};
 ghost use Rattle.cn_spec.specs.Sums.{one_more};
 ghost use Rattle.cn_wiring.specs.Table.{sum_at};
@@ -19,13 +19,14 @@ use std::hash::RandomState;
 use std::marker::Model;
 
 /// The running network of one epoch: its counts, and its clients with their positions. One event is one atomic step of the
-/// network.
+/// network. The next epoch begins with no counts ([`Core::clear`]), or goes on from these ([`Core::carry`]).
 ///
 /// An enter and a step make at most two hash look-ups each, and relink one record of the yard, however many tokens are inside.
 #[derive(Drop)]
 pub struct Core<'a> {
     alloc: Global,
     network: &'a Counting,
+    base: u64,
     entered: Vec<u64>,
     passes: Vec<u64>,
     exits: Exits,
@@ -66,11 +67,11 @@ fn count_one(counts: &mut Vec<u64>, at: usize) -> u64
 impl<'a> Core<'a> {
     ghost use Rattle.cn_core.specs.declared.event.Event.{Event};
     ghost use Rattle.cn_core.specs.declared.event.Event.TheVariants.{Enter, Step};
-    ghost use Rattle.cn_core.specs.State.{came_in, inside_in, name_in, start};
-    ghost use Rattle.cn_core.specs.History.{Agrees, ByHistories, enters_of, inside_of};
+    ghost use Rattle.cn_core.specs.State.{after_carry, came_in, inside_in, name_in, start};
+    ghost use Rattle.cn_core.specs.SinceCleared.{Agrees, ByHistories, enters_of, inside_of};
     ghost use Rattle.cn_core.specs.StateLedger.{HasSoundLedger};
-    ghost use Rattle.cn_core.specs.Tight.{BringsAll, IsBoundedState, IsTightState, ListsHolders};
-    ghost use Rattle.cn_core.specs.Calls.{AnswersByHistory, EntersLedger, EntersTo, IsLedgerEvent, MovesLedger, RunsByHistory, RunsTo, StepsTo, TakesTo, entered_reply, stepped_reply};
+    ghost use Rattle.cn_core.specs.Tight.{BringsAll, HasShares, IsBoundedState, IsTightState, ListsHolders};
+    ghost use Rattle.cn_core.specs.Calls.{AnswersByHistory, CarriesByHistory, EntersLedger, EntersTo, IsLedgerEvent, MovesLedger, RunsByHistory, RunsTo, StepsTo, TakesTo, entered_reply, stepped_reply};
 
     /// A network that nobody has entered. The table of its clients hashes by `state`.
     ///
@@ -78,11 +79,12 @@ impl<'a> Core<'a> {
     /// `AllocError` where the counts or the wires get no memory.
     pub fn new(alloc: Global, network: &'a Counting, state: RandomState) -> Result<Self, AllocError>
         ensures start { IfOk result (λ core. core ≡ start network.now) }
-        ensures history { IfOk result (λ core. Agrees core []) }
+        ensures history { IfOk result (λ core. Agrees core [] []) }
     {
         Ok(Core {
             alloc,
             network,
+            base: 0,
             entered: vec![in alloc; 0; network.entries() as usize]?,
             passes: vec![in alloc; 0; network.balancers() as usize]?,
             exits: Exits::new(alloc, network.width())?,
@@ -90,24 +92,39 @@ impl<'a> Core<'a> {
         })
     }
 
-    /// How many clients entered: at most [`MOST_CLIENTS`].
+    /// How many clients entered: at most [`MOST_CLIENTS`]. Those of earlier epochs are not among them.
     pub fn entered(&self) -> u64
         ensures value { result ≡ length self.now.clients }
-        ensures by_history { ByHistories self.now (λ history. result ≡ enters_of history) }
+        ensures by_history { ByHistories self.now (λ history carried. result ≡ enters_of history) }
     {
         self.clients.len() as u64
     }
 
-    /// What holds in every state: its clients are few, and all came in by entries; each exit has a count; some history
-    /// leads to it, and by each that does its ledger is sound; no count is more than what came in, and no exit has let out
-    /// more than its share of that; the names differ and are below the number of the clients.
+    /// How many clients entered in the earlier epochs whose counts are carried ([`Core::carry`]): at most [`MOST_CARRIED`].
+    /// The names of the epoch are told less this. It takes no memory.
+    pub fn base(&self) -> u64
+        ensures value { result ≡ self.now.base }
+        ensures by_history { ByHistories self.now (λ history carried. result ≡ carried.enters) }
+        ensures few { result ≤ MOST_CARRIED }
+    {
+        self.base
+    }
+
+    /// What holds in every state: its clients are few, and so are the carried ones, and all came in by entries; each exit has
+    /// a count; some history leads to it, and by each that does its ledger is sound, and what is carried by each exit is its
+    /// share of the carried clients; no count is more than what came in, and no exit has let out more than its share of that,
+    /// nor less than its share of the carried clients; the names differ and are below the number of the clients.
     ///
     /// It does nothing: its contract is the law.
     pub fn state_laws(&self)
         ensures few { length self.now.clients ≤ MOST_CLIENTS }
-        ensures came { came_in self.now ≡ length self.now.clients }
+        ensures carried { self.now.base ≤ MOST_CARRIED }
+        ensures came { came_in self.now ≡ self.now.base + length self.now.clients }
         ensures exits { length self.now.visits ≡ self.now.network.table.width }
-        ensures reached { (history : List Event) × Agrees self.now history }
+        ensures reached { (history : List Event) × (earlier : List (List Event))
+            × Agrees self.now history earlier }
+        ensures shares { ByHistories self.now (λ history carried.
+            HasShares self.now.network.table.width carried) }
         ensures sound { ByHistories self.now (HasSoundLedger self.now) }
         ensures bounded { IsBoundedState self.now }
     {
@@ -118,14 +135,14 @@ impl<'a> Core<'a> {
     /// How many clients are inside: they entered and hold no name.
     pub fn inside(&self) -> u64
         ensures value { result ≡ inside_in self.now }
-        ensures by_history { ByHistories self.now (λ history.
-            result ≡ inside_of self.now.network.table history) }
+        ensures by_history { ByHistories self.now (λ history carried.
+            result ≡ inside_of self.now.network.table history carried) }
     {
         u64::from(self.clients.inside())
     }
 
-    /// Whether nobody is inside. Then each exit has let out its share of the clients that entered, and they hold the names
-    /// below their number, each once.
+    /// Whether nobody is inside. Then each exit has let out its share of the clients that came in, the carried ones too, and
+    /// those that entered hold the names below their number, each once.
     pub fn is_quiet(&self) -> bool
         ensures value { IsTrue result ↔ (inside_in self.now ≡ 0) }
         ensures tight { IsTrue result → IsTightState self.now }
@@ -133,8 +150,8 @@ impl<'a> Core<'a> {
         self.clients.inside() == 0
     }
 
-    /// How many tokens passed a balancer below [`Counting::balancers`]: at most what the full flow of all that came in
-    /// brings there.
+    /// How many tokens passed a balancer below [`Counting::balancers`] since the counts were zero: at most what the full flow
+    /// of all that came in brings there.
     pub fn balancer_count(&self, balancer: u32) -> u64
         requires { balancer < self.now.network.table.balancers }
         ensures value { result ≡ slice_index self.now.passes balancer }
@@ -145,7 +162,8 @@ impl<'a> Core<'a> {
         count_at(&self.passes, balancer as usize)
     }
 
-    /// How many tokens left by an exit below [`Counting::width`]: at most its share of all that came in.
+    /// How many tokens left by an exit below [`Counting::width`] since the counts were zero: at most its share of all that
+    /// came in.
     pub fn exit_count(&self, exit: u32) -> u64
         requires { exit < self.now.network.table.width }
         ensures value { result ≡ slice_index self.now.visits exit }
@@ -185,11 +203,29 @@ impl<'a> Core<'a> {
     pub fn clear(&mut self)
         requires { inside_in self.old ≡ 0 }
         ensures start { self.new ≡ start self.old.network }
-        ensures history { Agrees self.new [] }
+        ensures history { Agrees self.new [] [] }
     {
+        self.base = 0;
         self.entered.fill(0);
         self.passes.fill(0);
         self.exits.clear();
+        self.clients.clear();
+    }
+
+    /// Where nobody is inside ([`Core::is_quiet`]), forgets all clients and keeps the counts: the next epoch goes on from
+    /// them, and each exit's first visit in it is its share of the clients that are carried ([`Core::base`]). It takes no
+    /// memory.
+    ///
+    /// The carried clients and those that entered are together at most [`MOST_CARRIED`].
+    pub fn carry(&mut self)
+        requires quiet { inside_in self.old ≡ 0 }
+        requires room { self.old.base + length self.old.clients ≤ MOST_CARRIED }
+        ensures event { self.new ≡ after_carry self.old }
+        ensures visits { (exit : ℕ) → exit < self.old.network.table.width
+            → slice_index self.new.visits exit ≡ share self.new.base self.old.network.table.width exit }
+        ensures history { CarriesByHistory self.old self.new }
+    {
+        self.base += self.entered();
         self.clients.clear();
     }
 
@@ -252,6 +288,8 @@ impl<'a> Core<'a> {
             }
             End::Exit(exit) => {
                 let Leave { visit, name } = self.exits.take(exit);
+                // The names below the base are those of earlier epochs.
+                let name = name - self.base;
                 self.clients.settle(client, token, name);
                 Ok(Moved::Out { exit, visit, name })
             }

@@ -11,7 +11,7 @@ ghost use Rattle.cn_core.specs.declared.reply.Moved.TheVariants.{On as Passed, O
 ghost use Rattle.cn_core.specs.declared.reply.Reply.TheVariants.{Entered, EnterRefused, StepRefused, Stepped};
 ghost use Rattle.cn_core.specs.declared.reply.StepFault.TheVariants.{HasName, Stranger};
 
-/// After any history two clients that hold one name are one client.
+/// After any history, where no epoch came before, two clients that hold one name are one client.
 pub fn a_name_has_one_holder()
     ensures { (network : Network) (history : List Event)
         → IsNetwork network → HasOneHolder network.table history }

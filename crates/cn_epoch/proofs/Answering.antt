@@ -1,27 +1,30 @@
 -- The answers of epochs by their turns and history.
-use Rattle.std.proofs.Common.{◌≡◌, ℕ, ◌+◌, ◌<◌, List, ◌∷◌, length, get_or, drop, sym, ap, ◌∙◌, arith, Option, Some, None, slice_index, Result, Ok, Err}
+use Rattle.std.proofs.Common.{◌≡◌, ℕ, ◌+◌, ◌<◌, ◌≤◌, Bool, true, false, refl, subst, List, [], ◌∷◌, length, get_or, drop, sym, ap, ◌∙◌, arith, Option, Some, None, slice_index, Result, Ok, Err}
 use Rattle.std.proofs.lemmas.List.{drop_more}
 use Rattle.cn_spec.specs.Step.{share}
 use Rattle.cn_wiring.specs.declared.end.End.TheVariants.{Exit}
 use Rattle.cn_core.specs.declared.event.Event.{Event}
-use Rattle.cn_core.specs.declared.event.Event.TheVariants.{Step as StepEvent}
+use Rattle.cn_core.specs.declared.event.Event.TheVariants.{Enter as EnterEvent, Step as StepEvent}
 use Rattle.cn_core.specs.declared.position.Position.{Position}
 use Rattle.cn_core.specs.declared.position.Position.TheVariants.{On, Holds}
 use Rattle.std.specs.Prelude.{IfOk}
 use Rattle.cn_core.specs.declared.reply.Moved.{Moved}
 use Rattle.cn_core.specs.declared.reply.StepFault.{StepFault}
+use Rattle.cn_core.specs.SinceCleared as core
+use Rattle.cn_core.specs.SinceCleared.{AgreesAfter, Carried, inside_of}
 use Rattle.cn_core.specs.Calls.{IsLedgerEvent, MovesLedger, stepped_reply}
-use Rattle.cn_core.specs.State.{State, came_in, inside_in, name_at, position_in, start}
-use Rattle.cn_core.specs.Tight.{IsTightState}
-use Rattle.cn_core.proofs.CallerLemmas.{Agrees-start, inside-by_history}
+use Rattle.cn_core.specs.State.{State, came_in, inside_in, name_at, position_in}
+use Rattle.cn_core.specs.Tight.{HasShares, IsTightState}
+use Rattle.cn_core.proofs.CallerLemmas.{came-after as event-after, Agrees-after_carry, Agrees-start, inside-by_history}
 use Rattle.cn_epoch.specs.declared.answer.Answer.{Answer}
-use Rattle.cn_epoch.specs.declared.answer.Answer.TheVariants.{Turned, TurnRefused}
-use Rattle.cn_epoch.specs.declared.answer.TurnFault.TheVariants.{Memory}
+use Rattle.cn_epoch.specs.declared.answer.Answer.TheVariants.{Replied, Turned, TurnRefused}
+use Rattle.cn_epoch.specs.declared.answer.TurnFault.TheVariants.{Memory, NotQuiet}
 use Rattle.cn_epoch.specs.declared.command.Command.{Command}
-use Rattle.cn_epoch.specs.declared.command.Command.TheVariants.{Turn}
+use Rattle.cn_epoch.specs.declared.command.Command.TheVariants.{Enter, Step, Turn}
 use Rattle.cn_epoch.specs.declared.record.EpochRecord.{EpochRecord}
 use Rattle.cn_epoch.specs.Calls.{AnswersByHistory, TellsEpoch, RunsTo, TakesTo, RunsByHistory}
-use Rattle.cn_epoch.specs.Turns.{Agrees, Epochs, IsRecordOf, IsTightRecord}
+use Rattle.cn_epoch.specs.SinceCleared.{Agrees, ByHistories, Epochs, IsRecordOf, carried_in, earlier_after, earlier_in, kept_after, next}
+use Rattle.cn_epoch.specs.Turns.{IsTightRecord}
 
 -- ---- a turn
 
@@ -30,14 +33,13 @@ named None name e = absurd (cc)
 named (Some (On wire)) name e = absurd (cc)
 named (Some (Holds other)) name e = ap (λ n. Some (Holds n)) (let same : other ≡ name = cc in same)
 
-counted : (old : Epochs) (r : EpochRecord) → TellsEpoch old r → (i : ℕ) → slice_index r.counts.items i ≡ slice_index old.core.visits i
-counted old r told i = ap (λ counts. slice_index counts i) told.counts
-
-pub told-tight : (old : Epochs) (r : EpochRecord) → TellsEpoch old r → length old.core.visits ≡ old.core.network.table.width → came_in old.core ≡ length old.core.clients
-    → IsTightState old.core → IsTightRecord old.core.network.table.width r
-told-tight old r told exits came tight = record {
-  exits = ap length told.counts ∙ exits;
-  counts = λ i within. counted old r told i ∙ tight.counts i within ∙ ap (λ n. share n old.core.network.table.width i) (came ∙ sym told.clients);
+pub told-tight : (old : Epochs) (r : EpochRecord) → TellsEpoch old r → came_in old.core ≡ old.core.base + length old.core.clients
+    → IsTightState old.core → IsTightRecord old.core.network.table.width old.core.base r
+told-tight old r told came tight = record {
+  exits = told.exits;
+  counts = λ i within.
+      let clients = told.clients in
+      told.counts i within ∙ tight.counts i within ∙ ap (λ n. share n old.core.network.table.width i) (omega (arith, came));
   names = told.holders.all ∙ sym told.clients;
   distinct = λ m n before within same.
       let many = told.clients in
@@ -48,38 +50,93 @@ told-tight old r told exits came tight = record {
       omega arith;
 }
 
-pub told-record : (old : Epochs) (r : EpochRecord) → TellsEpoch old r → length old.core.visits ≡ old.core.network.table.width → (turns : ℕ) (history : List Event) → Agrees old turns history → IsRecordOf old.core.network.table turns history r
-told-record old r told exits turns history agrees = record {
-  number = told.number ∙ agrees.number;
-  clients = told.clients ∙ agrees.core.total;
-  exits = ap length told.counts ∙ exits;
-  counts = λ i within. counted old r told i ∙ agrees.core.counts (Exit i);
-  names = told.holders.all ∙ agrees.core.total;
+pub told-record : (old : Epochs) (r : EpochRecord) → TellsEpoch old r → (turns : ℕ) (history : List Event) (carried : Carried) → old.number ≡ turns → AgreesAfter old.core history carried
+    → HasShares old.core.network.table.width carried → IsRecordOf old.core.network.table turns history carried r
+told-record old r told turns history carried number agrees shares = record {
+  number = told.number ∙ number;
+  clients = told.clients ∙ agrees.total;
+  exits = told.exits;
+  counts = λ i within.
+      let before : carried.steps (Exit i) ≡ share old.core.base old.core.network.table.width i = shares i within ∙ ap (λ m. share m old.core.network.table.width i) (sym agrees.base) in
+      omega (arith, told.counts i within, agrees.counts (Exit i));
+  names = told.holders.all ∙ agrees.total;
   holders = λ name below.
-      let total = agrees.core.total in
+      let total = agrees.total in
       let holder = slice_index r.holders.items name in
-      sym (agrees.core.positions holder) ∙ named (position_in old.core.clients holder) name (told.holders.by_name name (omega arith));
+      sym (agrees.positions holder) ∙ named (position_in old.core.clients holder) name (told.holders.by_name name (omega arith));
 }
 
-pub turned-after : (old new : Epochs) (r : EpochRecord) → TellsEpoch old r → length old.core.visits ≡ old.core.network.table.width → inside_in old.core ≡ 0 → new ≡ record { number = old.number + 1; core = start old.core.network }
-    → AnswersByHistory old Turn (Turned r) new
-turned-after old new r told exits quiet is turns history agrees = (
-  (sym (inside-by_history old.core history agrees.core) ∙ quiet, told-record old r told exits turns history agrees),
-  rw is (record { number = ap (λ (n : ℕ). n + 1) agrees.number; core = Agrees-start old.core.network }),
+-- nobody is inside by history
+quiet-by_history : (old : Epochs) → inside_in old.core ≡ 0 → ByHistories old (λ turns history carried. inside_of old.core.network.table history carried ≡ 0)
+quiet-by_history old quiet turns history kept agrees = sym (inside-by_history old.core history (carried_in old.core.network.table kept) agrees.core.1) ∙ quiet
+
+next-by : (core : State) (carries is : Bool) → carries ≡ is → next carries core ≡ next is core
+next-by core carries is same = ap (λ carries. next carries core) same
+
+-- the next epoch agrees with the history that a turn leaves
+begun-after : (old : Epochs) (turns : ℕ) (history : List Event) (kept : Option (List (List Event))) (r : EpochRecord) → inside_in old.core ≡ 0 → Agrees old turns history kept
+    → Agrees (record { number = old.number + 1; carries = old.carries; core = next old.carries old.core }) (turns + 1) [] (kept_after kept history (Turned r))
+begun-after old turns history None r quiet agrees = record {
+  number = ap (λ (n : ℕ). n + 1) agrees.number;
+  carries = agrees.carries;
+  core = subst (λ s. core.Agrees s [] []) (sym (next-by old.core old.carries false agrees.carries)) (Agrees-start old.core.network);
+}
+begun-after old turns history (Some earlier) r quiet agrees = record {
+  number = ap (λ (n : ℕ). n + 1) agrees.number;
+  carries = agrees.carries;
+  core = subst (λ s. core.Agrees s [] (history ∷ earlier)) (sym (next-by old.core old.carries true agrees.carries)) (Agrees-after_carry old.core history earlier quiet agrees.core);
+}
+
+pub turned-after : (old new : Epochs) (r : EpochRecord) → TellsEpoch old r → core.ByHistories old.core (λ history carried. HasShares old.core.network.table.width carried) → inside_in old.core ≡ 0
+    → new ≡ record { number = old.number + 1; carries = old.carries; core = next old.carries old.core } → AnswersByHistory old Turn (Turned r) new
+turned-after old new r told shares quiet is turns history kept agrees = (
+  (quiet-by_history old quiet turns history kept agrees, told-record old r told turns history (carried_in old.core.network.table kept) agrees.number agrees.core.1 (shares history (earlier_in kept) agrees.core)),
+  rw is (begun-after old turns history kept r quiet agrees),
 )
 
 pub memory-after : (old : Epochs) → inside_in old.core ≡ 0 → AnswersByHistory old Turn (TurnRefused Memory) old
-memory-after old quiet turns history agrees = (sym (inside-by_history old.core history agrees.core) ∙ quiet, agrees)
+memory-after old quiet turns history None agrees = (quiet-by_history old quiet turns history None agrees, agrees)
+memory-after old quiet turns history (Some earlier) agrees = (quiet-by_history old quiet turns history (Some earlier) agrees, agrees)
+
+-- those that are carried and those that entered are one more at most
+came-next : (core : State) (carries : Bool) → (next carries core).base + length (next carries core).clients ≤ core.base + length core.clients + 1
+came-next core true = omega arith
+came-next core false = omega arith
+
+pub came-after : (old : Epochs) (command : Command) (answer : Answer) (new : Epochs) → TakesTo old command answer new
+    → (new.carries ≡ old.carries) × (new.core.base + length new.core.clients ≤ old.core.base + length old.core.clients + 1)
+came-after old (Enter client entry) (Replied reply) new (goes, ledger, number, carries) = (carries, event-after old.core new.core (EnterEvent client entry) reply goes)
+came-after old (Enter client entry) (Turned r) new none = absurd none
+came-after old (Enter client entry) (TurnRefused fault) new none = absurd none
+came-after old (Step client) (Replied reply) new (goes, ledger, number, carries) = (carries, event-after old.core new.core (StepEvent client) reply goes)
+came-after old (Step client) (Turned r) new none = absurd none
+came-after old (Step client) (TurnRefused fault) new none = absurd none
+came-after old Turn (Turned r) new (quiet, told, tight, e) = rw e (refl, came-next old.core old.carries)
+came-after old Turn (TurnRefused (NotQuiet s)) new (some, inside, e) = rw e (refl, omega arith)
+came-after old Turn (TurnRefused Memory) new (quiet, e) = rw e (refl, omega arith)
+came-after old Turn (Replied reply) new none = absurd none
 
 -- ---- commands one after another
 
+pub runs-none : (epochs : Epochs) → RunsByHistory epochs [] [] epochs
+runs-none epochs turns history None agrees = (tt, agrees)
+runs-none epochs turns history (Some earlier) agrees = (tt, agrees)
+
+-- the first answer, and those to what is left
+runs-first : (old mid new : Epochs) (c : Command) (cs : List Command) (a : Answer) (rest : List Answer)
+    → AnswersByHistory old c a mid → mid.core.network ≡ old.core.network → RunsByHistory mid cs rest new → RunsByHistory old (c ∷ cs) (a ∷ rest) new
+runs-first old mid new c cs a rest answered same runs turns history None agrees =
+    let (may, after) = answered turns history None agrees in
+    let (others, last) = runs _ _ None after in
+    ((may, rw same at others), last)
+runs-first old mid new c cs a rest answered same runs turns history (Some earlier) agrees =
+    let (may, after) = answered turns history (Some earlier) agrees in
+    let (others, last) = runs _ _ (Some (earlier_after earlier history a)) after in
+    ((may, rw same at others), last)
+
 pub runs-at : (old mid new : Epochs) (cs : List Command) (i : ℕ) (d : Command) (a : Answer) (rest : List Answer) → i < length cs
     → AnswersByHistory old (get_or cs i d) a mid → mid.core.network ≡ old.core.network → RunsByHistory mid (drop (i + 1) cs) rest new → RunsByHistory old (drop i cs) (a ∷ rest) new
-runs-at old mid new cs i d a rest within answered same runs =
-    rw (drop_more cs i d within) (λ turns history agrees.
-    let (may, after) = answered turns history agrees in
-    let (others, last) = runs _ _ after in
-    ((may, rw same at others), last))
+runs-at old mid new cs i d a rest within answered same runs = rw (drop_more cs i d within) (runs-first old mid new (get_or cs i d) (drop (i + 1) cs) a rest answered same runs)
 
 pub runs_to-at : (old mid new : Epochs) (cs : List Command) (i : ℕ) (d : Command) (a : Answer) (rest : List Answer) → i < length cs
     → TakesTo old (get_or cs i d) a mid → RunsTo mid (drop (i + 1) cs) rest new → RunsTo old (drop i cs) (a ∷ rest) new

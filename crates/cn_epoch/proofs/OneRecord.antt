@@ -8,6 +8,7 @@ use Rattle.cn_core.specs.declared.event.Event.{Event}
 use Rattle.cn_core.specs.declared.event.Event.TheVariants.{Enter as EnterEvent, Step as StepEvent}
 use Rattle.cn_core.specs.declared.reply.Reply.{Reply}
 use Rattle.cn_core.specs.History as core
+use Rattle.cn_core.specs.SinceCleared.{nothing}
 use Rattle.cn_core.proofs.CallerLemmas.{one-holder}
 use Rattle.cn_epoch.specs.declared.answer.Answer.{Answer}
 use Rattle.cn_epoch.specs.declared.answer.Answer.TheVariants.{Replied, Turned, TurnRefused}
@@ -15,7 +16,9 @@ use Rattle.cn_epoch.specs.declared.answer.TurnFault.TheVariants.{NotQuiet, Memor
 use Rattle.cn_epoch.specs.declared.command.Command.{Command}
 use Rattle.cn_epoch.specs.declared.command.Command.TheVariants.{Enter, Step, Turn}
 use Rattle.cn_epoch.specs.declared.record.EpochRecord.{EpochRecord}
-use Rattle.cn_epoch.specs.Turns.{HadMemory, IsRecordOf, IsSameAnswer, IsSameRecord, MayAnswerAll, MayAnswer, MayReply, MayTurn, cut_by, grown, grown_by, replied_to, turns_after, turns_by}
+use Rattle.cn_epoch.specs.SinceCleared as since
+use Rattle.cn_epoch.specs.SinceCleared.{cut_by, grown, grown_by, replied_to, turns_after, turns_by}
+use Rattle.cn_epoch.specs.Turns.{HadMemory, IsRecordOf, IsSameAnswer, IsSameRecord, MayAnswerAll, MayAnswer}
 
 module _ (network : Network) (is : IsNetwork network) where
   pub one-record : (turns : ℕ) (history : List Event) (r s : EpochRecord) → IsRecordOf network.table turns history r → IsRecordOf network.table turns history s → IsSameRecord r s
@@ -24,7 +27,7 @@ module _ (network : Network) (is : IsNetwork network) where
     clients = one.clients ∙ sym other.clients;
     counts = ext_get_or 0 r.counts.items s.counts.items (one.exits ∙ sym other.exits) (λ i below.
         let within : i < network.table.width = omega (arith, one.exits) in
-        one.counts i within ∙ sym (other.counts i within));
+        omega (arith, one.counts i within, other.counts i within));
     holders = ext_get_or 0 r.holders.items s.holders.items (one.names ∙ sym other.names) (λ name below.
         let within = one.names in
         one-holder network is history (slice_index r.holders.items name) (slice_index s.holders.items name) name (one.holders name (omega arith)) (other.holders name (omega arith)));
@@ -36,7 +39,7 @@ module _ (network : Network) (is : IsNetwork network) where
   one-reply history event reply other (inr (accepted, memory)) may told also = absurd (told memory)
   one-reply history event reply other (inl e) (inr (accepted, memory)) told also = absurd (also memory)
 
-  same-reply : (history : List Event) (event : Event) (answer other : Answer) → MayReply network.table history event answer → MayReply network.table history event other
+  same-reply : (history : List Event) (event : Event) (answer other : Answer) → since.MayReply network.table history nothing event answer → since.MayReply network.table history nothing event other
       → HadMemory answer → HadMemory other → IsSameAnswer answer other
   same-reply history event (Replied reply) (Replied other) may might told also = one-reply history event reply other may might told also
   same-reply history event (Turned r) other may might told also = absurd may
@@ -44,7 +47,7 @@ module _ (network : Network) (is : IsNetwork network) where
   same-reply history event (Replied reply) (Turned r) may might told also = absurd might
   same-reply history event (Replied reply) (TurnRefused fault) may might told also = absurd might
 
-  same-turn : (turns : ℕ) (history : List Event) (answer other : Answer) → MayTurn network.table turns history answer → MayTurn network.table turns history other
+  same-turn : (turns : ℕ) (history : List Event) (answer other : Answer) → since.MayTurn network.table turns history nothing answer → since.MayTurn network.table turns history nothing other
       → HadMemory answer → HadMemory other → IsSameAnswer answer other
   same-turn turns history (Turned r) (Turned s) (quiet, one) (_, another) told also = one-record turns history r s one another
   same-turn turns history (TurnRefused (NotQuiet s)) (TurnRefused (NotQuiet t)) (some, is) (more, also) _ _ = ap (λ n. NotQuiet n) (is ∙ sym also)

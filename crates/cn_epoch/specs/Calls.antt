@@ -1,10 +1,11 @@
 -- What the calls of epochs answer and leave.
-use Rattle.std.specs.Prelude.{◌≡◌, ℕ, ◌+◌, ◌≤◌, List, [], ◌∷◌, Result, Ok, Err, length}
+use Rattle.std.specs.Prelude.{◌≡◌, ℕ, ◌+◌, ◌≤◌, ◌<◌, List, [], ◌∷◌, Option, Result, Ok, Err, length, slice_index}
+use Rattle.cn_spec.specs.Step.{share}
 use Rattle.cn_core.specs.declared.event.Event.{Event}
 use Rattle.cn_core.specs.declared.event.Event.TheVariants.{Enter as EnterEvent, Step as StepEvent}
 use Rattle.cn_core.specs.Calls as core
 use Rattle.cn_core.specs.Calls.{IsLedgerEvent}
-use Rattle.cn_core.specs.State.{inside_in, start}
+use Rattle.cn_core.specs.State.{inside_in}
 use Rattle.cn_core.specs.Tight.{ListsHolders}
 use Rattle.cn_epoch.specs.declared.answer.Answer.{Answer}
 use Rattle.cn_epoch.specs.declared.answer.Answer.TheVariants.{Replied, Turned, TurnRefused}
@@ -13,7 +14,8 @@ use Rattle.cn_epoch.specs.declared.answer.TurnFault.TheVariants.{NotQuiet, Memor
 use Rattle.cn_epoch.specs.declared.command.Command.{Command}
 use Rattle.cn_epoch.specs.declared.command.Command.TheVariants.{Enter, Step, Turn}
 use Rattle.cn_epoch.specs.declared.record.EpochRecord.{EpochRecord}
-use Rattle.cn_epoch.specs.Turns.{Agrees, Epochs, IsTightRecord, MayAnswerAll, MayAnswer, grown, grown_by, turns_after, turns_by}
+use Rattle.cn_epoch.specs.SinceCleared.{Agrees, Epochs, MayAnswerAll, MayAnswer, carried_in, grown, grown_by, kept_after, kept_by, next, turns_after, turns_by}
+use Rattle.cn_epoch.specs.Turns.{IsTightRecord}
 
 -- the answer of a turn
 abbrev pub turned_answer : Result EpochRecord TurnFault → Answer
@@ -21,18 +23,21 @@ turned_answer (Ok r) = Turned r
 turned_answer (Err fault) = TurnRefused fault
 
 -- a record tells the epoch that stands open: how many ended before it, how many clients entered it, how many left by
--- each exit, and its clients by name
+-- each exit beyond those that are carried, and its clients by name
 pub record TellsEpoch (epochs : Epochs) (r : EpochRecord) : Type 0 where
   pub number : r.number ≡ epochs.number
   pub clients : r.clients ≡ length epochs.core.clients
-  pub counts : r.counts.items ≡ epochs.core.visits
+  pub exits : length r.counts.items ≡ epochs.core.network.table.width
+  pub counts : (exit : ℕ) → exit < epochs.core.network.table.width
+      → slice_index r.counts.items exit + share epochs.core.base epochs.core.network.table.width exit
+      ≡ slice_index epochs.core.visits exit
   pub holders : ListsHolders epochs.core r.holders.items
 
 -- a turn with this answer takes the old epochs to the new ones
 abbrev pub TurnsTo : Epochs → Answer → Epochs → Type 0
 TurnsTo old (Turned r) new =
-    (inside_in old.core ≡ 0) × TellsEpoch old r × IsTightRecord old.core.network.table.width r
-    × (new ≡ record { number = old.number + 1; core = start old.core.network })
+    (inside_in old.core ≡ 0) × TellsEpoch old r × IsTightRecord old.core.network.table.width old.core.base r
+    × (new ≡ record { number = old.number + 1; carries = old.carries; core = next old.carries old.core })
 TurnsTo old (TurnRefused (NotQuiet s)) new = (1 ≤ s) × (s ≡ inside_in old.core) × (new ≡ old)
 TurnsTo old (TurnRefused Memory) new = (inside_in old.core ≡ 0) × (new ≡ old)
 TurnsTo old (Replied reply) new = ⊥
@@ -40,7 +45,8 @@ TurnsTo old (Replied reply) new = ⊥
 -- an event with this answer does so, and is one event on the ledger where it is accepted; no epoch ends
 abbrev pub RepliesTo : Epochs → Event → Answer → Epochs → Type 0
 RepliesTo old event (Replied reply) new =
-    core.TakesTo old.core event reply new.core × IsLedgerEvent old.core event reply new.core × (new.number ≡ old.number)
+    core.TakesTo old.core event reply new.core × IsLedgerEvent old.core event reply new.core
+    × (new.number ≡ old.number) × (new.carries ≡ old.carries)
 RepliesTo old event (Turned r) new = ⊥
 RepliesTo old event (TurnRefused fault) new = ⊥
 
@@ -50,13 +56,13 @@ TakesTo old (Enter client entry) answer new = RepliesTo old (EnterEvent client e
 TakesTo old (Step client) answer new = RepliesTo old (StepEvent client) answer new
 TakesTo old Turn answer new = TurnsTo old answer new
 
--- by every number of turns and every history that the old epochs agree with this is an answer to the command, and the new
--- epochs agree with those after it
+-- by every number of turns, history and earlier epochs that the old epochs agree with this is an answer to the command, and
+-- the new epochs agree with those after it
 abbrev pub AnswersByHistory : Epochs → Command → Answer → Epochs → Type 0
 AnswersByHistory old command answer new =
-    (turns : ℕ) (history : List Event) → Agrees old turns history
-    → MayAnswer old.core.network.table turns history command answer
-    × Agrees new (turns_after turns answer) (grown history command answer)
+    (turns : ℕ) (history : List Event) (kept : Option (List (List Event))) → Agrees old turns history kept
+    → MayAnswer old.core.network.table turns history (carried_in old.core.network.table kept) command answer
+    × Agrees new (turns_after turns answer) (grown history command answer) (kept_after kept history answer)
 
 -- commands with these answers take the old epochs to the new ones, one after another
 abbrev pub RunsTo : Epochs → List Command → List Answer → Epochs → Type 0
@@ -66,10 +72,10 @@ RunsTo old (command ∷ commands) (answer ∷ answers) new =
 RunsTo old [] (answer ∷ answers) new = ⊥
 RunsTo old (command ∷ commands) [] new = ⊥
 
--- by every number of turns and every history that the old epochs agree with these are answers to the commands, and the new
--- epochs agree with those after them
+-- by every number of turns, history and earlier epochs that the old epochs agree with these are answers to the commands, and
+-- the new epochs agree with those after them
 abbrev pub RunsByHistory : Epochs → List Command → List Answer → Epochs → Type 0
 RunsByHistory old commands answers new =
-    (turns : ℕ) (history : List Event) → Agrees old turns history
-    → MayAnswerAll old.core.network.table turns history commands answers
-    × Agrees new (turns_by turns answers) (grown_by history commands answers)
+    (turns : ℕ) (history : List Event) (kept : Option (List (List Event))) → Agrees old turns history kept
+    → MayAnswerAll old.core.network.table turns history kept commands answers
+    × Agrees new (turns_by turns answers) (grown_by history commands answers) (kept_by kept history commands answers)

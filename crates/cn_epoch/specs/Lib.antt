@@ -1,3 +1,4 @@
+pub mod SinceCleared
 pub mod Turns
 pub mod Calls
 pub mod InsideEpochs

@@ -1,35 +1,40 @@
 //! Epochs, one after another on one network.
 
-ghost use Rattle.std.specs.Prelude.{◌≡◌, ℕ, ◌+◌, ◌<◌, ◌≤◌, ◌^◌, List, [], length, IfOk, OnErr};
-ghost use Rattle.cn_spec.specs.declared.limits.TheConstants.{MOST_CLIENTS};
+ghost use Rattle.std.specs.Prelude.{◌≡◌, ℕ, ◌+◌, ◌<◌, ◌≤◌, ◌^◌, Bool, true, false, List, [], None, Option, Some, length, slice_index, IfOk, OnErr};
+ghost use Rattle.cn_spec.specs.Step.{share};
+ghost use Rattle.cn_spec.specs.declared.limits.TheConstants.{MOST_CARRIED, MOST_CLIENTS};
 ghost use Rattle.cn_core.specs.Calls.{entered_reply, stepped_reply};
-ghost use Rattle.cn_core.specs.History.{enters_of, inside_of};
+ghost use Rattle.cn_core.specs.SinceCleared as core;
+ghost use Rattle.cn_core.specs.SinceCleared.{enters_of, inside_of};
 ghost use Rattle.cn_core.specs.State.{came_in, inside_in, start};
 ghost use Rattle.cn_core.specs.StateLedger.{HasSoundLedger};
-ghost use Rattle.cn_core.specs.Tight.{IsBoundedState};
+ghost use Rattle.cn_core.specs.Tight.{HasShares, IsBoundedState};
 ghost use Rattle.cn_epoch.specs.Calls.{AnswersByHistory, RunsTo, TakesTo, RepliesTo, RunsByHistory, TurnsTo, turned_answer};
-ghost use Rattle.cn_epoch.specs.Turns.{Agrees, ByHistories};
+ghost use Rattle.cn_epoch.specs.SinceCleared.{Agrees, ByHistories, next};
 
 use crate::answer::{Answer, TurnFault};
 use crate::command::Command;
 use crate::record::EpochRecord;
 use cn_core::{Core, EnterFault, Moved, StepFault};
+use cn_exit::expected;
 use cn_wiring::Counting;
 use std::alloc::{AllocError, Global};
 use std::hash::RandomState;
 use std::marker::Model;
 
-/// One network in epochs: each gives its clients the names from 0 up, and ends when nobody is inside.
+/// One network in epochs: each gives its clients the names from 0 up, and ends when nobody is inside. The counts are cleared
+/// at the end of each ([`Epochs::new`]), or carried on ([`Epochs::carrying`]).
 #[derive(Drop)]
 pub struct Epochs<'a> {
     alloc: Global,
     network: &'a Counting,
     number: u64,
+    carries: bool,
     core: Core<'a>,
 }
 
 impl<'a> Model for Epochs<'a> {
-    ghost use Rattle.cn_epoch.specs.Turns.{Epochs};
+    ghost use Rattle.cn_epoch.specs.SinceCleared.{Epochs};
     ghost use Rattle.cn_epoch.specs.InsideEpochs.{epochs_of, IsEpochs};
 
     ghost Value = { Epochs };
@@ -39,16 +44,20 @@ impl<'a> Model for Epochs<'a> {
     ghost invariant = { IsEpochs };
 }
 
-/// How many left by each exit, from exit 0 up.
-fn exit_counts(alloc: Global, core: &Core, width: u32) -> Result<Vec<u64>, AllocError>
-    requires { width ≡ core.now.network.table.width }
-    ensures { IfOk result (λ counts. counts.items ≡ core.now.visits) }
+/// How many left by each exit, from exit 0 up, beyond those that are carried.
+fn exit_counts(alloc: Global, core: &Core, network: &Counting) -> Result<Vec<u64>, AllocError>
+    requires { network.now ≡ core.now.network }
+    ensures exits { IfOk result (λ counts. length counts.items ≡ core.now.network.table.width) }
+    ensures counts { IfOk result (λ counts. (exit : ℕ) → exit < core.now.network.table.width
+        → slice_index counts.items exit + share core.now.base core.now.network.table.width exit
+        ≡ slice_index core.now.visits exit) }
 {
-    // The core has a count for each exit.
+    // The core has a count for each exit, and none is less than what is carried.
     core.state_laws();
+    let (width, base) = (network.width(), core.base());
     let mut counts = Vec::with_capacity(alloc, width as usize)?;
     for exit in 0..width {
-        counts.push_reserved(core.exit_count(exit));
+        counts.push_reserved(core.exit_count(exit) - expected(width, base, exit));
     }
     Ok(counts)
 }
@@ -59,27 +68,59 @@ impl<'a> Epochs<'a> {
     ghost use Rattle.cn_epoch.specs.declared.answer.Answer.TheVariants.{Replied};
     ghost use Rattle.cn_epoch.specs.declared.command.Command.TheVariants.{Enter, Step, Turn};
 
-    /// The first epoch of a network, that nobody has entered. The table of its clients hashes by `state`.
-    ///
-    /// # Errors
-    /// `AllocError` where the counts or the wires get no memory.
-    pub fn new(alloc: Global, network: &'a Counting, state: RandomState) -> Result<Self, AllocError>
+    /// The first epoch of a network, that nobody has entered.
+    fn begin(
+        alloc: Global,
+        network: &'a Counting,
+        carries: bool,
+        state: RandomState,
+    ) -> Result<Self, AllocError>
         ensures start { IfOk result (λ epochs.
-            epochs ≡ record { number = 0; core = start network.now }) }
-        ensures history { IfOk result (λ epochs. Agrees epochs 0 []) }
+            epochs ≡ record { number = 0; carries = carries; core = start network.now }) }
+        ensures history { IfOk result (λ epochs. core.Agrees epochs.core [] []) }
     {
         Ok(Epochs {
             alloc,
             network,
             number: 0,
+            carries,
             core: Core::new(alloc, network, state)?,
         })
+    }
+
+    /// The first epoch of a network, that nobody has entered. Each turn clears the counts. The table of its clients hashes by
+    /// `state`.
+    ///
+    /// # Errors
+    /// `AllocError` where the counts or the wires get no memory.
+    pub fn new(alloc: Global, network: &'a Counting, state: RandomState) -> Result<Self, AllocError>
+        ensures start { IfOk result (λ epochs.
+            epochs ≡ record { number = 0; carries = false; core = start network.now }) }
+        ensures history { IfOk result (λ epochs. Agrees epochs 0 [] None) }
+    {
+        Epochs::begin(alloc, network, false, state)
+    }
+
+    /// As [`Epochs::new`], but each turn carries the counts on, as by [`Core::carry`].
+    ///
+    /// # Errors
+    /// As there.
+    pub fn carrying(
+        alloc: Global,
+        network: &'a Counting,
+        state: RandomState,
+    ) -> Result<Self, AllocError>
+        ensures start { IfOk result (λ epochs.
+            epochs ≡ record { number = 0; carries = true; core = start network.now }) }
+        ensures history { IfOk result (λ epochs. Agrees epochs 0 [] (Some [])) }
+    {
+        Epochs::begin(alloc, network, true, state)
     }
 
     /// How many epochs have ended.
     pub fn number(&self) -> u64
         ensures value { result ≡ self.now.number }
-        ensures by_turns { ByHistories self.now (λ turns history. result ≡ turns) }
+        ensures by_turns { ByHistories self.now (λ turns history carried. result ≡ turns) }
     {
         self.number
     }
@@ -87,20 +128,36 @@ impl<'a> Epochs<'a> {
     /// How many clients entered the epoch that stands open: at most [`MOST_CLIENTS`].
     pub fn entered(&self) -> u64
         ensures value { result ≡ length self.now.core.clients }
-        ensures by_history { ByHistories self.now (λ turns history. result ≡ enters_of history) }
+        ensures by_history { ByHistories self.now (λ turns history carried. result ≡ enters_of history) }
     {
         self.core.entered()
     }
 
+    /// How many clients entered in the earlier epochs whose counts are carried: 0 for epochs made by [`Epochs::new`], and at
+    /// most [`MOST_CARRIED`]. It takes no memory.
+    pub fn base(&self) -> u64
+        ensures value { result ≡ self.now.core.base }
+        ensures by_history { ByHistories self.now (λ turns history carried. result ≡ carried.enters) }
+        ensures few { result ≤ MOST_CARRIED }
+        ensures cleared { self.now.carries ≡ false → result ≡ 0 }
+    {
+        self.core.base()
+    }
+
     /// What holds of the epoch that stands open, as by [`Core::state_laws`]: some history since the last turn leads to it,
-    /// and by each that does its ledger is sound; no count is more than what came in.
+    /// and by each that does its ledger is sound, and what is carried by each exit is its share of the carried clients; no
+    /// count is more than what came in.
     ///
     /// It does nothing: its contract is the law.
     pub fn state_laws(&self)
         ensures few { length self.now.core.clients ≤ MOST_CLIENTS }
-        ensures came { came_in self.now.core ≡ length self.now.core.clients }
-        ensures reached { (history : List Event) × Agrees self.now self.now.number history }
+        ensures carried { self.now.core.base ≤ MOST_CARRIED }
+        ensures came { came_in self.now.core ≡ self.now.core.base + length self.now.core.clients }
+        ensures reached { (history : List Event) × (kept : Option (List (List Event)))
+            × Agrees self.now self.now.number history kept }
         ensures sound { ByHistories self.now (λ turns. HasSoundLedger self.now.core) }
+        ensures shares { ByHistories self.now (λ turns history carried.
+            HasShares self.now.core.network.table.width carried) }
         ensures bounded { IsBoundedState self.now.core }
     {
         self.core.state_laws();
@@ -109,8 +166,8 @@ impl<'a> Epochs<'a> {
     /// How many clients are inside: they entered the epoch that stands open, and hold no name.
     pub fn inside(&self) -> u64
         ensures value { result ≡ inside_in self.now.core }
-        ensures by_history { ByHistories self.now (λ turns history.
-            result ≡ inside_of self.now.core.network.table history) }
+        ensures by_history { ByHistories self.now (λ turns history carried.
+            result ≡ inside_of self.now.core.network.table history carried) }
     {
         self.core.inside()
     }
@@ -142,16 +199,36 @@ impl<'a> Epochs<'a> {
         self.core.step(client)
     }
 
+    /// The next epoch begins.
+    fn begin_next(&mut self)
+        requires number { self.old.number + 1 < 2 ^ 64 }
+        requires quiet { inside_in self.old.core ≡ 0 }
+        requires carried { self.old.carries ≡ true
+            → self.old.core.base + length self.old.core.clients ≤ MOST_CARRIED }
+        ensures { self.new ≡ record { number = self.old.number + 1; carries = self.old.carries; core = next self.old.carries self.old.core } }
+    {
+        if self.carries {
+            self.core.carry();
+        } else {
+            self.core.clear();
+        }
+        self.number += 1;
+    }
+
     /// Ends the epoch that stands open, where nobody is inside, and tells what it gave out: how many left by each exit, which
-    /// is its share of the clients, and the clients by name, each once. The next epoch begins with nobody.
+    /// is its share of the clients, or what its share of all has grown by where the counts are carried; and the clients by
+    /// name, each once. The next epoch begins with nobody.
     ///
-    /// Fewer than 2^64 - 1 epochs have ended before ([`Epochs::number`]).
+    /// Fewer than 2^64 - 1 epochs have ended before ([`Epochs::number`]). Where turns carry ([`Epochs::carrying`]), the carried
+    /// clients ([`Epochs::base`]) and those that entered are together at most [`MOST_CARRIED`].
     ///
     /// # Errors
     /// `NotQuiet` with the number of clients inside where there are any, else `Memory` where the record gets none. Then
     /// nothing has changed.
     pub fn turn(&mut self) -> Result<EpochRecord, TurnFault>
-        requires { self.old.number + 1 < 2 ^ 64 }
+        requires number { self.old.number + 1 < 2 ^ 64 }
+        requires carried { self.old.carries ≡ true
+            → self.old.core.base + length self.old.core.clients ≤ MOST_CARRIED }
         ensures event { TakesTo self.old Turn (turned_answer result) self.new }
         ensures history { AnswersByHistory self.old Turn (turned_answer result) self.new }
         ensures network { self.new.core.network ≡ self.old.core.network }
@@ -159,9 +236,9 @@ impl<'a> Epochs<'a> {
         if !self.core.is_quiet() {
             return Err(TurnFault::NotQuiet(self.core.inside()));
         }
-        // All that came in are clients of this epoch.
+        // All that came in are clients of this epoch, or carried.
         self.core.state_laws();
-        let Ok(counts) = exit_counts(self.alloc, &self.core, self.network.width()) else {
+        let Ok(counts) = exit_counts(self.alloc, &self.core, self.network) else {
             return Err(TurnFault::Memory);
         };
         let Ok(holders) = self.core.holders() else {
@@ -173,18 +250,22 @@ impl<'a> Epochs<'a> {
             counts,
             holders,
         };
-        self.core.clear();
-        self.number += 1;
+        self.begin_next();
         Ok(ended)
     }
 
     /// The answer to one command.
     fn answer(&mut self, command: Command) -> Answer
-        requires { self.old.number + 1 < 2 ^ 64 }
+        requires number { self.old.number + 1 < 2 ^ 64 }
+        requires carried { self.old.carries ≡ true
+            → self.old.core.base + length self.old.core.clients ≤ MOST_CARRIED }
         ensures event { TakesTo self.old command result self.new }
         ensures history { AnswersByHistory self.old command result self.new }
         ensures network { self.new.core.network ≡ self.old.core.network }
         ensures number { self.new.number ≤ self.old.number + 1 }
+        ensures carries { self.new.carries ≡ self.old.carries }
+        ensures came { self.new.core.base + length self.new.core.clients
+            ≤ self.old.core.base + length self.old.core.clients + 1 }
     {
         match command {
             Command::Enter { client, entry } => {
@@ -198,13 +279,17 @@ impl<'a> Epochs<'a> {
     /// One command after another, as by [`Epochs::enter`], [`Epochs::step`] and [`Epochs::turn`], and their answers. The
     /// room for the answers is taken first.
     ///
-    /// [`Epochs::number`] and the number of commands together are below 2^64.
+    /// [`Epochs::number`] and the number of commands together are below 2^64. Where turns carry ([`Epochs::carrying`]), the
+    /// carried clients ([`Epochs::base`]), those that entered and the number of commands are together at most
+    /// [`MOST_CARRIED`].
     ///
     /// # Errors
     /// `AllocError` where the answers get no room; then no command has been applied. A command that meets want of memory
     /// is answered like the others.
     pub fn run(&mut self, commands: &[Command]) -> Result<Vec<Answer>, AllocError>
-        requires { self.old.number + length commands.now < 2 ^ 64 }
+        requires number { self.old.number + length commands.now < 2 ^ 64 }
+        requires carried { self.old.carries ≡ true
+            → self.old.core.base + length self.old.core.clients + length commands.now ≤ MOST_CARRIED }
         ensures events { IfOk result (λ answers.
             RunsTo self.old commands.now answers.items self.new) }
         ensures history { IfOk result (λ answers.

@@ -1,6 +1,6 @@
 //! The calls of a core and of epochs, one by one or as one run.
 
-ghost use Rattle.std.specs.Prelude.{◌≡◌};
+ghost use Rattle.std.specs.Prelude.{◌≡◌, ◌+◌, length};
 
 use cn_core::{Core, Event, Reply};
 use cn_epoch::{Answer, Command, Epochs};
@@ -52,14 +52,22 @@ pub(crate) fn replies_to(
     }
 }
 
-/// The answer to one command, by its call. The rows have few turns.
+/// How many clients are carried, and entered.
+fn came_in(epochs: &Epochs<'_>) -> u64
+    ensures { result ≡ epochs.now.core.base + length epochs.now.core.clients }
+{
+    epochs.state_laws();
+    epochs.base() + epochs.entered()
+}
+
+/// The answer to one command, by its call. The rows have few turns, and few clients are carried.
 fn answer_to(epochs: &mut Epochs<'_>, command: Command) -> Option<Answer> {
     match command {
         Command::Enter { client, entry } => {
             Some(Answer::Replied(epochs.enter(client, entry).into()))
         }
         Command::Step { client } => Some(Answer::Replied(epochs.step(client).into())),
-        Command::Turn if epochs.number() > 9 => None,
+        Command::Turn if epochs.number() > 9 || came_in(epochs) > 1_000_000 => None,
         Command::Turn => Some(epochs.turn().into()),
     }
 }
@@ -85,9 +93,8 @@ pub(crate) fn answers_to(
 ) -> Option<Vec<Answer>> {
     match calls {
         Calls::Single => single_answers(epochs, alloc, commands),
-        Calls::Run if epochs.number() < 10 && commands.len() < 1_000_000 => {
-            epochs.run(commands).ok()
-        }
+        Calls::Run if epochs.number() > 9 || came_in(epochs) > 1_000_000 => None,
+        Calls::Run if commands.len() < 1_000_000 => epochs.run(commands).ok(),
         Calls::Run => None,
     }
 }

@@ -5,6 +5,8 @@
 #[cfg(test)]
 mod calls;
 #[cfg(test)]
+mod carried_twice;
+#[cfg(test)]
 mod epoch_calls;
 #[cfg(test)]
 mod many_clients;

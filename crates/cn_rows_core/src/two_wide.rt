@@ -247,7 +247,7 @@ fn are(replies: Result<Vec<Reply>, AllocError>, wanted: &[Reply]) -> bool {
 }
 
 /// Forgets the clients, where nobody is inside.
-fn clear(core: &mut Core<'_>) -> Option<()>
+pub(crate) fn clear(core: &mut Core<'_>) -> Option<()>
     ensures { core.new.network ≡ core.old.network }
 {
     if core.inside() > 0 {

@@ -1,4 +1,4 @@
-use Rattle.std.proofs.Common.{◌≡◌, List, [], rules, ◌∙◌, ap}
+use Rattle.std.proofs.Common.{◌≡◌, List, [], None, rules, ◌∙◌, ap}
 use Rattle.std.specs.List.{All}
 use Rattle.cn_wiring.specs.Network.{Network}
 use Rattle.cn_core.specs.declared.event.Event.{Event}
@@ -10,12 +10,12 @@ use Rattle.cn_renamer.proofs.replaying.replayed.Goals as goal
 
 pub render_replay-requires-clause-fit : goal.render_replay-requires-clause-fit
 render_replay-requires-clause-fit c =
-    let may = (c.in_ok-answers.ensures.history 0 [] c.in_ok-epochs.ensures.history).0 in
+    let may = (c.in_ok-answers.ensures.history 0 [] None c.in_ok-epochs.ensures.history).0 in
     rw c.deref-2.ensures.value (fits_all c.in_ok-epochs.epochs.core.network.table 0 [] c.args.commands.now c.in_ok-answers.answers.items may)
 
 pub render_replay-requires-clause-whole : goal.render_replay-requires-clause-whole
 render_replay-requires-clause-whole c =
-    let may = (c.in_ok-answers.ensures.history 0 [] c.in_ok-epochs.ensures.history).0 in
+    let may = (c.in_ok-answers.ensures.history 0 [] None c.in_ok-epochs.ensures.history).0 in
     let network : c.in_ok-epochs.epochs.core.network ≡ c.args.network.now = ap (λ e. e.core.network) c.in_ok-epochs.ensures.start in
     let whole : All (IsWhole c.args.network.now.table.width) c.in_ok-answers.answers.items =
     rw network at (whole_all c.in_ok-epochs.epochs.core.network.table 0 [] c.args.commands.now c.in_ok-answers.answers.items may) in
@@ -23,15 +23,15 @@ render_replay-requires-clause-whole c =
 
 pub returns-clause-text : goal.returns-clause-text
 returns-clause-text c =
-    let (may, agrees) = c.in_ok-answers.ensures.history 0 [] c.in_ok-epochs.ensures.history in
+    let (may, agrees) = c.in_ok-answers.ensures.history 0 [] None c.in_ok-epochs.ensures.history in
     let answers = c.in_ok-answers.answers.items in
     let network : c.in_ok-epochs.epochs.core.network ≡ c.args.network.now = ap (λ e. e.core.network) c.in_ok-epochs.ensures.start in
     let same : c.run.new.self.core.network ≡ c.args.network.now = c.in_ok-answers.ensures.network ∙ network in
     let history : List Event = grown_by [] c.args.commands.now answers in
-    let number : c.number.result ≡ turns_by 0 answers = c.number.ensures.by_turns (turns_by 0 answers) history agrees in
-    let entered : c.entered.result ≡ enters_of history = c.entered.ensures.by_history (turns_by 0 answers) history agrees in
+    let number : c.number.result ≡ turns_by 0 answers = c.number.ensures.by_turns (turns_by 0 answers) history None agrees in
+    let entered : c.entered.result ≡ enters_of history = c.entered.ensures.by_history (turns_by 0 answers) history None agrees in
     let inside : c.inside.result ≡ inside_of c.args.network.now.table history =
-    c.inside.ensures.by_history (turns_by 0 answers) history agrees ∙ ap (λ (n : Network). inside_of n.table history) same in
+    c.inside.ensures.by_history (turns_by 0 answers) history None agrees ∙ ap (λ (n : Network). inside_of n.table history) same in
     let memory : All HadMemory answers = search rules in
     record {
       answers = answers;

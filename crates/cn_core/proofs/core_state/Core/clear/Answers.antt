@@ -7,7 +7,7 @@ use Rattle.cn_core.proofs.LedgerLemmas.{IsCore-start}
 use Rattle.cn_core.proofs.core_state.Core.clear.Goals as goal
 
 -- the state is that of a network that nobody has entered
-state_is : (c : goal.After-clear-2) → ◌≡◌ {A = State} (record { network = c.self.inside.network.now; entered = c.fill.new.self.items; passes = c.fill-2.new.self.items; visits = c.clear.new.self; clients = positions c.clear-2.new.self }) (start c.self.inside.network.now)
+state_is : (c : goal.After-clear-2) → ◌≡◌ {A = State} (record { network = c.self.inside.network.now; base = 0; entered = c.fill.new.self.items; passes = c.fill-2.new.self.items; visits = c.clear.new.self; clients = positions c.clear-2.new.self }) (start c.self.inside.network.now)
 state_is c =
     let is = c.self.invariant.core.state in
     let entered : c.fill.new.self.items ≡ replicate c.self.inside.network.now.table.entries 0 = search rules in

@@ -1,7 +1,8 @@
 use Rattle.std.proofs.Common.{◌∙◌, rules, ◌≡◌, arith, None, ◌++◌, ◌∷◌, []}
-use Rattle.cn_core.proofs.LedgerLemmas.{IsCore-after_enter}
+use Rattle.cn_core.proofs.LedgerLemmas.{IsCore-after_enter, ledger-enters}
 use Rattle.cn_core.proofs.TightLemmas.{room-entered}
 use Rattle.cn_core.proofs.HistoryLemmas.{history-enter}
+use Rattle.cn_core.specs.SinceCleared.{carried_by}
 use Rattle.cn_core.specs.InsideClients.{positions}
 use Rattle.cn_core.specs.InsideCore.{state_of}
 use Rattle.cn_core.specs.State.{State, position_in}
@@ -23,3 +24,10 @@ invariant_of-self-2 c =
 
 pub returns-clause-history : goal.returns-clause-history
 returns-clause-history c = rw (← c.self.view_is) (history-enter _ c.args.client c.args.entry _ _ c.self.invariant.core.state (search rules))
+
+pub returns-clause-ledger : goal.returns-clause-ledger
+returns-clause-ledger c =
+    let s : State = state_of c.self.inside in
+    let clients : positions c.add.new.self ≡ s.clients ++ (c.args.client, On c.args.entry) ∷ [] = search rules in
+    rw (← c.self.view_is, c.count_one.ensures.after, clients)
+    (λ h earlier a. ledger-enters s h (carried_by s.network.table earlier) c.args.client c.args.entry c.self.invariant.core.state (omega arith))

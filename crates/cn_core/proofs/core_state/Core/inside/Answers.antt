@@ -1,4 +1,5 @@
 use Rattle.std.proofs.Common.{◌≡◌, ◌∙◌, rules}
+use Rattle.cn_core.specs.SinceCleared.{carried_by}
 use Rattle.cn_core.specs.State.{inside_in}
 use Rattle.cn_core.proofs.HistoryLemmas.{inside-by_history}
 use Rattle.cn_core.proofs.core_state.Core.inside.Goals as goal
@@ -6,4 +7,4 @@ use Rattle.cn_core.proofs.core_state.Core.inside.Goals as goal
 pub returns-clause-by_history : goal.returns-clause-by_history
 returns-clause-by_history c =
     let value : c.from.result ≡ inside_in c.args.self.now = search rules in
-    λ history agrees. value ∙ inside-by_history c.args.self.now history agrees
+    λ history earlier agrees. value ∙ inside-by_history c.args.self.now history (carried_by c.args.self.now.network.table earlier) agrees.1

@@ -1,7 +1,7 @@
 use Rattle.std.proofs.Common.{rules, ◌≡◌, ◌+◌, ◌*◌, [], List, ℕ, refl, subst, sym, ap, arith, ◌∙◌}
 use Rattle.std.specs.Prelude.{replicate, length}
 use Rattle.std.proofs.lemmas.List.{length-replicate}
-use Rattle.cn_core.specs.History.{Agrees}
+use Rattle.cn_core.specs.SinceCleared.{Agrees}
 use Rattle.cn_core.specs.InsideClients.{Clients, positions}
 use Rattle.cn_core.specs.State.{State, start}
 use Rattle.cn_core.specs.StateLedger.{IsCore}
@@ -10,7 +10,7 @@ use Rattle.cn_core.proofs.LedgerLemmas.{IsCore-start}
 use Rattle.cn_core.proofs.core_state.Core.new.Goals as goal
 
 -- the state is that of a network that nobody has entered
-state_is : (c : goal.In_ok-new-2) → ◌≡◌ {A = State} (record { network = c.args.network.now; entered = c.in_ok-vec.field-0.items; passes = c.in_ok-vec-2.field-0.items; visits = c.in_ok-new.field-0; clients = positions c.in_ok-new-2.field-0 }) (start c.args.network.now)
+state_is : (c : goal.In_ok-new-2) → ◌≡◌ {A = State} (record { network = c.args.network.now; base = 0; entered = c.in_ok-vec.field-0.items; passes = c.in_ok-vec-2.field-0.items; visits = c.in_ok-new.field-0; clients = positions c.in_ok-new-2.field-0 }) (start c.args.network.now)
 state_is c =
     let entered : c.in_ok-vec.field-0.items ≡ replicate c.args.network.now.table.entries 0 = search rules in
     let passes : c.in_ok-vec-2.field-0.items ≡ replicate c.args.network.now.table.balancers 0 = search rules in
@@ -29,4 +29,4 @@ invariant_of-result c = record {
 }
 
 pub returns-clause-history : goal.returns-clause-history
-returns-clause-history c = subst (λ (s : State). Agrees s []) (sym (state_is c)) (Agrees-start c.args.network.now)
+returns-clause-history c = subst (λ (s : State). Agrees s [] []) (sym (state_is c)) (Agrees-start c.args.network.now)

@@ -28,5 +28,5 @@ returns-clause-events c =
 pub returns-clause-history : goal.returns-clause-history
 returns-clause-history c =
     let done : drop c.loop-event.event-index c.args.events.now ≡ [] = grind (arith, common_steps) in
-    let whole = c.loop-event.invariant.rest [] c.loop-event.self (rw done (λ h a. (tt, a))) in
+    let whole = c.loop-event.invariant.rest [] c.loop-event.self (rw done (λ h earlier a. (tt, a))) in
     rw append-nil at whole

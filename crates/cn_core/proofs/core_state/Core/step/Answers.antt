@@ -1,4 +1,4 @@
-use Rattle.std.proofs.Common.{rules, ◌≡◌, ◌+◌, ◌*◌, ◌∙◌, Some}
+use Rattle.std.proofs.Common.{rules, ◌≡◌, ◌+◌, ◌-◌, ◌*◌, ◌∙◌, Some}
 use Rattle.std.specs.Prelude.{slice_index}
 use Rattle.cn_wiring.specs.declared.end.End.TheVariants.{Balancer, Exit}
 use Rattle.cn_wiring.specs.Table.{end_of}
@@ -28,7 +28,7 @@ invariant_of-self c =
     let on : position_in s.clients c.args.client ≡ Some (On c.in-Walking.wire) = search rules in
     let ends : end_of s.network.table c.in-Walking.wire ≡ Balancer c.in-Balancer.balancer = search rules in
     let token : standing_in c.self.inside.clients.names c.args.client ≡ Some (Walking c.in-Walking.token) = rw c.in-Walking.is at c.in-Some.ensures.token in
-    let clients : positions c.walk.new.self ≡ with_position s.clients c.args.client (position_past s.network.table (Balancer c.in-Balancer.balancer) (slice_index s.passes c.in-Balancer.balancer)) =
+    let clients : positions c.walk.new.self ≡ with_position s.clients c.args.client (position_past s.network.table s.base (Balancer c.in-Balancer.balancer) (slice_index s.passes c.in-Balancer.balancer)) =
     rw (c.entries.ensures.value, c.output_of.ensures, c.count_one-number.ensures.before) at (c.walk.ensures.walked c.args.client token) in
     record {
       core = rw (c.count_one-number.ensures.after, clients) (IsCore-after_step s c.args.client c.in-Walking.wire (Balancer c.in-Balancer.balancer) c.self.invariant.core on ends);
@@ -41,7 +41,7 @@ invariant_of-self-in-Exit c =
     let on : position_in s.clients c.args.client ≡ Some (On c.in-Walking.wire) = search rules in
     let ends : end_of s.network.table c.in-Walking.wire ≡ Exit c.in-Exit.exit = search rules in
     let exits = c.self.invariant.core.state.exits in
-    let clients : positions c.settle.new.self ≡ with_position s.clients c.args.client (position_past s.network.table (Exit c.in-Exit.exit) (slice_index s.visits c.in-Exit.exit)) =
+    let clients : positions c.settle.new.self ≡ with_position s.clients c.args.client (position_past s.network.table s.base (Exit c.in-Exit.exit) (slice_index s.visits c.in-Exit.exit)) =
     rw (c.take-visit.ensures.name, c.take-visit.ensures.visit, exits) at c.settle.ensures.settled in
     record {
       core = rw (c.take-visit.ensures.counted, c.take-visit.ensures.visit, clients) (IsCore-after_step s c.args.client c.in-Walking.wire (Exit c.in-Exit.exit) c.self.invariant.core on ends);
@@ -67,5 +67,5 @@ returns-in-Exit-clause-ledger c =
     let old : State = state_of c.self.inside in
     let new : State = record old { visits = c.take-visit.new.self; clients = positions c.settle.new.self } in
     rw (← c.self.view_is)
-    (ledger-step old c.args.client (Out c.in-Exit.exit c.take-visit.result.visit c.take-visit.result.name) new
+    (ledger-step old c.args.client (Out c.in-Exit.exit c.take-visit.result.visit (c.take-visit.result.name - c.self.inside.base)) new
     c.self.invariant.core.state (search rules))

@@ -1,3 +1,7 @@
+use Rattle.cn_core.specs.Calls.{stepped_reply}
+use Rattle.cn_epoch.specs.declared.answer.Answer.TheVariants.{Replied}
+use Rattle.cn_epoch.specs.declared.command.Command.TheVariants.{Step}
+use Rattle.cn_epoch.proofs.Answering.{came-after}
 use Rattle.cn_epoch.proofs.epochs.Epochs.answer.Goals as goal
 
 pub returns-in-Enter-clause-history : goal.returns-in-Enter-clause-history
@@ -8,3 +12,6 @@ returns-in-Step-clause-history c = rw (c.in-Step.is, c.into-in-Step.ensures) c.s
 
 pub returns-in-Turn-clause-history : goal.returns-in-Turn-clause-history
 returns-in-Turn-clause-history c = rw (c.in-Turn.is, c.into-in-Turn.ensures) c.turn.ensures.history
+
+pub returns-in-Step-clause-came : goal.returns-in-Step-clause-came
+returns-in-Step-clause-came c = (came-after c.args.self.now (Step c.in-Step.client) (Replied (stepped_reply c.step.result)) c.step.new.self c.step.ensures.event).1

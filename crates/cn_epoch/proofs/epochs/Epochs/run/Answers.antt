@@ -1,7 +1,7 @@
-use Rattle.std.proofs.Common.{rules, arith, ◌≡◌, ◌++◌, ◌∷◌, [], drop, append-nil, append_assoc, refl}
+use Rattle.std.proofs.Common.{rules, arith, ◌≡◌, ◌++◌, ◌∷◌, [], drop, append-nil, append_assoc, refl, ◌∙◌}
 use Rattle.std.proofs.lemmas.Grind.{common_steps}
 use Rattle.cn_epoch.specs.declared.command.Command.TheVariants.{Enter}
-use Rattle.cn_epoch.proofs.Answering.{runs_to-at, runs-at}
+use Rattle.cn_epoch.proofs.Answering.{runs_to-at, runs-at, runs-none}
 use Rattle.cn_epoch.proofs.epochs.Epochs.run.Goals as goal
 
 pub loop-command-init : goal.loop-command-init
@@ -10,6 +10,8 @@ loop-command-init c = record {
   room = search rules;
   network = refl;
   number = omega arith;
+  carries = refl;
+  came = omega arith;
   events = λ rest new runs. rw c.in_ok-answers.ensures.items runs;
   rest = λ rest new runs. rw c.in_ok-answers.ensures.items runs;
 }
@@ -20,6 +22,8 @@ loop-command-preserved c = record {
   room = search rules;
   network = search rules;
   number = let before = c.loop-command.invariant.number in let more = c.answer-answer.ensures.number in omega arith;
+  carries = c.answer-answer.ensures.carries ∙ c.loop-command.invariant.carries;
+  came = let before = c.loop-command.invariant.came in let more = c.answer-answer.ensures.came in omega arith;
   events = λ rest new runs.
       let joined : c.push_reserved.new.self.items ++ rest ≡ c.loop-command.answers.items ++ (c.answer-answer.result ∷ rest) = rw (c.push_reserved.ensures.items, append_assoc) refl in
       rw joined (c.loop-command.invariant.events (c.answer-answer.result ∷ rest) new
@@ -39,5 +43,5 @@ returns-clause-events c =
 pub returns-clause-history : goal.returns-clause-history
 returns-clause-history c =
     let done : drop c.loop-command.command-index c.args.commands.now ≡ [] = grind (arith, common_steps) in
-    let whole = c.loop-command.invariant.rest [] c.loop-command.self (rw done (λ turns history agrees. (tt, agrees))) in
+    let whole = c.loop-command.invariant.rest [] c.loop-command.self (rw done (runs-none c.loop-command.self)) in
     rw append-nil at whole

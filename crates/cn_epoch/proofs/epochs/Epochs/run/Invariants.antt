@@ -1,7 +1,7 @@
 use Rattle.std.proofs.Common.{◌≡◌, ◌+◌, ◌≤◌, ◌++◌, List, drop, length, vec_capacity, vec_len}
 use Rattle.cn_epoch.specs.declared.answer.Answer.{Answer}
 use Rattle.cn_epoch.specs.Calls.{RunsTo, RunsByHistory}
-use Rattle.cn_epoch.specs.Turns.{Epochs}
+use Rattle.cn_epoch.specs.SinceCleared.{Epochs}
 use Rattle.cn_epoch.proofs.epochs.Epochs.run.Given as goal
 
 -- a run of what is left completes the run
@@ -11,6 +11,8 @@ invariant-loop-command l = record {
   room : length l.commands ≤ vec_capacity l.answers;
   network : l.self.core.network ≡ l.fn.self.core.network;
   number : l.self.number ≤ l.fn.self.number + l.command-index;
+  carries : l.self.carries ≡ l.fn.self.carries;
+  came : l.self.core.base + length l.self.core.clients ≤ l.fn.self.core.base + length l.fn.self.core.clients + l.command-index;
   events : (rest : List Answer) (new : Epochs) → RunsTo l.self (drop l.command-index l.commands) rest new → RunsTo l.fn.self l.commands (l.answers.items ++ rest) new;
   rest : (rest : List Answer) (new : Epochs) → RunsByHistory l.self (drop l.command-index l.commands) rest new → RunsByHistory l.fn.self l.commands (l.answers.items ++ rest) new;
 }

@@ -1,8 +1,8 @@
-use Rattle.std.proofs.Common.{◌≡◌, ◌+◌, refl, ap, rules}
-use Rattle.cn_core.specs.State.{inside_in, start}
+use Rattle.std.proofs.Common.{◌≡◌, ◌+◌, refl, rules}
+use Rattle.cn_core.specs.State.{inside_in}
 use Rattle.cn_core.specs.Tight.{IsTightState}
 use Rattle.cn_epoch.specs.Calls.{TellsEpoch}
-use Rattle.cn_epoch.specs.Turns.{Epochs}
+use Rattle.cn_epoch.specs.SinceCleared.{next}
 use Rattle.cn_epoch.specs.InsideEpochs.{epochs_of}
 use Rattle.cn_epoch.proofs.Answering.{memory-after, told-tight, turned-after}
 use Rattle.cn_epoch.proofs.epochs.Epochs.turn.Goals as goal
@@ -18,25 +18,26 @@ returns-in_default-holders-clause-history c =
     rw (← c.self.view_is) (memory-after (epochs_of c.self.inside) quiet)
 
 -- the record tells the state
-told : (c : goal.After-self-1) → TellsEpoch (epochs_of c.self.inside) (record { number = c.self.inside.number; clients = c.entered.result; counts = c.in-Ok.counts; holders = c.in-Ok-holders.holders })
+told : (c : goal.After-begin_next) → TellsEpoch (epochs_of c.self.inside) (record { number = c.self.inside.number; clients = c.entered.result; counts = c.in-Ok.counts; holders = c.in-Ok-holders.holders })
 told c = record {
   number = refl;
   clients = c.entered.ensures.value;
-  counts = c.in-Ok.ensures;
+  exits = c.in-Ok.ensures.exits;
+  counts = c.in-Ok.ensures.counts;
   holders = c.in-Ok-holders.ensures;
 }
 
 -- the next epoch begins
-begun : (c : goal.After-self-1) → ◌≡◌ {A = Epochs} (record { number = c.self.inside.number + 1; core = c.clear.new.self }) (record { number = c.self.inside.number + 1; core = start c.self.inside.core.network })
-begun c = ap (λ core. record { number = c.self.inside.number + 1; core = core }) c.clear.ensures.start
+begun : (c : goal.After-begin_next) → c.begin_next.new.self ≡ record { number = c.self.inside.number + 1; carries = c.self.inside.carries; core = next c.self.inside.carries c.self.inside.core }
+begun c = rw (← c.self.view_is) at c.begin_next.ensures
 
 pub returns-clause-event : goal.returns-clause-event
 returns-clause-event c =
     let quiet : inside_in c.self.inside.core ≡ 0 = search rules in
     let tight : IsTightState c.self.inside.core = search rules in
-    rw (← c.self.view_is) (quiet, told c, told-tight (epochs_of c.self.inside) _ (told c) c.state_laws.ensures.exits c.state_laws.ensures.came tight, begun c)
+    rw (← c.self.view_is) (quiet, told c, told-tight (epochs_of c.self.inside) _ (told c) c.state_laws.ensures.came tight, begun c)
 
 pub returns-clause-history : goal.returns-clause-history
 returns-clause-history c =
     let quiet : inside_in c.self.inside.core ≡ 0 = search rules in
-    rw (← c.self.view_is) (turned-after (epochs_of c.self.inside) (record { number = c.self.inside.number + 1; core = c.clear.new.self }) _ (told c) c.state_laws.ensures.exits quiet (begun c))
+    rw (← c.self.view_is) (turned-after (epochs_of c.self.inside) c.begin_next.new.self _ (told c) c.state_laws.ensures.shares quiet (begun c))

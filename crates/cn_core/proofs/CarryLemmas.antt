@@ -1,0 +1,102 @@
+-- Where nobody is inside, the counts of an epoch can be carried on.
+use Rattle.std.proofs.Common.{◌≡◌, ◌≢◌, ℕ, ◌+◌, ◌<◌, ◌≤◌, Bool, true, false, List, [], ◌∷◌, length, refl, sym, ap, arith, ◌∙◌, inl, inr, ◌&&◌, slice_index}
+use Rattle.std.specs.Prelude.{nat_lt, ◌==◌}
+use Rattle.std.proofs.lemmas.Bool.{cases_lt, eq-eqb, eqb-true, lt-ltb, ltb-true, ne_eqb}
+use Rattle.cn_spec.specs.Step.{name_of, share}
+use Rattle.cn_spec.specs.Sums.{once_below, when}
+use Rattle.cn_spec.specs.declared.limits.TheConstants.{MOST_CARRIED}
+use Rattle.cn_spec.proofs.CallerLemmas.{sum_below-zero, total_where-agree}
+use Rattle.cn_wiring.specs.declared.end.End.{End}
+use Rattle.cn_wiring.specs.declared.end.End.TheVariants.{Balancer, Exit}
+use Rattle.cn_wiring.specs.Table.{Stands, is_end, sum_at}
+use Rattle.cn_core.specs.declared.event.Event.{Event}
+use Rattle.cn_core.specs.State.{State, after_carry, inside_in, past}
+use Rattle.cn_core.specs.SinceCleared.{AgreesAfter, Carried, carried_by}
+use Rattle.cn_core.specs.StateLedger.{IsCore, given_before, ledger_of}
+use Rattle.cn_ledger.specs.Ledger.{IsSound, Ledger, put}
+use Rattle.cn_core.proofs.HistoryLemmas.{Agrees-after_carry}
+use Rattle.cn_core.proofs.StateLemmas.{IsState-after_carry}
+use Rattle.cn_core.proofs.TightLemmas.{on-inside, tight-state}
+
+-- ---- client 0 stands for each client that is carried
+
+both-there : (p q : Bool) (n : ℕ) → 1 ≤ when (p && q) n → (p ≡ true) × (q ≡ true)
+both-there true true n h = (refl, refl)
+both-there true false n h = absurd (omega arith)
+both-there false q n h = absurd (omega arith)
+
+no-more : (p q z : Bool) (n : ℕ) → when (p && q) (when z n + 0) ≤ when p (n + 0)
+no-more true true true n = omega arith
+no-more true true false n = omega arith
+no-more true false z n = omega arith
+no-more false q z n = omega arith
+
+not-both : (c d : ℕ) → c ≢ d → (p q : Bool) (n : ℕ) → when (p && q) (when (0 == c) n + 0) + when (p && q) (when (0 == d) n + 0) ≤ when p (n + 0)
+not-both c d differ p q n = elim (cases_lt 0 c) [
+  | inl l ↦ rw (ne_eqb 0 c (λ e. omega arith)) (omega (arith, no-more p q (0 == d) n, no-more p q false 0, nothing p q))
+  | inr l ↦ rw (ne_eqb 0 d (λ e. differ (omega arith))) (omega (arith, no-more p q (0 == c) n, nothing p q))
+]
+  where
+    nothing : (p q : Bool) → when (p && q) 0 ≡ 0
+    nothing true true = refl
+    nothing true false = refl
+    nothing false q = refl
+
+-- ---- the ledger that the next epoch begins with
+
+module _ (s : State) (h : List Event) (earlier : List (List Event)) (is : IsCore s) (quiet : inside_in s ≡ 0)
+    (a : AgreesAfter s h (carried_by s.network.table earlier))
+    (sound : IsSound s.network.table (ledger_of s h (carried_by s.network.table earlier))) where
+  abbrev w : ℕ
+  w = s.network.table.width
+
+  abbrev next : Carried
+  next = carried_by s.network.table (h ∷ earlier)
+
+  abbrev old : Ledger
+  old = ledger_of s h (carried_by s.network.table earlier)
+
+  abbrev new : Ledger
+  new = ledger_of (after_carry s) [] next
+
+  -- what has left by an exit is its share of the base
+  shared : (i : ℕ) → i < w → slice_index s.visits i ≡ share (s.base + length s.clients) w i
+  shared i within = (tight-state s is quiet).counts i within ∙ ap (λ m. share m w i) is.state.all
+
+  numbered : (end : End) (n : ℕ) → Stands s.network.table end → new.given end n ≡ once_below (past (after_carry s) end) n
+  numbered (Balancer b) n there = let same = ap (λ m. once_below m n) (a.counts (Balancer b)) in omega arith
+  numbered (Exit i) n there =
+      let same = ap (λ m. once_below m n) (shared i there) in
+      rw (lt-ltb i w there) (omega arith)
+
+  none-on : (end : End) → sum_at s.network.table end old.on ≡ sum_at s.network.table end new.on
+  none-on end = total_where-agree (is_end end) s.network.table.ends (Balancer 0) old.on new.on (λ u within at. omega (arith, on-inside u s.clients))
+
+  balanced : (end : End) → Stands s.network.table end → past (after_carry s) end + sum_at s.network.table end new.on ≡ sum_at s.network.table end (put s.network.table new)
+  balanced (Balancer b) there = let was = sound.balanced (Balancer b) there in omega (arith, was, none-on (Balancer b))
+  balanced (Exit i) there = let was = sound.balanced (Exit i) there in omega (arith, was, none-on (Exit i))
+
+  pub sound-carried : IsSound s.network.table new
+  sound-carried = record {
+    balanced = balanced;
+    clients = λ u. (0, λ k l. sum_below-zero k (λ _. 0) (λ _. refl));
+    numbered = numbered;
+    named = λ c i v name g.
+        let (p, q) = both-there (nat_lt i w) (name_of w i v == name) (when (0 == c) (given_before (after_carry s) i v) + 0) g in
+        (ltb-true i w p, sym (eqb-true (name_of w i v) name q));
+    once = λ c i v name. no-more (nat_lt i w) (name_of w i v == name) (0 == c) (given_before (after_carry s) i v);
+    apart = λ c d i v differ. not-both c d differ (nat_lt i w) (name_of w i v == name_of w i v) (given_before (after_carry s) i v);
+    told = λ i v within g. (0, rw (lt-ltb i w within, eq-eqb (name_of w i v) (name_of w i v) refl) (rw (lt-ltb i w within) at g));
+  }
+
+pub IsCore-after_carry : (s : State) → IsCore s → inside_in s ≡ 0 → s.base + length s.clients ≤ MOST_CARRIED → IsCore (after_carry s)
+IsCore-after_carry s is quiet room =
+    let (h, earlier, (epochs, a), sound) = is.reached in
+    record {
+      state = IsState-after_carry s is.state room (tight-state s is quiet).counts;
+      reached = ([], h ∷ earlier, Agrees-after_carry s h earlier quiet (epochs, a), sound-carried s h earlier is quiet a sound);
+    }
+
+-- each exit has let out its share of the base
+pub visits-after_carry : (s : State) → IsCore s → inside_in s ≡ 0 → (i : ℕ) → i < s.network.table.width → slice_index s.visits i ≡ share (s.base + length s.clients) s.network.table.width i
+visits-after_carry s is quiet i within = (tight-state s is quiet).counts i within ∙ ap (λ m. share m s.network.table.width i) is.state.all

@@ -1,0 +1,117 @@
+-- Epochs that were accepted lead to a state, and so each exit let out its share of their clients.
+use Rattle.std.proofs.Common.{◌≡◌, ℕ, ◌<◌, ◌≤◌, Bool, true, false, List, [], ◌∷◌, length, ◌+◌, refl, sym, ap, arith, ◌∙◌, subst, Option, None, Some, nat_le}
+use Rattle.std.specs.Prelude.{if◌then◌else◌, is_some}
+use Rattle.std.proofs.lemmas.Bool.Decides.{nat_tests}
+use Rattle.cn_spec.specs.Step.{share}
+use Rattle.cn_spec.specs.declared.limits.TheConstants.{MOST_CARRIED, MOST_CLIENTS}
+use Rattle.cn_wiring.specs.declared.end.End.TheVariants.{Exit}
+use Rattle.cn_wiring.specs.Network.{Network, IsNetwork}
+use Rattle.cn_wiring.specs.Table.{Table, end_of}
+use Rattle.cn_core.specs.declared.position.Position.{Position}
+use Rattle.cn_core.specs.declared.position.Position.TheVariants.{On, Holds}
+use Rattle.cn_core.specs.declared.event.Event.{Event}
+use Rattle.cn_core.specs.declared.event.Event.TheVariants.{Enter, Step}
+use Rattle.cn_core.specs.declared.reply.EnterFault.TheVariants.{NoSuchEntry, AlreadyIn, EpochFull}
+use Rattle.cn_core.specs.declared.reply.Reply.TheVariants.{Entered, EnterRefused}
+use Rattle.cn_core.specs.State.{State, after_carry, after_enter, after_step, inside_in, position_in, start}
+use Rattle.cn_core.specs.SinceCleared.{Agrees, AreEpochs, ByHistories, Carried, IsHistory, carried_by, enters_of, is_accepted, position_after, step_answer}
+use Rattle.cn_core.specs.StateLedger.{IsCore}
+use Rattle.cn_core.specs.Tight.{HasShares}
+use Rattle.cn_core.proofs.CarryLemmas.{IsCore-after_carry, visits-after_carry}
+use Rattle.cn_core.proofs.HistoryLemmas.{Agrees-after_carry, Agrees-after_step, Agrees-start, AgreesAfter-after_enter, inside-by_history, inside_or_named, network-after_step}
+use Rattle.cn_core.proofs.LedgerLemmas.{IsCore-after_enter, IsCore-after_step, IsCore-start}
+
+-- a core of the network that agrees with a history and the earlier epochs
+pub record Reaches (network : Network) (h : List Event) (earlier : List (List Event)) : Type 0 where
+  pub state : State
+  pub same : state.network ≡ network
+  pub is : IsCore state
+  pub agrees : Agrees state h earlier
+
+-- what an accepted event tells
+entered-by : (table : Table) (h : List Event) (k : Carried) (client entry : ℕ) (beyond there full : Bool)
+    → is_accepted (if beyond then EnterRefused NoSuchEntry else if there then EnterRefused AlreadyIn else if full then EnterRefused EpochFull else Entered) ≡ true
+    → (beyond ≡ false) × (there ≡ false) × (full ≡ false)
+entered-by table h k client entry false false false e = (refl, refl, refl)
+entered-by table h k client entry true there full e = absurd (cc)
+entered-by table h k client entry false true full e = absurd (cc)
+entered-by table h k client entry false false true e = absurd (cc)
+
+nowhere : (p : Option Position) → is_some p ≡ false → p ≡ None
+nowhere None e = refl
+nowhere (Some p) e = absurd (cc)
+
+stepped-by : (table : Table) (h : List Event) (k : Carried) (p : Option Position) → is_accepted (step_answer table h k p) ≡ true → (wire : ℕ) × (p ≡ Some (On wire))
+stepped-by table h k None e = absurd (cc)
+stepped-by table h k (Some (Holds name)) e = absurd (cc)
+stepped-by table h k (Some (On wire)) e = (wire, refl)
+
+module _ (network : Network) (is : IsNetwork network) where
+  -- one event more
+  enters : (h : List Event) (earlier : List (List Event)) (client entry : ℕ) → Reaches network h earlier → IsHistory network.table (Enter client entry ∷ h) (carried_by network.table earlier) → Reaches network (Enter client entry ∷ h) earlier
+  enters h earlier client entry r (accepted, before) =
+      let s : State = r.state in
+      let k : Carried = carried_by network.table earlier in
+      let (epochs, a) = r.agrees in
+      let (within, absent, room) = entered-by network.table h k client entry (nat_le network.table.entries entry) (is_some (position_after network.table h k client)) (nat_le MOST_CLIENTS (enters_of h)) accepted in
+      let at : entry < s.network.table.entries = rw r.same (grind (arith, nat_tests, within)) in
+      let new : position_in s.clients client ≡ None = a.positions client ∙ rw r.same (nowhere (position_after network.table h k client) absent) in
+      let few : length s.clients < MOST_CLIENTS = grind (arith, nat_tests, room, a.total) in
+      record {
+        state = after_enter s client entry;
+        same = r.same;
+        is = IsCore-after_enter s client entry r.is at new few;
+        agrees = (epochs, AgreesAfter-after_enter s h (carried_by s.network.table earlier) client entry r.is.state at new few a);
+      }
+
+  steps : (h : List Event) (earlier : List (List Event)) (client : ℕ) → Reaches network h earlier → IsHistory network.table (Step client ∷ h) (carried_by network.table earlier) → Reaches network (Step client ∷ h) earlier
+  steps h earlier client r (accepted, before) =
+      let s : State = r.state in
+      let k : Carried = carried_by network.table earlier in
+      let (epochs, a) = r.agrees in
+      let (wire, there) = stepped-by network.table h k (position_after network.table h k client) accepted in
+      let on : position_in s.clients client ≡ Some (On wire) = a.positions client ∙ rw r.same there in
+      record {
+        state = after_step s client (end_of s.network.table wire);
+        same = network-after_step s client (end_of s.network.table wire) ∙ r.same;
+        is = IsCore-after_step s client wire (end_of s.network.table wire) r.is on refl;
+        agrees = Agrees-after_step s h earlier client wire (end_of s.network.table wire) r.is.state on refl (epochs, a);
+      }
+
+  -- one epoch more
+  goes : (earlier : List (List Event)) (h : List Event) → Reaches network [] earlier → IsHistory network.table h (carried_by network.table earlier) → Reaches network h earlier
+  goes earlier [] r accepted = r
+  goes earlier (Enter client entry ∷ h) r accepted = enters h earlier client entry (goes earlier h r accepted.1) accepted
+  goes earlier (Step client ∷ h) r accepted = steps h earlier client (goes earlier h r accepted.1) accepted
+
+  carries : (earlier : List (List Event)) (h : List Event) (r : Reaches network h earlier) → inside_in r.state ≡ 0 → (carried_by network.table (h ∷ earlier)).enters ≤ MOST_CARRIED → Reaches network [] (h ∷ earlier)
+  carries earlier h r quiet few =
+      let a = r.agrees.1 in
+      let base : r.state.base ≡ (carried_by network.table earlier).enters = a.base ∙ rw r.same refl in
+      record {
+        state = after_carry r.state;
+        same = r.same;
+        is = IsCore-after_carry r.state r.is quiet (omega (arith, base, a.total));
+        agrees = Agrees-after_carry r.state h earlier quiet r.agrees;
+      }
+
+  pub reached : (earlier : List (List Event)) → AreEpochs network.table earlier → (carried_by network.table earlier).enters ≤ MOST_CARRIED → Reaches network [] earlier
+  reached [] epochs few = record { state = start network; same = refl; is = IsCore-start network is; agrees = Agrees-start network }
+  reached (h ∷ earlier) (accepted, quiet, epochs) few =
+      let r : Reaches network h earlier = goes earlier h (reached earlier epochs (omega arith)) accepted in
+      let none : inside_in r.state ≡ 0 = inside-by_history r.state h (carried_by r.state.network.table earlier) r.agrees.1 ∙ rw r.same quiet in
+      carries earlier h r none few
+
+-- where an epoch begins, the exits have let out their shares
+shares-at : (s : State) (earlier : List (List Event)) → IsCore s → Agrees s [] earlier → HasShares s.network.table.width (carried_by s.network.table earlier)
+shares-at s earlier is (epochs, a) i within =
+    let nobody : inside_in s ≡ 0 = omega (arith, a.total, inside_or_named s.clients) in
+    let came : s.base + length s.clients ≡ (carried_by s.network.table earlier).enters = omega (arith, a.base, a.total) in
+    sym (a.counts (Exit i)) ∙ visits-after_carry s is nobody i within ∙ ap (λ m. share m s.network.table.width i) came
+
+-- the earlier epochs of a core let out by each exit its share of their clients
+pub shares-by_history : (s : State) → IsCore s → ByHistories s (λ history carried. HasShares s.network.table.width carried)
+shares-by_history s is h earlier (epochs, a) =
+    let few : (carried_by s.network.table earlier).enters ≤ MOST_CARRIED = omega (arith, a.base, is.state.carried) in
+    let r : Reaches s.network [] earlier = reached s.network is.state.network earlier epochs few in
+    subst (λ (n : Network). HasShares n.table.width (carried_by n.table earlier)) r.same (shares-at r.state earlier r.is r.agrees)

@@ -1,0 +1,11 @@
+use Rattle.std.proofs.Common.{◌∙◌, []}
+use Rattle.cn_core.specs.Calls.{entered_reply}
+use Rattle.cn_core.specs.SinceCleared as core
+use Rattle.cn_core.specs.declared.event.Event.TheVariants.{Enter}
+use Rattle.cn_epoch.proofs.epochs.Epochs.enter.Goals as goal
+
+pub invariant_of-self : goal.invariant_of-self
+invariant_of-self c = record {
+  network = c.enter.ensures.network ∙ c.self.invariant.network;
+  cleared = λ clears. let (history, agrees) = c.self.invariant.cleared clears in (core.grown history (Enter c.args.client c.args.entry) (entered_reply c.enter.result), (c.enter.ensures.history history [] agrees).1);
+}

@@ -1,0 +1,141 @@
+-- The answers of epochs, by the number of turns done, the history since the last of them, the newest event first, and the
+-- earlier epochs since the counts were zero.
+use Rattle.std.specs.Prelude.{◌≡◌, ℕ, ◌+◌, ◌<◌, ◌≤◌, Bool, true, false, List, [], ◌∷◌, Option, None, Some, is_some, length, slice_index}
+use Rattle.std.specs.Option.{option_map}
+use Rattle.cn_wiring.specs.Table.{Table}
+use Rattle.cn_wiring.specs.declared.end.End.TheVariants.{Exit}
+use Rattle.cn_core.specs.declared.event.Event.{Event}
+use Rattle.cn_core.specs.declared.event.Event.TheVariants.{Enter as EnterEvent, Step as StepEvent}
+use Rattle.cn_core.specs.declared.position.Position.TheVariants.{Holds}
+use Rattle.cn_core.specs.SinceCleared as core
+use Rattle.cn_core.specs.SinceCleared.{Carried, carried_by, enters_of, inside_of, position_after, steps_before}
+use Rattle.cn_core.specs.State.{State, after_carry, start}
+use Rattle.cn_epoch.specs.declared.answer.Answer.{Answer}
+use Rattle.cn_epoch.specs.declared.answer.Answer.TheVariants.{Replied, Turned, TurnRefused}
+use Rattle.cn_epoch.specs.declared.answer.TurnFault.TheVariants.{NotQuiet, Memory}
+use Rattle.cn_epoch.specs.declared.command.Command.{Command}
+use Rattle.cn_epoch.specs.declared.command.Command.TheVariants.{Enter, Step, Turn}
+use Rattle.cn_epoch.specs.declared.record.EpochRecord.{EpochRecord}
+
+-- epochs as contracts see them: how many have ended, whether a turn carries the counts on, and the state of the epoch that
+-- stands open
+pub record Epochs : Type 0 where
+  pub number : ℕ
+  pub carries : Bool
+  pub core : State
+
+-- the state in which the next epoch begins: the counts are cleared, or carried on
+abbrev pub next : Bool → State → State
+next false core = start core.network
+next true core = after_carry core
+
+-- the earlier epochs since the counts were zero: none where turns clear
+abbrev pub earlier_in : Option (List (List Event)) → List (List Event)
+earlier_in None = []
+earlier_in (Some earlier) = earlier
+
+-- what they left
+abbrev pub carried_in : Table → Option (List (List Event)) → Carried
+carried_in table kept = carried_by table (earlier_in kept)
+
+-- epochs agree with a number of turns done, the history since the last of them and, where turns carry, the earlier epochs
+pub record Agrees (epochs : Epochs) (turns : ℕ) (history : List Event) (kept : Option (List (List Event))) : Type 0 where
+  pub number : epochs.number ≡ turns
+  pub carries : epochs.carries ≡ is_some kept
+  pub core : core.Agrees epochs.core history (earlier_in kept)
+
+-- something holds of each number of turns, each history and what is carried, that epochs agree with
+abbrev pub ByHistories : Epochs → (ℕ → List Event → Carried → Type 0) → Type 0
+ByHistories epochs P =
+    (turns : ℕ) (history : List Event) (kept : Option (List (List Event))) → Agrees epochs turns history kept
+    → P turns history (carried_in epochs.core.network.table kept)
+
+-- the record of a history: its enters, its leaves by exit, and the client of each name
+pub record IsRecordOf (table : Table) (turns : ℕ) (history : List Event) (carried : Carried) (r : EpochRecord) : Type 0 where
+  pub number : r.number ≡ turns
+  pub clients : r.clients ≡ enters_of history
+  pub exits : length r.counts.items ≡ table.width
+  pub counts : (i : ℕ) → i < table.width
+      → slice_index r.counts.items i + carried.steps (Exit i) ≡ steps_before table history carried (Exit i)
+  pub names : length r.holders.items ≡ enters_of history
+  pub holders : (name : ℕ) → name < enters_of history
+      → position_after table history carried (slice_index r.holders.items name) ≡ Some (Holds name)
+
+-- the answers that a turn may have: its record where nobody is inside, or want of memory in place of that; otherwise how
+-- many are inside
+abbrev pub MayTurn : Table → ℕ → List Event → Carried → Answer → Type 0
+MayTurn table turns history carried (Turned r) =
+    (inside_of table history carried ≡ 0) × IsRecordOf table turns history carried r
+MayTurn table turns history carried (TurnRefused (NotQuiet s)) = (1 ≤ s) × (s ≡ inside_of table history carried)
+MayTurn table turns history carried (TurnRefused Memory) = inside_of table history carried ≡ 0
+MayTurn table turns history carried (Replied reply) = ⊥
+
+-- epochs may answer an event by what a core may reply to it
+abbrev pub MayReply : Table → List Event → Carried → Event → Answer → Type 0
+MayReply table history carried event (Replied reply) = core.MayAnswer table history carried event reply
+MayReply table history carried event (Turned r) = ⊥
+MayReply table history carried event (TurnRefused fault) = ⊥
+
+-- the answers that a command may have
+abbrev pub MayAnswer : Table → ℕ → List Event → Carried → Command → Answer → Type 0
+MayAnswer table turns history carried (Enter client entry) answer = MayReply table history carried (EnterEvent client entry) answer
+MayAnswer table turns history carried (Step client) answer = MayReply table history carried (StepEvent client) answer
+MayAnswer table turns history carried Turn answer = MayTurn table turns history carried answer
+
+-- the number of turns done, and the history, after an answer: a turn that is done cuts the history
+abbrev pub turns_after : ℕ → Answer → ℕ
+turns_after turns (Turned r) = turns + 1
+turns_after turns (Replied reply) = turns
+turns_after turns (TurnRefused fault) = turns
+
+abbrev pub replied_to : List Event → Event → Answer → List Event
+replied_to history event (Replied reply) = core.grown history event reply
+replied_to history event (Turned r) = history
+replied_to history event (TurnRefused fault) = history
+
+abbrev pub cut_by : List Event → Answer → List Event
+cut_by history (Turned r) = []
+cut_by history (Replied reply) = history
+cut_by history (TurnRefused fault) = history
+
+abbrev pub grown : List Event → Command → Answer → List Event
+grown history (Enter client entry) answer = replied_to history (EnterEvent client entry) answer
+grown history (Step client) answer = replied_to history (StepEvent client) answer
+grown history Turn answer = cut_by history answer
+
+-- the earlier epochs after an answer, where turns carry: a turn that is done adds the history
+abbrev pub earlier_after : List (List Event) → List Event → Answer → List (List Event)
+earlier_after earlier history (Turned r) = history ∷ earlier
+earlier_after earlier history (Replied reply) = earlier
+earlier_after earlier history (TurnRefused fault) = earlier
+
+abbrev pub kept_after : Option (List (List Event)) → List Event → Answer → Option (List (List Event))
+kept_after kept history answer = option_map (λ earlier. earlier_after earlier history answer) kept
+
+-- epochs may give these answers to these commands, one after another
+abbrev pub MayAnswerAll : Table → ℕ → List Event → Option (List (List Event)) → List Command → List Answer → Type 0
+MayAnswerAll table turns history kept [] [] = Unit {0}
+MayAnswerAll table turns history kept (command ∷ commands) (answer ∷ answers) =
+    MayAnswer table turns history (carried_in table kept) command answer
+    × MayAnswerAll table (turns_after turns answer) (grown history command answer) (kept_after kept history answer) commands answers
+MayAnswerAll table turns history kept [] (answer ∷ answers) = ⊥
+MayAnswerAll table turns history kept (command ∷ commands) [] = ⊥
+
+-- the number of turns done, the history, and the earlier epochs, once the commands have these answers
+abbrev pub turns_by : ℕ → List Answer → ℕ
+turns_by turns [] = turns
+turns_by turns (answer ∷ answers) = turns_by (turns_after turns answer) answers
+
+abbrev pub grown_by : List Event → List Command → List Answer → List Event
+grown_by history [] answers = history
+grown_by history (command ∷ commands) [] = history
+grown_by history (command ∷ commands) (answer ∷ answers) = grown_by (grown history command answer) commands answers
+
+abbrev pub earlier_by : List (List Event) → List Event → List Command → List Answer → List (List Event)
+earlier_by earlier history [] answers = earlier
+earlier_by earlier history (command ∷ commands) [] = earlier
+earlier_by earlier history (command ∷ commands) (answer ∷ answers) =
+    earlier_by (earlier_after earlier history answer) (grown history command answer) commands answers
+
+abbrev pub kept_by : Option (List (List Event)) → List Event → List Command → List Answer → Option (List (List Event))
+kept_by kept history commands answers = option_map (λ earlier. earlier_by earlier history commands answers) kept
