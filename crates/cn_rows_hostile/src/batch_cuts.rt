@@ -21,9 +21,11 @@ const BITONIC_FOUR: Asked = Asked {
 const FIVE_ON_ONE_ENTRY: &[u8] = b"epoch,client,entry\n1,17,3\n1,5,3\n1,99,3\n1,23,3\n1,42,3\n";
 
 /// How many bytes are left at most, counted on from the row before, and the answer to each of these cuts. What is left of
-/// the header is no header until it is whole; what is left of a record has too few fields, then an entry without digits,
+/// the header is no header until it is one of the two; what is left of a record has too few fields, then an entry without digits,
 /// and then is the record, with and without the end of its line.
-const ANSWERS: [(usize, Answer); 17] = [
+const ANSWERS: [(usize, Answer); 19] = [
+    (11, Answer::Refused(0, BatchCause::Header)),
+    (12, Answer::Written(b"epoch,client,name\n")),
     (17, Answer::Refused(0, BatchCause::Header)),
     (19, Answer::Written(b"epoch,client,name\n")),
     (23, Answer::Refused(1, BatchCause::FieldCount)),

@@ -9,7 +9,7 @@ use std::io;
 pub(crate) struct Computed {
     header: &'static [u8],
     /// A record and its line end. `A` to `G` stand for the digits of the record's number, from 0 on, the last digit first;
-    /// `Y` and `Z` for the two of its epoch's, where 65,536 records make an epoch, from 1 on.
+    /// `Y` and `Z` for the two of its epoch's, where 262,144 records make an epoch, from 1 on.
     form: &'static [u8],
     records: u64,
     last: &'static [u8],
@@ -19,7 +19,7 @@ pub(crate) struct Computed {
 
 /// The byte that a letter of a form stands for.
 fn byte_of(letter: u8, record: u64) -> u8 {
-    let epoch = record / 65_536 + 1;
+    let epoch = record / 262_144 + 1;
     let number = match letter {
         b'A' => record,
         b'B' => record / 10,

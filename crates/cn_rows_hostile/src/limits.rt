@@ -29,28 +29,28 @@ fn full_epochs(records: u64, last: &'static [u8]) -> Computed {
 
 /// How many records of full epochs a batch has, what follows, and where and why it is refused: the record too many of an
 /// epoch, with a client that is new there and with one that stands there; the record too many of a batch, in the last of
-/// sixteen full epochs with either, in a new epoch, with no number for a client, and in an epoch of one with either.
+/// four full epochs with either, in a new epoch, with no number for a client, and in an epoch of one with either.
 const BATCHES: [(u64, &[u8], u64, BatchCause); 8] = [
-    (65_536, b"1,65536,0\n", 65_537, BatchCause::EpochFull),
-    (65_536, b"1,0,0\n", 65_537, BatchCause::Duplicate),
-    (1_048_576, b"16,0,0\n", 1_048_577, BatchCause::EpochFull),
+    (262_144, b"1,262144,0\n", 262_145, BatchCause::EpochFull),
+    (262_144, b"1,0,0\n", 262_145, BatchCause::Duplicate),
+    (1_048_576, b"4,0,0\n", 1_048_577, BatchCause::EpochFull),
     (
         1_048_576,
-        b"16,1048575,0\n",
+        b"4,1048575,0\n",
         1_048_577,
         BatchCause::Duplicate,
     ),
-    (1_048_576, b"17,0,0\n", 1_048_577, BatchCause::BatchFull),
-    (1_048_576, b"17,x,0\n", 1_048_577, BatchCause::ClientNumber),
+    (1_048_576, b"5,0,0\n", 1_048_577, BatchCause::BatchFull),
+    (1_048_576, b"5,x,0\n", 1_048_577, BatchCause::ClientNumber),
     (
         1_048_575,
-        b"17,0,0\n17,1,0\n",
+        b"5,0,0\n5,1,0\n",
         1_048_577,
         BatchCause::BatchFull,
     ),
     (
         1_048_575,
-        b"17,0,0\n17,0,0\n",
+        b"5,0,0\n5,0,0\n",
         1_048_577,
         BatchCause::Duplicate,
     ),
@@ -77,7 +77,7 @@ fn sizes_of(batch: &Batch) -> (usize, usize) {
     let full = batch
         .epochs
         .iter()
-        .filter(|epoch| epoch.clients.len() == 65_536)
+        .filter(|epoch| epoch.clients.len() == 262_144)
         .count();
     (batch.epochs.len(), full)
 }
@@ -95,7 +95,7 @@ fn batch_limits(rt: HostRuntime) -> Result<(), Fail> {
     let (alloc, state) = (rt.alloc(), RandomState::new(&rt)?);
     let largest = largest_batch(alloc, state);
     let wrong = wrong_batch(&rt, alloc, state);
-    assert_eq!(rt; (largest, wrong), (Some((16, 16)), None));
+    assert_eq!(rt; (largest, wrong), (Some((4, 4)), None));
     Ok(())
 }
 
