@@ -413,9 +413,9 @@ fn a_client_too_many(alloc: Global) -> Option<Vec<u8>> {
     Some(text.into_bytes())
 }
 
-const FULL: &[u8] = b"enter 65535 wire 0\n\
-      refused enter 65536 EpochFull\n\
-      end epoch 0 entered 65536 inside 65536\n";
+const FULL: &[u8] = b"enter 262143 wire 0\n\
+      refused enter 262144 EpochFull\n\
+      end epoch 0 entered 262144 inside 262144\n";
 
 /// Whether the one client is refused, and no other.
 fn is_one_too_many(alloc: Global, state: RandomState) -> Option<bool> {
