@@ -1,5 +1,5 @@
-//! The texts of the worked rows, by each job to writers that fail, or take nothing more, after each number of bytes; and
-//! inputs whose reader fails after each number of lines.
+//! The texts of the worked rows, by each job to writers that fail, or take nothing more, after each number of bytes;
+//! and inputs whose reader fails after each number of lines.
 
 ghost use Rattle.cn_renamer.specs.Performing.{IsBuiltFor};
 
@@ -47,8 +47,8 @@ fn is_cut<R: RandomSource + Threads + Wait + Sync>(
     cut_at(&done) == Some(wanted.len() as u64) && writer.taken.as_slice() == wanted
 }
 
-/// The first room of a writer at which a job that writes this text to it ends otherwise: where the writer then fails, or
-/// takes nothing more; or, with room for all, where its flush fails.
+/// The first room of a writer at which a job that writes this text to it ends otherwise: where the writer then fails,
+/// or takes nothing more; or, with room for all, where its flush fails.
 fn wrong_room<R: RandomSource + Threads + Wait + Sync>(
     rt: &R,
     alloc: Global,

@@ -1,5 +1,5 @@
-//! A batch that is cut at each of its bytes, and batches that are no plain lines: the answer is that to the records that csv
-//! gives.
+//! A batch that is cut at each of its bytes, and batches that are no plain lines: the answer is that to the records
+//! that csv gives.
 
 use crate::serving::{Answer, Asked, is_answered};
 use cn_renamer::{BatchCause, Form};
@@ -20,9 +20,9 @@ const BITONIC_FOUR: Asked = Asked {
 
 const FIVE_ON_ONE_ENTRY: &[u8] = b"epoch,client,entry\n1,17,3\n1,5,3\n1,99,3\n1,23,3\n1,42,3\n";
 
-/// How many bytes are left at most, counted on from the row before, and the answer to each of these cuts. What is left of
-/// the header is no header until it is one of the two; what is left of a record has too few fields, then an entry without digits,
-/// and then is the record, with and without the end of its line.
+/// How many bytes are left at most, counted on from the row before, and the answer to each of these cuts. What is
+/// left of the header is no header but where it is one of the two; what is left of a record has too few fields, then an entry
+/// without digits, and then is the record, with and without the end of its line.
 const ANSWERS: [(usize, Answer); 19] = [
     (11, Answer::Refused(0, BatchCause::Header)),
     (12, Answer::Written(b"epoch,client,name\n")),
@@ -86,8 +86,9 @@ fn wrong_cut<R: Threads + Wait + Sync>(
     (None, cuts)
 }
 
-/// Batches with other line ends and quotes than plain ones, or with two causes in a record, and the answers: a lone carriage
-/// return ends a record; a quote that is left open runs to the end; a quote inside a field is no digit; of causes the first.
+/// Batches with other line ends and quotes than plain ones, or with two causes in a record, and the answers: a lone
+/// carriage return ends a record; a quote that is left open runs to the end; a quote inside a field is no digit; of
+/// causes the first.
 const ODD: [(&[u8], Answer); 6] = [
     (
         b"epoch,client,entry\r1,17,3\r1,5,3\r",

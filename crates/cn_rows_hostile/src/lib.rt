@@ -1,5 +1,5 @@
-//! Hostile inputs and stalled workers, as tests: a batch cut at each of its bytes, texts of as many records as may be and
-//! one more, and workers that are held before each of their moments.
+//! Hostile inputs and stalled workers, as tests: a batch cut at each of its bytes, texts of as many records as may be
+//! and one more, and workers that are held before each of their moments.
 #![tactic(auto)]
 
 #[cfg(test)]

@@ -27,9 +27,10 @@ fn full_epochs(records: u64, last: &'static [u8]) -> Computed {
     Computed::new(b"epoch,client,entry\n", b"YZ,GFEDCBA,0\n", records, last)
 }
 
-/// How many records of full epochs a batch has, what follows, and where and why it is refused: the record too many of an
-/// epoch, with a client that is new there and with one that stands there; the record too many of a batch, in the last of
-/// four full epochs with either, in a new epoch, with no number for a client, and in an epoch of one with either.
+/// How many records of full epochs a batch has, what follows, and where and why it is refused: the record too many of
+/// an epoch, with a client that is new there and with one that stands there; the record too many of a batch, in the
+/// last of four full epochs with either, in a new epoch, with no number for a client, and in an epoch of one with
+/// either.
 const BATCHES: [(u64, &[u8], u64, BatchCause); 8] = [
     (262_144, b"1,262144,0\n", 262_145, BatchCause::EpochFull),
     (262_144, b"1,0,0\n", 262_145, BatchCause::Duplicate),

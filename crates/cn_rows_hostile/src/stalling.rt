@@ -67,8 +67,8 @@ fn has_held(gate: &Stall) -> bool {
     gate.late.load(Ordering::SeqCst) == 0 && come == (MOMENTS, MOMENTS)
 }
 
-/// Whether the four clients, two of each worker, have the names 0 to 3, and those of the worker that is not held have the
-/// first ones in their order where the other is held from the start.
+/// Whether the four clients, two of each worker, have the names 0 to 3, and those of the worker that is not held have
+/// the first ones in their order where the other is held from the start.
 fn are_named(holders: &[u64], gate: &Stall) -> bool {
     let first = if gate.held == 1 { [0, 1] } else { [2, 3] };
     let are_all = (0..4).all(|client| holders.contains(&client));

@@ -1,5 +1,5 @@
-//! Lanes of one floor, of which some are dropped, before or after what they do: when the floor is closed, only what a dropped
-//! lane let in is missing.
+//! Lanes of one floor, of which some are dropped, before or after what they do: when the floor is closed, only what a
+//! dropped lane let in is missing.
 
 ghost use Rattle.std.specs.Prelude.{◌≡◌, IfSome};
 
@@ -10,8 +10,8 @@ use cn_core::Moved;
 use cn_walk::{CloseFault, Floor, Grant, Lane, LaneFault, Quiet};
 use std::alloc::Global;
 
-/// The four steps of 7 and 8, who come in by entry 0 of bitonic 2, each in a lane of its own, and walk out one after the
-/// other.
+/// The four steps of 7 and 8, who come in by entry 0 of bitonic 2, each in a lane of its own, and walk out one after
+/// the other.
 type Steps = [Option<Moved>; 4];
 
 const MOVES: Steps = [
@@ -57,8 +57,8 @@ fn walk_both(floor: &Floor<'_>, first: &mut Lane, second: &mut Lane) -> Option<S
     ])
 }
 
-/// Of three lanes with a quota of 1, into which one with a quota of 3 is split, the first two; the third lets nobody in, and
-/// is dropped.
+/// Of three lanes with a quota of 1, into which one with a quota of 3 is split, the first two; the third lets nobody
+/// in, and is dropped.
 fn two_of_three(floor: &Floor<'_>, lane: Lane) -> Option<(Lane, Lane)>
     requires { lane.home ≡ floor.now }
     ensures { IfSome result (λ r. (r.0.home ≡ floor.now) × (r.1.home ≡ floor.now)) }
@@ -112,7 +112,8 @@ fn walk(floor: &Floor<'_>, lane: &mut Lane, client: u64) -> Option<Moved>
     step(floor, lane, token)
 }
 
-/// A lane with a quota of 0 refuses a client and is dropped: the last steps of 7 and 8, and the lane that they walk out of.
+/// A lane with a quota of 0 refuses a client and is dropped: the last steps of 7 and 8, and the lane that they walk
+/// out of.
 fn empty_dropped(floor: &Floor<'_>, lane: Lane) -> Option<(Steps, Lane)>
     requires { lane.home ≡ floor.now }
     ensures { IfSome result (λ r. r.1.home ≡ floor.now) }
@@ -137,8 +138,8 @@ enum Dropped {
     Empty,
 }
 
-/// What a close tells: whether counts, passes and holders are those of 7 and 8; or how many came in, how many grants the lane
-/// has, and whether they are those of 7 or none.
+/// What a close tells: whether counts, passes and holders are those of 7 and 8; or how many came in, how many grants
+/// the lane has, and whether they are those of 7 or none.
 #[derive(Clone, Copy, Debug, PartialEq, Eq)]
 enum End {
     Quiet([bool; 3]),

@@ -2,8 +2,8 @@
 //!
 //!     stalls SEED RUNS
 //!
-//! It prints each seed, from the first on, whose run is not tight, and how many there are. Its status is 0 where there is
-//! none, 1 where there is one, 2 where the words are others, and 3 where the runtime refuses something.
+//! It prints each seed, from the first on, whose run is not tight, and how many there are. Its status is 0 where
+//! there is none, 1 where there is one, 2 where the words are others, and 3 where the runtime refuses something.
 #![tactic(auto)]
 
 mod plan;

@@ -106,8 +106,8 @@ fn next_mover(left: &[u64], start: usize) -> Option<usize> {
     None
 }
 
-/// The order in which workers with so many moments move: every second time on the average the one that moved last goes on,
-/// and else one that is drawn.
+/// The order in which workers with so many moments move: every second time on the average the one that moved last
+/// goes on, and else one that is drawn.
 pub(crate) fn draw_order(alloc: Global, draws: &mut Draws, moments: &[u64]) -> Option<Vec<u32>> {
     let mut left = moments.to_vec(alloc).ok()?;
     let mut order = Vec::new(alloc);

@@ -10,8 +10,8 @@ use std::hash::RandomState;
 use std::sync::Wait;
 use std::thread::Threads;
 
-/// How many entries the plan's network has, and how many moments each client: it comes in, passes a balancer on each level,
-/// and leaves.
+/// How many entries the plan's network has, and how many moments each client: it comes in, passes a balancer on each
+/// level, and leaves.
 fn sizes_of(alloc: Global, plan: &Plan) -> Option<(u32, u64)> {
     let network = plan.options.net().build(alloc).ok()?;
     let moments = u64::from(network.depth()).saturating_add(2);

@@ -21,8 +21,9 @@ struct Mover {
     parker: Parker,
 }
 
-/// Each worker waits before each of its moments until all that stand before it in the order are over. A moment is over when
-/// its worker comes to the next; after its last one a worker comes no more, so that one is over as it begins.
+/// Each worker waits before each of its moments until all that stand before it in the order are over. A moment is
+/// over when its worker comes to the next; after its last one a worker comes no more, so that one is over as it
+/// begins.
 #[derive(Drop)]
 pub(crate) struct Turns {
     order: Vec<u32>,

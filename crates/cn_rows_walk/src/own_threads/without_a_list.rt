@@ -1,5 +1,5 @@
-//! Two threads that share a floor, and neither knows beforehand whom it names or how many: each makes clients of its own until
-//! both have enough names.
+//! Two threads that share a floor, and neither knows beforehand whom it names or how many: each makes clients of its
+//! own until both have enough names.
 
 ghost use Rattle.std.specs.Prelude.{◌≡◌, IfSome};
 
