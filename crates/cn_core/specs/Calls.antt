@@ -80,8 +80,8 @@ RunsByHistory old events replies new =
     → MayAnswerAll old.network.table history (carried_by old.network.table earlier) events replies
     × Agrees new (grown_by history events replies) earlier
 
--- by every history and earlier epochs that the old state agrees with the new one agrees with no event after these and the
--- epoch of the history
+-- by every history and earlier epochs that the old state agrees with, the new one agrees with no event yet, after these epochs
+-- and that of the history
 abbrev pub CarriesByHistory : State → State → Type 0
 CarriesByHistory old new =
     (history : List Event) (earlier : List (List Event)) → Agrees old history earlier

@@ -1,8 +1,7 @@
 -- The answers of a core that carries nothing, by its history: the same, where no epoch came before.
-use Rattle.std.specs.Prelude.{◌≡◌, ℕ, List, Option, Some}
+use Rattle.std.specs.Prelude.{ℕ, List, Option}
 use Rattle.cn_wiring.specs.Table.{Table}
 use Rattle.cn_core.specs.declared.position.Position.{Position}
-use Rattle.cn_core.specs.declared.position.Position.TheVariants.{Holds}
 use Rattle.cn_core.specs.declared.event.Event.{Event}
 use Rattle.cn_core.specs.declared.reply.Reply.{Reply}
 use Rattle.cn_core.specs.SinceCleared as since
@@ -13,7 +12,7 @@ pub use Rattle.cn_core.specs.SinceCleared.{enters_of, grown}
 abbrev pub position_after : Table → List Event → ℕ → Option Position
 position_after table history = since.position_after table history nothing
 
--- how many clients of the history are inside
+-- how many clients of the history are inside: they entered and have not left
 abbrev pub inside_of : Table → List Event → ℕ
 inside_of table history = since.inside_of table history nothing
 
@@ -39,6 +38,4 @@ IsHistory table history = since.IsHistory table history nothing
 
 -- no two clients hold one name
 abbrev pub HasOneHolder : Table → List Event → Type 0
-HasOneHolder table history =
-    (client other name : ℕ) → position_after table history client ≡ Some (Holds name)
-    → position_after table history other ≡ Some (Holds name) → client ≡ other
+HasOneHolder table history = since.HasOneHolder table history nothing

@@ -161,6 +161,12 @@ IsHistory table [] carried = Unit {0}
 IsHistory table (event ∷ history) carried =
     (is_accepted (answer_to table history carried event) ≡ true) × IsHistory table history carried
 
+-- no two clients hold one name
+abbrev pub HasOneHolder : Table → List Event → Carried → Type 0
+HasOneHolder table history carried =
+    (client other name : ℕ) → position_after table history carried client ≡ Some (Holds name)
+    → position_after table history carried other ≡ Some (Holds name) → client ≡ other
+
 -- what these epochs leave
 abbrev pub carried_by : Table → List (List Event) → Carried
 carried_by table [] = nothing
@@ -187,7 +193,7 @@ pub record AgreesAfter (state : State) (history : List Event) (carried : Carried
   pub left : count_by is_named (values_of state.clients) ≡ leaves_of state.network.table history carried
   pub counts : (end : End) → past state end ≡ steps_before state.network.table history carried end
 
--- a state agrees with a history together with the earlier epochs
+-- a state agrees with a history together with the earlier epochs: its positions and counts are those that they give
 abbrev pub Agrees : State → List Event → List (List Event) → Type 0
 Agrees state history earlier =
     AreEpochs state.network.table earlier × AgreesAfter state history (carried_by state.network.table earlier)

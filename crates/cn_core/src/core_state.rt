@@ -120,6 +120,7 @@ impl<'a> Core<'a> {
         ensures few { length self.now.clients ≤ MOST_CLIENTS }
         ensures carried { self.now.base ≤ MOST_CARRIED }
         ensures came { came_in self.now ≡ self.now.base + length self.now.clients }
+        ensures limit { came_in self.now ≤ MOST_CARRIED + MOST_CLIENTS }
         ensures exits { length self.now.visits ≡ self.now.network.table.width }
         ensures reached { (history : List Event) × (earlier : List (List Event))
             × Agrees self.now history earlier }

@@ -72,14 +72,14 @@ fn told_of(answer: &Answer) -> Told {
     }
 }
 
-/// What each answer tells, and how many epochs ended and how many clients are carried then.
-type Outcome = ([Told; 8], [u64; 2]);
+/// What each answer of each epoch tells, and how many epochs ended and how many clients are carried then.
+type Outcome = ([[Told; 4]; 2], [u64; 2]);
 
-fn all_told(answers: &[Answer]) -> [Told; 8] {
-    let mut told = [Told::Other; 8];
+fn all_told(answers: &[Answer]) -> [[Told; 4]; 2] {
+    let mut told = [[Told::Other; 4]; 2];
     for (place, answer) in answers.iter().enumerate() {
         if place < 8 {
-            told[place] = told_of(answer);
+            told[place / 4][place % 4] = told_of(answer);
         }
     }
     told
@@ -116,33 +116,26 @@ fn outcome(alloc: Global, state: RandomState, carries: bool, calls: Calls) -> Op
     }
 }
 
-const CARRIED: Outcome = (
-    [
-        Told::Entered,
-        Told::Passed(2, 0),
-        Told::Left(0, 0, 0),
-        Told::Ended(0, 1, 0),
-        Told::Entered,
-        Told::Passed(3, 1),
-        Told::Left(1, 0, 0),
-        Told::Ended(1, 0, 1),
-    ],
-    [2, 2],
-);
+const FIRST: [Told; 4] = [
+    Told::Entered,
+    Told::Passed(2, 0),
+    Told::Left(0, 0, 0),
+    Told::Ended(0, 1, 0),
+];
 
-const CLEARED: Outcome = (
-    [
-        Told::Entered,
-        Told::Passed(2, 0),
-        Told::Left(0, 0, 0),
-        Told::Ended(0, 1, 0),
-        Told::Entered,
-        Told::Passed(2, 0),
-        Told::Left(0, 0, 0),
-        Told::Ended(1, 1, 0),
-    ],
-    [2, 0],
-);
+const CARRIED: [Told; 4] = [
+    Told::Entered,
+    Told::Passed(3, 1),
+    Told::Left(1, 0, 0),
+    Told::Ended(1, 0, 1),
+];
+
+const CLEARED: [Told; 4] = [
+    Told::Entered,
+    Told::Passed(2, 0),
+    Told::Left(0, 0, 0),
+    Told::Ended(1, 1, 0),
+];
 
 /// By single calls and by a run.
 fn by_both(alloc: Global, state: RandomState, carries: bool) -> [Option<Outcome>; 2] {
@@ -156,7 +149,8 @@ fn by_both(alloc: Global, state: RandomState, carries: bool) -> [Option<Outcome>
 fn carried_twice_and_cleared_twice(rt: HostRuntime) -> Result<(), Fail> {
     let (alloc, state) = (rt.alloc(), RandomState::new(&rt)?);
     let told = [by_both(alloc, state, true), by_both(alloc, state, false)];
-    assert_eq!(rt; told, [[Some(CARRIED); 2], [Some(CLEARED); 2]]);
+    let wanted = [([FIRST, CARRIED], [2, 2]), ([FIRST, CLEARED], [2, 0])];
+    assert_eq!(rt; told, wanted.map(|outcome| [Some(outcome); 2]));
     Ok(())
 }
 
