@@ -42,8 +42,8 @@ pub fn counts_are_shares()
     first_shares_are_shares();
 }
 
-/// What a run writes in the grants form, with carry or without, is a list that a check takes for tight; and a check by any width tells the epochs
-/// of the batch, with as many names `n` of `n mod w = i` as the share of exit i.
+/// What a run writes in the grants form, with carry or without, is a list that a check takes for tight; and a check by any
+/// width tells the epochs of the batch, with as many names `n` of `n mod w = i` as the share of exit i.
 pub fn written_grants_are_accepted()
     ensures tight { (net : Description) (carry : Bool) (bytes text : List ℕ) → IsRunOf net Grants carry bytes text
         → IsTightList (records_of text) }

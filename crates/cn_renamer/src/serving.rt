@@ -102,7 +102,7 @@ fn run_after<'n, G: Gate + Sync, R: Threads + Wait + Sync>(
     match run_epoch_after(rt, alloc, words, &epoch.clients, workers, hand, gate) {
         Ok(quiet) => Ok((record_of(alloc, epoch, &quiet)?, quiet.into_words())),
         Err(fault) => {
-            // So is one that goes on from others.
+            // So is an epoch that goes on from others.
             prove!(matches!(fault, RunFault::Memory));
             Err(AllocError)
         }

@@ -114,7 +114,8 @@ fn zeros(alloc: Global, network: &Counting) -> Result<Vec<u64>, AllocError>
 }
 
 impl<'a> Floor<'a> {
-    /// A floor over the network, with one lane that has the whole quota: as many clients may come in.
+    /// A floor over the network, with one lane that has the whole quota: as many clients may come in. It is
+    /// [`Floor::open_after`] of words that are all 0.
     ///
     /// # Errors
     /// The first that stands: `Quota` (more than [`MOST_CLIENTS`]), `Memory`.
