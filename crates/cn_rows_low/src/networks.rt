@@ -301,7 +301,10 @@ fn other_widths(rt: HostRuntime) {
 #[test]
 fn widths(rt: HostRuntime) {
     for width in 0..600 {
-        assert_eq!(rt; is_width(width), [2, 4, 8, 16, 32, 64, 128, 256].contains(&width));
+        assert_eq!(rt;
+            is_width(width),
+            [2, 4, 8, 16, 32, 64, 128, 256].contains(&width)
+        );
     }
     assert!(rt; !is_width(u32::MAX));
 }

@@ -54,5 +54,8 @@ fn all_spread<R: Threads + Wait + Sync>(rt: &R, alloc: Global) -> [Option<[bool;
 
 #[test]
 fn widest(rt: HostRuntime) {
-    assert_eq!(rt; all_spread(&rt, rt.alloc()), [Some([true, true]), Some([true, true])]);
+    assert_eq!(rt;
+        all_spread(&rt, rt.alloc()),
+        [Some([true, true]), Some([true, true])]
+    );
 }
