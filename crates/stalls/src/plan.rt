@@ -29,7 +29,10 @@ impl Draws {
     }
 }
 
-/// A run: its network and workers, each with one client in hand, and how many clients come.
+/// How many epochs a batch has.
+pub(crate) const EPOCHS: u64 = 2;
+
+/// A run: its network and workers, each with one client in hand, and how many clients come in each epoch.
 #[derive(Clone, Copy, Debug, PartialEq, Eq)]
 pub(crate) struct Plan {
     pub(crate) options: Options,
@@ -51,18 +54,23 @@ fn draw_net(draws: &mut Draws) -> Option<Net> {
     Net::new(kind, width).ok()
 }
 
-/// Two to eight workers with up to four clients each, on one of the networks.
+/// Two to eight workers with up to four clients each, on one of the networks, whose counters are carried every second
+/// time on the average.
 pub(crate) fn draw_plan(draws: &mut Draws) -> Option<Plan> {
     let net = draw_net(draws)?;
     let workers = u32::try_from(draws.below(7)).ok()?.saturating_add(2);
     let clients = draws.below(u64::from(workers).saturating_mul(4));
+    let options = Options::new(net, workers, 1, Form::Grants).ok()?;
     Some(Plan {
-        options: Options::new(net, workers, 1, Form::Grants).ok()?,
+        options: match draws.below(2) {
+            0 => options,
+            _ => options.carried(),
+        },
         clients: clients.saturating_add(1),
     })
 }
 
-/// A batch of one epoch of so many clients, each with an entry below a bound.
+/// A batch of epochs of so many clients, each with an entry below a bound.
 pub(crate) fn draw_batch(
     alloc: Global,
     draws: &mut Draws,
@@ -72,14 +80,16 @@ pub(crate) fn draw_batch(
     let mask = draws.word();
     let mut batch = String::new(alloc);
     batch.push_str("epoch,client,entry\n").ok()?;
-    for place in 0..clients {
-        let entry = draws.below(u64::from(entries));
-        writeln!(batch, "1,{},{entry}", place ^ mask).ok()?;
+    for epoch in 0..EPOCHS {
+        for place in 0..clients {
+            let entry = draws.below(u64::from(entries));
+            writeln!(batch, "{epoch},{},{entry}", place ^ mask).ok()?;
+        }
     }
     Some(batch.into_bytes())
 }
 
-/// How many moments each worker has, where each client has so many: the workers share out the clients by their places.
+/// How many moments each worker has in an epoch, where each client has so many: the workers share out the clients by their places.
 pub(crate) fn moments_of(alloc: Global, plan: &Plan, each: u64) -> Option<Vec<u64>> {
     let (clients, workers) = (plan.clients, u64::from(plan.options.workers()));
     let mut moments = Vec::new(alloc);
@@ -106,11 +116,15 @@ fn next_mover(left: &[u64], start: usize) -> Option<usize> {
     None
 }
 
-/// The order in which workers with so many moments move: every second time on the average the one that moved last
-/// goes on, and else one that is drawn.
-pub(crate) fn draw_order(alloc: Global, draws: &mut Draws, moments: &[u64]) -> Option<Vec<u32>> {
+/// Adds the order in which workers with so many moments move in an epoch: every second time on the average the one that
+/// moved last goes on, and else one that is drawn.
+fn draw_epoch(
+    alloc: Global,
+    draws: &mut Draws,
+    moments: &[u64],
+    order: &mut Vec<u32>,
+) -> Option<()> {
     let mut left = moments.to_vec(alloc).ok()?;
-    let mut order = Vec::new(alloc);
     let mut worker = 0;
     for moments in moments {
         for _ in 0..*moments {
@@ -122,6 +136,15 @@ pub(crate) fn draw_order(alloc: Global, draws: &mut Draws, moments: &[u64]) -> O
             *own = own.saturating_sub(1);
             order.push(u32::try_from(worker).ok()?).ok()?;
         }
+    }
+    Some(())
+}
+
+/// The order in which workers with so many moments in each epoch move.
+pub(crate) fn draw_order(alloc: Global, draws: &mut Draws, moments: &[u64]) -> Option<Vec<u32>> {
+    let mut order = Vec::new(alloc);
+    for _ in 0..EPOCHS {
+        draw_epoch(alloc, draws, moments, &mut order)?;
     }
     Some(order)
 }

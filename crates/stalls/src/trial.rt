@@ -1,6 +1,6 @@
 //! One run by workers that take turns, judged by its grants.
 
-use crate::plan::{Draws, Plan, draw_batch, draw_order, draw_plan, moments_of};
+use crate::plan::{Draws, EPOCHS, Plan, draw_batch, draw_order, draw_plan, moments_of};
 use crate::turns::Turns;
 use cn_renamer::serve;
 use cn_report::{Tight, check_grants};
@@ -18,12 +18,9 @@ fn sizes_of(alloc: Global, plan: &Plan) -> Option<(u32, u64)> {
     Some((network.entries(), moments))
 }
 
-/// Whether a list has one epoch, of so many clients.
+/// Whether a list has all epochs, each of so many clients.
 fn has_clients(tight: &Tight, clients: u64) -> bool {
-    match tight.epochs.as_slice() {
-        [epoch] => epoch.number == 1 && epoch.clients == clients,
-        _ => false,
-    }
+    tight.epochs.len() as u64 == EPOCHS && tight.epochs.iter().all(|epoch| epoch.clients == clients)
 }
 
 /// Whether a grant list is tight by this width, and has so many clients.

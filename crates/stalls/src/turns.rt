@@ -13,7 +13,7 @@ const LOOKS: u32 = 1_000;
 
 const SLEEP: u64 = 10;
 
-/// A worker: how many moments it has, to how many it has come, and where it sleeps.
+/// A worker: how many moments it has in an epoch, to how many it has come in all, and where it sleeps.
 #[derive(Drop)]
 struct Mover {
     moments: u64,
@@ -22,8 +22,8 @@ struct Mover {
 }
 
 /// Each worker waits before each of its moments until all that stand before it in the order are over. A moment is
-/// over when its worker comes to the next; after its last one a worker comes no more, so that one is over as it
-/// begins.
+/// over when its worker comes to the next of the epoch; after its last one there a worker comes no more until all have
+/// come to theirs, so that one is over as it begins.
 #[derive(Drop)]
 pub(crate) struct Turns {
     order: Vec<u32>,
@@ -33,7 +33,7 @@ pub(crate) struct Turns {
 }
 
 impl Turns {
-    /// A gate for workers with so many moments each, who move in this order.
+    /// A gate for workers with so many moments each in an epoch, who move in this order.
     pub(crate) fn new(alloc: Global, order: Vec<u32>, moments: &[u64]) -> Option<Turns> {
         let mut movers = Vec::new(alloc);
         for moments in moments {
@@ -94,11 +94,12 @@ impl Gate for Turns {
             return;
         };
         let earlier = own.come.fetch_add(1, Ordering::SeqCst);
-        if earlier > 0 {
+        let place = earlier.checked_rem(own.moments).unwrap_or(0);
+        if place > 0 {
             self.hand_on();
         }
         self.wait(rt, worker, &own.parker);
-        if earlier.saturating_add(1) == own.moments {
+        if place.saturating_add(1) == own.moments {
             self.hand_on();
         }
     }
