@@ -2,11 +2,11 @@
 # Compares the processor time of `renamer run` with a plain Rust peer that does the same work by single steps, with linked
 # tokens and words that are cleared, in turn: full batches (16 epochs of 65,536 clients with random identities and entries)
 # on bitonic 64 with hands of 1 and of 64 and on the tree of width 64, by one worker and by four; 65,536 epochs of one
-# client; runs with `--carry` with runs without, of the full batch and of the epochs of one client; and a Python script that
-# keeps a dict from client to name. The last line is what one more balancer on a token's way costs, in uncontended atomic
-# adds. The peers take `csv` and `indexmap` from a folder of crates: the argument, or that
-# of Debian's packages librust-csv-dev and librust-indexmap-dev. Times by four workers are told beside those by one, with
-# the time by the clock: threads may wait.
+# client; four epochs of 262,144 clients on bitonic 256; and a Python script that keeps a dict from client to name. Runs with
+# `--carry` are compared with runs without, of the full batch and of the epochs of one client. The last lines are the memory
+# that an epoch of 262,144 clients takes, and what one more balancer on a token's way costs, in uncontended atomic adds. The
+# peers take `csv` and `indexmap` from a folder of crates: the argument, or that of Debian's packages librust-csv-dev and
+# librust-indexmap-dev. Times by four workers are told beside those by one, with the time by the clock: threads may wait.
 set -euo pipefail
 cd "$(dirname "$0")"
 crates=${1:-/usr/share/cargo/registry}
@@ -21,7 +21,7 @@ work=$(mktemp -d)
 trap 'rm -rf -- "$work"' EXIT
 
 python3 - "$proved" "$plain" "$work" <<'P'
-import random, resource, subprocess, sys, time
+import os, random, resource, subprocess, sys, time
 
 proved, plain, work = sys.argv[1:]
 EPOCHS, CLIENTS, RUNS = 16, 65_536, 5
@@ -37,7 +37,10 @@ def write(name, rows):
 def full(entries):
     return ((epoch, chance.getrandbits(64), chance.randrange(entries)) for epoch in range(EPOCHS) for _ in range(CLIENTS))
 
-many, one = write("many", full(64)), write("one", full(1))
+def wide():
+    return ((epoch, chance.getrandbits(64), chance.randrange(256)) for epoch in range(4) for _ in range(262_144))
+
+many, one, widest = write("many", full(64)), write("one", full(1)), write("widest", wide())
 tiny = write("tiny", ((epoch, 7, 0) for epoch in range(65_536)))
 
 def spent(words, path):
@@ -47,11 +50,11 @@ def spent(words, path):
     after, took = resource.getrusage(resource.RUSAGE_CHILDREN), time.perf_counter() - began
     return after.ru_utime + after.ru_stime - before.ru_utime - before.ru_stime, took
 
-def ours(network, workers, hand, form="report"):
-    return [proved, "run", "--network", network, "--width", "64", "--workers", str(workers), "--hand", str(hand), "--form", form]
+def ours(network, workers, hand, form="report", width=64):
+    return [proved, "run", "--network", network, "--width", str(width), "--workers", str(workers), "--hand", str(hand), "--form", form]
 
-def peer(network, workers, hand, form="report"):
-    return [plain, "walk", network, "64", str(workers), str(hand), form]
+def peer(network, workers, hand, form="report", width=64):
+    return [plain, "walk", network, str(width), str(workers), str(hand), form]
 
 def compare(name, first, second, path):
     pairs = [(spent(first, path), spent(second, path)) for _ in range(RUNS)]
@@ -66,6 +69,7 @@ compare("tree 64, one worker, hand 1", ours("tree", 1, 1), peer("tree", 1, 1), o
 compare("bitonic 64, four workers, hand 1", ours("bitonic", 4, 1), peer("bitonic", 4, 1), many)
 compare("bitonic 64, four workers against one", ours("bitonic", 4, 1), ours("bitonic", 1, 1), many)
 compare("65,536 epochs of one client, grants", ours("bitonic", 1, 1, "grants"), peer("bitonic", 1, 1, "grants"), tiny)
+compare("bitonic 256, epochs of 262,144, one worker", ours("bitonic", 1, 1, width=256), peer("bitonic", 1, 1, width=256), widest)
 compare("bitonic 64, carried against not", ours("bitonic", 1, 1) + ["--carry"], ours("bitonic", 1, 1), many)
 compare("65,536 epochs of one client, carried against not", ours("bitonic", 1, 1, "grants") + ["--carry"], ours("bitonic", 1, 1, "grants"), tiny)
 
@@ -83,6 +87,19 @@ for epoch, client, entry in rows:
 sys.stdout.writelines(lines)
 """)
 compare("bitonic 64 against a Python script, grants", ours("bitonic", 1, 1, "grants"), [sys.executable, script], many)
+
+def peak(words, path):
+    with open(path) as text:
+        child = subprocess.Popen(words, stdin=text, stdout=subprocess.PIPE)
+        written = len(child.stdout.read())
+        _, status, usage = os.wait4(child.pid, 0)
+    assert status == 0
+    return 1024 * usage.ru_maxrss, written
+
+clients = 262_144
+empty, _ = peak(ours("bitonic", 1, 1, width=256), write("empty", []))
+most, written = peak(ours("bitonic", 1, 1, width=256), write("epoch", ((1, chance.getrandbits(64), client % 256) for client in range(clients))))
+print(f"memory at its peak beyond that of an empty batch and the text: {(most - empty - written) / clients:.0f} bytes a client")
 
 adds = sum(spent([plain, "add"], "/dev/null")[0] for _ in range(2)) / 2 / 100_000_000
 deep = sum(spent(ours("bitonic", 1, 1), one)[0] for _ in range(RUNS)) / RUNS

@@ -1,5 +1,6 @@
 #!/usr/bin/env bash
-# Compares the processor time of showing the widest bitonic network with a plain Rust peer, a hundred runs each, in turn.
+# Compares the processor time of showing a bitonic network of width 64 and the widest periodic one with a plain Rust peer, a
+# hundred runs each, in turn. A network is built whole before it is shown.
 set -euo pipefail
 cd "$(dirname "$0")"
 
@@ -8,10 +9,16 @@ cd "$(dirname "$0")"
 proved=../crates/renamer/out/renamer
 plain=plain/target/release/plain
 
-cmp <("$proved" show --network bitonic --width 64) <("$plain" show)
+for network in 'bitonic 64' 'periodic 256'; do
+    read -r kind width <<< "$network"
+    cmp <("$proved" show --network "$kind" --width "$width") <("$plain" show "$kind" "$width")
+done
 
 python3 - "$proved" "$plain" <<'P'
 import resource, subprocess, sys
+
+RUNS = 100
+proved, plain = sys.argv[1:]
 
 def children():
     usage = resource.getrusage(resource.RUSAGE_CHILDREN)
@@ -22,11 +29,12 @@ def spent(words):
     subprocess.run(words, stdout=subprocess.DEVNULL, check=True)
     return children() - before
 
-proved = [sys.argv[1], "show", "--network", "bitonic", "--width", "64"]
-plain = [sys.argv[2], "show"]
-totals = [0.0, 0.0]
-for _ in range(100):
-    for place, words in enumerate((proved, plain)):
-        totals[place] += spent(words)
-print(f"proved {totals[0]:.2f} s, plain {totals[1]:.2f} s, ratio {totals[0] / totals[1]:.2f}")
+for kind, width in (("bitonic", "64"), ("periodic", "256")):
+    pair = ([proved, "show", "--network", kind, "--width", width], [plain, "show", kind, width])
+    totals = [0.0, 0.0]
+    for _ in range(RUNS):
+        for place, words in enumerate(pair):
+            totals[place] += spent(words)
+    each = 1000 * totals[0] / RUNS
+    print(f"{kind} {width}: proved {totals[0]:.2f} s, plain {totals[1]:.2f} s, ratio {totals[0] / totals[1]:.2f}; proved {each:.1f} ms a run")
 P

@@ -2,16 +2,18 @@
 
 mod network;
 
-use network::{End, bitonic_network};
+use network::{End, bitonic_network, periodic_network};
 use std::fmt::Write as _;
 use std::io::Write as _;
 
-fn show() -> String {
-    let width = 64;
-    let depth = 21;
-    let network = bitonic_network(width);
+fn show(kind: &str, width: usize) -> String {
+    let level = width.ilog2() as usize;
+    let (network, depth) = match kind {
+        "periodic" => (periodic_network(width), level * level),
+        _ => (bitonic_network(width), level * (level + 1) / 2),
+    };
     let balancers = network.balancers();
-    let mut text = format!("network bitonic width {width} balancers {balancers} depth {depth}\n");
+    let mut text = format!("network {kind} width {width} balancers {balancers} depth {depth}\n");
     for (wire, end) in network.ends.iter().enumerate() {
         match end {
             End::Balancer(balancer) => writeln!(text, "wire {wire} balancer {balancer}"),
@@ -25,10 +27,14 @@ fn show() -> String {
 }
 
 fn main() -> std::io::Result<()> {
-    match std::env::args().nth(1).as_deref() {
-        Some("show") => std::io::stdout().write_all(show().as_bytes()),
+    let words: Vec<String> = std::env::args().skip(1).collect();
+    match words.iter().map(String::as_str).collect::<Vec<_>>()[..] {
+        ["show", kind, width] => {
+            let width = width.parse().expect("a width");
+            std::io::stdout().write_all(show(kind, width).as_bytes())
+        }
         _ => {
-            eprintln!("plain show");
+            eprintln!("plain show bitonic|periodic WIDTH");
             std::process::exit(2);
         }
     }

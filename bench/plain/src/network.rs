@@ -89,3 +89,32 @@ pub fn bitonic_network(width: usize) -> Network {
     }
     network
 }
+
+fn cochain(wires: &[usize], first: usize) -> Vec<usize> {
+    (0..wires.len() / 2).map(|j| wires[2 * j + (first + j) % 2]).collect()
+}
+
+fn block(network: &mut Network, wires: &[usize]) -> Vec<usize> {
+    let (a, b) = (cochain(wires, 0), cochain(wires, 1));
+    if wires.len() == 2 {
+        return network.join_all(&a, &b);
+    }
+    let z = block(network, &a);
+    let z2 = block(network, &b);
+    network.join_all(&z, &z2)
+}
+
+/// The periodic network.
+#[allow(dead_code)]
+pub fn periodic_network(width: usize) -> Network {
+    let level = width.ilog2() as usize;
+    let mut network = Network::new(width, width / 2 * level * level);
+    let mut wires: Vec<usize> = (0..width).collect();
+    for _ in 0..level {
+        wires = block(&mut network, &wires);
+    }
+    for (exit, wire) in wires.into_iter().enumerate() {
+        network.ends[wire] = End::Exit(exit);
+    }
+    network
+}
