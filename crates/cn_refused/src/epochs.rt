@@ -97,14 +97,16 @@ fn stand_of(epochs: &Epochs<'_>) -> [u64; 3] {
     [epochs.number(), epochs.entered(), epochs.inside()]
 }
 
-/// The answer to one command. The rows have few turns.
+/// The answer to one command. The rows have few turns and clients, and carry none.
 fn answer_to(epochs: &mut Epochs<'_>, command: Command) -> Option<Answer> {
     match command {
         Command::Enter { client, entry } => {
             Some(Answer::Replied(epochs.enter(client, entry).into()))
         }
         Command::Step { client } => Some(Answer::Replied(epochs.step(client).into())),
-        Command::Turn if epochs.number() > 9 => None,
+        Command::Turn if epochs.number() > 9 || epochs.base() > 0 || epochs.entered() > 1_000 => {
+            None
+        }
         Command::Turn => Some(epochs.turn().into()),
     }
 }
@@ -148,7 +150,10 @@ fn called(epochs: &mut Epochs<'_>, row: &Row) -> Seen {
 
 /// The answers of one run.
 fn run(epochs: &mut Epochs<'_>, commands: &[Command]) -> Option<Vec<Answer>> {
-    if epochs.number() < 10 && commands.len() < 1_000 {
+    if epochs.number() > 9 || epochs.base() > 0 || epochs.entered() > 1_000 {
+        return None;
+    }
+    if commands.len() < 1_000 {
         epochs.run(commands).ok()
     } else {
         None
