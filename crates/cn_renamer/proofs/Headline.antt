@@ -8,6 +8,7 @@ use Rattle.std.proofs.lemmas.List.FromFn.{length-map-range_with_len}
 use Rattle.std.proofs.lemmas.List.Sorted.{length_permutation}
 use Rattle.std.proofs.lemmas.List.Sums.{sum_by-cons}
 use Rattle.cn_spec.specs.Step.{share}
+use Rattle.cn_spec.specs.Sums.{when}
 use Rattle.cn_wiring.specs.Network.{Network}
 use Rattle.cn_core.specs.declared.client.Client.{Client}
 use Rattle.cn_epoch.specs.declared.record.EpochRecord.{EpochRecord}
@@ -78,14 +79,15 @@ unfolding came
 all-came m [] = omega arith
 all-came m (e ∷ epochs) = all-came (m + length e.clients.items) epochs ∙ omega (arith, sum_by-cons (λ (x : BatchEpoch). length x.clients.items) e epochs)
 
-pub served-anew : (width : ℕ) (epochs : List BatchEpoch) (records : List EpochRecord) (e : BatchEpoch) (r : EpochRecord) → AreServed false width 0 epochs records → IsServed width 0 e r
-    → AreServed false width 0 (epochs ++ e ∷ []) (records ++ r ∷ [])
-served-anew width epochs records e r served one = served-more false width 0 epochs records e r served (subst (λ (m : ℕ). IsServed width m e r) (sym (none-came epochs)) one)
+-- and one after another they add up
+pub when-more : (carry : Bool) (m n : ℕ) → when carry m + when carry n ≡ when carry (m + n)
+when-more false m n = refl
+when-more true m n = refl
 
-pub served-after : (width : ℕ) (epochs : List BatchEpoch) (records : List EpochRecord) (e : BatchEpoch) (r : EpochRecord) → AreServed true width 0 epochs records → IsServed width (clients_of epochs) e r
-    → AreServed true width 0 (epochs ++ e ∷ []) (records ++ r ∷ [])
-served-after width epochs records e r served one =
-    served-more true width 0 epochs records e r served (subst (λ (m : ℕ). IsServed width m e r) (sym (all-came 0 epochs ∙ omega arith)) one)
+pub served-next : (carry : Bool) (width : ℕ) (epochs : List BatchEpoch) (records : List EpochRecord) (e : BatchEpoch) (r : EpochRecord) → AreServed carry width 0 epochs records
+    → IsServed width (when carry (clients_of epochs)) e r → AreServed carry width 0 (epochs ++ e ∷ []) (records ++ r ∷ [])
+served-next false width epochs records e r served one = served-more false width 0 epochs records e r served (subst (λ (m : ℕ). IsServed width m e r) (sym (none-came epochs)) one)
+served-next true width epochs records e r served one = served-more true width 0 epochs records e r served (subst (λ (m : ℕ). IsServed width m e r) (sym (all-came 0 epochs ∙ omega arith)) one)
 
 -- there are none before the first epoch
 pub none-served : (carry : Bool) (width m : ℕ) → AreServed carry width m [] []

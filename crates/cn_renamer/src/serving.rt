@@ -1,8 +1,10 @@
 //! A batch, served by many workers.
 
-ghost use Rattle.std.specs.Prelude.{◌≡◌, ◌+◌, ◌≤◌, IfErr, IfOk, false, length, take, true, vec_capacity, vec_len};
+ghost use Rattle.std.specs.Prelude.{◌≡◌, ◌+◌, ◌≤◌, IfErr, IfOk, OnOk, length};
 ghost use Rattle.cn_spec.specs.declared.limits.TheConstants.{MOST_CARRIED, MOST_RECORDS};
+ghost use Rattle.cn_spec.specs.Sums.{when};
 ghost use Rattle.cn_walk.specs.Carried.{clients_of};
+ghost use Rattle.cn_walk.specs.Runs.{IsRunAfter};
 ghost use Rattle.cn_report.specs.Reading.Batch.{AreServable, MayCome};
 ghost use Rattle.cn_report.specs.Reading.Batch.{clients_of as clients_in};
 ghost use Rattle.cn_report.specs.Writing.Written.{HasWritten, written_by};
@@ -13,8 +15,7 @@ use crate::forms::write_epochs;
 use crate::serve_fault::ServeFault;
 use cn_epoch::EpochRecord;
 use cn_report::{BatchEpoch, read_batch};
-use cn_walk::laws::first_shares_are_shares;
-use cn_walk::{Gate, Quiet, RunFault, Words, run_epoch, run_epoch_after};
+use cn_walk::{Gate, Quiet, RunFault, Runner};
 use cn_wiring::Counting;
 use cn_words::Options;
 use std::alloc::{AllocError, Global};
@@ -39,22 +40,23 @@ fn record_of(
     })
 }
 
-/// Runs an epoch of a batch by as many workers as the options have: its record, with the batch's number for it.
-fn run_one<G: Gate + Sync, R: Threads + Wait + Sync>(
+/// Runs an epoch of a batch by as many workers as the options have, on a floor that goes on from the runner's words.
+fn run_one<'n, G: Gate + Sync, R: Threads + Wait + Sync>(
     rt: &R,
     alloc: Global,
-    network: &Counting,
+    runner: &mut Runner<'n>,
     options: &Options,
     epoch: &BatchEpoch,
     gate: &G,
-) -> Result<EpochRecord, AllocError>
-    requires { MayCome network.now.table.entries epoch.now.clients.items }
-    ensures { IfOk result (IsServed network.now.table.width 0 epoch.now) }
+) -> Result<Quiet<'n>, AllocError>
+    requires come { MayCome runner.old.network.table.entries epoch.now.clients.items }
+    requires few { clients_of runner.old ≤ MOST_CARRIED }
+    ensures words { runner.new ≡ runner.old }
+    ensures run { IfOk result (λ quiet. IsRunAfter runner.old epoch.now.clients.items quiet) }
 {
-    first_shares_are_shares();
     let (workers, hand) = (options.workers(), options.hand());
-    match run_epoch(rt, alloc, network, &epoch.clients, workers, hand, gate) {
-        Ok(quiet) => record_of(alloc, epoch, &quiet),
+    match runner.run(rt, alloc, &epoch.clients, workers, hand, gate) {
+        Ok(quiet) => Ok(quiet),
         Err(fault) => {
             // An epoch of a batch is refused for want of memory alone.
             prove!(matches!(fault, RunFault::Memory));
@@ -63,76 +65,32 @@ fn run_one<G: Gate + Sync, R: Threads + Wait + Sync>(
     }
 }
 
-/// Runs epochs of a batch, one after another, each from counters of 0: their records.
-fn run_epochs<G: Gate + Sync, R: Threads + Wait + Sync>(
+/// Runs the next epoch of a batch: its record. Where the options carry counters, the runner goes on from its words.
+fn run_next<'n, G: Gate + Sync, R: Threads + Wait + Sync>(
     rt: &R,
     alloc: Global,
-    network: &Counting,
-    options: &Options,
-    epochs: &[BatchEpoch],
-    gate: &G,
-) -> Result<Vec<EpochRecord>, AllocError>
-    requires { AreServable network.now.table.entries epochs.now }
-    ensures { IfOk result (λ records. AreServed false network.now.table.width 0 epochs.now records.items) }
-{
-    let mut records = Vec::with_capacity(alloc, epochs.len())?;
-    for epoch in epochs {
-        let served = run_one(rt, alloc, network, options, epoch, gate)?;
-        records.push_reserved(served);
-    }
-    Ok(records)
-}
-
-/// Runs an epoch of a batch that goes on from the words of earlier ones: its record, and the words at its end.
-fn run_after<'n, G: Gate + Sync, R: Threads + Wait + Sync>(
-    rt: &R,
-    alloc: Global,
-    words: &Words<'n>,
+    runner: &mut Runner<'n>,
     options: &Options,
     epoch: &BatchEpoch,
     gate: &G,
-) -> Result<(EpochRecord, Words<'n>), AllocError>
-    requires come { MayCome words.now.network.table.entries epoch.now.clients.items }
-    requires few { clients_of words.now ≤ MOST_CARRIED }
-    ensures served { IfOk result (λ r. IsServed words.now.network.table.width (clients_of words.now) epoch.now r.0) }
-    ensures network { IfOk result (λ r. r.1.network ≡ words.now.network) }
-    ensures came { IfOk result (λ r. clients_of r.1 ≡ clients_of words.now + length epoch.now.clients.items) }
+) -> Result<EpochRecord, AllocError>
+    requires come { MayCome runner.old.network.table.entries epoch.now.clients.items }
+    requires few { clients_of runner.old ≤ MOST_CARRIED }
+    ensures served { IfOk result (IsServed runner.old.network.table.width (clients_of runner.old) epoch.now) }
+    ensures network { OnOk result (runner.new.network ≡ runner.old.network) }
+    ensures came { OnOk result (clients_of runner.new
+        ≡ clients_of runner.old + when options.now.carry (length epoch.now.clients.items)) }
 {
-    let (workers, hand) = (options.workers(), options.hand());
-    match run_epoch_after(rt, alloc, words, &epoch.clients, workers, hand, gate) {
-        Ok(quiet) => Ok((record_of(alloc, epoch, &quiet)?, quiet.into_words())),
-        Err(fault) => {
-            // So is an epoch that goes on from others.
-            prove!(matches!(fault, RunFault::Memory));
-            Err(AllocError)
-        }
+    let quiet = run_one(rt, alloc, runner, options, epoch, gate)?;
+    let record = record_of(alloc, epoch, &quiet)?;
+    if options.carries() {
+        runner.go_on_from(quiet);
     }
+    Ok(record)
 }
 
-/// Runs epochs of a batch, one after another, each from the counters of the one before: their records. No word is cleared.
-fn run_carried<G: Gate + Sync, R: Threads + Wait + Sync>(
-    rt: &R,
-    alloc: Global,
-    network: &Counting,
-    options: &Options,
-    epochs: &[BatchEpoch],
-    gate: &G,
-) -> Result<Vec<EpochRecord>, AllocError>
-    requires servable { AreServable network.now.table.entries epochs.now }
-    requires few { clients_in epochs.now ≤ MOST_RECORDS }
-    ensures { IfOk result (λ records. AreServed true network.now.table.width 0 epochs.now records.items) }
-{
-    let mut records = Vec::with_capacity(alloc, epochs.len())?;
-    let mut words = Words::zero(alloc, network)?;
-    for epoch in epochs {
-        let (record, next) = run_after(rt, alloc, &words, options, epoch, gate)?;
-        records.push_reserved(record);
-        words = next;
-    }
-    Ok(records)
-}
-
-/// Runs epochs of a batch as the options have it, with their counters carried or without.
+/// Runs the epochs of a batch, one after another: their records. Each begins with counters of 0, or where the options have
+/// it, with those of the one before.
 fn run_all<G: Gate + Sync, R: Threads + Wait + Sync>(
     rt: &R,
     alloc: Global,
@@ -145,11 +103,13 @@ fn run_all<G: Gate + Sync, R: Threads + Wait + Sync>(
     requires few { clients_in epochs.now ≤ MOST_RECORDS }
     ensures { IfOk result (λ records. AreServed options.now.carry network.now.table.width 0 epochs.now records.items) }
 {
-    if options.carries() {
-        run_carried(rt, alloc, network, options, epochs, gate)
-    } else {
-        run_epochs(rt, alloc, network, options, epochs, gate)
+    let mut records = Vec::with_capacity(alloc, epochs.len())?;
+    let mut runner = Runner::new(alloc, network)?;
+    for epoch in epochs {
+        let record = run_next(rt, alloc, &mut runner, options, epoch, gate)?;
+        records.push_reserved(record);
     }
+    Ok(records)
 }
 
 /// Reads a batch, runs its epochs one after another, and writes what came of them in the options' form: the report, which

@@ -24,7 +24,7 @@ use Rattle.cn_walk.specs.Ends.{IsQuiet, NobodyInside, counts_of}
 use Rattle.cn_walk.specs.Rule.{IsKept, ledger_of}
 use Rattle.cn_walk.specs.Views.{base, given_in, granted_in, inside_in, on_in, standing_in}
 use Rattle.cn_walk.specs.Words.{clients_in, count_in, entered_in}
-use Rattle.cn_walk.proofs.Bounds.{all_came, count_risen, few_came}
+use Rattle.cn_walk.proofs.Bounds.{all_came, few_came}
 use Rattle.cn_walk.proofs.Ends.{carried-after, tight-after, tight-before}
 use Rattle.cn_walk.proofs.Fresh.{heard_few}
 use Rattle.cn_walk.proofs.Sole.{none_given}
@@ -183,7 +183,6 @@ module _ (start : Start) (s : State (Unit {0}) View) (id : ℕ) (v : View) (kept
     moment = record { state = s; id = id; here = at; kept = kept; same = refl };
     count = kept.words;
     few = few_came start s kept;
-    risen = count_risen start s kept;
     granted = omega (arith, all_came start s kept, part_le (λ (x : View). length x.entries) s.views id v at, (kept.accounted id v at).all);
     quiet = quiet;
   }

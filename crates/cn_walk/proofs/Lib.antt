@@ -1,6 +1,7 @@
 mod Totals
 mod Lists
 mod Raised
+mod Rises
 mod Ledgers
 mod Accounts
 mod Bounds

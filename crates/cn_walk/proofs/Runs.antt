@@ -1,11 +1,12 @@
 -- A quiet floor on which nobody but these clients walked.
-use Rattle.std.proofs.Common.{◌≡◌, ℕ, ◌+◌, ◌-◌, ◌*◌, ◌/◌, ◌<◌, List, ◌++◌, length, get_or, map, replicate, sym, refl, ap, ◌∙◌, subst, arith}
+use Rattle.std.proofs.Common.{◌≡◌, ℕ, ◌+◌, ◌-◌, ◌*◌, ◌/◌, ◌<◌, List, ◌++◌, length, get_or, map, sym, refl, ap, ◌∙◌, subst, arith}
 use Rattle.std.proofs.lemmas.Nat.{div-mul-add}
 use Rattle.cn_spec.specs.Step.{IsEachBelow, share, shares}
 use Rattle.cn_spec.specs.Sums.{Agree, times}
 use Rattle.cn_wiring.specs.declared.end.End.TheVariants.{Balancer}
 use Rattle.cn_wiring.specs.Network.{Network}
 use Rattle.cn_wiring.specs.Table.{Table, sum_at}
+use Rattle.cn_yard.specs.Lists.{Yard, tokens_in}
 use Rattle.cn_core.specs.declared.client.Client.{Client}
 use Rattle.cn_walk.specs.declared.view.Grant.{Grant}
 use Rattle.cn_walk.specs.declared.view.Start.{Start}
@@ -14,7 +15,7 @@ use Rattle.cn_walk.specs.Carried.{WordsValue, clients_of, shares_after, words_be
 use Rattle.cn_walk.specs.Closing.{IsMissing}
 use Rattle.cn_walk.specs.Ends.{IsQuiet, QuietValue}
 use Rattle.cn_walk.specs.Halves.{HasNothing, first_of}
-use Rattle.cn_walk.specs.Lane.{Home, LaneValue, new_lane}
+use Rattle.cn_walk.specs.Lane.{Home, IsIdle, LaneValue, new_lane}
 use Rattle.cn_walk.specs.Runs.{IsRun, IsRunAfter}
 use Rattle.cn_walk.specs.Views.{base}
 use Rattle.cn_walk.specs.Walks.{AreFor, WalksAll}
@@ -47,8 +48,9 @@ all-first k w some =
     omega (arith, one, none)
 
 -- a lane that is new has done nothing
-pub new_nothing : (home : Home) (q : ℕ) (a : LaneValue) → a ≡ new_lane home q → HasNothing a
-new_nothing home q a is = subst HasNothing (sym is) (record { inside = nobody-in (length home.start.network.table.ends); entries = refl; grants = refl })
+pub new_nothing : (home : Home) (q : ℕ) (yard : Yard) (a : LaneValue) → a ≡ record (new_lane home q) { yard = yard } → IsIdle home.start.network yard.lists → HasNothing a
+new_nothing home q yard a is idle =
+    subst HasNothing (sym is) (record { inside = ap tokens_in idle ∙ nobody-in (length home.start.network.table.ends); entries = refl; grants = refl })
 
 -- a lane that has as many grants as the floor may let in misses nothing
 pub none-missing : (start : Start) (v : View) (entered : ℕ) → IsMissing start v entered → length v.grants ≡ start.quota → ⊥

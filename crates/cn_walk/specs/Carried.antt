@@ -1,5 +1,5 @@
 -- The words of closed floors, with which another floor may begin.
-use Rattle.std.specs.Prelude.{◌≡◌, ℕ, ◌+◌, ◌-◌, ◌≤◌, List, [], map, replicate}
+use Rattle.std.specs.Prelude.{ℕ, ◌+◌, ◌-◌, ◌≤◌, List, [], map, replicate}
 use Rattle.std.specs.List.{range_with_len}
 use Rattle.cn_spec.specs.Step.{share}
 use Rattle.cn_spec.specs.declared.limits.TheConstants.{MOST_CARRIED, MOST_CLIENTS}

@@ -24,16 +24,11 @@ pub record IsMoment (start : Start) (v : View) (words : List ℕ) : Type 0 where
   pub kept : IsKept start state
   pub same : state.words ≡ words
 
--- no count is less than it was
-abbrev pub NoneFell : Table → List ℕ → List ℕ → Type 0
-NoneFell t before after = (end : End) → Stands t end → count_in t before end ≤ count_in t after end
-
 -- what the words at the end are, where the last seat has the view v
 pub record IsEnding (start : Start) (v : View) (words : List ℕ) : Type 0 where
   pub moment : IsMoment start v words
   pub count : length words ≡ word_count start.network.table
   pub few : clients_in start.network.table words ≤ base start + start.quota
-  pub risen : NoneFell start.network.table start.carried words
   pub granted : base start + length v.grants ≤ clients_in start.network.table words
   pub quiet : inside_in v ≡ 0 → clients_in start.network.table words ≡ base start + length v.grants
       → IsQuiet start v words

@@ -12,7 +12,7 @@ use Rattle.cn_walk.specs.declared.view.Start.{Start}
 use Rattle.cn_walk.specs.declared.view.View.{View}
 use Rattle.cn_walk.specs.Rule.{IsCarried, ledger_of}
 use Rattle.cn_walk.specs.Views.{base, given_in, on_in}
-use Rattle.cn_walk.specs.Words.{clients_in, count_in, entered_in}
+use Rattle.cn_walk.specs.Words.{clients_in, count_in, end_word, entered_in, word_count}
 
 -- no lane has a token on any wire
 abbrev pub NobodyInside : Start → List View → Type 0
@@ -31,6 +31,13 @@ passes_of start words =
     let t = start.network.table in
     let first = 1 + t.entries in
     map (λ b. slice_index words (first + b) - slice_index start.carried (first + b)) (range_with_len 0 t.balancers)
+
+-- a list that tells, at the place of each end's word, how many went by the end since the floor began
+pub record HasRisen (start : Start) (words risen : List ℕ) : Type 0 where
+  pub count : length risen ≡ word_count start.network.table
+  pub each : (end : End) → Stands start.network.table end
+      → slice_index risen (end_word start.network.table end)
+      ≡ slice_index words (end_word start.network.table end) - slice_index start.carried (end_word start.network.table end)
 
 -- a closed floor as contracts see it: what it began with, what its lane did, and the words
 pub record QuietValue : Type 0 where

@@ -1,10 +1,11 @@
 -- A lane and a floor as contracts see them, and what calls make of a lane.
-use Rattle.std.specs.Prelude.{◌≡◌, ℕ, ◌+◌, ◌-◌, ◌%◌, ◌≤◌, Some, length, max}
+use Rattle.std.specs.Prelude.{◌≡◌, ℕ, ◌+◌, ◌-◌, ◌%◌, ◌≤◌, [], Some, length, max, replicate}
 use Rattle.atomic_table.specs.Seated.{TableId}
 use Rattle.cn_wiring.specs.declared.end.End.{End}
 use Rattle.cn_wiring.specs.declared.end.End.TheVariants.{Balancer, Exit}
+use Rattle.cn_wiring.specs.Network.{Network}
 use Rattle.cn_wiring.specs.Table.{end_of, output_wire}
-use Rattle.cn_yard.specs.Lists.{Admits, Moves, Releases, Yard, empty, standing}
+use Rattle.cn_yard.specs.Lists.{Admits, Lists, Moves, Releases, Yard, empty, standing}
 use Rattle.cn_core.specs.declared.reply.Moved.{Moved}
 use Rattle.cn_core.specs.Calls.{IsMoveOf}
 use Rattle.cn_ledger.specs.Events.{Enters}
@@ -25,6 +26,10 @@ pub record LaneValue : Type 0 where
   pub view : View
   pub yard : Yard
   pub room : ℕ
+
+-- a yard for a lane over a network, with nobody on its wires
+abbrev pub IsIdle : Network → Lists → Type 0
+IsIdle network lists = lists ≡ replicate (length network.table.ends) []
 
 -- a lane of this floor that has done nothing
 abbrev pub new_lane : Home → ℕ → LaneValue

@@ -12,12 +12,12 @@ mod words;
 ghost use Rattle.std.specs.Prelude.{◌≡◌, ℕ, ◌+◌, ◌-◌, ◌<◌, ◌≤◌, ◌↔◌, ◌++◌, [], length, replicate, vec_capacity, vec_len, IfErr, IfOk, IsErrOf, IsSome, OnErr};
 ghost use Rattle.cn_spec.specs.declared.limits.TheConstants.{MOST_CARRIED, MOST_CLIENTS};
 ghost use Rattle.cn_wiring.specs.Network.{IsNetwork};
-ghost use Rattle.cn_yard.specs.Lists.{standing, tokens_in};
+ghost use Rattle.cn_yard.specs.Lists.{empty, standing, tokens_in};
 ghost use Rattle.cn_walk.specs.Carried.{start_after};
 ghost use Rattle.cn_walk.specs.Carried.{clients_of as told_by};
 ghost use Rattle.cn_walk.specs.Closing.{IsCloseRefused};
-ghost use Rattle.cn_walk.specs.Lane.{LetsIn, StepsOn, new_lane};
-ghost use Rattle.cn_walk.specs.Rule.{IsCarried, IsStart};
+ghost use Rattle.cn_walk.specs.Lane.{IsIdle, LetsIn, StepsOn, new_lane};
+ghost use Rattle.cn_walk.specs.Rule.{IsCarried};
 ghost use Rattle.cn_walk.specs.Steps.{IsAnswer};
 ghost use Rattle.cn_walk.specs.Views.{base, joined, split_left, split_right, told};
 ghost use Rattle.cn_walk.specs.Words.{clients_in, word_count};
@@ -25,7 +25,7 @@ ghost use Rattle.cn_walk.specs.Words.{clients_in, word_count};
 use crate::fault::{JoinFault, LaneFault, OpenFault, SplitFault};
 use crate::view::{Grant, View};
 use atomic_table::Seat;
-use closing::{Room, clients_of, read_since};
+use closing::{clients_of, risen_since};
 use cn_balancer::output_of;
 use cn_core::Moved;
 use cn_exit::name_of;
@@ -51,9 +51,9 @@ pub use words::Words;
 pub struct Floor<'a> {
     alloc: Global,
     network: &'a Counting,
-    /// The words with which it began, and how many clients they tell.
-    words: Vec<u64>,
+    /// How many clients came before it began, and the words as they then were; without one, all counts were 0.
     carried: u64,
+    before: Option<Vec<u64>>,
     counters: Counters,
 }
 
@@ -113,6 +113,18 @@ fn zeros(alloc: Global, network: &Counting) -> Result<Vec<u64>, AllocError>
     Ok(words)
 }
 
+/// A yard with a wire for each of the network.
+///
+/// # Errors
+/// `AllocError` where it gets no memory.
+pub(crate) fn yard_for(alloc: Global, network: &Counting) -> Result<Yard, AllocError>
+    ensures empty { IfOk result (λ yard. yard ≡ empty (length network.now.table.ends)) }
+    ensures idle { IfOk result (λ yard. IsIdle network.now yard.lists) }
+    ensures nobody { IfOk result (λ yard. tokens_in yard.lists ≡ 0) }
+{
+    Yard::new(alloc, network.entries() + 2 * network.balancers())
+}
+
 impl<'a> Floor<'a> {
     /// A floor over the network, with one lane that has the whole quota: as many clients may come in. It is
     /// [`Floor::open_after`] of words that are all 0.
@@ -133,13 +145,10 @@ impl<'a> Floor<'a> {
         if quota > MOST_CLIENTS {
             return Err(OpenFault::Quota);
         }
-        let Ok(words) = zeros(alloc, network) else {
+        let Ok(words) = Words::zero(alloc, network) else {
             return Err(OpenFault::Memory);
         };
-        match Floor::begin(alloc, network, quota, words, 0) {
-            Ok(opened) => Ok(opened),
-            Err(_memory) => Err(OpenFault::Memory),
-        }
+        Floor::open_after(alloc, &words, quota)
     }
 
     /// A floor over the network of these words, which goes on from them: its numbers and visits begin with theirs, and its
@@ -161,30 +170,32 @@ impl<'a> Floor<'a> {
         if quota > MOST_CLIENTS {
             return Err(OpenFault::Quota);
         }
-        let Ok(carried) = Vec::from_slice(alloc, words.words.as_slice()) else {
+        let Ok(yard) = yard_for(alloc, words.network) else {
             return Err(OpenFault::Memory);
         };
-        match Floor::begin(alloc, words.network, quota, carried, words.clients) {
+        match Floor::begin(alloc, words, quota, yard) {
             Ok(opened) => Ok(opened),
             Err(_memory) => Err(OpenFault::Memory),
         }
     }
 
-    /// A floor that begins with these words, which tell of so many clients.
-    fn begin(
+    /// A floor that goes on from these words, with this yard for its lane.
+    ///
+    /// # Errors
+    /// `AllocError` where it gets no memory.
+    pub(crate) fn begin(
         alloc: Global,
-        network: &'a Counting,
+        words: &Words<'a>,
         quota: u64,
-        words: Vec<u64>,
-        carried: u64,
+        yard: Yard,
     ) -> Result<(Floor<'a>, Lane), AllocError>
-        requires start { IsStart (record { network = network.now; quota = quota; carried = words.items }) }
-        requires clients { carried ≡ clients_in network.now.table words.items }
-        ensures floor { IfOk result (λ r. r.0.start ≡ record { network = network.now; quota = quota; carried = words.items }) }
-        ensures lane { IfOk result (λ r. r.1 ≡ new_lane r.0 quota) }
+        requires few { (told_by words.now ≤ MOST_CARRIED) × (quota ≤ MOST_CLIENTS) }
+        requires idle { IsIdle words.now.network yard.lists }
+        ensures floor { IfOk result (λ r. r.0.start ≡ start_after words.now quota) }
+        ensures lane { IfOk result (λ r. r.1 ≡ record (new_lane r.0 quota) { yard = yard }) }
     {
-        let yard = Yard::new(alloc, network.entries() + 2 * network.balancers())?;
-        let (counters, seat) = Counters::new(alloc, network, quota, &words)?;
+        let before = words.before(alloc)?;
+        let (counters, seat) = Counters::new(alloc, words.network, quota, &words.words)?;
         let lane = Lane {
             seat,
             yard,
@@ -194,9 +205,9 @@ impl<'a> Floor<'a> {
         };
         let floor = Floor {
             alloc,
-            network,
-            words,
-            carried,
+            network: words.network,
+            carried: words.clients,
+            before,
             counters,
         };
         Ok((floor, lane))
@@ -325,8 +336,7 @@ impl<'a> Floor<'a> {
         if quota > lane.quota {
             return Err((SplitFault::QuotaTooSmall, lane));
         }
-        let wires = self.network.entries() + 2 * self.network.balancers();
-        let Ok(yard) = Yard::new(self.alloc, wires) else {
+        let Ok(yard) = yard_for(self.alloc, self.network) else {
             return Err((SplitFault::Memory, lane));
         };
         let seat = self.counters.part::<Brand>(&mut lane.seat, quota);
@@ -402,33 +412,42 @@ impl<'a> Floor<'a> {
         ensures out { IfOk result (λ q. tokens_in lane.yard.lists ≡ 0) }
         ensures refused { IfErr result (λ f. IsCloseRefused self.entry lane f) }
     {
+        match self.close_for(lane) {
+            Ok((quiet, _yard)) => Ok(quiet),
+            Err(fault) => Err(fault),
+        }
+    }
+
+    /// Ends the floor as [`Floor::close`] does, and gives the lane's yard, in which nobody is.
+    pub(crate) fn close_for(self, lane: Lane) -> Result<(Quiet<'a>, Yard), CloseFault<'a>>
+        requires own { lane.home ≡ self }
+        ensures quiet { IfOk result (λ r. (r.0.start ≡ self.entry.start) × (r.0.did ≡ lane.view)) }
+        ensures out { IfOk result (λ r. tokens_in lane.yard.lists ≡ 0) }
+        ensures idle { IfOk result (λ r. IsIdle self.entry.start.network r.1.lists) }
+        ensures refused { IfErr result (λ f. IsCloseRefused self.entry lane f) }
+    {
         if !lane.yard.is_empty() {
             return Err(CloseFault::StillWalking(self, lane));
         }
-        let Ok(room) = Room::new(self.alloc, self.network, self.counters.len()) else {
+        let Ok(room) = Vec::with_capacity(self.alloc, self.counters.len()) else {
             return Err(CloseFault::Memory(self, lane));
         };
         let told = Snapshot::of(&lane);
         let Floor {
             alloc,
             network,
-            words: before,
             carried,
+            before,
             counters,
         } = self;
         let Lane {
             seat,
-            yard: _yard,
+            yard,
             grants,
             quota: _quota,
             room: _room,
         } = lane;
-        let Room {
-            words,
-            mut counts,
-            mut passes,
-        } = room;
-        let words = counters.close(seat, words);
+        let words = counters.close(seat, room);
         let clients = clients_of(network, words.as_slice());
         let entered = clients - carried;
         let granted = grants.len() as u64;
@@ -439,25 +458,19 @@ impl<'a> Floor<'a> {
                 grants,
             });
         }
-        read_since(
-            network,
-            words.as_slice(),
-            before.as_slice(),
-            &mut counts,
-            &mut passes,
-        );
+        let risen = risen_since(before, words.as_slice());
         let words = Words {
             network,
             words,
             clients,
         };
-        Ok(Quiet {
+        let quiet = Quiet {
             alloc,
             lane: told,
             words,
-            counts,
-            passes,
+            risen,
             grants,
-        })
+        };
+        Ok((quiet, yard))
     }
 }

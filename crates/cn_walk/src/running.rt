@@ -3,7 +3,7 @@
 ghost use Rattle.std.specs.Prelude.{◌≡◌, ◌+◌, ◌<◌, ◌≤◌, All, IfErr, IfOk, OnOk, length};
 ghost use Rattle.cn_spec.specs.declared.limits.TheConstants.{MOST_CARRIED};
 ghost use Rattle.cn_walk.specs.Carried.{clients_of, words_before, zero_words};
-ghost use Rattle.cn_walk.specs.Lane.{new_lane};
+ghost use Rattle.cn_walk.specs.Lane.{IsIdle, new_lane};
 ghost use Rattle.cn_walk.specs.Runs.{IsRefused, IsRun, IsRunAfter, MayRun};
 
 use crate::floor::{CloseFault, Floor, Lane, Quiet, Words};
@@ -12,6 +12,7 @@ use crate::gate::Gate;
 use cn_core::Client;
 use cn_spec::limits::{MOST_CLIENTS, MOST_HAND, MOST_WORKERS};
 use cn_wiring::Counting;
+use cn_yard::Yard;
 use std::alloc::Global;
 use std::sync::Wait;
 use std::thread::Threads;
@@ -32,7 +33,12 @@ pub enum RunFault {
 }
 
 /// Whether an epoch may be run.
-fn may_run(network: &Counting, clients: &[Client], workers: u32, hand: u32) -> Result<(), RunFault>
+pub(crate) fn may_run(
+    network: &Counting,
+    clients: &[Client],
+    workers: u32,
+    hand: u32,
+) -> Result<(), RunFault>
     ensures refused { IfErr result (λ fault. IsRefused network.now.table.entries clients.now workers hand fault) }
     ensures allowed { OnOk result (MayRun network.now.table.entries clients.now workers hand) }
 {
@@ -54,8 +60,8 @@ fn may_run(network: &Counting, clients: &[Client], workers: u32, hand: u32) -> R
     Ok(())
 }
 
-/// Runs these clients on a floor that was opened for them, and closes it.
-fn run_on<'a, G: Gate + Sync, R: Threads + Wait + Sync>(
+/// Runs these clients on a floor that was opened for them, and closes it. Gives its yard too, in which nobody is.
+pub(crate) fn run_on<'a, G: Gate + Sync, R: Threads + Wait + Sync>(
     rt: &R,
     alloc: Global,
     floor: Floor<'a>,
@@ -64,11 +70,13 @@ fn run_on<'a, G: Gate + Sync, R: Threads + Wait + Sync>(
     workers: u32,
     hand: u32,
     gate: &G,
-) -> Result<Quiet<'a>, RunFault>
-    requires lane { lane ≡ new_lane floor (length clients.now) }
+) -> Result<(Quiet<'a>, Yard), RunFault>
+    requires lane { lane ≡ record (new_lane floor (length clients.now)) { yard = lane.yard } }
+    requires idle { IsIdle floor.start.network lane.yard.lists }
     requires quota { floor.start.quota ≡ length clients.now }
     requires allowed { MayRun floor.start.network.table.entries clients.now workers hand }
-    ensures run { IfOk result (λ quiet. IsRunAfter (words_before floor.entry.start) clients.now quiet) }
+    ensures run { IfOk result (λ r. IsRunAfter (words_before floor.entry.start) clients.now r.0) }
+    ensures idle { IfOk result (λ r. IsIdle floor.entry.start.network r.1.lists) }
     ensures refused { IfErr result (λ fault. fault ≡ RunFault.Memory) }
 {
     let many = clients.len() as u32;
@@ -76,10 +84,10 @@ fn run_on<'a, G: Gate + Sync, R: Threads + Wait + Sync>(
         return Err(RunFault::Memory);
     };
     let lane = walk_lanes(rt, &floor, lanes, clients, hand, gate);
-    match floor.close(lane) {
-        Ok(quiet) => {
+    match floor.close_for(lane) {
+        Ok((quiet, yard)) => {
             quiet.quiet_laws();
-            Ok(quiet)
+            Ok((quiet, yard))
         }
         Err(CloseFault::Memory(_floor, _lane)) => Err(RunFault::Memory),
         Err(CloseFault::StillWalking(_floor, _lane)) => unreachable!(),
@@ -121,7 +129,8 @@ pub fn run_epoch<'a, G: Gate + Sync, R: Threads + Wait + Sync>(
     let Ok((floor, lane)) = Floor::open(alloc, network, clients.len() as u64) else {
         return Err(RunFault::Memory);
     };
-    run_on(rt, alloc, floor, lane, clients, workers, hand, gate)
+    let (quiet, _yard) = run_on(rt, alloc, floor, lane, clients, workers, hand, gate)?;
+    Ok(quiet)
 }
 
 /// Runs an epoch of these clients as [`run_epoch`] does, on a floor that goes on from the words of earlier ones, and leaves
@@ -148,5 +157,6 @@ pub fn run_epoch_after<'a, G: Gate + Sync, R: Threads + Wait + Sync>(
     let Ok((floor, lane)) = Floor::open_after(alloc, words, clients.len() as u64) else {
         return Err(RunFault::Memory);
     };
-    run_on(rt, alloc, floor, lane, clients, workers, hand, gate)
+    let (quiet, _yard) = run_on(rt, alloc, floor, lane, clients, workers, hand, gate)?;
+    Ok(quiet)
 }

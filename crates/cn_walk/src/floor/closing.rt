@@ -1,39 +1,9 @@
 //! What is read off the words of a closed floor.
 
-ghost use Rattle.std.specs.Prelude.{◌≡◌, ℕ, ◌+◌, ◌-◌, ◌<◌, ◌≤◌, ◌^◌, [], length, map, slice_index, vec_capacity, IfOk};
-ghost use Rattle.std.specs.List.{range_with_len};
-ghost use Rattle.cn_walk.specs.Closing.{NoneFell};
-ghost use Rattle.cn_walk.specs.Ends.{counts_of, passes_of};
-ghost use Rattle.cn_walk.specs.Words.{clients_in, word_count};
+ghost use Rattle.std.specs.Prelude.{◌≡◌, ◌<◌, ◌^◌, None, length, IfSome, IsSome};
+ghost use Rattle.cn_walk.specs.Words.{IsDifference, clients_in, word_count};
 
 use cn_wiring::Counting;
-use std::alloc::{AllocError, Global};
-
-/// Room for what is read off: the words, and how many left by each exit and passed each balancer.
-pub(super) struct Room {
-    pub(super) words: Vec<u64>,
-    pub(super) counts: Vec<u64>,
-    pub(super) passes: Vec<u64>,
-}
-
-impl Room {
-    /// Room for so many words, and for each exit and balancer of the network.
-    ///
-    /// # Errors
-    /// `AllocError` where it gets no memory.
-    pub(super) fn new(alloc: Global, network: &Counting, words: usize) -> Result<Self, AllocError>
-        ensures empty { IfOk result (λ r. (r.words.items ≡ []) × (r.counts.items ≡ []) × (r.passes.items ≡ [])) }
-        ensures words { IfOk result (λ r. words ≤ vec_capacity r.words) }
-        ensures counts { IfOk result (λ r. network.now.table.width ≤ vec_capacity r.counts) }
-        ensures passes { IfOk result (λ r. network.now.table.balancers ≤ vec_capacity r.passes) }
-    {
-        Ok(Room {
-            words: Vec::with_capacity(alloc, words)?,
-            counts: Vec::with_capacity(alloc, network.width() as usize)?,
-            passes: Vec::with_capacity(alloc, network.balancers() as usize)?,
-        })
-    }
-}
 
 /// How many clients came, as the words tell.
 pub(super) fn clients_of(network: &Counting, words: &[u64]) -> u64
@@ -48,36 +18,24 @@ pub(super) fn clients_of(network: &Counting, words: &[u64]) -> u64
     clients
 }
 
-/// How much the words have risen, from one place on.
-fn risen(to: &mut Vec<u64>, words: &[u64], before: &[u64], from: usize, count: u32)
-    requires room { (to.old.items ≡ []) × (count ≤ vec_capacity to.old) }
-    requires range { (from + count ≤ length words.now) × (from + count ≤ length before.now) }
-    requires more { (i : ℕ) → i < count → slice_index before.now (from + i) ≤ slice_index words.now (from + i) }
-    ensures { to.new.items ≡ map (λ i. slice_index words.now (from + i) - slice_index before.now (from + i)) (range_with_len 0 count) }
+/// How much each word has risen.
+fn rise(before: &mut Vec<u64>, words: &[u64])
+    requires { length before.old.items ≡ length words.now }
+    ensures { IsDifference before.old.items words.now before.new.items }
 {
-    for i in 0..count {
-        let at = from + i as usize;
-        to.push_reserved(words[at] - before[at]);
+    for i in 0..words.len() {
+        before[i] = words[i].saturating_sub(before[i]);
     }
 }
 
-/// How many left by each exit and passed each balancer, from the words before to the words now.
-pub(super) fn read_since(
-    network: &Counting,
-    words: &[u64],
-    before: &[u64],
-    counts: &mut Vec<u64>,
-    passes: &mut Vec<u64>,
-)
-    requires words { (length words.now ≡ word_count network.now.table) × (length before.now ≡ word_count network.now.table) }
-    requires risen { NoneFell network.now.table before.now words.now }
-    requires counts { (counts.old.items ≡ []) × (network.now.table.width ≤ vec_capacity counts.old) }
-    requires passes { (passes.old.items ≡ []) × (network.now.table.balancers ≤ vec_capacity passes.old) }
-    ensures counts { counts.new.items ≡ counts_of (record { network = network.now; quota = 0; carried = before.now }) words.now }
-    ensures passes { passes.new.items ≡ passes_of (record { network = network.now; quota = 0; carried = before.now }) words.now }
+/// How much each word has risen since a floor began, where its words were counted before.
+pub(super) fn risen_since(before: Option<Vec<u64>>, words: &[u64]) -> Option<Vec<u64>>
+    requires { IfSome before (λ list. length list.items ≡ length words.now) }
+    ensures none { before ≡ None → result ≡ None }
+    ensures some { IfSome before (λ list. IfSome result (λ risen. IsDifference list.items words.now risen.items)) }
+    ensures kept { IfSome before (λ list. IsSome result) }
 {
-    let first = 1 + network.entries() as usize;
-    let exits = first + network.balancers() as usize;
-    risen(passes, words, before, first, network.balancers());
-    risen(counts, words, before, exits, network.width());
+    let mut list = before?;
+    rise(&mut list, words);
+    Some(list)
 }

@@ -1,7 +1,7 @@
 //! What a closed floor leaves.
 
 ghost use Rattle.std.specs.Prelude.{◌≡◌, IfOk};
-ghost use Rattle.cn_walk.specs.Ends.{IsQuiet, ListsHolders, counts_of, passes_of};
+ghost use Rattle.cn_walk.specs.Ends.{HasRisen, IsQuiet, ListsHolders, counts_of, passes_of};
 
 use super::lane::Lane;
 use super::words::Words;
@@ -16,8 +16,8 @@ pub struct Quiet<'a> {
     pub(super) alloc: Global,
     pub(super) lane: Snapshot<Lane>,
     pub(super) words: Words<'a>,
-    pub(super) counts: Vec<u64>,
-    pub(super) passes: Vec<u64>,
+    /// How much each word has risen since the floor began; without one, as much as it counts.
+    pub(super) risen: Option<Vec<u64>>,
     pub(super) grants: Vec<Grant>,
 }
 
@@ -51,18 +51,32 @@ impl<'a> Quiet<'a> {
         self.grants.as_slice()
     }
 
+    /// How much each word has risen since the floor began.
+    fn risen(&self) -> &[u64]
+        ensures { HasRisen self.now.start self.now.words result.now }
+    {
+        match &self.risen {
+            Some(risen) => risen.as_slice(),
+            None => self.words.words.as_slice(),
+        }
+    }
+
     /// How many left by each exit since the floor began: each exit's share.
     pub fn counts(&self) -> &[u64]
         ensures { result.now ≡ counts_of self.now.start self.now.words }
     {
-        self.counts.as_slice()
+        let network = self.words.network();
+        let first = 1 + network.entries() as usize + network.balancers() as usize;
+        &self.risen()[first..first + network.width() as usize]
     }
 
     /// How many passed each balancer since the floor began.
     pub fn passes(&self) -> &[u64]
         ensures { result.now ≡ passes_of self.now.start self.now.words }
     {
-        self.passes.as_slice()
+        let network = self.words.network();
+        let first = 1 + network.entries() as usize;
+        &self.risen()[first..first + network.balancers() as usize]
     }
 
     /// The words of the floor, with which another may begin.

@@ -1,9 +1,9 @@
 //! The words of closed floors.
 
-ghost use Rattle.std.specs.Prelude.{◌≡◌, ◌<◌, IfOk};
+ghost use Rattle.std.specs.Prelude.{◌≡◌, ◌<◌, None, IfOk, IfSome};
 ghost use Rattle.cn_wiring.specs.declared.end.End.TheVariants.{Balancer, Exit};
 ghost use Rattle.cn_walk.specs.Carried.{AreTight, IsClosed, clients_of, zero_words};
-ghost use Rattle.cn_walk.specs.Words.{count_in, entered_in};
+ghost use Rattle.cn_walk.specs.Words.{NoneWent, count_in, entered_in};
 
 use super::zeros;
 use cn_wiring::Counting;
@@ -46,6 +46,22 @@ impl<'a> Words<'a> {
             words: zeros(alloc, network)?,
             clients: 0,
         })
+    }
+
+    /// A copy for a floor that goes on from them; none where they tell of no client, since then no count has to be taken
+    /// off.
+    ///
+    /// # Errors
+    /// `AllocError` where it gets no memory.
+    pub(super) fn before(&self, alloc: Global) -> Result<Option<Vec<u64>>, AllocError>
+        ensures some { IfOk result (λ before. IfSome before (λ list. list.items ≡ self.now.words)) }
+        ensures none { IfOk result (λ before. before ≡ None → NoneWent self.now.network.table self.now.words) }
+    {
+        if self.clients == 0 {
+            return Ok(None);
+        }
+        let copy = Vec::from_slice(alloc, self.words.as_slice())?;
+        Ok(Some(copy))
     }
 
     /// What holds of all closed words: they are those of a sound ledger with nobody inside. So each exit has let out its

@@ -1,4 +1,4 @@
-use Rattle.std.proofs.Common.{rules, ℕ, arith, length, ap, ◌∙◌, subst}
+use Rattle.std.proofs.Common.{rules, ℕ, arith, length, subst}
 use Rattle.cn_walk.specs.declared.floor.CloseFault.{CloseFault}
 use Rattle.cn_walk.specs.Closing.{IsCloseRefused}
 use Rattle.cn_walk.specs.Halves.{AreReady, whole}
@@ -7,7 +7,7 @@ use Rattle.cn_walk.proofs.Runs.{all-first, all-theirs, new_nothing, none-missing
 use Rattle.cn_walk.proofs.running.run_on.Goals as goal
 
 pub make_lanes-requires-clause-nothing : goal.make_lanes-requires-clause-nothing
-make_lanes-requires-clause-nothing g c = new_nothing _ _ _ c.requires.lane
+make_lanes-requires-clause-nothing g c = new_nothing _ _ _ _ c.requires.lane c.requires.idle
 
 pub walk_lanes-lane-requires-clause-ready : goal.walk_lanes-lane-requires-clause-ready
 walk_lanes-lane-requires-clause-ready g c κs within =

@@ -1,17 +1,18 @@
-use Rattle.std.proofs.Common.{◌≡◌, ℕ, ◌+◌, List, length, rules, sym, ap, ◌∙◌, subst, arith}
+use Rattle.std.proofs.Common.{◌≡◌, ℕ, ◌+◌, List, [], length, replicate, rules, sym, ap, ◌∙◌, subst, arith}
 use Rattle.cn_yard.specs.Lists.{tokens_in}
 use Rattle.cn_walk.specs.declared.view.Start.{Start}
 use Rattle.cn_walk.specs.declared.view.View.{View}
 use Rattle.cn_walk.specs.Carried.{IsClosed, clients_of}
-use Rattle.cn_walk.specs.Ends.{IsQuiet, counts_of, passes_of}
+use Rattle.cn_walk.specs.Ends.{IsQuiet}
 use Rattle.cn_walk.specs.Lane.{Home, LaneValue}
 use Rattle.cn_walk.specs.Views.{base, inside_in}
 use Rattle.cn_walk.specs.Words.{clients_in}
 use Rattle.cn_walk.proofs.Closings.{inside-yard}
-use Rattle.cn_walk.proofs.floor.Floor.close.Goals as goal
+use Rattle.cn_walk.proofs.Rises.{all-empty}
+use Rattle.cn_walk.proofs.floor.Floor.close_for.Goals as goal
 
-pub invariant_of-result : goal.invariant_of-result
-invariant_of-result c =
+pub invariant_of-quiet : goal.invariant_of-quiet
+invariant_of-quiet c =
     let start : Start = c.self.inside.counters.start in
     let v : View = c.lane.inside.seat.me.0 in
     let ws : List ℕ = c.close-words.result.items in
@@ -30,10 +31,8 @@ invariant_of-result c =
       quiet = subst (λ (z : Start × View). IsQuiet z.0 z.1 ws) (λ i. (about i, view i)) quiet;
       network = network ∙ ap (λ (s : Start). s.network) about;
       grants = c.lane.invariant.grants ∙ ap (λ (x : View). x.grants) view;
-      counts = c.read_since.ensures.counts
-          ∙ ((λ i. counts_of (record { network = network i; quota = 0; carried = (c.as_slice-3.ensures.value ∙ c.self.invariant.words) i }) (c.as_slice-2.ensures.value i)) ∙ ap (λ (s : Start). counts_of s ws) about);
-      passes = c.read_since.ensures.passes
-          ∙ ((λ i. passes_of (record { network = network i; quota = 0; carried = (c.as_slice-3.ensures.value ∙ c.self.invariant.words) i }) (c.as_slice-2.ensures.value i)) ∙ ap (λ (s : Start). passes_of s ws) about);
+      risen = search rules;
+      none = search rules;
     }
 
 pub invariant_of-words : goal.invariant_of-words
@@ -60,3 +59,11 @@ invariant_of-words c =
       closed = subst IsClosed same closed;
       clients = clients ∙ ap clients_of same;
     }
+
+pub returns-clause-idle : goal.returns-clause-idle
+returns-clause-idle c =
+    let nobody : tokens_in c.lane.inside.yard.lists ≡ 0 = search rules in
+    let about : c.lane.inside.seat.me.0.start ≡ c.args.self.start =
+    ap (λ (l : LaneValue). l.home.start) c.lane.view_is ∙ ap (λ (h : Home). h.start) c.requires.own in
+    let wires : length c.lane.inside.yard.lists ≡ length c.args.self.start.network.table.ends = c.lane.invariant.wires ∙ ap (λ (s : Start). length s.network.table.ends) about in
+    all-empty c.lane.inside.yard.lists nobody ∙ (λ x. replicate (wires x) [])
