@@ -43,16 +43,10 @@ each-served carry width m [] (r ∷ records) served = absurd served
 each-served carry width m (e ∷ epochs) [] served = absurd served
 each-served carry width m (e ∷ epochs) (r ∷ records) (one, rest) = ((m, one), each-served carry width (after carry m (length e.clients.items)) epochs records rest)
 
--- records of epochs that were served are whole
-pub whole : (carry : Bool) (width m : ℕ) (epochs : List BatchEpoch) (records : List EpochRecord) → AreServed carry width m epochs records → All (IsWholeRecord width) records
-unfolding AreServed
-whole carry width m [] [] served = All-nil (IsWholeRecord width)
-whole carry width m [] (r ∷ records) served = absurd served
-whole carry width m (e ∷ epochs) [] served = absurd served
-whole carry width m (e ∷ epochs) (r ∷ records) (one, rest) =
-    All-cons (IsWholeRecord width) r records
-    (ap length one.counts ∙ length-map-range_with_len (λ i. share (m + r.clients) width i - share m width i) 0 width, as-many width m e r one)
-    (whole carry width (after carry m (length e.clients.items)) epochs records rest)
+-- the record of an epoch that was served is whole
+pub is-whole : (width m : ℕ) (epoch : BatchEpoch) (r : EpochRecord) → IsServed width m epoch r → IsWholeRecord width r
+is-whole width m epoch r served =
+    (ap length served.counts ∙ length-map-range_with_len (λ i. share (m + r.clients) width i - share m width i) 0 width, as-many width m epoch r served)
 
 -- how many clients come before the epoch after these
 came : Bool → ℕ → List BatchEpoch → ℕ

@@ -8,11 +8,13 @@ ghost use Rattle.cn_walk.specs.Runs.{IsRunAfter};
 ghost use Rattle.cn_report.specs.Reading.Batch.{AreServable, MayCome};
 ghost use Rattle.cn_report.specs.Reading.Batch.{clients_of as clients_in};
 ghost use Rattle.cn_report.specs.Writing.Written.{HasWritten, written_by};
-ghost use Rattle.cn_renamer.specs.Headline.{AreServed, IsRecordOf, IsRunOfKnown, IsServed};
+ghost use Rattle.cn_renamer.specs.Headline.{IsRecordOf, IsRunOfKnown, IsServed};
 ghost use Rattle.cn_renamer.specs.Serve.{IsServeFault, until_serve};
+ghost use Rattle.cn_renamer.specs.Telling.{TellsServed};
 
-use crate::forms::write_epochs;
+use crate::forms::EpochsText;
 use crate::serve_fault::ServeFault;
+use crate::writing::write_text;
 use cn_epoch::EpochRecord;
 use cn_report::{BatchEpoch, read_batch};
 use cn_walk::{Gate, Quiet, RunFault, Runner};
@@ -89,8 +91,8 @@ fn run_next<'n, G: Gate + Sync, R: Threads + Wait + Sync>(
     Ok(record)
 }
 
-/// Runs the epochs of a batch, one after another: their records. Each begins with counters of 0, or where the options have
-/// it, with those of the one before.
+/// Runs the epochs of a batch, one after another: the text of their records, in the options' form. Each begins with counters
+/// of 0, or where the options have it, with those of the one before. No record is kept.
 fn run_all<G: Gate + Sync, R: Threads + Wait + Sync>(
     rt: &R,
     alloc: Global,
@@ -98,18 +100,18 @@ fn run_all<G: Gate + Sync, R: Threads + Wait + Sync>(
     options: &Options,
     epochs: &[BatchEpoch],
     gate: &G,
-) -> Result<Vec<EpochRecord>, AllocError>
+) -> Result<EpochsText, AllocError>
     requires servable { AreServable network.now.table.entries epochs.now }
     requires few { clients_in epochs.now ≤ MOST_RECORDS }
-    ensures { IfOk result (λ records. AreServed options.now.carry network.now.table.width 0 epochs.now records.items) }
+    ensures { IfOk result (TellsServed options.now.form options.now.carry network.now epochs.now) }
 {
-    let mut records = Vec::with_capacity(alloc, epochs.len())?;
+    let mut text = EpochsText::begin(alloc, network, options.form())?;
     let mut runner = Runner::new(alloc, network)?;
     for epoch in epochs {
         let record = run_next(rt, alloc, &mut runner, options, epoch, gate)?;
-        records.push_reserved(record);
+        text = text.add(&record)?;
     }
-    Ok(records)
+    Ok(text)
 }
 
 /// Reads a batch, runs its epochs one after another, and writes what came of them in the options' form: the report, which
@@ -149,7 +151,7 @@ pub fn serve<I: Read + Drop, W: Write, G: Gate + Sync, R: Threads + Wait + Sync>
 {
     let network = options.net().build(alloc)?;
     let batch = read_batch(alloc, reader, network.entries(), state)?;
-    let records = run_all(rt, alloc, &network, options, &batch.epochs, gate)?;
-    write_epochs(alloc, writer, &network, options.form(), &records)?;
+    let text = run_all(rt, alloc, &network, options, &batch.epochs, gate)?.end()?;
+    write_text(writer, &text)?;
     Ok(())
 }
