@@ -2,6 +2,7 @@
 pub mod Appending
 pub mod Lines
 pub mod Replies
+pub mod Reports
 pub mod SameLines
 pub mod Words
 pub mod Writings

@@ -10,5 +10,6 @@ pub use reading::{
     TightEpoch, check_grants, read_batch, read_schedule,
 };
 pub use writing::{
-    EmitFault, emit, render_grants, render_replay, render_report, render_tight, render_wiring,
+    EmitFault, GrantsText, ReportText, emit, render_grants, render_replay, render_report,
+    render_tight, render_wiring,
 };

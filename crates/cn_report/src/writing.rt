@@ -10,8 +10,8 @@ mod tight;
 mod wiring;
 
 pub use emitting::{EmitFault, emit};
-pub use grants::render_grants;
+pub use grants::{GrantsText, render_grants};
 pub use replay::render_replay;
-pub use report::render_report;
+pub use report::{ReportText, render_report};
 pub use tight::render_tight;
 pub use wiring::render_wiring;

@@ -1,12 +1,13 @@
 //! The text of a grant list.
 
-ghost use Rattle.std.specs.Prelude.{◌≡◌, All, OnOk, IfOk, length};
-ghost use Rattle.std.specs.List.{flat_map};
+ghost use Rattle.std.specs.Prelude.{◌≡◌, [], ◌∷◌, ◌++◌, All, List, OnOk, IfOk, length};
+ghost use Rattle.cn_epoch.specs.declared.record.EpochRecord.{EpochRecord};
 ghost use Rattle.cn_report.specs.Writing.Grants.{HasHolders, grant_line, grant_lines, grants_header, grants_text};
 ghost use Rattle.cn_report.specs.Writing.Text.{Grows};
 
 use cn_epoch::EpochRecord;
 use std::alloc::{AllocError, Global};
+use std::marker::Model;
 
 #[tactic(auto, unfolding(crate::specs::Writing::Grants::grants_header))]
 fn put_header(text: &mut String) -> Result<(), AllocError>
@@ -32,15 +33,55 @@ fn put_epoch(text: &mut String, epoch: u64, clients: u64, holders: &[u64]) -> Re
     Ok(())
 }
 
-fn put_epochs(text: &mut String, records: &[EpochRecord]) -> Result<(), AllocError>
-    requires { All HasHolders records.now }
-    ensures { let Lines = flat_map (λ r. grant_lines r.number r.clients r.holders.items) in
-        OnOk result (Grows text.old text.new (Lines records.now)) }
-{
-    for epoch in records {
-        put_epoch(text, epoch.number, epoch.clients, &epoch.holders)?;
+/// The text of a grant list that grows as epochs end: no epoch's record is needed once it is added.
+#[derive(Drop)]
+pub struct GrantsText {
+    text: String,
+}
+
+impl Model for GrantsText {
+    ghost use Rattle.std.specs.Prelude.{ℕ, List, string_bytes};
+
+    ghost Value = { List ℕ };
+
+    ghost view = { λ t. string_bytes t.text };
+}
+
+impl GrantsText {
+    /// The grant list of no epoch yet: its header.
+    ///
+    /// # Errors
+    /// `AllocError` where the text gets no memory.
+    pub fn begin(alloc: Global) -> Result<Self, AllocError>
+        ensures { IfOk result (λ text. text ≡ grants_text []) }
+    {
+        let mut text = String::new(alloc);
+        put_header(&mut text)?;
+        Ok(GrantsText { text })
     }
-    Ok(())
+
+    /// The grant list with one epoch more: a record of each name and its holder, by rising name. The epoch has a holder for
+    /// each of its clients.
+    ///
+    /// # Errors
+    /// `AllocError` where the text gets no memory.
+    pub fn add(self, epoch: &EpochRecord) -> Result<Self, AllocError>
+        requires { HasHolders epoch.now }
+        ensures { (records : List EpochRecord) → self ≡ grants_text records
+            → IfOk result (λ text. text ≡ grants_text (records ++ epoch.now ∷ [])) }
+    {
+        let GrantsText { mut text } = self;
+        put_epoch(&mut text, epoch.number, epoch.clients, &epoch.holders)?;
+        Ok(GrantsText { text })
+    }
+
+    /// The whole text: it has no end line.
+    pub fn end(self) -> Vec<u8>
+        ensures { result.items ≡ self }
+    {
+        let GrantsText { text } = self;
+        text.into_bytes()
+    }
 }
 
 /// The grant list of epochs: a header `epoch,client,name`, and for each epoch a record of each name and its holder, by
@@ -55,8 +96,9 @@ pub fn render_grants(alloc: Global, records: &[EpochRecord]) -> Result<Vec<u8>, 
     requires { All HasHolders records.now }
     ensures { IfOk result (λ text. text.items ≡ grants_text records.now) }
 {
-    let mut text = String::new(alloc);
-    put_header(&mut text)?;
-    put_epochs(&mut text, records)?;
-    Ok(text.into_bytes())
+    let mut text = GrantsText::begin(alloc)?;
+    for epoch in records {
+        text = text.add(epoch)?;
+    }
+    Ok(text.end())
 }
