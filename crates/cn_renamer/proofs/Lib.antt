@@ -2,3 +2,4 @@ pub mod Accepted
 pub mod Headline
 pub mod OneText
 pub mod Served
+pub mod Telling

@@ -5,3 +5,4 @@ pub mod Performing
 pub mod Replay
 pub mod Serve
 pub mod Show
+pub mod Telling

@@ -1,48 +1,56 @@
-//! The text of epochs in the asked form, written.
+//! The text of epochs in the asked form, as they end.
 
-ghost use Rattle.std.specs.Prelude.{◌≡◌, All, IfOk};
-ghost use Rattle.cn_report.specs.Writing.Outcome.{IsWholeRecord};
-ghost use Rattle.cn_report.specs.Writing.Written.{HasWritten, written_by};
+ghost use Rattle.std.specs.Prelude.{◌≡◌, [], ◌∷◌, ◌++◌, IfOk, List};
+ghost use Rattle.cn_epoch.specs.declared.record.EpochRecord.{EpochRecord};
 ghost use Rattle.cn_renamer.specs.Headline.{text_in};
-ghost use Rattle.cn_renamer.specs.Outputs.{until_output};
+ghost use Rattle.cn_renamer.specs.Telling.{CanTell, Tells};
+ghost use Rattle.cn_wiring.specs.Network.{Network};
+ghost use Rattle.cn_words.specs.declared.options.Form.{Form};
 
-use crate::output_fault::OutputFault;
-use crate::writing::write_text;
 use cn_epoch::EpochRecord;
-use cn_report::{render_grants, render_report};
+use cn_report::{GrantsText, ReportText};
 use cn_wiring::Counting;
 use cn_words::Form;
 use std::alloc::{AllocError, Global};
-use std::io::Write;
 
-/// The text of epochs on a network, whose records these are, in this form.
-fn render(
-    alloc: Global,
-    network: &Counting,
-    form: Form,
-    records: &[EpochRecord],
-) -> Result<Vec<u8>, AllocError>
-    requires { All (IsWholeRecord network.now.table.width) records.now }
-    ensures { IfOk result (λ text. text.items ≡ text_in form network.now records.now) }
-{
-    match form {
-        Form::Report => render_report(alloc, network, records),
-        Form::Grants => render_grants(alloc, records),
-    }
+/// The text of the epochs that have ended, in one of the forms.
+#[derive(Drop)]
+pub(crate) enum EpochsText {
+    Report(ReportText),
+    Grants(GrantsText),
 }
 
-/// Writes the text of epochs on a network, whose records these are, in this form.
-pub(crate) fn write_epochs<W: Write>(
-    alloc: Global,
-    writer: &mut W,
-    network: &Counting,
-    form: Form,
-    records: &[EpochRecord],
-) -> Result<(), OutputFault>
-    requires { All (IsWholeRecord network.now.table.width) records.now }
-    ensures { HasWritten W.contents (λ text. text ≡ text_in form network.now records.now)
-        (written_by until_output result) writer.old writer.new }
-{
-    let text = render(alloc, network, form, records)?;
-    write_text(writer, &text)
+impl EpochsText {
+    /// The text of no epoch yet, on a network.
+    pub(crate) fn begin(alloc: Global, network: &Counting, form: Form) -> Result<Self, AllocError>
+        ensures { IfOk result (Tells form network.now []) }
+    {
+        match form {
+            Form::Report => Ok(EpochsText::Report(ReportText::begin(alloc, network)?)),
+            Form::Grants => Ok(EpochsText::Grants(GrantsText::begin(alloc)?)),
+        }
+    }
+
+    /// The text with one epoch more, whose record this is.
+    pub(crate) fn add(self, epoch: &EpochRecord) -> Result<Self, AllocError>
+        requires { CanTell self epoch.now }
+        ensures { (form : Form) (network : Network) (records : List EpochRecord) → Tells form network records self
+            → IfOk result (Tells form network (records ++ epoch.now ∷ [])) }
+    {
+        match self {
+            EpochsText::Report(text) => Ok(EpochsText::Report(text.add(epoch)?)),
+            EpochsText::Grants(text) => Ok(EpochsText::Grants(text.add(epoch)?)),
+        }
+    }
+
+    /// The whole text.
+    pub(crate) fn end(self) -> Result<Vec<u8>, AllocError>
+        ensures { (form : Form) (network : Network) (records : List EpochRecord) → Tells form network records self
+            → IfOk result (λ text. text.items ≡ text_in form network records) }
+    {
+        match self {
+            EpochsText::Report(text) => text.end(),
+            EpochsText::Grants(text) => Ok(text.end()),
+        }
+    }
 }

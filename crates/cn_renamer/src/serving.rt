@@ -1,16 +1,18 @@
 //! A batch, served by many workers.
 
-ghost use Rattle.std.specs.Prelude.{◌≡◌, ◌+◌, ◌≤◌, IfErr, IfOk, false, length, take, true, vec_capacity, vec_len};
+ghost use Rattle.std.specs.Prelude.{◌≡◌, ◌+◌, ◌≤◌, IfErr, IfOk, false, length, true};
 ghost use Rattle.cn_spec.specs.declared.limits.TheConstants.{MOST_CARRIED, MOST_RECORDS};
 ghost use Rattle.cn_walk.specs.Carried.{clients_of};
 ghost use Rattle.cn_report.specs.Reading.Batch.{AreServable, MayCome};
 ghost use Rattle.cn_report.specs.Reading.Batch.{clients_of as clients_in};
 ghost use Rattle.cn_report.specs.Writing.Written.{HasWritten, written_by};
-ghost use Rattle.cn_renamer.specs.Headline.{AreServed, IsRecordOf, IsRunOfKnown, IsServed};
+ghost use Rattle.cn_renamer.specs.Headline.{IsRecordOf, IsRunOfKnown, IsServed};
 ghost use Rattle.cn_renamer.specs.Serve.{IsServeFault, until_serve};
+ghost use Rattle.cn_renamer.specs.Telling.{TellsServed};
 
-use crate::forms::write_epochs;
+use crate::forms::EpochsText;
 use crate::serve_fault::ServeFault;
+use crate::writing::write_text;
 use cn_epoch::EpochRecord;
 use cn_report::{BatchEpoch, read_batch};
 use cn_walk::laws::first_shares_are_shares;
@@ -63,7 +65,8 @@ fn run_one<G: Gate + Sync, R: Threads + Wait + Sync>(
     }
 }
 
-/// Runs epochs of a batch, one after another, each from counters of 0: their records.
+/// Runs epochs of a batch, one after another, each from counters of 0: the text of their records, in the
+/// options' form. No record is kept.
 fn run_epochs<G: Gate + Sync, R: Threads + Wait + Sync>(
     rt: &R,
     alloc: Global,
@@ -71,16 +74,16 @@ fn run_epochs<G: Gate + Sync, R: Threads + Wait + Sync>(
     options: &Options,
     epochs: &[BatchEpoch],
     gate: &G,
-) -> Result<Vec<EpochRecord>, AllocError>
+) -> Result<EpochsText, AllocError>
     requires { AreServable network.now.table.entries epochs.now }
-    ensures { IfOk result (λ records. AreServed false network.now.table.width 0 epochs.now records.items) }
+    ensures { IfOk result (TellsServed options.now.form false network.now epochs.now) }
 {
-    let mut records = Vec::with_capacity(alloc, epochs.len())?;
+    let mut text = EpochsText::begin(alloc, network, options.form())?;
     for epoch in epochs {
         let served = run_one(rt, alloc, network, options, epoch, gate)?;
-        records.push_reserved(served);
+        text = text.add(&served)?;
     }
-    Ok(records)
+    Ok(text)
 }
 
 /// Runs an epoch of a batch that goes on from the words of earlier ones: its record, and the words at its end.
@@ -109,7 +112,8 @@ fn run_after<'n, G: Gate + Sync, R: Threads + Wait + Sync>(
     }
 }
 
-/// Runs epochs of a batch, one after another, each from the counters of the one before: their records. No word is cleared.
+/// Runs epochs of a batch, one after another, each from the counters of the one before: the text of their records,
+/// in the options' form. No word is cleared, and no record is kept.
 fn run_carried<G: Gate + Sync, R: Threads + Wait + Sync>(
     rt: &R,
     alloc: Global,
@@ -117,22 +121,22 @@ fn run_carried<G: Gate + Sync, R: Threads + Wait + Sync>(
     options: &Options,
     epochs: &[BatchEpoch],
     gate: &G,
-) -> Result<Vec<EpochRecord>, AllocError>
+) -> Result<EpochsText, AllocError>
     requires servable { AreServable network.now.table.entries epochs.now }
     requires few { clients_in epochs.now ≤ MOST_RECORDS }
-    ensures { IfOk result (λ records. AreServed true network.now.table.width 0 epochs.now records.items) }
+    ensures { IfOk result (TellsServed options.now.form true network.now epochs.now) }
 {
-    let mut records = Vec::with_capacity(alloc, epochs.len())?;
+    let mut text = EpochsText::begin(alloc, network, options.form())?;
     let mut words = Words::zero(alloc, network)?;
     for epoch in epochs {
         let (record, next) = run_after(rt, alloc, &words, options, epoch, gate)?;
-        records.push_reserved(record);
+        text = text.add(&record)?;
         words = next;
     }
-    Ok(records)
+    Ok(text)
 }
 
-/// Runs epochs of a batch as the options have it, with their counters carried or without.
+/// Runs epochs of a batch as the options have it, with their counters carried or without: the text of their records.
 fn run_all<G: Gate + Sync, R: Threads + Wait + Sync>(
     rt: &R,
     alloc: Global,
@@ -140,10 +144,10 @@ fn run_all<G: Gate + Sync, R: Threads + Wait + Sync>(
     options: &Options,
     epochs: &[BatchEpoch],
     gate: &G,
-) -> Result<Vec<EpochRecord>, AllocError>
+) -> Result<EpochsText, AllocError>
     requires servable { AreServable network.now.table.entries epochs.now }
     requires few { clients_in epochs.now ≤ MOST_RECORDS }
-    ensures { IfOk result (λ records. AreServed options.now.carry network.now.table.width 0 epochs.now records.items) }
+    ensures { IfOk result (TellsServed options.now.form options.now.carry network.now epochs.now) }
 {
     if options.carries() {
         run_carried(rt, alloc, network, options, epochs, gate)
@@ -189,7 +193,7 @@ pub fn serve<I: Read + Drop, W: Write, G: Gate + Sync, R: Threads + Wait + Sync>
 {
     let network = options.net().build(alloc)?;
     let batch = read_batch(alloc, reader, network.entries(), state)?;
-    let records = run_all(rt, alloc, &network, options, &batch.epochs, gate)?;
-    write_epochs(alloc, writer, &network, options.form(), &records)?;
+    let text = run_all(rt, alloc, &network, options, &batch.epochs, gate)?.end()?;
+    write_text(writer, &text)?;
     Ok(())
 }

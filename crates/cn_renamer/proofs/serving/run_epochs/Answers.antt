@@ -1,25 +1,24 @@
-use Rattle.std.proofs.Common.{◌∷◌, ◌++◌, [], List, false, arith, rules, subst, take}
+use Rattle.std.proofs.Common.{◌≡◌, ◌∷◌, ◌++◌, ◌+◌, [], List, false, arith, subst, take}
 use Rattle.std.proofs.lemmas.Grind.{common_steps}
-use Rattle.cn_renamer.specs.Headline.{AreServed}
 use Rattle.cn_report.specs.declared.reading.gathering.BatchEpoch.{BatchEpoch}
-use Rattle.cn_renamer.proofs.Headline.{none-served, served-anew}
+use Rattle.cn_renamer.specs.Telling.{TellsServed}
+use Rattle.cn_renamer.proofs.Telling.{can-tell, none-told, told-anew}
 use Rattle.cn_renamer.proofs.serving.run_epochs.Goals as goal
 
 pub loop-epoch-init : goal.loop-epoch-init
-loop-epoch-init g c = record {
-  so_far = search rules;
-  room = search rules;
-  served = rw c.in_ok-records.ensures.items (none-served false c.args.network.now.table.width 0);
-}
+loop-epoch-init g c = none-told c.args.options.now.form false c.args.network.now c.in_ok-text.text (rw c.form.ensures at c.in_ok-text.ensures)
+
+pub add-requires : goal.add-requires
+add-requires g c =
+    let before = c.loop-epoch.invariant in
+    can-tell c.args.options.now.form c.args.network.now before.records c.loop-epoch.text 0 c.epoch-item.result c.in_ok-served.served before.told c.in_ok-served.ensures
 
 pub loop-epoch-preserved : goal.loop-epoch-preserved
 loop-epoch-preserved g c =
-    let before = c.loop-epoch.invariant in
-    let width = c.args.network.now.table.width in
+    let form = c.args.options.now.form in
+    let network = c.args.network.now in
     let it = c.epoch-item.is in
-    record {
-      so_far = search rules;
-      room = search rules;
-      served = rw c.push_reserved.ensures.items (subst (λ (front : List BatchEpoch). AreServed false width 0 front (c.loop-epoch.records.items ++ c.in_ok-served.served ∷ [])) (grind (arith, common_steps))
-          (served-anew width (take c.loop-epoch.epoch-index c.args.epochs.now) c.loop-epoch.records.items c.epoch-item.result c.in_ok-served.served before.served c.in_ok-served.ensures));
-    }
+    let front : take c.loop-epoch.epoch-index c.args.epochs.now ++ c.epoch-item.result ∷ [] ≡ take (c.loop-epoch.epoch-index + 1) c.args.epochs.now = grind (arith, common_steps) in
+    subst (λ (es : List BatchEpoch). TellsServed form false network es c.in_ok-text-2.text) front
+    (told-anew form network (take c.loop-epoch.epoch-index c.args.epochs.now) c.epoch-item.result c.in_ok-served.served c.loop-epoch.text c.in_ok-text-2.text
+    c.loop-epoch.invariant c.in_ok-served.ensures (c.in_ok-text-2.ensures form network))

@@ -7,5 +7,11 @@ pub prove-unreachable-requires : goal.prove-unreachable-requires
 prove-unreachable-requires c =
     let epoch = c.args.epoch.now in
     let width = c.self.inside.width in
-    omega (arith, ap length c.as_bytes.ensures.value, ap length c.in_ok-put_epoch.ensures,
-        length-append (string_bytes c.self.inside.text) (epoch_lines width epoch), some-byte width epoch, c.self.invariant)
+    omega (
+      arith,
+      ap length c.as_bytes.ensures.value,
+      ap length c.in_ok-put_epoch.ensures,
+      length-append (string_bytes c.self.inside.text) (epoch_lines width epoch),
+      some-byte width epoch,
+      c.self.invariant,
+    )

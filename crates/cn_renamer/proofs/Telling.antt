@@ -1,0 +1,46 @@
+-- The text of epochs as they end.
+use Rattle.std.proofs.Common.{ℕ, Bool, true, false, List, [], ◌∷◌, ◌++◌, ap, subst, sym}
+use Rattle.cn_wiring.specs.Network.{Network}
+use Rattle.cn_epoch.specs.declared.record.EpochRecord.{EpochRecord}
+use Rattle.cn_report.specs.Reading.Batch.{clients_of}
+use Rattle.cn_report.specs.Writing.Outcome.{IsWholeRecord}
+use Rattle.cn_report.specs.Writing.Report.{ReportSoFar}
+use Rattle.cn_report.specs.declared.reading.gathering.BatchEpoch.{BatchEpoch}
+use Rattle.cn_words.specs.declared.options.Form.{Form}
+use Rattle.cn_renamer.specs.declared.forms.EpochsText.{EpochsText}
+use Rattle.cn_renamer.specs.declared.forms.EpochsText.TheVariants.{Report, Grants}
+use Rattle.cn_renamer.specs.Headline.{IsServed}
+use Rattle.cn_renamer.specs.Telling.{CanTell, Tells, TellsServed}
+use Rattle.cn_renamer.proofs.Headline.{as-many, is-whole, none-served, served-after, served-anew}
+
+-- an epoch that was served on the network of a text can be told there
+pub can-tell : (asked : Form) (network : Network) (records : List EpochRecord) (text : EpochsText) (m : ℕ) (epoch : BatchEpoch) (r : EpochRecord)
+    → Tells asked network records text → IsServed network.table.width m epoch r → CanTell text r
+can-tell asked network records (Report text) m epoch r told served =
+    subst (λ (width : ℕ). IsWholeRecord width r) (sym (ap (λ (t : ReportSoFar). t.width) told.1)) (is-whole network.table.width m epoch r served)
+can-tell asked network records (Grants text) m epoch r told served = as-many network.table.width m epoch r served
+
+-- before the first epoch none is told
+pub none-told : (asked : Form) (carry : Bool) (network : Network) (text : EpochsText) → Tells asked network [] text → TellsServed asked carry network [] text
+none-told asked carry network text told = record { records = []; served = none-served carry network.table.width 0; told = told }
+
+-- and then one more each time, which is told after the others
+module _ (asked : Form) (network : Network) (epochs : List BatchEpoch) (epoch : BatchEpoch) (r : EpochRecord) (text more : EpochsText) where
+  abbrev pub AddsTo : List EpochRecord → Type 0
+  AddsTo records = Tells asked network records text → Tells asked network (records ++ r ∷ []) more
+
+  pub told-anew : TellsServed asked false network epochs text → IsServed network.table.width 0 epoch r → ((records : List EpochRecord) → AddsTo records)
+      → TellsServed asked false network (epochs ++ epoch ∷ []) more
+  told-anew before one adds = record {
+    records = before.records ++ r ∷ [];
+    served = served-anew network.table.width epochs before.records epoch r before.served one;
+    told = adds before.records before.told;
+  }
+
+  pub told-after : TellsServed asked true network epochs text → IsServed network.table.width (clients_of epochs) epoch r → ((records : List EpochRecord) → AddsTo records)
+      → TellsServed asked true network (epochs ++ epoch ∷ []) more
+  told-after before one adds = record {
+    records = before.records ++ r ∷ [];
+    served = served-after network.table.width epochs before.records epoch r before.served one;
+    told = adds before.records before.told;
+  }
