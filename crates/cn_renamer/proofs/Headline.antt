@@ -1,9 +1,8 @@
 -- What a run has written of the epochs of its batch.
 use Rattle.std.proofs.Common.{◌≡◌, ℕ, ◌+◌, ◌-◌, Bool, true, false, List, [], ◌∷◌, ◌++◌, Option, length, arith, refl, subst, ap, ◌∙◌, sym}
-use Rattle.std.specs.Prelude.{All, IfSome}
+use Rattle.std.specs.Prelude.{IfSome}
 use Rattle.std.specs.List.{AllZip}
 use Rattle.std.proofs.lemmas.List.{length-map}
-use Rattle.std.proofs.lemmas.List.Elements.{All-cons, All-nil}
 use Rattle.std.proofs.lemmas.List.FromFn.{length-map-range_with_len}
 use Rattle.std.proofs.lemmas.List.Sorted.{length_permutation}
 use Rattle.std.proofs.lemmas.List.Sums.{sum_by-cons}
@@ -17,7 +16,7 @@ use Rattle.cn_report.specs.Reading.Records.{records_of}
 use Rattle.cn_report.specs.declared.reading.gathering.BatchEpoch.{BatchEpoch}
 use Rattle.cn_report.proofs.CallerLemmas.{known_map}
 use Rattle.cn_report.specs.Writing.Outcome.{IsWholeRecord}
-use Rattle.cn_report.specs.Writing.Written.{HasWritten}
+use Rattle.cn_report.specs.Writing.Written.{HasWritten, Whole}
 use Rattle.cn_words.specs.Net.{Description, IsNetworkOf}
 use Rattle.cn_words.specs.declared.options.Form.{Form}
 use Rattle.cn_renamer.specs.declared.output_fault.OutputFault.{OutputFault}
@@ -88,11 +87,11 @@ pub none-served : (carry : Bool) (width m : ℕ) → AreServed carry width m [] 
 unfolding AreServed
 none-served carry width m = tt
 
-module _ (net : Description) (form : Form) (carry : Bool) (network : Network) (built : IsNetworkOf net network) (known : Option (List ℕ)) (epochs : List BatchEpoch) (batch : IfSome known (λ bytes. IsBatch network.table.entries (records_of bytes) epochs)) (records : List EpochRecord) (served : AreServed carry network.table.width 0 epochs records) where
+module _ (net : Description) (form : Form) (carry : Bool) (network : Network) (built : IsNetworkOf net network) (known : Option (List ℕ)) (epochs : List BatchEpoch) (batch : IfSome known (λ bytes. IsBatch network.table.entries (records_of bytes) epochs)) (records : List EpochRecord) (served : AreServed carry network.table.width 0 epochs records) (text : List ℕ) (written : text ≡ text_in form network records) where
   -- the text of epochs that were read is that of a run of the bytes that are them
-  run-is : (text : List ℕ) → text ≡ text_in form network records → IsRunOfKnown net form carry known text
-  run-is text written =
-      known_map known (λ bytes. IsBatch network.table.entries (records_of bytes) epochs) (λ bytes. IsRunOf net form carry bytes text)
+  run-is : (out : List ℕ) → out ≡ text → IsRunOfKnown net form carry known out
+  run-is out same =
+      known_map known (λ bytes. IsBatch network.table.entries (records_of bytes) epochs) (λ bytes. IsRunOf net form carry bytes out)
       batch (λ bytes is. record {
         epochs = epochs;
         batch = subst (λ (entries : ℕ). IsBatch entries (records_of bytes) epochs) built.2.entries is;
@@ -100,11 +99,16 @@ module _ (net : Description) (form : Form) (carry : Bool) (network : Network) (b
         built = built;
         records = records;
         served = served;
-        written = written;
+        written = same ∙ written;
       })
 
-  -- and so where only a part was written
-  pub written-until : {W : Type 0} (contents : W → Option (List ℕ)) (fault : OutputFault) (old new : W)
-      → HasWritten contents (λ text. text ≡ text_in form network records) (until_output fault) old new → HasWritten contents (IsRunOfKnown net form carry known) (until_serve (fault_of_output fault)) old new
-  written-until contents output.Memory old new same = same
-  written-until contents (output.Write count) old new (text, is, few, grows) = (text, run-is text is, few, grows)
+  module _ {W : Type 0} (contents : W → Option (List ℕ)) (old new : W) where
+    -- so it is where all of it was written
+    pub written-whole : HasWritten contents (λ out. out ≡ text) Whole old new → HasWritten contents (IsRunOfKnown net form carry known) Whole old new
+    written-whole (out, same, grows) = (out, run-is out same, grows)
+
+    -- and where only a part was
+    pub written-until : (fault : OutputFault) → HasWritten contents (λ out. out ≡ text) (until_output fault) old new
+        → HasWritten contents (IsRunOfKnown net form carry known) (until_serve (fault_of_output fault)) old new
+    written-until output.Memory same = same
+    written-until (output.Write count) (out, same, few, grows) = (out, run-is out same, few, grows)
