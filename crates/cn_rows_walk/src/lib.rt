@@ -19,6 +19,8 @@ mod own_threads;
 #[cfg(test)]
 mod refusals;
 #[cfg(test)]
+mod runners;
+#[cfg(test)]
 mod sweeps;
 #[cfg(test)]
 mod threads;

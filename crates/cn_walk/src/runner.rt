@@ -52,8 +52,15 @@ impl<'a> Runner<'a> {
         })
     }
 
+    /// The words from which the next epoch goes on.
+    pub fn words(&self) -> &Words<'a>
+        ensures { result.now ≡ self.now }
+    {
+        &self.words
+    }
+
     /// Runs an epoch of these clients as [`crate::run_epoch_after`] does, on a floor that goes on from the runner's words.
-    /// They are as they were afterwards.
+    /// The words are as they were afterwards.
     ///
     /// # Errors
     /// As those of [`crate::run_epoch`], in its order.
