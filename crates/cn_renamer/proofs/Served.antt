@@ -1,5 +1,5 @@
 -- The record of an epoch that was run.
-use Rattle.std.proofs.Common.{◌≡◌, ℕ, ◌≤◌, List, length, map, sym, ap, ◌∙◌, arith}
+use Rattle.std.proofs.Common.{◌≡◌, ℕ, ◌≤◌, List, length, map, sym, subst, ◌∙◌, arith}
 use Rattle.std.specs.List.Sorted.{IsPermutation}
 use Rattle.std.proofs.lemmas.List.Sorted.{IsPermutation-trans}
 use Rattle.cn_spec.specs.Sums.{times}
@@ -7,12 +7,15 @@ use Rattle.cn_spec.proofs.CallerLemmas.{order-times, times-map, times-order}
 use Rattle.cn_core.specs.declared.client.Client.{Client}
 use Rattle.cn_epoch.specs.declared.record.EpochRecord.{EpochRecord}
 use Rattle.cn_walk.specs.declared.view.Grant.{Grant}
-use Rattle.cn_walk.specs.Carried.{shares_after}
-use Rattle.cn_walk.specs.Ends.{ListsHolders, QuietValue, counts_of}
+use Rattle.cn_walk.specs.declared.runner.Outcome.{Outcome}
+use Rattle.cn_walk.specs.Carried.{WordsValue, clients_of, shares_after}
+use Rattle.cn_walk.specs.Ends.{ListsHolders, QuietValue}
+use Rattle.cn_walk.specs.Remains.{IsOutcomeOf}
+use Rattle.cn_walk.specs.Runs.{IsRunAfter}
 use Rattle.cn_walk.specs.Walks.{AreFor}
 use Rattle.cn_report.specs.Reading.Batch.{MayCome}
 use Rattle.cn_report.specs.declared.reading.gathering.BatchEpoch.{BatchEpoch}
-use Rattle.cn_renamer.specs.Headline.{IsRecordOf, IsServed}
+use Rattle.cn_renamer.specs.Headline.{IsServed}
 
 -- the clients that came hold the names, one each
 module _ (clients : List Client) (grants : List Grant) (theirs : AreFor clients grants) (holders : List ℕ) (lists : ListsHolders grants holders) where
@@ -30,14 +33,16 @@ module _ (clients : List Client) (grants : List Grant) (theirs : AreFor clients 
   once come client = omega (arith, times-order ids holders client own, come client)
 
 -- the record of a run is that of its epoch, served after so many clients
-pub served : (width m : ℕ) (epoch : BatchEpoch) (quiet : QuietValue) (r : EpochRecord) → IsRecordOf epoch quiet r → (entries : ℕ) → MayCome entries epoch.clients.items
-    → counts_of quiet.start quiet.words ≡ shares_after m (length epoch.clients.items) width → AreFor epoch.clients.items quiet.did.grants → IsServed width m epoch r
-served width m epoch quiet r is entries come counts theirs =
+pub served : (entries width m : ℕ) (epoch : BatchEpoch) (before : WordsValue) (quiet : QuietValue) (outcome : Outcome) (r : EpochRecord) → MayCome entries epoch.clients.items
+    → before.network.table.width ≡ width → clients_of before ≡ m → IsRunAfter before epoch.clients.items quiet → IsOutcomeOf quiet outcome
+    → r.number ≡ epoch.number → r.clients ≡ length epoch.clients.items → r.counts ≡ outcome.counts → r.holders ≡ outcome.holders → IsServed width m epoch r
+served entries width m epoch before quiet outcome r come wide after run came number many counts holders =
     let clients : List Client = epoch.clients.items in
+    let lists : ListsHolders quiet.did.grants r.holders.items = subst (λ (ns : List ℕ). ListsHolders quiet.did.grants ns) (λ x. (sym holders x).items) came.holders in
     record {
-      number = is.number;
-      clients = is.clients;
-      counts = is.counts ∙ counts ∙ ap (λ (k : ℕ). shares_after m k width) (sym is.clients);
-      holders = own clients quiet.did.grants theirs r.holders.items is.holders;
-      once = once clients quiet.did.grants theirs r.holders.items is.holders come.once;
+      number = number;
+      clients = many;
+      counts = (λ x. (counts x).items) ∙ came.counts ∙ run.counts ∙ (λ x. shares_after (after x) (sym many x) (wide x));
+      holders = own clients quiet.did.grants run.theirs r.holders.items lists;
+      once = once clients quiet.did.grants run.theirs r.holders.items lists come.once;
     }

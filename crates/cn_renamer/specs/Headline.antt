@@ -9,7 +9,6 @@ use Rattle.cn_spec.specs.Step.{shares}
 use Rattle.cn_spec.specs.Sums.{times, when}
 use Rattle.cn_wiring.specs.Network.{Network}
 use Rattle.cn_walk.specs.Carried.{shares_after}
-use Rattle.cn_walk.specs.Ends.{ListsHolders, QuietValue, counts_of}
 use Rattle.cn_epoch.specs.declared.record.EpochRecord.{EpochRecord}
 use Rattle.cn_report.specs.Reading.Batch.{IsBatch}
 use Rattle.cn_report.specs.Reading.Records.{records_of}
@@ -28,13 +27,6 @@ pub record IsServed (w m : ℕ) (epoch : BatchEpoch) (r : EpochRecord) : Type 0 
   pub counts : r.counts.items ≡ shares_after m r.clients w
   pub holders : IsPermutation (map (λ c. c.id) epoch.clients.items) r.holders.items
   pub once : (client : ℕ) → times client r.holders.items ≤ 1
-
--- the record of an epoch, by the floor that it was run on
-pub record IsRecordOf (epoch : BatchEpoch) (quiet : QuietValue) (r : EpochRecord) : Type 0 where
-  pub number : r.number ≡ epoch.number
-  pub clients : r.clients ≡ length epoch.clients.items
-  pub counts : r.counts.items ≡ counts_of quiet.start quiet.words
-  pub holders : ListsHolders quiet.did.grants r.holders.items
 
 -- how many clients come before the epoch after one of k clients that come after m: with carry all of them, without it none
 abbrev pub after : Bool → ℕ → ℕ → ℕ

@@ -1,14 +1,13 @@
 //! A batch, served by many workers.
 
-ghost use Rattle.std.specs.Prelude.{◌≡◌, ◌+◌, ◌≤◌, IfErr, IfOk, OnOk, length};
+ghost use Rattle.std.specs.Prelude.{◌≡◌, ◌+◌, ◌≤◌, IfErr, IfOk, length};
 ghost use Rattle.cn_spec.specs.declared.limits.TheConstants.{MOST_CARRIED, MOST_RECORDS};
 ghost use Rattle.cn_spec.specs.Sums.{when};
 ghost use Rattle.cn_walk.specs.Carried.{clients_of};
-ghost use Rattle.cn_walk.specs.Runs.{IsRunAfter};
 ghost use Rattle.cn_report.specs.Reading.Batch.{AreServable, MayCome};
 ghost use Rattle.cn_report.specs.Reading.Batch.{clients_of as clients_in};
 ghost use Rattle.cn_report.specs.Writing.Written.{HasWritten, written_by};
-ghost use Rattle.cn_renamer.specs.Headline.{IsRecordOf, IsRunOfKnown, IsServed};
+ghost use Rattle.cn_renamer.specs.Headline.{IsRunOfKnown, IsServed};
 ghost use Rattle.cn_renamer.specs.Serve.{IsServeFault, until_serve};
 ghost use Rattle.cn_renamer.specs.Telling.{TellsServed};
 
@@ -17,7 +16,7 @@ use crate::serve_fault::ServeFault;
 use crate::writing::write_text;
 use cn_epoch::EpochRecord;
 use cn_report::{BatchEpoch, read_batch};
-use cn_walk::{Gate, Quiet, RunFault, Runner};
+use cn_walk::{Gate, Outcome, RunFault, Runner};
 use cn_wiring::Counting;
 use cn_words::Options;
 use std::alloc::{AllocError, Global};
@@ -26,69 +25,48 @@ use std::io::{Read, Write};
 use std::sync::Wait;
 use std::thread::Threads;
 
-/// The record of an epoch of a batch, by the floor that it was run on.
-fn record_of(
-    alloc: Global,
-    epoch: &BatchEpoch,
-    quiet: &Quiet<'_>,
-) -> Result<EpochRecord, AllocError>
-    ensures { IfOk result (IsRecordOf epoch.now quiet.now) }
+/// The record of an epoch of a batch, by what came of it.
+fn record_of(epoch: &BatchEpoch, outcome: Outcome) -> EpochRecord
+    ensures number { result.number ≡ epoch.now.number }
+    ensures clients { result.clients ≡ length epoch.now.clients.items }
+    ensures counts { result.counts ≡ outcome.counts }
+    ensures holders { result.holders ≡ outcome.holders }
 {
-    Ok(EpochRecord {
+    EpochRecord {
         number: epoch.number,
         clients: epoch.clients.len() as u64,
-        counts: Vec::from_slice(alloc, quiet.counts())?,
-        holders: quiet.holders()?,
-    })
+        counts: outcome.counts,
+        holders: outcome.holders,
+    }
 }
 
-/// Runs an epoch of a batch by as many workers as the options have, on a floor that goes on from the runner's words.
-fn run_one<'n, G: Gate + Sync, R: Threads + Wait + Sync>(
+/// Runs the next epoch of a batch by as many workers as the options have: its record, and the runner for the one after it.
+fn run_next<'n, G: Gate + Sync, R: Threads + Wait + Sync>(
     rt: &R,
     alloc: Global,
-    runner: &mut Runner<'n>,
+    runner: Runner<'n>,
     options: &Options,
     epoch: &BatchEpoch,
     gate: &G,
-) -> Result<Quiet<'n>, AllocError>
-    requires come { MayCome runner.old.network.table.entries epoch.now.clients.items }
-    requires few { clients_of runner.old ≤ MOST_CARRIED }
-    ensures words { runner.new ≡ runner.old }
-    ensures run { IfOk result (λ quiet. IsRunAfter runner.old epoch.now.clients.items quiet) }
+) -> Result<(EpochRecord, Runner<'n>), AllocError>
+    requires come { MayCome runner.words.network.table.entries epoch.now.clients.items }
+    requires few { clients_of runner.words ≤ MOST_CARRIED }
+    ensures served { IfOk result (λ r. IsServed runner.entry.words.network.table.width (clients_of runner.entry.words) epoch.now r.0) }
+    ensures network { IfOk result (λ r. r.1.words.network ≡ runner.entry.words.network) }
+    ensures carries { IfOk result (λ r. r.1.carries ≡ runner.entry.carries) }
+    ensures came { IfOk result (λ r. clients_of r.1.words
+        ≡ clients_of runner.entry.words + when runner.entry.carries (length epoch.now.clients.items)) }
 {
     let (workers, hand) = (options.workers(), options.hand());
-    match runner.run(rt, alloc, &epoch.clients, workers, hand, gate) {
-        Ok(quiet) => Ok(quiet),
+    let (runner, ended) = runner.run(rt, alloc, &epoch.clients, workers, hand, gate);
+    match ended {
+        Ok(outcome) => Ok((record_of(epoch, outcome), runner)),
         Err(fault) => {
             // An epoch of a batch is refused for want of memory alone.
             prove!(matches!(fault, RunFault::Memory));
             Err(AllocError)
         }
     }
-}
-
-/// Runs the next epoch of a batch: its record. Where the options carry counters, the runner goes on from its words.
-fn run_next<'n, G: Gate + Sync, R: Threads + Wait + Sync>(
-    rt: &R,
-    alloc: Global,
-    runner: &mut Runner<'n>,
-    options: &Options,
-    epoch: &BatchEpoch,
-    gate: &G,
-) -> Result<EpochRecord, AllocError>
-    requires come { MayCome runner.old.network.table.entries epoch.now.clients.items }
-    requires few { clients_of runner.old ≤ MOST_CARRIED }
-    ensures served { IfOk result (IsServed runner.old.network.table.width (clients_of runner.old) epoch.now) }
-    ensures network { OnOk result (runner.new.network ≡ runner.old.network) }
-    ensures came { OnOk result (clients_of runner.new
-        ≡ clients_of runner.old + when options.now.carry (length epoch.now.clients.items)) }
-{
-    let quiet = run_one(rt, alloc, runner, options, epoch, gate)?;
-    let record = record_of(alloc, epoch, &quiet)?;
-    if options.carries() {
-        runner.go_on_from(quiet);
-    }
-    Ok(record)
 }
 
 /// Runs the epochs of a batch, one after another: the text of their records, in the options' form. Each begins with counters
@@ -106,10 +84,11 @@ fn run_all<G: Gate + Sync, R: Threads + Wait + Sync>(
     ensures { IfOk result (TellsServed options.now.form options.now.carry network.now epochs.now) }
 {
     let mut text = EpochsText::begin(alloc, network, options.form())?;
-    let mut runner = Runner::new(alloc, network)?;
+    let mut runner = Runner::new(alloc, network, options.carries())?;
     for epoch in epochs {
-        let record = run_next(rt, alloc, &mut runner, options, epoch, gate)?;
+        let (record, next) = run_next(rt, alloc, runner, options, epoch, gate)?;
         text = text.add(&record)?;
+        runner = next;
     }
     Ok(text)
 }

@@ -1,5 +1,5 @@
 -- What has risen since a floor began.
-use Rattle.std.proofs.Common.{◌≡◌, ℕ, zero, suc, ◌+◌, ◌<◌, ◌≤◌, ◌++◌, ◌∷◌, [], List, length, get_or, map, take, drop, replicate, sym, refl, ◌∙◌, arith, subst}
+use Rattle.std.proofs.Common.{◌≡◌, ℕ, zero, suc, ◌+◌, ◌-◌, ◌<◌, ◌≤◌, ◌++◌, ◌∷◌, [], List, length, get_or, map, take, drop, replicate, sym, refl, ◌∙◌, arith, subst}
 use Rattle.std.specs.List.{range_with_len}
 use Rattle.std.proofs.lemmas.List.{get_or-drop, length-drop, take_more}
 use Rattle.std.proofs.lemmas.List.FromFn.{map-range_with_len_more}
@@ -13,7 +13,8 @@ use Rattle.cn_walk.specs.declared.view.Start.{Start}
 use Rattle.cn_walk.specs.Carried.{IsClosed, WordsValue, clients_of}
 use Rattle.cn_walk.specs.Ends.{HasRisen, counts_of, passes_of}
 use Rattle.cn_walk.specs.Rule.{ledger_of}
-use Rattle.cn_walk.specs.Words.{IsDifference, NoneWent, end_word, word_count}
+use Rattle.cn_walk.specs.Words.{IsDifference, NoneWent, count_in, end_word, word_count}
+use Rattle.cn_walk.proofs.Closings.{map-same}
 use Rattle.cn_walk.proofs.Raised.{count-word}
 
 -- a part of a list, place by place
@@ -38,6 +39,14 @@ module _ (start : Start) (words risen : List ℕ) (is : HasRisen start words ris
 
   pub passes-part : take t.balancers (drop (1 + t.entries) risen) ≡ passes_of start words
   passes-part = part risen _ (1 + t.entries) t.balancers (omega (arith, is.count)) (λ b l. is.each (Balancer b) l)
+
+-- exit by exit, by what the words tell of each
+pub exits-list : (start : Start) (words : List ℕ)
+    → map (λ i. count_in start.network.table words (Exit i) - count_in start.network.table start.carried (Exit i)) (range_with_len 0 start.network.table.width) ≡ counts_of start words
+exits-list start words =
+    let t : Table = start.network.table in
+    map-same (λ i. count_in t words (Exit i) - count_in t start.carried (Exit i)) (λ i. get_or words (1 + t.entries + t.balancers + i) 0 - get_or start.carried (1 + t.entries + t.balancers + i) 0) 0 t.width
+    (λ i l h. λ x. count-word t words (Exit i) (omega (arith, h)) x - count-word t start.carried (Exit i) (omega (arith, h)) x)
 
 -- an end's word stands among the words
 end-low : (t : Table) (end : End) → Stands t end → end_word t end < word_count t

@@ -2,6 +2,7 @@
 
 mod closing;
 mod counters;
+mod ended;
 mod lane;
 mod lone;
 mod plays;
@@ -13,9 +14,10 @@ ghost use Rattle.std.specs.Prelude.{◌≡◌, ℕ, ◌+◌, ◌-◌, ◌<◌, �
 ghost use Rattle.cn_spec.specs.declared.limits.TheConstants.{MOST_CARRIED, MOST_CLIENTS};
 ghost use Rattle.cn_wiring.specs.Network.{IsNetwork};
 ghost use Rattle.cn_yard.specs.Lists.{empty, standing, tokens_in};
-ghost use Rattle.cn_walk.specs.Carried.{start_after};
+ghost use Rattle.cn_walk.specs.Carried.{start_after, words_before};
 ghost use Rattle.cn_walk.specs.Carried.{clients_of as told_by};
 ghost use Rattle.cn_walk.specs.Closing.{IsCloseRefused};
+ghost use Rattle.cn_walk.specs.Remains.{AreRemains};
 ghost use Rattle.cn_walk.specs.Lane.{IsIdle, LetsIn, StepsOn, new_lane};
 ghost use Rattle.cn_walk.specs.Rule.{IsCarried};
 ghost use Rattle.cn_walk.specs.Steps.{IsAnswer};
@@ -25,7 +27,7 @@ ghost use Rattle.cn_walk.specs.Words.{clients_in, word_count};
 use crate::fault::{JoinFault, LaneFault, OpenFault, SplitFault};
 use crate::view::{Grant, View};
 use atomic_table::Seat;
-use closing::{clients_of, risen_since};
+use closing::clients_of;
 use cn_balancer::output_of;
 use cn_core::Moved;
 use cn_exit::name_of;
@@ -33,6 +35,7 @@ use cn_spec::limits::MOST_CLIENTS;
 use cn_wiring::{Counting, End};
 use cn_yard::{Token, Yard};
 use counters::Counters;
+pub(crate) use ended::{Ended, Remains};
 pub use lane::Lane;
 pub use quiet::Quiet;
 use std::alloc::{AllocError, Global};
@@ -51,9 +54,9 @@ pub use words::Words;
 pub struct Floor<'a> {
     alloc: Global,
     network: &'a Counting,
-    /// How many clients came before it began, and the words as they then were; without one, all counts were 0.
+    /// How many clients came before it began, and the words as they then were.
     carried: u64,
-    before: Option<Vec<u64>>,
+    before: Words<'a>,
     counters: Counters,
 }
 
@@ -145,10 +148,10 @@ impl<'a> Floor<'a> {
         if quota > MOST_CLIENTS {
             return Err(OpenFault::Quota);
         }
-        let Ok(words) = Words::zero(alloc, network) else {
-            return Err(OpenFault::Memory);
-        };
-        Floor::open_after(alloc, &words, quota)
+        match Words::zero(alloc, network) {
+            Ok(words) => Floor::open_on(alloc, words, quota),
+            Err(_memory) => Err(OpenFault::Memory),
+        }
     }
 
     /// A floor over the network of these words, which goes on from them: its numbers and visits begin with theirs, and its
@@ -170,32 +173,48 @@ impl<'a> Floor<'a> {
         if quota > MOST_CLIENTS {
             return Err(OpenFault::Quota);
         }
+        match words.copy(alloc) {
+            Ok(copy) => Floor::open_on(alloc, copy, quota),
+            Err(_memory) => Err(OpenFault::Memory),
+        }
+    }
+
+    /// A floor that goes on from these words.
+    ///
+    /// # Errors
+    /// `Memory`.
+    fn open_on(alloc: Global, words: Words<'a>, quota: u64) -> Result<(Floor<'a>, Lane), OpenFault>
+        requires few { (told_by words ≤ MOST_CARRIED) × (quota ≤ MOST_CLIENTS) }
+        ensures floor { IfOk result (λ r. r.0.start ≡ start_after words.entry quota) }
+        ensures lane { IfOk result (λ r. r.1 ≡ new_lane r.0 quota) }
+        ensures memory { IfErr result (λ fault. fault ≡ OpenFault.Memory) }
+    {
         let Ok(yard) = yard_for(alloc, words.network) else {
             return Err(OpenFault::Memory);
         };
         match Floor::begin(alloc, words, quota, yard) {
             Ok(opened) => Ok(opened),
-            Err(_memory) => Err(OpenFault::Memory),
+            Err(_words) => Err(OpenFault::Memory),
         }
     }
 
-    /// A floor that goes on from these words, with this yard for its lane.
-    ///
-    /// # Errors
-    /// `AllocError` where it gets no memory.
+    /// A floor that goes on from these words, with this yard for its lane. Where it gets no memory the words come back.
     pub(crate) fn begin(
         alloc: Global,
-        words: &Words<'a>,
+        words: Words<'a>,
         quota: u64,
         yard: Yard,
-    ) -> Result<(Floor<'a>, Lane), AllocError>
-        requires few { (told_by words.now ≤ MOST_CARRIED) × (quota ≤ MOST_CLIENTS) }
-        requires idle { IsIdle words.now.network yard.lists }
-        ensures floor { IfOk result (λ r. r.0.start ≡ start_after words.now quota) }
+    ) -> Result<(Floor<'a>, Lane), Words<'a>>
+        requires few { (told_by words ≤ MOST_CARRIED) × (quota ≤ MOST_CLIENTS) }
+        requires idle { IsIdle words.network yard.lists }
+        ensures floor { IfOk result (λ r. r.0.start ≡ start_after words.entry quota) }
         ensures lane { IfOk result (λ r. r.1 ≡ record (new_lane r.0 quota) { yard = yard }) }
+        ensures back { IfErr result (λ back. back ≡ words.entry) }
     {
-        let before = words.before(alloc)?;
-        let (counters, seat) = Counters::new(alloc, words.network, quota, &words.words)?;
+        let made = Counters::new(alloc, words.network, quota, &words.words);
+        let Ok((counters, seat)) = made else {
+            return Err(words);
+        };
         let lane = Lane {
             seat,
             yard,
@@ -207,7 +226,7 @@ impl<'a> Floor<'a> {
             alloc,
             network: words.network,
             carried: words.clients,
-            before,
+            before: words,
             counters,
         };
         Ok((floor, lane))
@@ -413,17 +432,24 @@ impl<'a> Floor<'a> {
         ensures refused { IfErr result (λ f. IsCloseRefused self.entry lane f) }
     {
         match self.close_for(lane) {
-            Ok((quiet, _yard)) => Ok(quiet),
+            Ok(remains) => Ok(remains.into_quiet()),
             Err(fault) => Err(fault),
         }
     }
 
-    /// Ends the floor as [`Floor::close`] does, and gives the lane's yard, in which nobody is.
-    pub(crate) fn close_for(self, lane: Lane) -> Result<(Quiet<'a>, Yard), CloseFault<'a>>
+    /// Gives up the floor, for the words with which it began.
+    pub(crate) fn give_up(self) -> Words<'a>
+        ensures { result ≡ words_before self.entry.start }
+    {
+        self.before
+    }
+
+    /// Ends the floor as [`Floor::close`] does, and leaves what the next one may take.
+    pub(crate) fn close_for(self, lane: Lane) -> Result<Remains<'a>, CloseFault<'a>>
         requires own { lane.home ≡ self }
-        ensures quiet { IfOk result (λ r. (r.0.start ≡ self.entry.start) × (r.0.did ≡ lane.view)) }
+        ensures ended { IfOk result (λ r. (r.ended.start ≡ self.entry.start) × (r.ended.did ≡ lane.view)) }
+        ensures remains { IfOk result AreRemains }
         ensures out { IfOk result (λ r. tokens_in lane.yard.lists ≡ 0) }
-        ensures idle { IfOk result (λ r. IsIdle self.entry.start.network r.1.lists) }
         ensures refused { IfErr result (λ f. IsCloseRefused self.entry lane f) }
     {
         if !lane.yard.is_empty() {
@@ -458,19 +484,21 @@ impl<'a> Floor<'a> {
                 grants,
             });
         }
-        let risen = risen_since(before, words.as_slice());
         let words = Words {
             network,
             words,
             clients,
         };
-        let quiet = Quiet {
+        let ended = Ended {
             alloc,
             lane: told,
             words,
-            risen,
             grants,
         };
-        Ok((quiet, yard))
+        Ok(Remains {
+            ended,
+            before,
+            yard,
+        })
     }
 }

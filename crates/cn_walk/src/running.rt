@@ -4,15 +4,15 @@ ghost use Rattle.std.specs.Prelude.{◌≡◌, ◌+◌, ◌<◌, ◌≤◌, All,
 ghost use Rattle.cn_spec.specs.declared.limits.TheConstants.{MOST_CARRIED};
 ghost use Rattle.cn_walk.specs.Carried.{clients_of, words_before, zero_words};
 ghost use Rattle.cn_walk.specs.Lane.{IsIdle, new_lane};
+ghost use Rattle.cn_walk.specs.Remains.{AreRemains};
 ghost use Rattle.cn_walk.specs.Runs.{IsRefused, IsRun, IsRunAfter, MayRun};
 
-use crate::floor::{CloseFault, Floor, Lane, Quiet, Words};
+use crate::floor::{CloseFault, Floor, Lane, Quiet, Remains, Words};
 use crate::forking::{make_lanes, walk_lanes};
 use crate::gate::Gate;
 use cn_core::Client;
 use cn_spec::limits::{MOST_CLIENTS, MOST_HAND, MOST_WORKERS};
 use cn_wiring::Counting;
-use cn_yard::Yard;
 use std::alloc::Global;
 use std::sync::Wait;
 use std::thread::Threads;
@@ -60,7 +60,8 @@ pub(crate) fn may_run(
     Ok(())
 }
 
-/// Runs these clients on a floor that was opened for them, and closes it. Gives its yard too, in which nobody is.
+/// Runs these clients on a floor that was opened for them, and closes it. Where memory is refused the words with which it
+/// began come back.
 pub(crate) fn run_on<'a, G: Gate + Sync, R: Threads + Wait + Sync>(
     rt: &R,
     alloc: Global,
@@ -70,26 +71,26 @@ pub(crate) fn run_on<'a, G: Gate + Sync, R: Threads + Wait + Sync>(
     workers: u32,
     hand: u32,
     gate: &G,
-) -> Result<(Quiet<'a>, Yard), RunFault>
+) -> Result<Remains<'a>, Words<'a>>
     requires lane { lane ≡ record (new_lane floor (length clients.now)) { yard = lane.yard } }
     requires idle { IsIdle floor.start.network lane.yard.lists }
     requires quota { floor.start.quota ≡ length clients.now }
     requires allowed { MayRun floor.start.network.table.entries clients.now workers hand }
-    ensures run { IfOk result (λ r. IsRunAfter (words_before floor.entry.start) clients.now r.0) }
-    ensures idle { IfOk result (λ r. IsIdle floor.entry.start.network r.1.lists) }
-    ensures refused { IfErr result (λ fault. fault ≡ RunFault.Memory) }
+    ensures run { IfOk result (λ r. IsRunAfter (words_before floor.entry.start) clients.now r.ended) }
+    ensures remains { IfOk result AreRemains }
+    ensures back { IfErr result (λ back. back ≡ words_before floor.entry.start) }
 {
     let many = clients.len() as u32;
     let Some(lanes) = make_lanes(alloc, &floor, lane, many, workers, 0, workers) else {
-        return Err(RunFault::Memory);
+        return Err(floor.give_up());
     };
     let lane = walk_lanes(rt, &floor, lanes, clients, hand, gate);
     match floor.close_for(lane) {
-        Ok((quiet, yard)) => {
-            quiet.quiet_laws();
-            Ok((quiet, yard))
+        Ok(remains) => {
+            remains.ended.ended_laws();
+            Ok(remains)
         }
-        Err(CloseFault::Memory(_floor, _lane)) => Err(RunFault::Memory),
+        Err(CloseFault::Memory(floor, _lane)) => Err(floor.give_up()),
         Err(CloseFault::StillWalking(_floor, _lane)) => unreachable!(),
         Err(
             CloseFault::LanesMissing {
@@ -98,6 +99,32 @@ pub(crate) fn run_on<'a, G: Gate + Sync, R: Threads + Wait + Sync>(
                 grants: _grants,
             },
         ) => unreachable!(),
+    }
+}
+
+/// Runs these clients on a floor that was opened for them: the closed floor.
+///
+/// # Errors
+/// `Memory`.
+fn run_whole<'a, G: Gate + Sync, R: Threads + Wait + Sync>(
+    rt: &R,
+    alloc: Global,
+    floor: Floor<'a>,
+    lane: Lane,
+    clients: &[Client],
+    workers: u32,
+    hand: u32,
+    gate: &G,
+) -> Result<Quiet<'a>, RunFault>
+    requires lane { lane ≡ new_lane floor (length clients.now) }
+    requires quota { floor.start.quota ≡ length clients.now }
+    requires allowed { MayRun floor.start.network.table.entries clients.now workers hand }
+    ensures run { IfOk result (λ quiet. IsRunAfter (words_before floor.entry.start) clients.now quiet) }
+    ensures refused { IfErr result (λ fault. fault ≡ RunFault.Memory) }
+{
+    match run_on(rt, alloc, floor, lane, clients, workers, hand, gate) {
+        Ok(remains) => Ok(remains.into_quiet()),
+        Err(_words) => Err(RunFault::Memory),
     }
 }
 
@@ -129,8 +156,7 @@ pub fn run_epoch<'a, G: Gate + Sync, R: Threads + Wait + Sync>(
     let Ok((floor, lane)) = Floor::open(alloc, network, clients.len() as u64) else {
         return Err(RunFault::Memory);
     };
-    let (quiet, _yard) = run_on(rt, alloc, floor, lane, clients, workers, hand, gate)?;
-    Ok(quiet)
+    run_whole(rt, alloc, floor, lane, clients, workers, hand, gate)
 }
 
 /// Runs an epoch of these clients as [`run_epoch`] does, on a floor that goes on from the words of earlier ones, and leaves
@@ -157,6 +183,5 @@ pub fn run_epoch_after<'a, G: Gate + Sync, R: Threads + Wait + Sync>(
     let Ok((floor, lane)) = Floor::open_after(alloc, words, clients.len() as u64) else {
         return Err(RunFault::Memory);
     };
-    let (quiet, _yard) = run_on(rt, alloc, floor, lane, clients, workers, hand, gate)?;
-    Ok(quiet)
+    run_whole(rt, alloc, floor, lane, clients, workers, hand, gate)
 }

@@ -3,31 +3,27 @@
 ghost use Rattle.std.specs.Prelude.{◌≡◌, IfOk};
 ghost use Rattle.cn_walk.specs.Ends.{HasRisen, IsQuiet, ListsHolders, counts_of, passes_of};
 
-use super::lane::Lane;
+use super::ended::Ended;
 use super::words::Words;
 use crate::view::Grant;
-use std::alloc::{AllocError, Global};
+use std::alloc::AllocError;
 use std::marker::Model;
-use std::snapshot::Snapshot;
 
 /// What a closed floor leaves: its counts, and the grants of its one lane. [`super::Floor::close`] alone makes it.
 #[derive(Drop)]
 pub struct Quiet<'a> {
-    pub(super) alloc: Global,
-    pub(super) lane: Snapshot<Lane>,
-    pub(super) words: Words<'a>,
+    pub(super) ended: Ended<'a>,
     /// How much each word has risen since the floor began; without one, as much as it counts.
     pub(super) risen: Option<Vec<u64>>,
-    pub(super) grants: Vec<Grant>,
 }
 
 impl<'a> Model for Quiet<'a> {
     ghost use Rattle.cn_walk.specs.Ends.{QuietValue};
-    ghost use Rattle.cn_walk.specs.InsideQuiet.{KeepsQuiet, quiet_of};
+    ghost use Rattle.cn_walk.specs.InsideQuiet.{KeepsQuiet};
 
     ghost Value = { QuietValue };
 
-    ghost view = { quiet_of };
+    ghost view = { λ q. q.ended };
 
     ghost invariant = { KeepsQuiet };
 }
@@ -40,24 +36,24 @@ impl<'a> Quiet<'a> {
     pub fn quiet_laws(&self)
         ensures { IsQuiet self.now.start self.now.did self.now.words }
     {
-        // Opens what each closed floor keeps.
-        let _ = &self.grants;
+        self.ended.ended_laws();
     }
 
     /// The lane's grants, in its order.
     pub fn grants(&self) -> &[Grant]
         ensures { result.now ≡ self.now.did.grants }
     {
-        self.grants.as_slice()
+        self.ended.grants()
     }
 
     /// How much each word has risen since the floor began.
     fn risen(&self) -> &[u64]
         ensures { HasRisen self.now.start self.now.words result.now }
     {
+        self.ended.ended_laws();
         match &self.risen {
             Some(risen) => risen.as_slice(),
-            None => self.words.words.as_slice(),
+            None => self.ended.words.words.as_slice(),
         }
     }
 
@@ -65,7 +61,7 @@ impl<'a> Quiet<'a> {
     pub fn counts(&self) -> &[u64]
         ensures { result.now ≡ counts_of self.now.start self.now.words }
     {
-        let network = self.words.network();
+        let network = self.ended.words().network();
         let first = 1 + network.entries() as usize + network.balancers() as usize;
         &self.risen()[first..first + network.width() as usize]
     }
@@ -74,7 +70,7 @@ impl<'a> Quiet<'a> {
     pub fn passes(&self) -> &[u64]
         ensures { result.now ≡ passes_of self.now.start self.now.words }
     {
-        let network = self.words.network();
+        let network = self.ended.words().network();
         let first = 1 + network.entries() as usize;
         &self.risen()[first..first + network.balancers() as usize]
     }
@@ -83,14 +79,14 @@ impl<'a> Quiet<'a> {
     pub fn words(&self) -> &Words<'a>
         ensures { result.now ≡ record { network = self.now.start.network; words = self.now.words } }
     {
-        &self.words
+        self.ended.words()
     }
 
     /// The same words, without the floor's grants.
     pub fn into_words(self) -> Words<'a>
         ensures { result ≡ record { network = self.entry.start.network; words = self.entry.words } }
     {
-        self.words
+        self.ended.into_words()
     }
 
     /// The clients by rising name: `holders[n]` is the client with name n.
@@ -100,10 +96,6 @@ impl<'a> Quiet<'a> {
     pub fn holders(&self) -> Result<Vec<u64>, AllocError>
         ensures { IfOk result (λ holders. ListsHolders self.now.did.grants holders.items) }
     {
-        let mut holders = vec![in self.alloc; 0; self.grants.len()]?;
-        for grant in &self.grants {
-            holders[grant.name as usize] = grant.client;
-        }
-        Ok(holders)
+        self.ended.holders()
     }
 }

@@ -1,10 +1,11 @@
 //! The words of closed floors.
 
-ghost use Rattle.std.specs.Prelude.{◌≡◌, ◌<◌, None, IfOk, IfSome};
+ghost use Rattle.std.specs.Prelude.{◌≡◌, ◌<◌, None, length, IfOk, IfSome};
 ghost use Rattle.cn_wiring.specs.declared.end.End.TheVariants.{Balancer, Exit};
 ghost use Rattle.cn_walk.specs.Carried.{AreTight, IsClosed, clients_of, zero_words};
-ghost use Rattle.cn_walk.specs.Words.{NoneWent, count_in, entered_in};
+ghost use Rattle.cn_walk.specs.Words.{IsDifference, NoneWent, count_in, entered_in};
 
+use super::closing::rise;
 use super::zeros;
 use cn_wiring::Counting;
 use std::alloc::{AllocError, Global};
@@ -48,20 +49,33 @@ impl<'a> Words<'a> {
         })
     }
 
-    /// A copy for a floor that goes on from them; none where they tell of no client, since then no count has to be taken
-    /// off.
+    /// The same words once more.
     ///
     /// # Errors
-    /// `AllocError` where it gets no memory.
-    pub(super) fn before(&self, alloc: Global) -> Result<Option<Vec<u64>>, AllocError>
-        ensures some { IfOk result (λ before. IfSome before (λ list. list.items ≡ self.now.words)) }
-        ensures none { IfOk result (λ before. before ≡ None → NoneWent self.now.network.table self.now.words) }
+    /// `AllocError` where they get no memory.
+    pub(super) fn copy(&self, alloc: Global) -> Result<Words<'a>, AllocError>
+        ensures { IfOk result (λ words. words ≡ self.now) }
+    {
+        Ok(Words {
+            network: self.network,
+            words: Vec::from_slice(alloc, self.words.as_slice())?,
+            clients: self.clients,
+        })
+    }
+
+    /// How much each word has risen from these to later ones. Where these tell of nobody it is not told: nobody went by an
+    /// end then, and what an end's word counts is what it has risen.
+    pub(super) fn risen_to(self, later: &[u64]) -> Option<Vec<u64>>
+        requires { length self.words ≡ length later.now }
+        ensures some { IfSome result (λ risen. IsDifference self.entry.words later.now risen.items) }
+        ensures none { result ≡ None → NoneWent self.entry.network.table self.entry.words }
     {
         if self.clients == 0 {
-            return Ok(None);
+            return None;
         }
-        let copy = Vec::from_slice(alloc, self.words.as_slice())?;
-        Ok(Some(copy))
+        let mut list = self.words;
+        rise(&mut list, later);
+        Some(list)
     }
 
     /// What holds of all closed words: they are those of a sound ledger with nobody inside. So each exit has let out its

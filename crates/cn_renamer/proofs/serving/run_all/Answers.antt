@@ -1,4 +1,4 @@
-use Rattle.std.proofs.Common.{◌≡◌, ◌+◌, ◌∷◌, ◌++◌, [], ℕ, List, ap, arith, length, rules, subst, sym, take, ◌∙◌}
+use Rattle.std.proofs.Common.{◌≡◌, ◌+◌, ◌∷◌, ◌++◌, [], ℕ, Bool, List, ap, arith, length, rules, subst, sym, take, ◌∙◌}
 use Rattle.std.proofs.lemmas.Grind.{common_steps}
 use Rattle.std.proofs.lemmas.List.Sums.{sum_by_push}
 use Rattle.cn_spec.specs.Sums.{when}
@@ -16,15 +16,16 @@ pub loop-epoch-init : goal.loop-epoch-init
 loop-epoch-init g c = record {
   over = search rules;
   came = search rules;
+  carries = search rules;
   told = none-told c.args.options.now.form c.args.options.now.carry c.args.network.now c.in_ok-text.text (rw c.form.ensures at c.in_ok-text.ensures);
 }
 
 pub add-requires : goal.add-requires
 add-requires g c =
     let before = c.loop-epoch.invariant in
-    let one : IsServed c.args.network.now.table.width (clients_of c.loop-epoch.runner) c.epoch-item.result c.in_ok-record.record =
-    subst (λ (n : Network). IsServed n.table.width (clients_of c.loop-epoch.runner) c.epoch-item.result c.in_ok-record.record) before.over c.in_ok-record.ensures.served in
-    can-tell c.args.options.now.form c.args.network.now before.told.records c.loop-epoch.text (clients_of c.loop-epoch.runner) c.epoch-item.result c.in_ok-record.record before.told.told one
+    let one : IsServed c.args.network.now.table.width (clients_of c.loop-epoch.runner.words) c.epoch-item.result c.in_ok-record.record =
+    subst (λ (n : Network). IsServed n.table.width (clients_of c.loop-epoch.runner.words) c.epoch-item.result c.in_ok-record.record) before.over c.in_ok-record.ensures.served in
+    can-tell c.args.options.now.form c.args.network.now before.told.records c.loop-epoch.text (clients_of c.loop-epoch.runner.words) c.epoch-item.result c.in_ok-record.record before.told.told one
 
 pub loop-epoch-preserved : goal.loop-epoch-preserved
 loop-epoch-preserved g c =
@@ -39,10 +40,12 @@ loop-epoch-preserved g c =
     let front : take i epochs ++ c.epoch-item.result ∷ [] ≡ take (i + 1) epochs = grind (arith, common_steps) in
     let one : IsServed width (when carry (clients_in (take i epochs))) c.epoch-item.result c.in_ok-record.record =
     subst (λ (m : ℕ). IsServed width m c.epoch-item.result c.in_ok-record.record) before.came
-    (subst (λ (n : Network). IsServed n.table.width (clients_of c.loop-epoch.runner) c.epoch-item.result c.in_ok-record.record) before.over c.in_ok-record.ensures.served) in
+    (subst (λ (n : Network). IsServed n.table.width (clients_of c.loop-epoch.runner.words) c.epoch-item.result c.in_ok-record.record) before.over c.in_ok-record.ensures.served) in
     record {
       over = c.in_ok-record.ensures.network ∙ before.over;
+      carries = c.in_ok-record.ensures.carries ∙ before.carries;
       came = c.in_ok-record.ensures.came
+          ∙ ap (λ (b : Bool). clients_of c.loop-epoch.runner.words + when b (length c.epoch-item.result.clients.items)) before.carries
           ∙ ap (λ (m : ℕ). m + when carry (length c.epoch-item.result.clients.items)) before.came
           ∙ when-more carry (clients_in (take i epochs)) (length c.epoch-item.result.clients.items)
           ∙ ap (λ (m : ℕ). when carry m) (sym (sum_by_push (λ (e : BatchEpoch). length e.clients.items) (take i epochs) c.epoch-item.result) ∙ ap clients_in front);

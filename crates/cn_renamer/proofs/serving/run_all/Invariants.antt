@@ -7,7 +7,8 @@ use Rattle.cn_renamer.proofs.serving.run_all.Given as goal
 
 abbrev pub invariant-loop-epoch : goal.invariant-loop-epoch
 invariant-loop-epoch g l = record {
-  over : l.runner.network ≡ l.network;
-  came : clients_of l.runner ≡ when l.options.carry (clients_in (take l.epoch-index l.epochs));
+  over : l.runner.words.network ≡ l.network;
+  came : clients_of l.runner.words ≡ when l.options.carry (clients_in (take l.epoch-index l.epochs));
+  carries : l.runner.carries ≡ l.options.carry;
   told : TellsServed l.options.form l.options.carry l.network (take l.epoch-index l.epochs) l.text;
 }

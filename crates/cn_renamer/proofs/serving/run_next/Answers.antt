@@ -1,7 +1,14 @@
+use Rattle.std.proofs.Common.{List, refl, subst}
+use Rattle.std.specs.Prelude.{IfOk}
+use Rattle.cn_core.specs.declared.client.Client.{Client}
+use Rattle.cn_walk.specs.Remains.{RunsNext}
 use Rattle.cn_renamer.proofs.Served.{served}
 use Rattle.cn_renamer.proofs.serving.run_next.Goals as goal
 
-pub returns-clause-served : goal.returns-clause-served
-returns-clause-served g c =
-    let run = c.in_ok-quiet.ensures.run in
-    served _ _ c.args.epoch.now c.in_ok-quiet.quiet c.in_ok-record.record c.in_ok-record.ensures _ c.requires.come run.counts run.theirs
+pub returns-in-Ok-clause-served : goal.returns-in-Ok-clause-served
+returns-in-Ok-clause-served g c =
+    let next : RunsNext c.args.runner c.run-runner.result.0 c.args.epoch.now.clients.items c.in-Ok.outcome =
+    subst (λ (clients : List Client). RunsNext c.args.runner c.run-runner.result.0 clients c.in-Ok.outcome) c.deref.ensures.value
+    (subst (λ r. IfOk r (RunsNext c.args.runner c.run-runner.result.0 c.deref.result.now)) c.in-Ok.is c.run-runner.ensures.run) in
+    let r = c.record_of.ensures in
+    served _ _ _ c.args.epoch.now c.args.runner.words next.quiet c.in-Ok.outcome c.record_of.result c.requires.come refl refl next.run next.came r.number r.clients r.counts r.holders

@@ -1,6 +1,8 @@
+use Rattle.std.proofs.lemmas.Result.{IfOk-weaker}
 use Rattle.cn_walk.proofs.Runs.{from-zero}
 use Rattle.cn_walk.proofs.running.run_epoch.Goals as goal
 
 pub returns-clause-run : goal.returns-clause-run
 returns-clause-run g c =
-    from-zero c.args.network.now c.args.clients.now c.in_ok-quiet.quiet (rw (c.in-Ok.ensures.floor.0, c.in-Ok.ensures.zero) at c.in_ok-quiet.ensures.run)
+    let network = c.args.network.now in
+    IfOk-weaker c.run_whole.result _ _ (λ q is. from-zero network c.args.clients.now q (rw (c.in-Ok.ensures.floor.0, c.in-Ok.ensures.zero) at is)) c.run_whole.ensures.run

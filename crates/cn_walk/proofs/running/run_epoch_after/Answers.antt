@@ -1,8 +1,9 @@
 use Rattle.std.proofs.Common.{ap, subst}
+use Rattle.std.specs.Prelude.{IfOk}
 use Rattle.cn_walk.specs.Carried.{WordsValue, words_before}
 use Rattle.cn_walk.specs.Runs.{IsRunAfter}
 use Rattle.cn_walk.proofs.running.run_epoch_after.Goals as goal
 
 pub returns-clause-run : goal.returns-clause-run
 returns-clause-run g c =
-    subst (λ (w : WordsValue). IsRunAfter w c.args.clients.now c.in_ok-quiet.quiet) (ap words_before c.in-Ok.ensures.floor) c.in_ok-quiet.ensures.run
+    subst (λ (w : WordsValue). IfOk c.run_whole.result (λ quiet. IsRunAfter w c.args.clients.now quiet)) (ap words_before c.in-Ok.ensures.floor) c.run_whole.ensures.run

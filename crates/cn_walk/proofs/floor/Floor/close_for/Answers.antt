@@ -2,7 +2,7 @@ use Rattle.std.proofs.Common.{◌≡◌, ℕ, ◌+◌, List, [], length, replica
 use Rattle.cn_yard.specs.Lists.{tokens_in}
 use Rattle.cn_walk.specs.declared.view.Start.{Start}
 use Rattle.cn_walk.specs.declared.view.View.{View}
-use Rattle.cn_walk.specs.Carried.{IsClosed, clients_of}
+use Rattle.cn_walk.specs.Carried.{IsClosed, clients_of, words_before}
 use Rattle.cn_walk.specs.Ends.{IsQuiet}
 use Rattle.cn_walk.specs.Lane.{Home, LaneValue}
 use Rattle.cn_walk.specs.Views.{base, inside_in}
@@ -11,8 +11,8 @@ use Rattle.cn_walk.proofs.Closings.{inside-yard}
 use Rattle.cn_walk.proofs.Rises.{all-empty}
 use Rattle.cn_walk.proofs.floor.Floor.close_for.Goals as goal
 
-pub invariant_of-quiet : goal.invariant_of-quiet
-invariant_of-quiet c =
+pub invariant_of-ended : goal.invariant_of-ended
+invariant_of-ended c =
     let start : Start = c.self.inside.counters.start in
     let v : View = c.lane.inside.seat.me.0 in
     let ws : List ℕ = c.close-words.result.items in
@@ -31,8 +31,6 @@ invariant_of-quiet c =
       quiet = subst (λ (z : Start × View). IsQuiet z.0 z.1 ws) (λ i. (about i, view i)) quiet;
       network = network ∙ ap (λ (s : Start). s.network) about;
       grants = c.lane.invariant.grants ∙ ap (λ (x : View). x.grants) view;
-      risen = search rules;
-      none = search rules;
     }
 
 pub invariant_of-words : goal.invariant_of-words
@@ -60,10 +58,15 @@ invariant_of-words c =
       clients = clients ∙ ap clients_of same;
     }
 
-pub returns-clause-idle : goal.returns-clause-idle
-returns-clause-idle c =
+pub returns-clause-remains : goal.returns-clause-remains
+returns-clause-remains c =
     let nobody : tokens_in c.lane.inside.yard.lists ≡ 0 = search rules in
-    let about : c.lane.inside.seat.me.0.start ≡ c.args.self.start =
-    ap (λ (l : LaneValue). l.home.start) c.lane.view_is ∙ ap (λ (h : Home). h.start) c.requires.own in
-    let wires : length c.lane.inside.yard.lists ≡ length c.args.self.start.network.table.ends = c.lane.invariant.wires ∙ ap (λ (s : Start). length s.network.table.ends) about in
-    all-empty c.lane.inside.yard.lists nobody ∙ (λ x. replicate (wires x) [])
+    let lane : c.of-told.result.value ≡ c.args.lane = c.of-told.ensures in
+    let home : c.of-told.result.value.home ≡ c.args.self = ap (λ (l : LaneValue). l.home) lane ∙ c.requires.own in
+    let about : c.lane.inside.seat.me.0.start ≡ c.of-told.result.value.home.start = ap (λ (l : LaneValue). l.home.start) (c.lane.view_is ∙ sym lane) in
+    let wires : length c.lane.inside.yard.lists ≡ length c.of-told.result.value.home.start.network.table.ends = c.lane.invariant.wires ∙ ap (λ (s : Start). length s.network.table.ends) about in
+    let start : c.self.inside.counters.start ≡ c.of-told.result.value.home.start = ap (λ (h : Home). h.start) (c.self.view_is ∙ sym home) in
+    record {
+      before = c.self.invariant.before ∙ ap words_before start;
+      idle = all-empty c.lane.inside.yard.lists nobody ∙ (λ x. replicate (wires x) []);
+    }

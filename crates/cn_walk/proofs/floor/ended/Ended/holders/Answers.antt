@@ -4,7 +4,7 @@ use Rattle.cn_spec.specs.Step.{IsEachBelow}
 use Rattle.cn_walk.specs.declared.view.Grant.{Grant}
 use Rattle.cn_walk.specs.Ends.{QuietValue}
 use Rattle.cn_walk.proofs.Holding.{Stand, all-stand, name-low, one-more}
-use Rattle.cn_walk.proofs.floor.quiet.Quiet.holders.Goals as goal
+use Rattle.cn_walk.proofs.floor.ended.Ended.holders.Goals as goal
 
 pub index_mut-requires : goal.index_mut-requires
 index_mut-requires c =

@@ -1,0 +1,125 @@
+//! A closed floor, before anybody asks what has risen.
+
+ghost use Rattle.std.specs.Prelude.{◌≡◌, IfOk};
+ghost use Rattle.cn_walk.specs.Carried.{words_before};
+ghost use Rattle.cn_walk.specs.Remains.{AreRemains};
+ghost use Rattle.cn_walk.specs.Ends.{IsQuiet, ListsHolders, counts_of};
+
+use super::lane::Lane;
+use super::quiet::Quiet;
+use super::words::Words;
+use crate::view::Grant;
+use cn_yard::Yard;
+use std::alloc::{AllocError, Global};
+use std::marker::Model;
+use std::snapshot::Snapshot;
+
+/// A closed floor: its words, and the grants of its one lane. [`super::Floor::close_for`] alone makes it.
+#[derive(Drop)]
+pub(crate) struct Ended<'a> {
+    pub(super) alloc: Global,
+    pub(super) lane: Snapshot<Lane>,
+    pub(super) words: Words<'a>,
+    pub(super) grants: Vec<Grant>,
+}
+
+/// What is left of a floor that is closed, for the next one.
+#[derive(Drop)]
+pub(crate) struct Remains<'a> {
+    pub(crate) ended: Ended<'a>,
+    /// The words with which it began.
+    pub(crate) before: Words<'a>,
+    /// The yard of its lane, in which nobody is.
+    pub(crate) yard: Yard,
+}
+
+impl<'a> Model for Ended<'a> {
+    ghost use Rattle.cn_walk.specs.Ends.{QuietValue};
+    ghost use Rattle.cn_walk.specs.InsideEnded.{KeepsEnded, ended_of};
+
+    ghost Value = { QuietValue };
+
+    ghost view = { ended_of };
+
+    ghost invariant = { KeepsEnded };
+}
+
+impl<'a> Ended<'a> {
+    /// What holds of each closed floor.
+    ///
+    /// It does nothing: its contract is the law.
+    pub(crate) fn ended_laws(&self)
+        ensures { IsQuiet self.now.start self.now.did self.now.words }
+    {
+        // Opens what each closed floor keeps.
+        let _ = &self.grants;
+    }
+
+    /// How many left by each exit since the words with which it began: each exit's share.
+    ///
+    /// # Errors
+    /// `AllocError` where the list gets no memory.
+    pub(crate) fn counts_since(&self, before: &Words<'_>) -> Result<Vec<u64>, AllocError>
+        requires { before.now ≡ words_before self.now.start }
+        ensures { IfOk result (λ counts. counts.items ≡ counts_of self.now.start self.now.words) }
+    {
+        let width = self.words.network().width();
+        let mut counts = Vec::with_capacity(self.alloc, width as usize)?;
+        for exit in 0..width {
+            let (count, earlier) = (self.words.exit_count(exit), before.exit_count(exit));
+            counts.push_reserved(count.saturating_sub(earlier));
+        }
+        Ok(counts)
+    }
+
+    /// The lane's grants, in its order.
+    pub(super) fn grants(&self) -> &[Grant]
+        ensures { result.now ≡ self.now.did.grants }
+    {
+        self.grants.as_slice()
+    }
+
+    /// Its words.
+    pub(super) fn words(&self) -> &Words<'a>
+        ensures { result.now ≡ record { network = self.now.start.network; words = self.now.words } }
+    {
+        &self.words
+    }
+
+    /// The same words, without the grants.
+    pub(crate) fn into_words(self) -> Words<'a>
+        ensures { result ≡ record { network = self.entry.start.network; words = self.entry.words } }
+    {
+        self.words
+    }
+
+    /// The clients by rising name.
+    ///
+    /// # Errors
+    /// `AllocError` where the list gets no memory.
+    pub(crate) fn holders(&self) -> Result<Vec<u64>, AllocError>
+        ensures { IfOk result (λ holders. ListsHolders self.now.did.grants holders.items) }
+    {
+        let mut holders = vec![in self.alloc; 0; self.grants.len()]?;
+        for grant in &self.grants {
+            holders[grant.name as usize] = grant.client;
+        }
+        Ok(holders)
+    }
+}
+
+impl<'a> Remains<'a> {
+    /// The closed floor, with how much each word has risen since it began.
+    pub(crate) fn into_quiet(self) -> Quiet<'a>
+        requires { AreRemains self }
+        ensures { result ≡ self.entry.ended }
+    {
+        let Remains {
+            ended,
+            before,
+            yard: _yard,
+        } = self;
+        let risen = before.risen_to(ended.words.words.as_slice());
+        Quiet { ended, risen }
+    }
+}
