@@ -8,7 +8,6 @@ use cn_spec::limits::MOST_ROOM;
 use cn_tree::tree;
 use cn_walk::{Floor, Lane, Quiet};
 use std::alloc::Global;
-use std::test::Fail;
 
 /// Clients of one floor: as many as an epoch may have.
 const CLIENTS: u64 = 65_536;
@@ -71,20 +70,29 @@ fn are_in_order(quiet: &Quiet<'_>) -> bool {
 /// a full floor over the tree of width 64.
 type Outcome = ([u64; 3], bool);
 
+/// The room of a lane, as an outcome tells it.
+fn rooms_of(floor: &Floor<'_>, lane: &mut Lane, rooms: &[u64]) -> Option<[u64; 3]>
+    requires { lane.old.home ≡ floor.now }
+    ensures { lane.new.home ≡ lane.old.home }
+{
+    let none = lane.room();
+    let has_some = reserve_all(lane, rooms);
+    let some = lane.room();
+    let has_walked = walk_all_out(floor, lane, CLIENTS);
+    let left = lane.room();
+    if has_some && has_walked {
+        Some([none, some, left])
+    } else {
+        None
+    }
+}
+
 fn walked(floor: Floor<'_>, mut lane: Lane, rooms: &[u64]) -> Option<Outcome>
     requires { lane.home ≡ floor }
 {
-    let none = lane.room();
-    if !reserve_all(&mut lane, rooms) {
-        return None;
-    }
-    let some = lane.room();
-    if !walk_all_out(&floor, &mut lane, CLIENTS) {
-        return None;
-    }
-    let left = lane.room();
+    let told = rooms_of(&floor, &mut lane, rooms)?;
     let quiet = close(floor, lane)?;
-    Some(([none, some, left], are_in_order(&quiet)))
+    Some((told, are_in_order(&quiet)))
 }
 
 fn full_floor(alloc: Global, rooms: &[u64]) -> Option<Outcome> {
@@ -93,16 +101,24 @@ fn full_floor(alloc: Global, rooms: &[u64]) -> Option<Outcome> {
     walked(floor, lane, rooms)
 }
 
+/// The rooms that are taken for a lane, and how much it has before, after, and after the walk.
+const ROWS: [(&[u64], [u64; 3]); 3] = [
+    (&[], [0, 0, 0]),
+    (&[1, 65_536, 300], [0, 65_536, 0]),
+    (&[MOST_ROOM], [0, MOST_ROOM, MOST_ROOM - CLIENTS]),
+];
+
+/// The place of the first row that is told otherwise.
+fn wrong_row(alloc: Global) -> Option<usize> {
+    for (place, row) in ROWS.iter().enumerate() {
+        if full_floor(alloc, row.0) != Some((row.1, true)) {
+            return Some(place);
+        }
+    }
+    None
+}
+
 #[test]
-fn always_memory(rt: HostRuntime) -> Result<(), Fail> {
-    let without = full_floor(rt.alloc(), &[]);
-    let with = full_floor(rt.alloc(), &[1, 65_536, 300]);
-    let most = full_floor(rt.alloc(), &[MOST_ROOM]);
-    let wanted = [
-        Some(([0, 0, 0], true)),
-        Some(([0, 65_536, 0], true)),
-        Some(([0, MOST_ROOM, MOST_ROOM - CLIENTS], true)),
-    ];
-    assert_eq!(rt; [without, with, most], wanted);
-    Ok(())
+fn always_memory(rt: HostRuntime) {
+    assert_eq!(rt; wrong_row(rt.alloc()), None);
 }

@@ -55,23 +55,28 @@ fn seven(floor: Floor<'_>, mut lane: Lane) -> Option<(u64, [Option<Moved>; 2], Q
     Some((entered, moves, close(floor, lane)?))
 }
 
-/// What a floor tells on which it did, and its words.
-fn walked<'a>(alloc: Global, words: &Words<'a>) -> Option<(Told, Words<'a>)> {
-    let (floor, lane) = open_after(alloc, words, 1).ok()?;
-    let (entered, moves, quiet) = seven(floor, lane)?;
+/// What a closed floor tells, where so many entered and these were the answers.
+fn told_by(quiet: &Quiet<'_>, entered: u64, moves: [Option<Moved>; 2]) -> Option<Told> {
     let [first, second] = quiet.counts() else {
         return None;
     };
     let [passes] = quiet.passes() else {
         return None;
     };
-    let told = Told {
+    Some(Told {
         entered,
         moves,
         counts: [*first, *second],
         passes: *passes,
         clients: quiet.words().clients(),
-    };
+    })
+}
+
+/// What a floor tells on which it did, and its words.
+fn walked<'a>(alloc: Global, words: &Words<'a>) -> Option<(Told, Words<'a>)> {
+    let (floor, lane) = open_after(alloc, words, 1).ok()?;
+    let (entered, moves, quiet) = seven(floor, lane)?;
+    let told = told_by(&quiet, entered, moves)?;
     Some((told, quiet.into_words()))
 }
 
@@ -166,49 +171,74 @@ const THREE: [Client; 3] = [
     Client { id: 3, entry: 0 },
 ];
 
-/// What is told of an epoch of bitonic 4: how many left by each exit, the clients by name, and how many came by its words.
-type Left = ([u64; 4], Vec<u64>, u64);
+/// An epoch of bitonic 4 by one worker: its clients, how many leave by each exit, the clients by name, and how many came by
+/// its words.
+type Row = (&'static [Client], [u64; 4], &'static [u64], u64);
 
-fn left_by<'a>(quiet: Quiet<'a>) -> Option<(Left, Words<'a>)> {
-    let [a, b, c, d] = quiet.counts() else {
-        return None;
-    };
-    let counts = [*a, *b, *c, *d];
-    let holders = quiet.holders().ok()?;
-    let words = quiet.into_words();
-    let clients = words.clients();
-    Some(((counts, holders, clients), words))
-}
+const FIVE_AT_FIRST: Row = (&FIVE, [2, 1, 1, 1], &[17, 5, 99, 23, 42], 5);
 
-/// Three clients after five, by one worker.
-fn three_after_five<R: Threads + Wait + Sync>(rt: &R, alloc: Global) -> Option<[Left; 2]> {
-    let network = bitonic(alloc, 4).ok()?;
-    let zero = Words::zero(alloc, &network).ok()?;
-    let (first, words) = left_by(run_after(rt, alloc, &zero, &FIVE, 1).ok()?)?;
-    let (second, _) = left_by(run_after(rt, alloc, &words, &THREE, 1).ok()?)?;
-    Some([first, second])
-}
+const THREE_AFTER_FIVE: Row = (&THREE, [0, 1, 1, 1], &[1, 2, 3], 8);
 
 /// Whether this is told of an epoch.
-fn is_left(left: &Left, counts: [u64; 4], holders: &[u64], clients: u64) -> [bool; 3] {
-    [
-        left.0 == counts,
-        left.1.as_slice() == holders,
-        left.2 == clients,
-    ]
+fn is_left(quiet: &Quiet<'_>, counts: &[u64], holders: &[u64], clients: u64) -> bool {
+    let are_holders = match quiet.holders() {
+        Ok(told) => told.as_slice() == holders,
+        Err(_) => false,
+    };
+    let told = [
+        quiet.counts() == counts,
+        are_holders,
+        quiet.words().clients() == clients,
+    ];
+    told == [true; 3]
 }
 
-fn are_left<R: Threads + Wait + Sync>(rt: &R, alloc: Global) -> Option<[[bool; 3]; 2]> {
-    let [first, second] = three_after_five(rt, alloc)?;
-    Some([
-        is_left(&first, [2, 1, 1, 1], &[17, 5, 99, 23, 42], 5),
-        is_left(&second, [0, 1, 1, 1], &[1, 2, 3], 8),
-    ])
+/// Whether an epoch that goes on from words is as its row tells, and its own words.
+fn goes_on<'a, R: Threads + Wait + Sync>(
+    rt: &R,
+    alloc: Global,
+    words: &Words<'a>,
+    row: &Row,
+) -> Option<(bool, Words<'a>)> {
+    let (clients, counts, holders, came) = *row;
+    match run_after(rt, alloc, words, clients, 1) {
+        Ok(quiet) => Some((is_left(&quiet, &counts, holders, came), quiet.into_words())),
+        Err(_) => None,
+    }
+}
+
+/// The same of the three.
+fn three_go_on<R: Threads + Wait + Sync>(rt: &R, alloc: Global, words: &Words<'_>) -> Option<bool> {
+    match goes_on(rt, alloc, words, &THREE_AFTER_FIVE) {
+        Some((is_left, _)) => Some(is_left),
+        None => None,
+    }
+}
+
+/// Three clients after five.
+fn three_after_five<R: Threads + Wait + Sync>(
+    rt: &R,
+    alloc: Global,
+    zero: &Words<'_>,
+) -> Option<[bool; 2]> {
+    match goes_on(rt, alloc, zero, &FIVE_AT_FIRST) {
+        Some((is_left, words)) => Some([is_left, three_go_on(rt, alloc, &words)?]),
+        None => None,
+    }
+}
+
+/// The same on a network of their own.
+fn are_left<R: Threads + Wait + Sync>(rt: &R, alloc: Global) -> Option<[bool; 2]> {
+    let network = bitonic(alloc, 4).ok()?;
+    match Words::zero(alloc, &network) {
+        Ok(zero) => three_after_five(rt, alloc, &zero),
+        Err(_) => None,
+    }
 }
 
 #[test]
 fn epochs_go_on(rt: HostRuntime) {
-    assert_eq!(rt; are_left(&rt, rt.alloc()), Some([[true; 3]; 2]));
+    assert_eq!(rt; are_left(&rt, rt.alloc()), Some([true; 2]));
 }
 
 /// What words of bitonic 4 tell of its first and last entries, of the two balancers behind the entries, and of its first
@@ -230,15 +260,27 @@ fn tell(words: &Words<'_>, network: &Counting) -> Option<[u64; 6]>
 }
 
 /// What they tell after the five.
+fn told_after_five<R: Threads + Wait + Sync>(
+    rt: &R,
+    alloc: Global,
+    zero: &Words<'_>,
+    network: &Counting,
+) -> Option<[u64; 6]>
+    requires { zero.now.network ≡ network.now }
+{
+    match run_after(rt, alloc, zero, &FIVE, 1) {
+        Ok(quiet) => tell(quiet.words(), network),
+        Err(_) => None,
+    }
+}
+
+/// The same on a network of their own.
 fn five_told<R: Threads + Wait + Sync>(rt: &R, alloc: Global) -> Option<[u64; 6]> {
     let network = bitonic(alloc, 4).ok()?;
-    let Ok(zero) = Words::zero(alloc, &network) else {
-        return None;
-    };
-    let Ok(quiet) = run_after(rt, alloc, &zero, &FIVE, 1) else {
-        return None;
-    };
-    tell(quiet.words(), &network)
+    match Words::zero(alloc, &network) {
+        Ok(zero) => told_after_five(rt, alloc, &zero, &network),
+        Err(_) => None,
+    }
 }
 
 #[test]

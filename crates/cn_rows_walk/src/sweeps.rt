@@ -6,17 +6,16 @@ use crate::one_lane::step;
 use crate::walks::{close, enter, open};
 use cn_bitonic::bitonic;
 use cn_core::Moved;
-use cn_walk::{Floor, Grant, Lane, Sweep};
+use cn_walk::{Floor, Grant, Lane, Quiet, Sweep};
 use std::alloc::Global;
 use std::test::Fail;
 
-/// What a lane is answered, the grants that it has then, and the counts of the exits.
+/// What a lane is answered, and whether grants and counts are as they should be.
 #[derive(Clone, Copy, Debug, PartialEq, Eq)]
 struct Told {
     step: Option<Moved>,
     sweeps: [Option<Sweep>; 3],
-    grants: [Grant; 4],
-    counts: [u64; 2],
+    are_left: [bool; 2],
 }
 
 /// Sweeps a wire, where it is the lowest with a token.
@@ -43,6 +42,52 @@ fn come_in(floor: &Floor<'_>, lane: &mut Lane) -> Option<Option<Moved>>
     Some(moved)
 }
 
+/// The grants of the four, in the order in which they leave.
+const GRANTS: [Grant; 4] = [
+    Grant {
+        client: 1,
+        exit: 0,
+        visit: 0,
+        name: 0,
+    },
+    Grant {
+        client: 3,
+        exit: 0,
+        visit: 1,
+        name: 2,
+    },
+    Grant {
+        client: 2,
+        exit: 1,
+        visit: 0,
+        name: 1,
+    },
+    Grant {
+        client: 4,
+        exit: 1,
+        visit: 1,
+        name: 3,
+    },
+];
+
+/// Whether a closed floor has these grants, and two left by each exit.
+fn are_left(quiet: &Quiet<'_>) -> [bool; 2] {
+    [
+        quiet.grants() == GRANTS.as_slice(),
+        quiet.counts() == [2, 2].as_slice(),
+    ]
+}
+
+/// What a closed floor tells, where these were the answers.
+fn told_by(quiet: &Quiet<'_>, step: Option<Moved>, sweeps: [Option<Sweep>; 3]) -> Told {
+    let are_left = are_left(quiet);
+    Told {
+        step,
+        sweeps,
+        are_left,
+    }
+}
+
 /// They come in, and the wires 0, 2 and 3 are swept.
 fn swept(floor: Floor<'_>, mut lane: Lane) -> Option<Told>
     requires { lane.home ≡ floor }
@@ -54,18 +99,7 @@ fn swept(floor: Floor<'_>, mut lane: Lane) -> Option<Told>
         sweep(&floor, &mut lane, 3),
     ];
     let quiet = close(floor, lane)?;
-    let [a, b, c, d] = quiet.grants() else {
-        return None;
-    };
-    let [first, second] = quiet.counts() else {
-        return None;
-    };
-    Some(Told {
-        step,
-        sweeps,
-        grants: [*a, *b, *c, *d],
-        counts: [*first, *second],
-    })
+    Some(told_by(&quiet, step, sweeps))
 }
 
 /// The same, on a floor of its own.
@@ -73,15 +107,6 @@ fn four_clients(alloc: Global) -> Option<Told> {
     let network = bitonic(alloc, 2).ok()?;
     let (floor, lane) = open(alloc, &network, 4)?;
     swept(floor, lane)
-}
-
-fn grant(client: u64, exit: u32, visit: u64, name: u64) -> Grant {
-    Grant {
-        client,
-        exit,
-        visit,
-        name,
-    }
 }
 
 #[test]
@@ -109,13 +134,7 @@ fn bulk_pass(rt: HostRuntime) -> Result<(), Fail> {
                 tokens: 2,
             }),
         ],
-        grants: [
-            grant(1, 0, 0, 0),
-            grant(3, 0, 1, 2),
-            grant(2, 1, 0, 1),
-            grant(4, 1, 1, 3),
-        ],
-        counts: [2, 2],
+        are_left: [true, true],
     };
     assert_eq!(rt; four_clients(rt.alloc()), Some(wanted));
     Ok(())

@@ -56,15 +56,22 @@ impl<'f, 'a> Ground for Crowd<'f, 'a> {
 }
 
 /// Two threads name clients, each with a quota of 1,000. The lanes come back as one.
+fn name_as(rt: &(impl Threads + Wait), crowd: &Crowd<'_, '_>, lane: Lane) -> Option<Lane>
+    requires { lane.home ≡ crowd.now.floor.now }
+    ensures { IfSome result (λ lane. lane.home ≡ crowd.now.floor.now) }
+{
+    let (first, second) = split(crowd.floor, lane, 1_000)?;
+    let (first, second) = name_by_two(rt, crowd, first, second)?;
+    join(crowd.floor, first, second)
+}
+
+/// The same of a crowd in which nobody has a name yet.
 fn name_at_once(rt: &(impl Threads + Wait), floor: &Floor<'_>, lane: Lane) -> Option<Lane>
     requires { lane.home ≡ floor.now }
     ensures { IfSome result (λ lane. lane.home ≡ floor.now) }
 {
     let has_enough = [AtomicU64::new(0), AtomicU64::new(0)];
-    let crowd = Crowd { floor, has_enough };
-    let (first, second) = split(floor, lane, 1_000)?;
-    let (first, second) = name_by_two(rt, &crowd, first, second)?;
-    join(floor, first, second)
+    name_as(rt, &Crowd { floor, has_enough }, lane)
 }
 
 /// How many leave by each exit of four, of so many.
