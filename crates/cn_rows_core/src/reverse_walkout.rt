@@ -3,6 +3,7 @@
 use crate::two_wide::has_holders;
 use cn_core::{Core, Event, Moved, Reply};
 use cn_tree::tree;
+use cn_wiring::Counting;
 use std::alloc::{AllocError, Global};
 use std::hash::RandomState;
 use std::test::Fail;
@@ -41,23 +42,62 @@ fn exits(alloc: Global, replies: &[Reply]) -> Result<Vec<u64>, AllocError> {
     Ok(counts)
 }
 
+/// Whether 1,024 left by each.
+fn is_even(exits: &[u64]) -> bool {
+    exits.iter().all(|count| *count == 1_024)
+}
+
+/// Whether events were run, and 1,024 left by each exit.
+fn leave_evenly(alloc: Global, replies: Result<Vec<Reply>, AllocError>) -> bool {
+    match replies.and_then(|replies| exits(alloc, &replies)) {
+        Ok(exits) => is_even(&exits),
+        Err(_) => false,
+    }
+}
+
 /// Whether the clients hold the names 0 to 65,535 from the last to the first, and whether 1,024 left by each exit.
 type Outcome = (bool, bool);
 
-fn outcome_of(alloc: Global, state: RandomState) -> Option<Outcome> {
-    let network = tree(alloc, 64).ok()?;
-    let mut core = Core::new(alloc, &network, state).ok()?;
+fn outcome_by(core: &mut Core<'_>, alloc: Global, events: &[Event], from_last: &[u64]) -> Outcome {
+    let leave_evenly = leave_evenly(alloc, core.run(events));
+    (has_holders(core, from_last), leave_evenly)
+}
+
+fn outcome_on(
+    alloc: Global,
+    network: &Counting,
+    state: RandomState,
+    events: &[Event],
+    from_last: &[u64],
+) -> Option<Outcome> {
+    match Core::new(alloc, network, state) {
+        Ok(mut core) => Some(outcome_by(&mut core, alloc, events, from_last)),
+        Err(_) => None,
+    }
+}
+
+fn outcome_of(
+    alloc: Global,
+    state: RandomState,
+    events: &[Event],
+    from_last: &[u64],
+) -> Option<Outcome> {
+    match tree(alloc, 64) {
+        Ok(network) => outcome_on(alloc, &network, state, events, from_last),
+        Err(_) => None,
+    }
+}
+
+/// Those of a new core.
+fn outcome(alloc: Global, state: RandomState) -> Option<Outcome> {
     let from_last = from_last(alloc).ok()?;
     let events = events(alloc, &from_last).ok()?;
-    let replies = core.run(&events).ok()?;
-    let exits = exits(alloc, &replies).ok()?;
-    let is_even = exits.iter().all(|count| *count == 1_024);
-    Some((has_holders(&core, &from_last), is_even))
+    outcome_of(alloc, state, &events, &from_last)
 }
 
 #[test]
 fn reverse_walkout(rt: HostRuntime) -> Result<(), Fail> {
-    let outcome = outcome_of(rt.alloc(), RandomState::new(&rt)?);
+    let outcome = outcome(rt.alloc(), RandomState::new(&rt)?);
     assert_eq!(rt; outcome, Some((true, true)));
     Ok(())
 }
