@@ -17,6 +17,8 @@ mod grants;
 #[cfg(test)]
 mod grants_form;
 #[cfg(test)]
+mod growing;
+#[cfg(test)]
 mod meeting;
 #[cfg(test)]
 mod performing;

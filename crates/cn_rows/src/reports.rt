@@ -6,7 +6,13 @@ use cn_report::render_report;
 use cn_wiring::Counting;
 use std::alloc::Global;
 
-fn record(alloc: Global, number: u64, counts: &[u64], holders: &[u64]) -> Option<EpochRecord> {
+/// The record of an epoch with these counts and holders.
+pub(crate) fn record(
+    alloc: Global,
+    number: u64,
+    counts: &[u64],
+    holders: &[u64],
+) -> Option<EpochRecord> {
     Some(EpochRecord {
         number,
         clients: holders.len() as u64,

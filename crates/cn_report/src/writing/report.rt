@@ -81,8 +81,9 @@ impl ReportText {
     /// `AllocError` where the text gets no memory.
     pub fn add(self, epoch: &EpochRecord) -> Result<Self, AllocError>
         requires { IsWholeRecord self.width epoch.now }
-        ensures { (network : Network) (records : List EpochRecord) → self ≡ report_so_far network records
+        ensures told { (network : Network) (records : List EpochRecord) → self ≡ report_so_far network records
             → IfOk result (λ text. text ≡ report_so_far network (records ++ epoch.now ∷ [])) }
+        ensures width { IfOk result (λ text. text.width ≡ self.width) }
     {
         let ReportText {
             mut text,
