@@ -3,61 +3,80 @@
 use cn_bitonic::bitonic;
 use cn_core::Client;
 use cn_spec::limits::MOST_CARRIED;
-use cn_walk::{OpenGate, Runner};
+use cn_walk::{OpenGate, RunFault, Runner};
 use std::alloc::Global;
 use std::sync::Wait;
 use std::thread::Threads;
 
-/// What is told of an epoch on bitonic 2: how many left by each exit, how many passed, and how many came by the words with
-/// which the next begins.
-type Told = ([u64; 2], u64, u64);
+/// What is told of an epoch on bitonic 2: how many left by each exit, and how many came by the words with which the next
+/// begins.
+type Told = ([u64; 2], u64);
 
-/// An epoch of client 7 alone. Where counters are carried, later epochs go on from it.
-fn next<R: Threads + Wait + Sync>(
+/// An epoch of client 7 alone, who gets its only name.
+fn next<'a, R: Threads + Wait + Sync>(
     rt: &R,
     alloc: Global,
-    runner: &mut Runner<'_>,
-    carry: bool,
-) -> Option<Told> {
+    runner: Runner<'a>,
+) -> Option<(Told, Runner<'a>)> {
     if runner.words().clients() > MOST_CARRIED {
         return None;
     }
     let clients = [Client { id: 7, entry: 0 }];
-    let Ok(quiet) = runner.run(rt, alloc, &clients, 1, 1, &OpenGate) else {
+    let (runner, Ok(outcome)) = runner.run(rt, alloc, &clients, 1, 1, &OpenGate) else {
         return None;
     };
-    let [first, second] = quiet.counts() else {
+    let [first, second] = outcome.counts.as_slice() else {
         return None;
     };
-    let [passes] = quiet.passes() else {
+    let counts = [*first, *second];
+    if outcome.holders.as_slice() != &[7] {
         return None;
-    };
-    let (counts, passes) = ([*first, *second], *passes);
-    if carry {
-        runner.go_on_from(quiet);
     }
-    Some((counts, passes, runner.words().clients()))
+    let came = runner.words().clients();
+    Some(((counts, came), runner))
 }
 
-/// Four epochs, of which the second and the third are gone on from.
-fn four<R: Threads + Wait + Sync>(rt: &R, alloc: Global) -> Option<[Told; 4]> {
+/// Two epochs.
+fn two<R: Threads + Wait + Sync>(rt: &R, alloc: Global, carries: bool) -> Option<[Told; 2]> {
     let network = bitonic(alloc, 2).ok()?;
-    let mut runner = Runner::new(alloc, &network).ok()?;
-    Some([
-        next(rt, alloc, &mut runner, false)?,
-        next(rt, alloc, &mut runner, true)?,
-        next(rt, alloc, &mut runner, true)?,
-        next(rt, alloc, &mut runner, false)?,
-    ])
+    let runner = Runner::new(alloc, &network, carries).ok()?;
+    let (first, runner) = next(rt, alloc, runner)?;
+    let (second, _) = next(rt, alloc, runner)?;
+    Some([first, second])
 }
 
 #[test]
-fn carried_by_a_runner(rt: HostRuntime) {
-    let told = [
-        ([1, 0], 1, 0),
-        ([1, 0], 1, 1),
-        ([0, 1], 1, 2),
-        ([1, 0], 1, 2),
-    ];
-    assert_eq!(rt; four(&rt, rt.alloc()), Some(told));
+fn runners_clear(rt: HostRuntime) {
+    assert_eq!(rt;
+        two(&rt, rt.alloc(), false),
+        Some([([1, 0], 0), ([1, 0], 0)])
+    );
+}
+
+#[test]
+fn runners_carry(rt: HostRuntime) {
+    assert_eq!(rt;
+        two(&rt, rt.alloc(), true),
+        Some([([1, 0], 1), ([0, 1], 2)])
+    );
+}
+
+/// What is told of an epoch without workers, and how many came by the words then.
+fn refused<R: Threads + Wait + Sync>(rt: &R, alloc: Global) -> Option<(Option<RunFault>, u64)> {
+    let network = bitonic(alloc, 2).ok()?;
+    let runner = Runner::new(alloc, &network, true).ok()?;
+    let (_, runner) = next(rt, alloc, runner)?;
+    if runner.words().clients() > MOST_CARRIED {
+        return None;
+    }
+    let (runner, ended) = runner.run(rt, alloc, &[], 0, 1, &OpenGate);
+    Some((ended.err(), runner.words().clients()))
+}
+
+#[test]
+fn runners_keep_their_words(rt: HostRuntime) {
+    assert_eq!(rt;
+        refused(&rt, rt.alloc()),
+        Some((Some(RunFault::Workers), 1))
+    );
 }
