@@ -29,7 +29,7 @@ fn next<'a, R: Threads + Wait + Sync>(
         return None;
     };
     let counts = [*first, *second];
-    if outcome.holders.as_slice() != &[7] {
+    if outcome.holders.as_slice() != [7].as_slice() {
         return None;
     }
     let came = runner.words().clients();
