@@ -10,7 +10,7 @@ use Rattle.cn_walk.specs.declared.view.Grant.{Grant}
 use Rattle.cn_walk.specs.declared.runner.Outcome.{Outcome}
 use Rattle.cn_walk.specs.Carried.{WordsValue, clients_of, shares_after}
 use Rattle.cn_walk.specs.Ends.{ListsHolders, QuietValue}
-use Rattle.cn_walk.specs.Remains.{IsOutcomeOf}
+use Rattle.cn_walk.specs.Runner.{IsOutcomeOf}
 use Rattle.cn_walk.specs.Runs.{IsRunAfter}
 use Rattle.cn_walk.specs.Walks.{AreFor}
 use Rattle.cn_report.specs.Reading.Batch.{MayCome}

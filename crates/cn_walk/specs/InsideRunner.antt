@@ -2,7 +2,7 @@
 use Rattle.std.specs.Prelude.{IfSome}
 use Rattle.cn_walk.specs.declared.runner.Runner.TheInside.{Inside}
 use Rattle.cn_walk.specs.Lane.{IsIdle}
-use Rattle.cn_walk.specs.Remains.{RunnerValue}
+use Rattle.cn_walk.specs.Runner.{RunnerValue}
 
 abbrev pub runner_of : Inside → RunnerValue
 runner_of r = record { words = r.words; carries = r.carries }

@@ -4,7 +4,8 @@ ghost use Rattle.std.specs.Prelude.{◌≡◌, ◌≤◌, IfErr, IfOk, IfSome, O
 ghost use Rattle.cn_spec.specs.declared.limits.TheConstants.{MOST_CARRIED};
 ghost use Rattle.cn_walk.specs.Carried.{clients_of, words_before, zero_words};
 ghost use Rattle.cn_walk.specs.Lane.{IsIdle};
-ghost use Rattle.cn_walk.specs.Remains.{AreRemains, IsOutcomeOf, RunsNext, next_words};
+ghost use Rattle.cn_walk.specs.Remains.{AreRemains};
+ghost use Rattle.cn_walk.specs.Runner.{IsOutcomeOf, RunsNext, next_words};
 ghost use Rattle.cn_walk.specs.Runs.{IsRefused, IsRunAfter, MayRun};
 
 use crate::floor::{Ended, Floor, Remains, Words, yard_for};
@@ -40,7 +41,7 @@ pub struct Runner<'a> {
 
 impl<'a> Model for Runner<'a> {
     ghost use Rattle.cn_walk.specs.InsideRunner.{KeepsRunner, runner_of};
-    ghost use Rattle.cn_walk.specs.Remains.{RunnerValue};
+    ghost use Rattle.cn_walk.specs.Runner.{RunnerValue};
 
     ghost Value = { RunnerValue };
 

@@ -5,7 +5,7 @@ use Rattle.cn_wiring.specs.Network.{Network}
 use Rattle.cn_wiring.specs.declared.end.End.TheVariants.{Exit}
 use Rattle.cn_walk.specs.Carried.{WordsValue}
 use Rattle.cn_walk.specs.Ends.{QuietValue}
-use Rattle.cn_walk.specs.Remains.{words_after}
+use Rattle.cn_walk.specs.Runner.{words_after}
 use Rattle.cn_walk.specs.Words.{count_in}
 use Rattle.cn_walk.proofs.Rises.{exits-list}
 use Rattle.cn_walk.proofs.floor.ended.Ended.counts_since.Goals as goal
