@@ -392,30 +392,6 @@ fn words_are_done(rt: HostRuntime) {
     assert_eq!(rt; wrong_line(&rt, rt.alloc()), None);
 }
 
-/// Whether something is written, and whether something is printed of a fault, each ended by a line feed; and the status.
-fn told<R: Threads + Wait + Sync>(
-    rt: &R,
-    alloc: Global,
-    line: &str,
-) -> Option<(Option<bool>, Option<bool>, u8)> {
-    let (written, status, errors) = ran(rt, alloc, line, ONE_CLIENT)?;
-    Some((is_ended(&written), is_ended(&errors), status))
-}
-
-/// Whether a text ends with a line feed, where there is a text.
-fn is_ended(text: &[u8]) -> Option<bool> {
-    let last = text.last()?;
-    Some(*last == b'\n')
-}
-
-#[test]
-fn help_is_written_and_a_refusal_is_told(rt: HostRuntime) {
-    let help = told(&rt, rt.alloc(), "renamer help show");
-    let refusal = told(&rt, rt.alloc(), "renamer show --network tree --width 3");
-    let wanted = [Some((Some(true), None, 0)), Some((None, Some(true), 2))];
-    assert_eq!(rt; [help, refusal], wanted);
-}
-
 /// Whether a fault is printed with this line, and ends with this status, also where nothing can be printed.
 fn is_told(alloc: Global, fault: Fault, line: &[u8], status: u8) -> bool {
     let done = Err(fault);

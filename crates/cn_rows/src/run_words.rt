@@ -1,9 +1,9 @@
 //! Words of runs and checks, and what a run is asked for.
 
-use crate::words::{is_asked, status, words};
+use crate::words::is_asked;
 use cn_spec::limits::MOST_LEVEL;
 use cn_wiring::{Kind, width_of};
-use cn_words::{Form, Job, Net, OptionFault, Options, WordsFault, parse_words};
+use cn_words::{Form, Job, Net, OptionFault, Options};
 use std::alloc::Global;
 
 /// The words of a run, and its workers, hand and form.
@@ -137,119 +137,6 @@ fn carried_runs(rt: HostRuntime) {
 #[test]
 fn runs(rt: HostRuntime) {
     assert_eq!(rt; wrong_run(rt.alloc()), None);
-}
-
-/// What follows the words of a run whose network is built, where all of it is refused.
-const REFUSED_RUNS: [&str; 20] = [
-    "--workers 0",
-    "--workers 65",
-    "--workers 01",
-    "--workers +1",
-    "--workers -1",
-    "--workers one",
-    "--workers 4294967297",
-    "--workers",
-    "--workers 1 --workers 1",
-    "--hand 0",
-    "--hand 65",
-    "--hand 02",
-    "--hand 18446744073709551617",
-    "--form x",
-    "--form grant",
-    "--form Report",
-    "--carry 1",
-    "--carry=yes",
-    "--carry --carry",
-    "batch.csv",
-];
-
-/// The status that a run with these words ends with, where they ask for none.
-fn run_status(alloc: Global, rest: &str) -> Option<u8> {
-    let line = format!(in alloc; "renamer run --network tree --width 2 {rest}").ok()?;
-    status(alloc, &line)
-}
-
-/// The first words that are not refused.
-fn unrefused_run(alloc: Global) -> Option<&'static str> {
-    for rest in &REFUSED_RUNS {
-        if run_status(alloc, rest) != Some(2) {
-            return Some(*rest);
-        }
-    }
-    None
-}
-
-#[test]
-fn refused_runs(rt: HostRuntime) {
-    assert_eq!(rt; unrefused_run(rt.alloc()), None);
-}
-
-/// What follows the words of a run, and the text that it is refused with.
-const REFUSALS: [(&str, &str); 3] = [
-    ("--workers 65", "renamer: workers out of range\n"),
-    ("--hand 0", "renamer: hand out of range\n"),
-    ("--form x", "renamer: no such form\n"),
-];
-
-/// Whether a line is refused with this text.
-fn is_line_refused(alloc: Global, line: &str, told: &str) -> bool {
-    let Ok(words) = words(alloc, line) else {
-        return false;
-    };
-    match parse_words(alloc, words) {
-        Err(WordsFault::Refused(text)) => text.as_str() == told,
-        _ => false,
-    }
-}
-
-/// Whether a run with these words is refused with this text.
-fn is_refused_with(alloc: Global, rest: &str, told: &str) -> Option<bool> {
-    let line = format!(in alloc; "renamer run --network tree --width 2 {rest}").ok()?;
-    Some(is_line_refused(alloc, &line, told))
-}
-
-/// The first words whose refusal has another text.
-fn told_otherwise(alloc: Global) -> Option<&'static str> {
-    for (rest, told) in &REFUSALS {
-        if is_refused_with(alloc, rest, told) != Some(true) {
-            return Some(*rest);
-        }
-    }
-    None
-}
-
-#[test]
-fn refusals_tell_what_is_amiss(rt: HostRuntime) {
-    assert_eq!(rt; told_otherwise(rt.alloc()), None);
-}
-
-/// Words of checks that are refused.
-const REFUSED_CHECKS: [&str; 10] = [
-    "renamer check",
-    "renamer check --width",
-    "renamer check --width 0",
-    "renamer check --width 1",
-    "renamer check --width 3",
-    "renamer check --width 04",
-    "renamer check --width 512",
-    "renamer check --network tree --width 4",
-    "renamer check --width 4 --width 4",
-    "renamer check --width 4 --carry",
-];
-
-/// The first of them that is not.
-fn unrefused_check(alloc: Global) -> Option<&'static str> {
-    for line in &REFUSED_CHECKS {
-        if status(alloc, line) != Some(2) {
-            return Some(*line);
-        }
-    }
-    None
-}
-
-#[test]
-fn refused_checks(rt: HostRuntime) {
-    assert_eq!(rt; unrefused_check(rt.alloc()), None);
 }
 
 /// Whether the words of a check of this width ask for it.
