@@ -46,14 +46,13 @@ check_words = with_rule (new_app (codes "check")) (required_option (codes "width
 abbrev pub show_words : App
 show_words = network_words (codes "show")
 
+-- a command of which a subcommand has to be given, and which helps where no word is given
+abbrev pub with_need : App → App
+with_need app = record app { top = record app.top { subcommand_required = true; arg_required_else_help = true } }
+
 -- the program's name, which is never one of its words, and a subcommand that has to be given
 abbrev pub renamer_words : App
-renamer_words = record (new_app (codes "renamer")) {
-  top = record (new_app (codes "renamer")).top {
-    subcommand_required = true;
-    arg_required_else_help = true;
-  };
-}
+renamer_words = with_need (new_app (codes "renamer"))
 
 -- the whole command line
 abbrev pub command_line : App

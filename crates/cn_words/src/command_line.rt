@@ -1,10 +1,10 @@
 //! The command line as clap is told of it.
 
 ghost use Rattle.std.specs.Prelude.{◌≡◌, false, true, codes, IfOk};
-ghost use Rattle.clap.specs.Words.{app_of, rule_of, with_subcommand};
+ghost use Rattle.clap.specs.Words.{app_of, rule_of, with_rule, with_subcommand};
 ghost use Rattle.cn_words.specs.CommandLine.{check_words, command_line, flag_rule, network_words, option_with};
 ghost use Rattle.cn_words.specs.CommandLine.{renamer_words, replay_words, required_option};
-ghost use Rattle.cn_words.specs.CommandLine.{run_with_values, run_words, show_words};
+ghost use Rattle.cn_words.specs.CommandLine.{run_with_values, run_words, show_words, with_need};
 
 use crate::help::HelpTexts;
 use clap::{Arg, ArgAction, Command};
@@ -55,6 +55,21 @@ fn width_option<'a>(alloc: Global, help: &'a HelpTexts) -> Arg<'a>
     option(alloc, "width", "W", &help.width)
 }
 
+/// The command with one more argument.
+fn with_arg<'a>(command: Command<'a>, arg: Arg<'a>) -> Result<Command<'a>, AllocError>
+    requires { arg.global ≡ false }
+    ensures { IfOk result (λ whole. app_of whole ≡ with_rule (app_of command.entry) (rule_of arg.entry)) }
+{
+    command.arg(arg)
+}
+
+/// The command with the texts of its help, which change nothing of what it reads.
+fn described<'a>(command: Command<'a>, about: &'a str, after_help: &'a str) -> Command<'a>
+    ensures { app_of result ≡ app_of command.entry }
+{
+    command.about(about).after_help(after_help)
+}
+
 /// A subcommand on a network of some width.
 fn network_command<'a>(
     alloc: Global,
@@ -64,71 +79,74 @@ fn network_command<'a>(
     ensures { IfOk result (λ command. app_of command ≡ network_words name.entry.now) }
 {
     let kinds = "The kind of network: bitonic, periodic or tree";
-    Command::new(alloc, name)
-        .arg(option(alloc, "network", "N", kinds))?
-        .arg(width_option(alloc, help))
+    let kind = option(alloc, "network", "N", kinds);
+    let command = with_arg(Command::new(alloc, name), kind)?;
+    with_arg(command, width_option(alloc, help))
 }
 
 /// The subcommand `run`, with those of its options that have values.
 fn run_with_values<'a>(alloc: Global, help: &'a HelpTexts) -> Result<Command<'a>, AllocError>
     ensures { IfOk result (λ command. app_of command ≡ run_with_values) }
 {
+    let about = "Reads a batch, gives the clients of each epoch their names, and prints them";
     let forms = "What is written: report or grants";
-    network_command(alloc, "run", help)?
-        .about("Reads a batch, gives the clients of each epoch their names, and prints them")
-        .after_help(&help.run)
-        .arg(option_or(alloc, "workers", "K", "1", &help.workers))?
-        .arg(option_or(alloc, "hand", "H", "1", &help.hand))?
-        .arg(option_or(alloc, "form", "F", "report", forms))
+    let command = described(network_command(alloc, "run", help)?, about, &help.run);
+    let command = with_arg(
+        command,
+        option_or(alloc, "workers", "K", "1", &help.workers),
+    )?;
+    let command = with_arg(command, option_or(alloc, "hand", "H", "1", &help.hand))?;
+    with_arg(command, option_or(alloc, "form", "F", "report", forms))
 }
 
 fn run_command<'a>(alloc: Global, help: &'a HelpTexts) -> Result<Command<'a>, AllocError>
     ensures { IfOk result (λ command. app_of command ≡ run_words) }
 {
     let carry = "Keep the counters of the network from epoch to epoch";
-    run_with_values(alloc, help)?.arg(flag(alloc, "carry", carry))
+    with_arg(run_with_values(alloc, help)?, flag(alloc, "carry", carry))
 }
 
 fn replay_command<'a>(alloc: Global, help: &'a HelpTexts) -> Result<Command<'a>, AllocError>
     ensures { IfOk result (λ command. app_of command ≡ replay_words) }
 {
-    let command = network_command(alloc, "replay", help)?;
-    Ok(
-        command
-            .about("Reads a schedule of enters, steps and turns, and prints what each is answered")
-            .after_help(&help.replay),
-    )
+    let about = "Reads a schedule of enters, steps and turns, and prints what each is answered";
+    Ok(described(network_command(alloc, "replay", help)?, about, &help.replay))
 }
 
 fn check_command<'a>(alloc: Global, help: &'a HelpTexts) -> Result<Command<'a>, AllocError>
     ensures { IfOk result (λ command. app_of command ≡ check_words) }
 {
-    Command::new(alloc, "check")
-        .about("Reads a grant list, and prints how many names of each epoch fall to each exit")
-        .after_help(&help.check)
-        .arg(width_option(alloc, help))
+    let about = "Reads a grant list, and prints how many names of each epoch fall to each exit";
+    let command = described(Command::new(alloc, "check"), about, &help.check);
+    with_arg(command, width_option(alloc, help))
 }
 
 fn show_command<'a>(alloc: Global, help: &'a HelpTexts) -> Result<Command<'a>, AllocError>
     ensures { IfOk result (λ command. app_of command ≡ show_words) }
 {
-    let command = network_command(alloc, "show", help)?;
-    Ok(
-        command
-            .about("Prints where each wire of a network ends")
-            .after_help(&help.show),
-    )
+    let about = "Prints where each wire of a network ends";
+    Ok(described(network_command(alloc, "show", help)?, about, &help.show))
+}
+
+/// The command, of which a subcommand has to be given.
+fn with_need<'a>(command: Command<'a>) -> Command<'a>
+    ensures { app_of result ≡ with_need (app_of command.entry) }
+{
+    command
+        .subcommand_required(true)
+        .arg_required_else_help(true)
 }
 
 /// The program's name, with no subcommand yet.
 fn renamer_command<'a>(alloc: Global, help: &'a HelpTexts) -> Command<'a>
     ensures { app_of result ≡ renamer_words }
 {
-    Command::new(alloc, "renamer")
-        .about("Tight renaming by counting networks")
-        .after_help(&help.renamer)
-        .subcommand_required(true)
-        .arg_required_else_help(true)
+    let about = "Tight renaming by counting networks";
+    described(
+        with_need(Command::new(alloc, "renamer")),
+        about,
+        &help.renamer,
+    )
 }
 
 /// The command with one more subcommand.
