@@ -6,7 +6,8 @@
 # `--carry` are compared with runs without, of the full batch and of the epochs of one client. The last lines are the memory
 # that an epoch of 262,144 clients takes, and what one more balancer on a token's way costs, in uncontended atomic adds. The
 # peers take `csv` and `indexmap` from a folder of crates: the argument, or that of Debian's packages librust-csv-dev and
-# librust-indexmap-dev. Times by four workers are told beside those by one, with the time by the clock: threads may wait.
+# librust-indexmap-dev; valgrind counts instructions. Times by four workers are told beside those by one, with the time by
+# the clock: threads may wait.
 set -euo pipefail
 cd "$(dirname "$0")"
 crates=${1:-/usr/share/cargo/registry}
@@ -21,7 +22,7 @@ work=$(mktemp -d)
 trap 'rm -rf -- "$work"' EXIT
 
 python3 - "$proved" "$plain" "$work" <<'P'
-import os, random, resource, subprocess, sys, time
+import os, random, re, resource, statistics, subprocess, sys, time
 
 proved, plain, work = sys.argv[1:]
 EPOCHS, CLIENTS, RUNS = 16, 65_536, 5
@@ -63,6 +64,24 @@ def compare(name, first, second, path):
     print(f"{name}: ratio {a / b:.2f} ({a:.2f} s, {b:.2f} s for {RUNS} runs each); by the clock {c / d:.2f} ({c:.2f} s, {d:.2f} s)", flush=True)
     return a / RUNS
 
+def instructions(words, path):
+    with open(path) as text:
+        told = subprocess.run(["valgrind", "--tool=callgrind", "--callgrind-out-file=/dev/null", *words],
+            stdin=text, stdout=subprocess.DEVNULL, stderr=subprocess.PIPE, text=True, check=True).stderr
+    return int(re.search(r"Collected : (\d+)", told)[1])
+
+def alternate(name, first, second, path, pairs):
+    """For a ratio near 1, which times do not tell: that of the instructions by callgrind, and the median of the ratios of
+    so many pairs of runs, of which either begins every other time."""
+    ratios = []
+    for run in range(pairs):
+        times = [None, None]
+        for which in (run % 2, 1 - run % 2):
+            times[which] = spent((first, second)[which], path)[0]
+        ratios.append(times[0] / times[1])
+    a, b = instructions(first, path), instructions(second, path)
+    print(f"{name}: ratio {a / b:.3f} of the instructions ({a:,}, {b:,}), {statistics.median(ratios):.2f} of the times of {pairs} pairs", flush=True)
+
 compare("bitonic 64, one worker, hand 1", ours("bitonic", 1, 1), peer("bitonic", 1, 1), many)
 compare("bitonic 64, one worker, hand 64", ours("bitonic", 1, 64), peer("bitonic", 1, 64), many)
 compare("tree 64, one worker, hand 1", ours("tree", 1, 1), peer("tree", 1, 1), one)
@@ -70,8 +89,8 @@ compare("bitonic 64, four workers, hand 1", ours("bitonic", 4, 1), peer("bitonic
 compare("bitonic 64, four workers against one", ours("bitonic", 4, 1), ours("bitonic", 1, 1), many)
 compare("65,536 epochs of one client, grants", ours("bitonic", 1, 1, "grants"), peer("bitonic", 1, 1, "grants"), tiny)
 compare("bitonic 256, epochs of 262,144, one worker", ours("bitonic", 1, 1, width=256), peer("bitonic", 1, 1, width=256), widest)
-compare("bitonic 64, carried against not", ours("bitonic", 1, 1) + ["--carry"], ours("bitonic", 1, 1), many)
-compare("65,536 epochs of one client, carried against not", ours("bitonic", 1, 1, "grants") + ["--carry"], ours("bitonic", 1, 1, "grants"), tiny)
+alternate("bitonic 64, carried against not", ours("bitonic", 1, 1) + ["--carry"], ours("bitonic", 1, 1), many, 60)
+alternate("65,536 epochs of one client, carried against not", ours("bitonic", 1, 1, "grants") + ["--carry"], ours("bitonic", 1, 1, "grants"), tiny, 60)
 
 script = f"{work}/script.py"
 with open(script, "w") as text:
