@@ -244,6 +244,6 @@ fn full(alloc: Global, records: u32) -> Option<[(u32, u32); 2]> {
 
 #[test]
 fn room_for_all_clients_of_an_epoch(rt: HostRuntime) {
-    let told = full(rt.alloc(), 65_536);
-    assert_eq!(rt; told, Some([(3, 65_536), (65_536, 0)]));
+    let told = full(rt.alloc(), 262_144);
+    assert_eq!(rt; told, Some([(3, 262_144), (262_144, 0)]));
 }

@@ -4,13 +4,10 @@ ghost use Rattle.std.specs.Prelude.{◌≡◌};
 
 use crate::one_lane::step;
 use crate::walks::{close, enter, open};
-use cn_spec::limits::MOST_ROOM;
+use cn_spec::limits::{MOST_CLIENTS, MOST_ROOM};
 use cn_tree::tree;
 use cn_walk::{Floor, Lane, Quiet};
 use std::alloc::Global;
-
-/// Clients of one floor: as many as an epoch may have.
-const CLIENTS: u64 = 65_536;
 
 /// Lets a client in by entry 0, and walks it out.
 fn walk_out(floor: &Floor<'_>, lane: &mut Lane, client: u64) -> bool
@@ -61,7 +58,7 @@ fn reserve_all(lane: &mut Lane, rooms: &[u64]) -> bool
 /// Whether client n has name n, for all clients of a full floor.
 fn are_in_order(quiet: &Quiet<'_>) -> bool {
     match quiet.holders() {
-        Ok(holders) => holders.iter().copied().eq(0..CLIENTS),
+        Ok(holders) => holders.iter().copied().eq(0..MOST_CLIENTS),
         Err(_) => false,
     }
 }
@@ -78,7 +75,7 @@ fn rooms_of(floor: &Floor<'_>, lane: &mut Lane, rooms: &[u64]) -> Option<[u64; 3
     let none = lane.room();
     let has_some = reserve_all(lane, rooms);
     let some = lane.room();
-    let has_walked = walk_all_out(floor, lane, CLIENTS);
+    let has_walked = walk_all_out(floor, lane, MOST_CLIENTS);
     let left = lane.room();
     if has_some && has_walked {
         Some([none, some, left])
@@ -97,15 +94,15 @@ fn walked(floor: Floor<'_>, mut lane: Lane, rooms: &[u64]) -> Option<Outcome>
 
 fn full_floor(alloc: Global, rooms: &[u64]) -> Option<Outcome> {
     let network = tree(alloc, 64).ok()?;
-    let (floor, lane) = open(alloc, &network, CLIENTS)?;
+    let (floor, lane) = open(alloc, &network, MOST_CLIENTS)?;
     walked(floor, lane, rooms)
 }
 
 /// The rooms that are taken for a lane, and how much it has before, after, and after the walk.
 const ROWS: [(&[u64], [u64; 3]); 3] = [
     (&[], [0, 0, 0]),
-    (&[1, 65_536, 300], [0, 65_536, 0]),
-    (&[MOST_ROOM], [0, MOST_ROOM, MOST_ROOM - CLIENTS]),
+    (&[1, MOST_CLIENTS, 300], [0, MOST_CLIENTS, 0]),
+    (&[MOST_ROOM], [0, MOST_ROOM, MOST_ROOM - MOST_CLIENTS]),
 ];
 
 /// The place of the first row that is told otherwise.

@@ -1,8 +1,9 @@
-use Rattle.std.proofs.Common.{◌≡◌, ℕ, ◌+◌, List, [], length, replicate, rules, sym, ap, ◌∙◌, subst, arith}
+use Rattle.std.proofs.Common.{◌≡◌, ℕ, ◌+◌, ◌-◌, List, [], length, replicate, rules, sym, ap, ◌∙◌, subst, arith}
 use Rattle.cn_yard.specs.Lists.{tokens_in}
 use Rattle.cn_walk.specs.declared.view.Start.{Start}
 use Rattle.cn_walk.specs.declared.view.View.{View}
 use Rattle.cn_walk.specs.Carried.{IsClosed, clients_of, words_before}
+use Rattle.cn_walk.specs.Closing.{IsMissing}
 use Rattle.cn_walk.specs.Ends.{IsQuiet}
 use Rattle.cn_walk.specs.Lane.{Home, LaneValue}
 use Rattle.cn_walk.specs.Views.{base, inside_in}
@@ -70,3 +71,23 @@ returns-clause-remains c =
       before = c.self.invariant.before ∙ ap words_before start;
       idle = all-empty c.lane.inside.yard.lists nobody ∙ (λ x. replicate (wires x) []);
     }
+
+pub returns-then-entered-granted-clause-refused : goal.returns-then-entered-granted-clause-refused
+returns-then-entered-granted-clause-refused c =
+    let start : Start = c.self.inside.counters.start in
+    let v : View = c.lane.inside.seat.me.0 in
+    let ws : List ℕ = c.close-words.result.items in
+    let e = c.close-words.ensures in
+    let entered : ℕ = c.clients_of-clients.result - c.self.inside.carried in
+    let network : c.self.inside.network.now ≡ start.network = sym c.self.invariant.network in
+    let clients : c.clients_of-clients.result ≡ clients_in start.network.table ws = c.clients_of-clients.ensures ∙ (λ i. clients_in (network i).table (c.as_slice.ensures.value i)) in
+    let granted : c.len-granted.result ≡ length v.grants = search rules in
+    let missing : IsMissing start v entered = record {
+      words = ws;
+      moment = e.moment;
+      came = omega (arith, clients, e.granted, c.self.invariant.carried);
+      more = omega (arith, clients, granted, e.granted, c.self.invariant.carried, c.if-entered-granted.true);
+    } in
+    let about : start ≡ c.args.self.start = ap (λ (h : Home). h.start) c.self.view_is in
+    let view : v ≡ c.args.lane.view = ap (λ (l : LaneValue). l.view) c.lane.view_is in
+    (search rules, search rules, search rules, subst (λ (z : Start × View). IsMissing z.0 z.1 entered) (λ i. (about i, view i)) missing)
