@@ -3,7 +3,7 @@
 /// What an epoch gave out: the counts of its exits, and who holds which name.
 #[derive(Debug, Drop, PartialEq, Eq)]
 pub struct EpochRecord {
-    /// How many epochs ended before this one.
+    /// The epoch's number: of a turn how many ended before it, of a run that of the batch.
     pub number: u64,
     /// How many clients entered.
     pub clients: u64,

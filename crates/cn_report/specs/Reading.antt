@@ -1,4 +1,4 @@
--- What is read: the records of a text, their numbers, and the schedule that they spell.
+-- What is read: the records of a text, their numbers, and the schedule, the batch or the list of grants that they spell.
 pub mod Arrival
 pub mod Heading
 pub mod Batch

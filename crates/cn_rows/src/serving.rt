@@ -585,7 +585,7 @@ fn is_one_too_many<R: Threads + Wait + Sync>(
     Some(is_refused(rt, alloc, state, &row))
 }
 
-/// Whether such batches of some clients and of one more than 65,536 have their reports, and one of more than can be is
+/// Whether such batches of some clients and of 65,537 have their reports, and one of more clients than an epoch takes is
 /// refused.
 fn are_limits<R: Threads + Wait + Sync>(
     rt: &R,

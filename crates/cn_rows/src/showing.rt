@@ -34,19 +34,19 @@ fn show_tree(rt: HostRuntime) {
     assert!(rt; is_shown(rt.alloc(), Kind::Tree, 4, TREE_FOUR));
 }
 
-const WIDEST_BEGINS: &[u8] = b"network bitonic width 64 balancers 672 depth 21\n\
+const WIDE_BEGINS: &[u8] = b"network bitonic width 64 balancers 672 depth 21\n\
       wire 0 balancer 0\n";
 
 /// Whether the text begins and ends so, and how many lines it has.
-fn widest(alloc: Global) -> Option<(bool, bool, usize)> {
+fn wide(alloc: Global) -> Option<(bool, bool, usize)> {
     let text = shown(alloc, Kind::Bitonic, 64)?;
-    let begins = text.starts_with(WIDEST_BEGINS);
+    let begins = text.starts_with(WIDE_BEGINS);
     let ends = text.ends_with(b"\nend wires 1408\n");
     let lines = text.iter().filter(|byte| **byte == b'\n').count();
     Some((begins, ends, lines))
 }
 
 #[test]
-fn the_widest_bitonic_network_is_shown(rt: HostRuntime) {
-    assert_eq!(rt; widest(rt.alloc()), Some((true, true, 1_410)));
+fn a_wide_bitonic_network_is_shown(rt: HostRuntime) {
+    assert_eq!(rt; wide(rt.alloc()), Some((true, true, 1_410)));
 }

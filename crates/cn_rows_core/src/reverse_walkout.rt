@@ -1,4 +1,4 @@
-//! A whole epoch on the tree of width 64, walked out from the client that came last down to the first.
+//! An epoch of 65,536 clients on the tree of width 64, walked out from the client that came last down to the first.
 
 use crate::two_wide::has_holders;
 use cn_core::{Core, Event, Moved, Reply};

@@ -17,7 +17,7 @@ pub use Rattle.cn_spec.proofs.Shares.{get_or-shares, row_is_shares}
 pub use Rattle.cn_spec.proofs.Cochains.{a_row, b_row}
 pub use Rattle.cn_spec.proofs.Flows.{map_a_cochain, map_b_cochain, map_evens, map_interleave, map_odds, times_cochains}
 pub use Rattle.cn_spec.proofs.Flows.{times_evens_odds, times_interleave}
-pub use Rattle.cn_spec.proofs.Interleave.{length_interleave}
+pub use Rattle.cn_spec.proofs.Interleave.{interleave_all, interleave_more, length_interleave}
 pub use Rattle.cn_spec.proofs.Layers.{layer_push}
 pub use Rattle.cn_spec.proofs.Rows.{back_row, evens_row, front_row, half_pow, half_row, odds_row, power_below, same_level, shorter}
 pub use Rattle.cn_spec.proofs.Tree.{tree_turn, tree_zero}

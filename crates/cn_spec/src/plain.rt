@@ -67,7 +67,6 @@ pub fn odds(alloc: Global, row: &[u64]) -> Result<Vec<u64>, AllocError>
 ///
 /// # Errors
 /// `AllocError` where the list gets no memory.
-#[tactic(auto, using(crate::proofs::Layers::layer_more, crate::proofs::Layers::layer_all))]
 pub fn layer(alloc: Global, x: &[u64], y: &[u64]) -> Result<Vec<u64>, AllocError>
     requires same { length x.now ≡ length y.now }
     requires fits { sum x.now + sum y.now < 2 ^ 63 }
@@ -192,7 +191,6 @@ pub fn periodic(alloc: Global, row: &[u64], level: u32) -> Result<Vec<u64>, Allo
 ///
 /// # Errors
 /// `AllocError` where the list gets no memory.
-#[tactic(auto, using(crate::proofs::Interleave::interleave_more, crate::proofs::Interleave::interleave_all))]
 pub fn interleave(alloc: Global, x: &[u64], y: &[u64]) -> Result<Vec<u64>, AllocError>
     requires { length x.now ≡ length y.now }
     ensures { IfOk result (λ row. row.items ≡ net.interleave x.now y.now) }

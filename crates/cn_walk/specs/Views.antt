@@ -103,10 +103,11 @@ loaded start n v = loaded_by (nat_eq (length v.loads + 1) start.network.table.en
 abbrev pub told : Start → ℕ → View → View
 told start answer v = record v { seen = answer; steps = v.steps + start.network.table.entries }
 
--- what is left of a view after q of its quota are split off, and what the new lane has
+-- what is left of a view after q of its quota are split off
 abbrev pub split_left : ℕ → View → View
 split_left q v = record v { quota = v.quota - q }
 
+-- what the new lane has, with this quota
 abbrev pub split_right : ℕ → View → View
 split_right q v = record (new_view v.start q) { seen = v.seen }
 

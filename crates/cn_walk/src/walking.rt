@@ -85,7 +85,7 @@ fn walk_out<'a, G: Gate, R: Wait>(rt: &R, floor: &Floor<'a>, lane: &mut Lane, ga
 
 /// Walks all clients through the lane, in order: the next come in until `hand` are inside or none is left; then, until
 /// nobody is inside, all tokens on the lowest wire that has one go by its end in a sweep; and so on until no client is left.
-/// It asks the gate before each enter and each sweep, in the worker's name.
+/// It asks the gate before each of its atomic steps, in the worker's name.
 ///
 /// It takes no memory and refuses nothing, but returns only if the gate lets it on.
 pub fn walk_all<'a, G: Gate, R: Wait>(

@@ -16,8 +16,9 @@ use std::marker::Model;
 /// Per wire a list of tokens from first to last, each with its client, and a number of free records.
 ///
 /// Only [`Yard::new`], [`Yard::reserve`] and [`Yard::admit`] take memory. The tokens are records that are linked by their
-/// numbers, and the free records stand on a line of their own, so all takes a few steps but [`Yard::lowest`], which
-/// looks at one bit per wire, 64 at a time.
+/// numbers, and the free records stand on a line of their own, so an admit, a move, a release and most
+/// looks take a few steps; [`Yard::lowest`] and [`Yard::lowest_from`] look at one bit per wire, 64 at a time, and
+/// [`Yard::deal`] moves one token after another.
 #[derive(Drop)]
 pub struct Yard {
     wires: u32,

@@ -12,9 +12,9 @@ use std::fmt;
 pub enum BatchCause {
     /// The reader failed.
     Read,
-    /// Record 0 is missing, or is not `epoch,client,entry`.
+    /// Record 0 is missing, or is neither `epoch,client,entry` nor `epoch,client`.
     Header,
-    /// The record has not three fields.
+    /// The record has not as many fields as record 0.
     FieldCount,
     /// The first field is no number of 1 to 20 digits below 2 ^ 64.
     EpochNumber,

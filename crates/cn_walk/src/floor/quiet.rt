@@ -9,7 +9,8 @@ use crate::view::Grant;
 use std::alloc::AllocError;
 use std::marker::Model;
 
-/// What a closed floor leaves: its counts, and the grants of its one lane. [`super::Floor::close`] alone makes it.
+/// What a closed floor leaves: its counts, and the grants of its one lane. Only the close of a floor
+/// makes it.
 #[derive(Drop)]
 pub struct Quiet<'a> {
     pub(super) ended: Ended<'a>,
