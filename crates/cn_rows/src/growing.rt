@@ -5,7 +5,7 @@ ghost use Rattle.std.specs.Prelude.{◌≡◌, IfSome};
 use crate::reports::record;
 use cn_bitonic::bitonic;
 use cn_epoch::EpochRecord;
-use cn_report::{GrantsText, ReportText};
+use cn_report::{GrantsText, ReportText, render_grants};
 use cn_wiring::Counting;
 use std::alloc::Global;
 
@@ -53,6 +53,14 @@ fn grown_grants(alloc: Global, first: &EpochRecord, second: &EpochRecord) -> Opt
     Some(with_grants(text, second)?.end())
 }
 
+/// The grant list of one epoch at once.
+fn listed(alloc: Global, epoch: EpochRecord) -> Option<Vec<u8>> {
+    if epoch.holders.len() as u64 != epoch.clients {
+        return None;
+    }
+    render_grants(alloc, &[epoch]).ok()
+}
+
 const REPORT: &[u8] = b"network bitonic width 2 balancers 1 depth 1\n\
     epoch 1 clients 1\n\
     exit 0 count 1\n\
@@ -67,6 +75,8 @@ const REPORT: &[u8] = b"network bitonic width 2 balancers 1 depth 1\n\
 
 const GRANTS: &[u8] = b"epoch,client,name\n1,17,0\n9,5,0\n9,17,1\n";
 
+const SECOND: &[u8] = b"epoch,client,name\n9,5,0\n9,17,1\n";
+
 /// Whether the report of two epochs, and their grant list, are these.
 fn are_grown(alloc: Global) -> Option<[bool; 2]> {
     let first = record(alloc, 1, &[1, 0], &[17])?;
@@ -80,4 +90,15 @@ fn are_grown(alloc: Global) -> Option<[bool; 2]> {
 #[test]
 fn texts_of_two_epochs_grow(rt: HostRuntime) {
     assert_eq!(rt; are_grown(rt.alloc()), Some([true, true]));
+}
+
+/// Whether the grant list of the second alone is this.
+fn is_listed(alloc: Global) -> Option<bool> {
+    let second = record(alloc, 9, &[1, 1], &[5, 17])?;
+    Some(listed(alloc, second)?.as_slice() == SECOND)
+}
+
+#[test]
+fn an_epoch_is_listed_at_once(rt: HostRuntime) {
+    assert_eq!(rt; is_listed(rt.alloc()), Some(true));
 }

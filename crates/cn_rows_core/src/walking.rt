@@ -23,7 +23,7 @@ fn left_by(core: &mut Core<'_>, client: u64) -> Option<usize> {
 /// Steps each client once, in an order that changes from round to round, and counts who leaves by each exit.
 fn walk_round(core: &mut Core<'_>, clients: u32, round: u8, counts: &mut [u64]) {
     for turn in 0..u64::from(clients) {
-        let client = (5 * turn + u64::from(round)) % u64::from(clients);
+        let client = (7 * turn + u64::from(round)) % u64::from(clients);
         if let Some(exit) = left_by(core, client) {
             if let Some(count) = counts.get_mut(exit) {
                 *count = count.saturating_add(1);

@@ -202,35 +202,47 @@ fn refused_in_order(rt: HostRuntime) {
     assert_eq!(rt; wrong_refusal(&rt, rt.alloc()), None);
 }
 
-/// Whether each exit is left by 1,024 clients, and client n has name n.
-fn are_in_order(quiet: &Quiet<'_>) -> [bool; 2] {
+/// Whether so many left by each exit, and client n has name n, for all of them.
+fn are_in_order(quiet: &Quiet<'_>, counts: &[u64], clients: u64) -> [bool; 2] {
     let in_order = match quiet.holders() {
-        Ok(holders) => holders.iter().copied().eq(0..262_144),
+        Ok(holders) => holders.iter().copied().eq(0..clients),
         Err(_) => false,
     };
-    [quiet.counts() == [1_024; 256].as_slice(), in_order]
+    [quiet.counts() == counts, in_order]
 }
 
-/// Runs clients over tree 256.
+/// The width of a counting tree, how many clients enter it, and how many leave by each exit.
+type Full = (u32, u64, &'static [u64]);
+
+/// 65,536 clients, and as many as an epoch may have.
+const FULL: [Full; 2] = [(64, 65_536, &[1_024; 64]), (256, 262_144, &[1_024; 256])];
+
+/// Runs clients over the tree of a width.
 fn is_full<R: Threads + Wait + Sync>(
     rt: &R,
     alloc: Global,
     clients: &[Client],
+    row: &Full,
 ) -> Option<[bool; 2]> {
-    let network = tree(alloc, 256).ok()?;
+    let (width, entered, counts) = *row;
+    let network = tree(alloc, width).ok()?;
     match run(rt, alloc, &network, clients, 1, 1, &OpenGate) {
-        Ok(quiet) => Some(are_in_order(&quiet)),
+        Ok(quiet) => Some(are_in_order(&quiet, counts, entered)),
         Err(_) => None,
     }
 }
 
-/// As many clients as an epoch may have.
-fn full_epoch<R: Threads + Wait + Sync>(rt: &R, alloc: Global) -> Option<[bool; 2]> {
-    let clients = many_clients(alloc, 262_144, 0)?;
-    is_full(rt, alloc, &clients)
+/// The same of as many clients as the row tells.
+fn fills<R: Threads + Wait + Sync>(rt: &R, alloc: Global, row: &Full) -> Option<[bool; 2]> {
+    let clients = many_clients(alloc, row.1, 0)?;
+    is_full(rt, alloc, &clients, row)
 }
 
 #[test]
 fn limits(rt: HostRuntime) {
-    assert_eq!(rt; full_epoch(&rt, rt.alloc()), Some([true, true]));
+    let told = [
+        fills(&rt, rt.alloc(), &FULL[0]),
+        fills(&rt, rt.alloc(), &FULL[1]),
+    ];
+    assert_eq!(rt; told, [Some([true, true]), Some([true, true])]);
 }
