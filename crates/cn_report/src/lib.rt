@@ -1,4 +1,5 @@
-//! What the service reads and writes: schedules, batches and lists of grants, the texts of its jobs, and the loop that writes a text.
+//! What the service reads and writes: schedules, batches and lists of grants, the texts of its jobs, and the loop that
+//! writes a text.
 #![tactic(auto)]
 
 pub mod laws;
