@@ -10,7 +10,7 @@ abbrev pub state_of : Inside → State
 state_of c = record {
   network = c.network.now;
   base = c.base;
-  entered = c.entered.items;
+  entered = c.entry_counts.items;
   passes = c.passes.items;
   visits = c.exits;
   clients = positions c.clients;

@@ -27,7 +27,7 @@ pub struct Core<'a> {
     alloc: Global,
     network: &'a Counting,
     base: u64,
-    entered: Vec<u64>,
+    entry_counts: Vec<u64>,
     passes: Vec<u64>,
     exits: Exits,
     clients: Clients,
@@ -85,7 +85,7 @@ impl<'a> Core<'a> {
             alloc,
             network,
             base: 0,
-            entered: vec![in alloc; 0; network.entries() as usize]?,
+            entry_counts: vec![in alloc; 0; network.entries() as usize]?,
             passes: vec![in alloc; 0; network.balancers() as usize]?,
             exits: Exits::new(alloc, network.width())?,
             clients: Clients::new(alloc, network.entries() + 2 * network.balancers(), state)?,
@@ -130,7 +130,7 @@ impl<'a> Core<'a> {
         ensures bounded { IsBoundedState self.now }
     {
         // Opens what each core keeps.
-        let _ = &self.entered;
+        let _ = &self.entry_counts;
     }
 
     /// How many clients are inside: they entered and hold no name.
@@ -207,7 +207,7 @@ impl<'a> Core<'a> {
         ensures history { Agrees self.new [] [] }
     {
         self.base = 0;
-        self.entered.fill(0);
+        self.entry_counts.fill(0);
         self.passes.fill(0);
         self.exits.clear();
         self.clients.clear();
@@ -254,7 +254,7 @@ impl<'a> Core<'a> {
         if self.clients.add(client, entry as u32).is_err() {
             return Err(EnterFault::Memory);
         }
-        count_one(&mut self.entered, entry as usize);
+        count_one(&mut self.entry_counts, entry as usize);
         Ok(())
     }
 

@@ -1,13 +1,13 @@
-//! Whole batches, walked by the core on each network of widths 2 to 8, against the plain shares.
+//! Whole batches, walked by the core on each network of widths 2 to 8: each exit lets out its share.
 
 ghost use Rattle.std.specs.Prelude.{◌<◌};
 
 use cn_bitonic::bitonic;
 use cn_core::{Core, Moved};
+use cn_exit::expected;
 use cn_periodic::periodic;
-use cn_spec::plain::shares;
 use cn_tree::tree;
-use cn_wiring::{BuildFault, Counting};
+use cn_wiring::{BuildFault, Counting, Kind};
 use std::alloc::{AllocError, Global};
 use std::hash::RandomState;
 use std::test::Fail;
@@ -46,18 +46,11 @@ fn walked(
     Ok(counts)
 }
 
-#[derive(Clone, Copy, Debug, PartialEq, Eq)]
-enum Built {
-    Bitonic,
-    Periodic,
-    Tree,
-}
-
-fn network_of(alloc: Global, built: Built, width: u32) -> Result<Counting, BuildFault> {
-    match built {
-        Built::Bitonic => bitonic(alloc, width),
-        Built::Periodic => periodic(alloc, width),
-        Built::Tree => tree(alloc, width),
+fn network_of(alloc: Global, kind: Kind, width: u32) -> Result<Counting, BuildFault> {
+    match kind {
+        Kind::Bitonic => bitonic(alloc, width),
+        Kind::Periodic => periodic(alloc, width),
+        Kind::Tree => tree(alloc, width),
     }
 }
 
@@ -78,11 +71,24 @@ fn enter_all(core: &mut Core<'_>, clients: u32, entries: u64) -> Option<()>
     Some(())
 }
 
+/// The share of an exit, where there is such an exit.
+fn share(width: u32, clients: u32, exit: u32) -> Option<u64> {
+    if width <= 8 && exit < width {
+        Some(expected(width, u64::from(clients), exit))
+    } else {
+        None
+    }
+}
+
 /// Whether each exit lets out its share of a batch, and nobody stays inside.
 fn leaves_by_shares(core: &mut Core<'_>, alloc: Global, clients: u32, width: u32) -> Option<bool> {
     let counts = walked(alloc, core, clients, width as usize).ok()?;
-    let wanted = shares(alloc, u64::from(clients), u64::from(width)).ok()?;
-    Some(core.inside() == 0 && counts.as_slice() == wanted.as_slice())
+    for exit in 0..width {
+        if share(width, clients, exit) != counts.get(exit as usize).copied() {
+            return Some(false);
+        }
+    }
+    Some(core.inside() == 0)
 }
 
 fn agrees_on(alloc: Global, state: RandomState, network: &Counting, clients: u32) -> Option<bool> {
@@ -96,23 +102,17 @@ fn agrees_on(alloc: Global, state: RandomState, network: &Counting, clients: u32
 }
 
 /// The same, on a network that is built.
-fn agrees(
-    alloc: Global,
-    state: RandomState,
-    built: Built,
-    width: u32,
-    clients: u32,
-) -> Option<bool> {
-    match network_of(alloc, built, width) {
+fn agrees(alloc: Global, state: RandomState, kind: Kind, width: u32, clients: u32) -> Option<bool> {
+    match network_of(alloc, kind, width) {
         Ok(network) => agrees_on(alloc, state, &network, clients),
         Err(_) => None,
     }
 }
 
 /// The first number of clients of which the exits of a network do not let out their shares.
-fn wrong_batch(alloc: Global, state: RandomState, built: Built, width: u32) -> Option<u32> {
+fn wrong_batch(alloc: Global, state: RandomState, kind: Kind, width: u32) -> Option<u32> {
     for clients in [1, 2, 5, 11, 24] {
-        if agrees(alloc, state, built, width, clients) != Some(true) {
+        if agrees(alloc, state, kind, width, clients) != Some(true) {
             return Some(clients);
         }
     }
@@ -120,11 +120,11 @@ fn wrong_batch(alloc: Global, state: RandomState, built: Built, width: u32) -> O
 }
 
 /// The first network, by its width, and number of clients.
-fn wrong_walk(alloc: Global, state: RandomState) -> Option<(Built, u32, u32)> {
-    for built in [Built::Bitonic, Built::Periodic, Built::Tree] {
+fn wrong_walk(alloc: Global, state: RandomState) -> Option<(Kind, u32, u32)> {
+    for kind in [Kind::Bitonic, Kind::Periodic, Kind::Tree] {
         for width in [2, 4, 8] {
-            if let Some(clients) = wrong_batch(alloc, state, built, width) {
-                return Some((built, width, clients));
+            if let Some(clients) = wrong_batch(alloc, state, kind, width) {
+                return Some((kind, width, clients));
             }
         }
     }

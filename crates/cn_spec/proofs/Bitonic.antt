@@ -1,10 +1,10 @@
 -- Bitonic: its counts are the shares of the sum of its row.
-use Rattle.std.proofs.Common.{◌≡◌, ℕ, zero, suc, ◌-◌, ◌/◌, ◌<◌, ◌^◌, List, length, take, drop, refl, sym, ap₂, ◌∙◌, arith}
+use Rattle.std.proofs.Common.{◌≡◌, ℕ, zero, suc, ◌^◌, List, length, take, drop, refl, ap₂, ◌∙◌, arith}
 use Rattle.std.specs.List.{sum}
 use Rattle.cn_spec.specs.Step.{shares, IsStep}
-use Rattle.cn_spec.specs.Networks.{IsRow, merge, bitonic}
+use Rattle.cn_spec.specs.Networks.{IsRow, bitonic}
 use Rattle.cn_spec.proofs.Shares.{row_is_shares}
-use Rattle.cn_spec.proofs.Rows.{half_row, front_row, back_row, sum_take_drop}
+use Rattle.cn_spec.proofs.Rows.{front_row, back_row, sum_take_drop}
 use Rattle.cn_spec.proofs.Merger.{merge_row, sum_merge, merge_is_step}
 
 pub single_is_step : (x : List ℕ) → length x ≡ 1 → IsStep x
@@ -43,16 +43,3 @@ bitonic_is_step (suc level) x e =
 
 pub bitonic_shares : (level : ℕ) (x : List ℕ) → IsRow level x → bitonic level x ≡ shares (sum x) (2 ^ level)
 bitonic_shares level x e = row_steps level (sum x) (bitonic level x) (bitonic_row level x e) (sum_bitonic level x e) (bitonic_is_step level x e)
-
--- ---- its recursion
-
-pub bitonic_zero : (x : List ℕ) → bitonic 0 x ≡ x
-unfolding bitonic
-bitonic_zero x = refl
-
-pub bitonic_turn : (level : ℕ) (x : List ℕ) → 0 < level → IsRow level x → bitonic level x ≡ merge (level - 1) (bitonic (level - 1) (take (length x / 2) x)) (bitonic (level - 1) (drop (length x / 2) x))
-unfolding bitonic
-bitonic_turn zero x h e = absurd (omega arith)
-bitonic_turn (suc level) x h e =
-    let k : level ≡ suc level - 1 = omega arith in
-    ap₂ (λ l n. merge l (bitonic l (take n x)) (bitonic l (drop n x))) k (sym (half_row level x e))

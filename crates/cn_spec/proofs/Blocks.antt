@@ -1,5 +1,5 @@
 -- Block: it lowers by one the level of the chains that have the step property.
-use Rattle.std.proofs.Common.{◌≡◌, ℕ, zero, suc, ◌+◌, ◌-◌, ◌≤◌, ◌<◌, List, [], ◌∷◌, length, get_or, refl, sym, ap, ap₂, ◌∙◌, subst, arith}
+use Rattle.std.proofs.Common.{◌≡◌, ℕ, zero, suc, ◌+◌, ◌≤◌, ◌<◌, List, [], ◌∷◌, length, get_or, refl, sym, ap, ap₂, ◌∙◌, subst, arith}
 use Rattle.std.specs.List.{sum}
 use Rattle.cn_spec.specs.Step.{half, IsStep}
 use Rattle.cn_spec.specs.Networks.{IsRow, layer, a_cochain, b_cochain, block, tree, HasStepChains}
@@ -187,19 +187,8 @@ pub block_step_chains : (level i : ℕ) (x : List ℕ) → i < level → IsRow l
 block_step_chains level i x l e h =
     by_place level i (block level x) (omega arith) (block_row level x e) (block-chains level i x l e (by_halves level (suc i) x (omega arith) e h))
 
--- ---- its recursion
-
-pub block_zero : (x : List ℕ) → block 0 x ≡ x
-unfolding block
-block_zero x = refl
+-- ---- the block of two wires
 
 pub block_one : (a b : ℕ) → block 1 (a ∷ b ∷ []) ≡ half (a + b) 0 ∷ half (a + b) 1 ∷ []
 unfolding block
 block_one a b = refl
-
-pub block_turn : (level : ℕ) (x : List ℕ) → 0 < level → block level x ≡ layer (block (level - 1) (a_cochain x)) (block (level - 1) (b_cochain x))
-unfolding block
-block_turn zero x h = absurd (omega arith)
-block_turn (suc level) x h =
-    let e : level ≡ suc level - 1 = omega arith in
-    ap (λ k. layer (block k (a_cochain x)) (block k (b_cochain x))) e

@@ -1,5 +1,5 @@
 -- The cochains by pairs of neighbours: each takes one of a pair, A the first of the first pair, then the second, and so on in turn.
-use Rattle.std.proofs.Common.{◌≡◌, ℕ, zero, suc, ◌+◌, ◌-◌, ◌*◌, ◌/◌, ◌%◌, ◌<◌, ◌^◌, Bool, true, false, List, [], ◌∷◌, length, get_or, refl, sym, ap, ◌∙◌, subst, arith}
+use Rattle.std.proofs.Common.{◌≡◌, ℕ, zero, suc, ◌+◌, ◌-◌, ◌*◌, ◌/◌, ◌%◌, ◌<◌, ◌^◌, Bool, true, false, List, [], ◌∷◌, length, get_or, refl, sym, ap, ◌∙◌, arith}
 use Rattle.std.proofs.Math.Nat.{pow-suc}
 use Rattle.std.proofs.lemmas.List.FromFn.{fill_by_all}
 use Rattle.std.proofs.lemmas.List.Sums.{sum_by-cons}
@@ -53,18 +53,6 @@ sum-in_turn (suc n) (a ∷ b ∷ x) e =
 
 pub sum_cochains : (level : ℕ) (x : List ℕ) → IsRow (suc level) x → sum (a_cochain x) + sum (b_cochain x) ≡ sum x
 sum_cochains level x e = rw (a_in_turn x, b_in_turn x) (sum-in_turn (2 ^ level) x (e ∙ pow-suc 2 level))
-
--- the cochains of a row of the level above k
-pub record PartsInCochains (k : ℕ) (x : List ℕ) : Type 0 where
-  pub in_a : IsRow k (a_cochain x)
-  pub in_b : IsRow k (b_cochain x)
-  pub all : sum (a_cochain x) + sum (b_cochain x) ≡ sum x
-
-pub parts_in_cochains : (level : ℕ) (x : List ℕ) → 0 < level → IsRow level x → PartsInCochains (level - 1) x
-parts_in_cochains zero x h e = absurd (omega arith)
-parts_in_cochains (suc level) x h e =
-    let k : level ≡ suc level - 1 = omega arith in
-    subst (λ l. PartsInCochains l x) k (record { in_a = a_row level x e; in_b = b_row level x e; all = sum_cochains level x e })
 
 -- ---- their even and odd entries
 

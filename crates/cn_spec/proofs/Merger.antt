@@ -1,5 +1,5 @@
 -- Merger: of two rows with the step property it makes the tree's row of their sum.
-use Rattle.std.proofs.Common.{◌≡◌, ℕ, zero, suc, ◌+◌, ◌-◌, ◌≤◌, ◌<◌, ◌^◌, ◌⊎◌, List, [], ◌∷◌, refl, sym, ap, ap₂, ◌∙◌, inl, inr, subst, arith}
+use Rattle.std.proofs.Common.{◌≡◌, ℕ, zero, suc, ◌+◌, ◌≤◌, ◌^◌, ◌⊎◌, List, [], ◌∷◌, refl, sym, ap, ap₂, ◌∙◌, inl, inr, subst, arith}
 use Rattle.std.specs.List.{sum}
 use Rattle.cn_spec.specs.Step.{half, shares, IsStep}
 use Rattle.cn_spec.specs.Networks.{IsRow, evens, odds, interleave, layer, merge, tree}
@@ -128,16 +128,3 @@ sum_merge (suc level) x y e f =
       sum_evens_odds level x e,
       sum_evens_odds level y f,
     )
-
--- ---- its recursion
-
-pub merge_zero : (x y : List ℕ) → merge 0 x y ≡ layer x y
-unfolding merge
-merge_zero x y = refl
-
-pub merge_turn : (level : ℕ) (x y : List ℕ) → 0 < level → merge level x y ≡ layer (merge (level - 1) (evens x) (odds y)) (merge (level - 1) (odds x) (evens y))
-unfolding merge
-merge_turn zero x y h = absurd (omega arith)
-merge_turn (suc level) x y h =
-    let e : level ≡ suc level - 1 = omega arith in
-    ap (λ k. layer (merge k (evens x) (odds y)) (merge k (odds x) (evens y))) e

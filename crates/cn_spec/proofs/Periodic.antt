@@ -1,5 +1,5 @@
 -- Periodic: its counts are the shares of the sum of its row.
-use Rattle.std.proofs.Common.{◌≡◌, ℕ, zero, suc, ◌+◌, ◌-◌, ◌≤◌, ◌<◌, ◌^◌, List, refl, ap, ◌∙◌, le_refl, arith}
+use Rattle.std.proofs.Common.{◌≡◌, ℕ, zero, suc, ◌≤◌, ◌^◌, List, refl, ◌∙◌, le_refl, arith}
 use Rattle.std.specs.List.{sum}
 use Rattle.cn_spec.specs.Step.{shares, IsStep}
 use Rattle.cn_spec.specs.Networks.{IsRow, block, blocks, periodic}
@@ -36,17 +36,3 @@ periodic_is_step level x e = blocks-is_step level level x (le_refl level) e (all
 
 pub periodic_shares : (level : ℕ) (x : List ℕ) → IsRow level x → periodic level x ≡ shares (sum x) (2 ^ level)
 periodic_shares level x e = row_steps level (sum x) (periodic level x) (periodic_row level x e) (sum_periodic level x e) (periodic_is_step level x e)
-
--- ---- one turn of a loop, its start and its end
-
-pub periodic_blocks : (level : ℕ) (x : List ℕ) → periodic level x ≡ blocks level level x
-unfolding periodic
-periodic_blocks level x = refl
-
-pub blocks_more : (n i level : ℕ) (x : List ℕ) → i < n → blocks (n - i) level x ≡ blocks (n - (i + 1)) level (block level x)
-unfolding blocks
-blocks_more n i level x h = let e : n - i ≡ suc (n - (i + 1)) = omega arith in ap (λ k. blocks k level x) e
-
-pub blocks_all : (n i level : ℕ) (x : List ℕ) → n ≤ i → blocks (n - i) level x ≡ x
-unfolding blocks
-blocks_all n i level x h = let e : n - i ≡ 0 = omega arith in ap (λ k. blocks k level x) e

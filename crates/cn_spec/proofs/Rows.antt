@@ -1,5 +1,5 @@
 -- How long the parts of a row are, and that they are all of it.
-use Rattle.std.proofs.Common.{◌≡◌, ℕ, zero, suc, ◌+◌, ◌-◌, ◌*◌, ◌/◌, ◌≤◌, ◌<◌, ◌^◌, List, [], ◌∷◌, ◌++◌, append_assoc, length, take, drop, inl, inr, sym, ap, ◌∙◌, subst, length-drop, length-take-le, arith}
+use Rattle.std.proofs.Common.{◌≡◌, ℕ, zero, suc, ◌+◌, ◌-◌, ◌*◌, ◌/◌, ◌<◌, ◌^◌, List, length, take, drop, inl, inr, sym, ap, ◌∙◌, length-drop, length-take-le, arith}
 use Rattle.std.proofs.Math.Nat.{pow-suc, pow-succ'}
 use Rattle.std.proofs.lemmas.Bool.{cases_order}
 use Rattle.std.proofs.lemmas.Nat.{pow_below, pow_pos}
@@ -63,22 +63,3 @@ sum_evens_odds level x e = rw (evens_firsts x, odds_seconds x) (sum_pairs level 
 
 pub sum_take_drop : (n : ℕ) (x : List ℕ) → sum (take n x) + sum (drop n x) ≡ sum x
 sum_take_drop n x = omega (arith, sum_by-take-drop (λ (y : ℕ). y) x n)
-
-pub sum_drop_le : (n : ℕ) (x : List ℕ) → sum (drop n x) ≤ sum x
-sum_drop_le n x = omega (arith, sum_take_drop n x)
-
--- the subsequences of a row of the level above k
-pub record PartsEvenly (k : ℕ) (x : List ℕ) : Type 0 where
-  pub even : IsRow k (evens x)
-  pub odd : IsRow k (odds x)
-  pub all : sum (evens x) + sum (odds x) ≡ sum x
-
-pub parts_evenly : (level : ℕ) (x : List ℕ) → 0 < level → IsRow level x → PartsEvenly (level - 1) x
-parts_evenly zero x h e = absurd (omega arith)
-parts_evenly (suc level) x h e =
-    let k : level ≡ suc level - 1 = omega arith in
-    subst (λ l. PartsEvenly l x) k (record { even = evens_row level x e; odd = odds_row level x e; all = sum_evens_odds level x e })
-
--- a row with two more entries, and then the rest
-pub two_pushed : (row rest : List ℕ) (a b : ℕ) → (row ++ a ∷ []) ++ b ∷ [] ++ rest ≡ row ++ a ∷ b ∷ rest
-two_pushed row rest a b = append_assoc (row ++ a ∷ []) (b ∷ []) rest ∙ append_assoc row (a ∷ []) (b ∷ rest)

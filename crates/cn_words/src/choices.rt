@@ -25,7 +25,10 @@ pub enum ChoiceFault {
     /// They are of no subcommand that the program has.
     #[error("renamer: no such subcommand")]
     Subcommand,
-    /// They name no network that is built.
+    /// They name no kind of network.
+    #[error("renamer: no such network")]
+    Kind,
+    /// They name a kind, but no width of it that is built.
     #[error("{0}")]
     Net(NetFault),
     /// They name numbers outside of their limits.
@@ -166,7 +169,7 @@ pub(crate) fn chosen_net(alloc: Global, options: &ArgMatches<'_>) -> Result<Net,
     let width = chosen_width(alloc, options)?;
     match value_of(options, "network").and_then(kind_named) {
         Some(kind) => Ok(Net::new(kind, width)?),
-        None => Err(ChoiceFault::Net(NetFault::Width)),
+        None => Err(ChoiceFault::Kind),
     }
 }
 

@@ -58,7 +58,8 @@ impl Gathering {
             clients: Vec::new(alloc),
         };
         let ended = mem::replace(&mut self.latest, next);
-        self.standing.clear();
+        // Takes the time of the clients that go. `clear` would take that of the whole table at each epoch.
+        self.standing.truncate(0);
         if ended.clients.is_empty() {
             return Ok(());
         }

@@ -15,7 +15,7 @@ entered : (c : goal.After-clear) → c.entered.result ≡ length (positions c.se
 entered c = rw (← c.self.view_is) at c.entered.ensures.value
 
 -- the state is the one in which the next epoch begins
-state_is : (c : goal.After-clear) → ◌≡◌ {A = State} (record { network = c.self.inside.network.now; base = c.self.inside.base + c.entered.result; entered = c.self.inside.entered.items; passes = c.self.inside.passes.items; visits = c.self.inside.exits; clients = positions c.clear.new.self }) (after_carry (state_of c.self.inside))
+state_is : (c : goal.After-clear) → ◌≡◌ {A = State} (record { network = c.self.inside.network.now; base = c.self.inside.base + c.entered.result; entered = c.self.inside.entry_counts.items; passes = c.self.inside.passes.items; visits = c.self.inside.exits; clients = positions c.clear.new.self }) (after_carry (state_of c.self.inside))
 state_is c = rw (entered c, c.clear.ensures.nobody) refl
 
 pub invariant_of-self : goal.invariant_of-self
