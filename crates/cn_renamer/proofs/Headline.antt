@@ -87,28 +87,30 @@ pub none-served : (carry : Bool) (width m : ℕ) → AreServed carry width m [] 
 unfolding AreServed
 none-served carry width m = tt
 
-module _ (net : Description) (form : Form) (carry : Bool) (network : Network) (built : IsNetworkOf net network) (known : Option (List ℕ)) (epochs : List BatchEpoch) (batch : IfSome known (λ bytes. IsBatch network.table.entries (records_of bytes) epochs)) (records : List EpochRecord) (served : AreServed carry network.table.width 0 epochs records) (text : List ℕ) (written : text ≡ text_in form network records) where
-  -- the text of epochs that were read is that of a run of the bytes that are them
-  run-is : (out : List ℕ) → out ≡ text → IsRunOfKnown net form carry known out
-  run-is out same =
-      known_map known (λ bytes. IsBatch network.table.entries (records_of bytes) epochs) (λ bytes. IsRunOf net form carry bytes out)
-      batch (λ bytes is. record {
-        epochs = epochs;
-        batch = subst (λ (entries : ℕ). IsBatch entries (records_of bytes) epochs) built.2.entries is;
-        network = network;
-        built = built;
-        records = records;
-        served = served;
-        written = same ∙ written;
-      })
+-- the text of epochs that were read is that of a run of the bytes that are them
+pub run-is : (net : Description) (form : Form) (carry : Bool) (network : Network) → IsNetworkOf net network
+    → (known : Option (List ℕ)) (epochs : List BatchEpoch) → IfSome known (λ bytes. IsBatch network.table.entries (records_of bytes) epochs)
+    → (records : List EpochRecord) → AreServed carry network.table.width 0 epochs records
+    → (text : List ℕ) → text ≡ text_in form network records → IsRunOfKnown net form carry known text
+run-is net form carry network built known epochs batch records served text written =
+    known_map known (λ bytes. IsBatch network.table.entries (records_of bytes) epochs) (λ bytes. IsRunOf net form carry bytes text)
+    batch (λ bytes is. record {
+      epochs = epochs;
+      batch = subst (λ (entries : ℕ). IsBatch entries (records_of bytes) epochs) built.2.entries is;
+      network = network;
+      built = built;
+      records = records;
+      served = served;
+      written = written;
+    })
 
-  module _ {W : Type 0} (contents : W → Option (List ℕ)) (old new : W) where
-    -- so it is where all of it was written
-    pub written-whole : HasWritten contents (λ out. out ≡ text) Whole old new → HasWritten contents (IsRunOfKnown net form carry known) Whole old new
-    written-whole (out, same, grows) = (out, run-is out same, grows)
+module _ {W : Type 0} (contents : W → Option (List ℕ)) (old new : W) (Is : List ℕ → Type 0) (text : List ℕ) (is : Is text) where
+  -- a text that was to be written is written
+  pub written-whole : HasWritten contents (λ out. out ≡ text) Whole old new → HasWritten contents Is Whole old new
+  written-whole (out, same, grows) = (out, subst Is (sym same) is, grows)
 
-    -- and where only a part was
-    pub written-until : (fault : OutputFault) → HasWritten contents (λ out. out ≡ text) (until_output fault) old new
-        → HasWritten contents (IsRunOfKnown net form carry known) (until_serve (fault_of_output fault)) old new
-    written-until output.Memory same = same
-    written-until (output.Write count) (out, same, few, grows) = (out, run-is out same, few, grows)
+  -- or a part of it
+  pub written-until : (fault : OutputFault) → HasWritten contents (λ out. out ≡ text) (until_output fault) old new
+      → HasWritten contents Is (until_serve (fault_of_output fault)) old new
+  written-until output.Memory same = same
+  written-until (output.Write count) (out, same, few, grows) = (out, subst Is (sym same) is, few, grows)

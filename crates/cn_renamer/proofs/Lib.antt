@@ -1,4 +1,5 @@
 pub mod Accepted
+pub mod Built
 pub mod Headline
 pub mod OneText
 pub mod Served

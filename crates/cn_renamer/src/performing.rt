@@ -1,8 +1,8 @@
 //! The job that the words ask for, done.
 
-ghost use Rattle.std.specs.Prelude.{IfErr, map, string_bytes};
+ghost use Rattle.std.specs.Prelude.{Err, IfErr, List, Option, map, string_bytes, ℕ};
 ghost use Rattle.cn_report.specs.Writing.Written.{HasWritten, written_by};
-ghost use Rattle.cn_renamer.specs.Performing.{HasRun, IsBuiltFor, IsTextOf, MayEnd, until_fault};
+ghost use Rattle.cn_renamer.specs.Performing.{HasRun, IsBuiltFor, IsTextAsked, IsTextOf, MayEnd, MayEndAsked, until_fault};
 
 use crate::checking::check;
 use crate::fault::Fault;
@@ -54,6 +54,19 @@ pub fn perform<I: Read + Drop, W: Write, S: RandomSource, R: Threads + Wait + Sy
     }
 }
 
+/// Ends as words do that ask for no job: help is written, and any other fault is told.
+fn end_without_job<W: Write>(writer: &mut W, fault: WordsFault) -> Result<(), Fault>
+    ensures written { (known : Option (List ℕ)) →
+        HasWritten W.contents (IsTextAsked (Err fault) known) (written_by until_fault result) writer.old writer.new }
+    ensures ends { (known : Option (List ℕ)) → IfErr result (MayEndAsked (Err fault) known) }
+{
+    match fault {
+        WordsFault::Help(help) => Ok(write_text(writer, help.as_bytes())?),
+        WordsFault::Refused(text) => Err(Fault::Refused(text)),
+        WordsFault::Memory => Err(Fault::Output(OutputFault::Memory)),
+    }
+}
+
 /// Does what the words of a command line ask for: a job, or to write the help. The first word is the program's name.
 ///
 /// # Errors
@@ -71,8 +84,6 @@ pub fn run<I: Read + Drop, W: Write, S: RandomSource, R: Threads + Wait + Sync>(
 {
     match parse_words(alloc, words) {
         Ok(job) => perform(rt, alloc, job, reader, writer, source),
-        Err(WordsFault::Help(help)) => Ok(write_text(writer, help.as_bytes())?),
-        Err(WordsFault::Refused(text)) => Err(Fault::Refused(text)),
-        Err(WordsFault::Memory) => Err(Fault::Output(OutputFault::Memory)),
+        Err(fault) => end_without_job(writer, fault),
     }
 }

@@ -1,7 +1,9 @@
 //! A schedule, replayed.
 
-ghost use Rattle.std.specs.Prelude.{◌≡◌, ◌↔◌, IfErr, IfOk, IsTrue};
+ghost use Rattle.std.specs.Prelude.{◌≡◌, ◌↔◌, [], false, IfErr, IfOk, IsTrue, None};
 ghost use Rattle.std.specs.List.{All};
+ghost use Rattle.cn_core.specs.State.{start};
+ghost use Rattle.cn_epoch.specs.SinceCleared.{Agrees};
 ghost use Rattle.cn_epoch.specs.Turns.{HadMemory};
 ghost use Rattle.cn_report.specs.Writing.Written.{HasWritten, written_by};
 ghost use Rattle.cn_renamer.specs.Outputs.{until_output};
@@ -86,17 +88,18 @@ fn all_had_memory(answers: &[Answer]) -> bool
     answers.iter().all(had_memory)
 }
 
-/// The text of the replay of commands on a network that nobody has entered.
-fn replayed(
+/// The text of the replay of commands on epochs that nobody has entered.
+fn applied(
     alloc: Global,
     network: &Counting,
+    epochs: &mut Epochs<'_>,
     commands: &[Command],
-    state: RandomState,
 ) -> Result<Vec<u8>, OutputFault>
+    requires begun { epochs.old ≡ record { number = 0; carries = false; core = start network.now } }
+    requires agrees { Agrees epochs.old 0 [] None }
     ensures text { IfOk result (λ text. IsReplayText network.now commands.now text.items) }
     ensures memory { IfErr result (λ fault. fault ≡ OutputFault.Memory) }
 {
-    let mut epochs = Epochs::new(alloc, network, state)?;
     let answers = epochs.run(commands)?;
     if !all_had_memory(&answers) {
         return Err(OutputFault::Memory);
@@ -111,6 +114,20 @@ fn replayed(
         epochs.inside(),
     )?;
     Ok(text)
+}
+
+/// The text of the replay of commands on a network that nobody has entered.
+fn replayed(
+    alloc: Global,
+    network: &Counting,
+    commands: &[Command],
+    state: RandomState,
+) -> Result<Vec<u8>, OutputFault>
+    ensures text { IfOk result (λ text. IsReplayText network.now commands.now text.items) }
+    ensures memory { IfErr result (λ fault. fault ≡ OutputFault.Memory) }
+{
+    let mut epochs = Epochs::new(alloc, network, state)?;
+    applied(alloc, network, &mut epochs, commands)
 }
 
 /// Writes the text of the replay of commands.

@@ -6,7 +6,8 @@ ghost use Rattle.cn_spec.specs.Sums.{when};
 ghost use Rattle.cn_walk.specs.Carried.{clients_of};
 ghost use Rattle.cn_report.specs.Reading.Batch.{AreServable, MayCome};
 ghost use Rattle.cn_report.specs.Reading.Batch.{clients_of as clients_in};
-ghost use Rattle.cn_report.specs.Writing.Written.{HasWritten, written_by};
+ghost use Rattle.cn_report.specs.Writing.Written.{HasWritten, Nothing, written_by};
+ghost use Rattle.cn_words.specs.Net.{IsNetworkOf};
 ghost use Rattle.cn_renamer.specs.Headline.{IsRunOfKnown, IsServed};
 ghost use Rattle.cn_renamer.specs.Serve.{IsServeFault, until_serve};
 ghost use Rattle.cn_renamer.specs.Telling.{TellsServed};
@@ -93,6 +94,26 @@ fn run_all<G: Gate + Sync, R: Threads + Wait + Sync>(
     Ok(text)
 }
 
+/// Reads a batch, and runs its epochs on a network: the text that tells of them.
+fn text_of<I: Read + Drop, G: Gate + Sync, R: Threads + Wait + Sync>(
+    rt: &R,
+    alloc: Global,
+    reader: I,
+    network: &Counting,
+    options: &Options,
+    state: RandomState,
+    gate: &G,
+) -> Result<Vec<u8>, ServeFault>
+    requires { IsNetworkOf options.now.net network.now }
+    ensures text { let Is = IsRunOfKnown options.now.net options.now.form options.now.carry (I.remaining reader) in
+        IfOk result (λ text. Is text.items) }
+    ensures refused { IfErr result (IsServeFault options.now.net (I.remaining reader)) }
+    ensures unwritten { IfErr result (λ fault. until_serve fault ≡ Nothing) }
+{
+    let batch = read_batch(alloc, reader, network.entries(), state)?;
+    Ok(run_all(rt, alloc, network, options, &batch.epochs, gate)?.end()?)
+}
+
 /// Reads a batch, runs its epochs one after another, and writes what came of them in the options' form: the report, which
 /// tells the network, each epoch's number and its number of clients, how many left by each exit, who holds which name, and
 /// how many epochs and grants there are; or the grant list, which `check` takes
@@ -129,8 +150,7 @@ pub fn serve<I: Read + Drop, W: Write, G: Gate + Sync, R: Threads + Wait + Sync>
     ensures refused { IfErr result (IsServeFault options.now.net (I.remaining reader)) }
 {
     let network = options.net().build(alloc)?;
-    let batch = read_batch(alloc, reader, network.entries(), state)?;
-    let text = run_all(rt, alloc, &network, options, &batch.epochs, gate)?.end()?;
+    let text = text_of(rt, alloc, reader, &network, options, state, gate)?;
     write_text(writer, &text)?;
     Ok(())
 }

@@ -6,26 +6,26 @@ use Rattle.cn_core.specs.History.{enters_of, inside_of}
 use Rattle.cn_epoch.specs.Turns.{HadMemory, grown_by, turns_by}
 use Rattle.cn_report.specs.Writing.Replay.{IsWhole}
 use Rattle.cn_report.proofs.CallerLemmas.{fits_all, whole_all}
-use Rattle.cn_renamer.proofs.replaying.replayed.Goals as goal
+use Rattle.cn_renamer.proofs.replaying.applied.Goals as goal
 
 pub render_replay-requires-clause-fit : goal.render_replay-requires-clause-fit
 render_replay-requires-clause-fit c =
-    let may = (c.in_ok-answers.ensures.history 0 [] None c.in_ok-epochs.ensures.history).0 in
-    rw c.deref-2.ensures.value (fits_all c.in_ok-epochs.epochs.core.network.table 0 [] c.args.commands.now c.in_ok-answers.answers.items may)
+    let may = (c.in_ok-answers.ensures.history 0 [] None c.requires.agrees).0 in
+    rw c.deref-2.ensures.value (fits_all c.args.epochs.now.core.network.table 0 [] c.args.commands.now c.in_ok-answers.answers.items may)
 
 pub render_replay-requires-clause-whole : goal.render_replay-requires-clause-whole
 render_replay-requires-clause-whole c =
-    let may = (c.in_ok-answers.ensures.history 0 [] None c.in_ok-epochs.ensures.history).0 in
-    let network : c.in_ok-epochs.epochs.core.network ≡ c.args.network.now = ap (λ e. e.core.network) c.in_ok-epochs.ensures.start in
+    let may = (c.in_ok-answers.ensures.history 0 [] None c.requires.agrees).0 in
+    let network : c.args.epochs.now.core.network ≡ c.args.network.now = ap (λ e. e.core.network) c.requires.begun in
     let whole : All (IsWhole c.args.network.now.table.width) c.in_ok-answers.answers.items =
-    rw network at (whole_all c.in_ok-epochs.epochs.core.network.table 0 [] c.args.commands.now c.in_ok-answers.answers.items may) in
+    rw network at (whole_all c.args.epochs.now.core.network.table 0 [] c.args.commands.now c.in_ok-answers.answers.items may) in
     rw c.deref-2.ensures.value whole
 
 pub returns-clause-text : goal.returns-clause-text
 returns-clause-text c =
-    let (may, agrees) = c.in_ok-answers.ensures.history 0 [] None c.in_ok-epochs.ensures.history in
+    let (may, agrees) = c.in_ok-answers.ensures.history 0 [] None c.requires.agrees in
     let answers = c.in_ok-answers.answers.items in
-    let network : c.in_ok-epochs.epochs.core.network ≡ c.args.network.now = ap (λ e. e.core.network) c.in_ok-epochs.ensures.start in
+    let network : c.args.epochs.now.core.network ≡ c.args.network.now = ap (λ e. e.core.network) c.requires.begun in
     let same : c.run.new.self.core.network ≡ c.args.network.now = c.in_ok-answers.ensures.network ∙ network in
     let history : List Event = grown_by [] c.args.commands.now answers in
     let number : c.number.result ≡ turns_by 0 answers = c.number.ensures.by_turns (turns_by 0 answers) history None agrees in
