@@ -59,8 +59,9 @@ fn fault_of<I: io::Read + Drop>(
     }
 }
 
-/// Batches and their arrivals: one of five clients, only a header, entries by rule, and the records that csv reads.
-const READ: [(&[u8], &[Arrival]); 10] = [
+/// Batches and their arrivals: one of five clients, only a header, entries by rule, the records that csv reads, and the
+/// identities that a field can tell.
+const READ: [(&[u8], &[Arrival]); 13] = [
     (
         FIVE_ON_ONE_ENTRY,
         &[(1, 17, 3), (1, 5, 3), (1, 99, 3), (1, 23, 3), (1, 42, 3)],
@@ -89,6 +90,12 @@ const READ: [(&[u8], &[Arrival]); 10] = [
         b"\"epoch\",\"client\",\"entry\"\n\"1\",\"7\",\"0\"\n03,\"00\"7,\"1\"\n",
         &[(1, 7, 0), (3, 7, 1)],
     ),
+    (
+        b"epoch,client,entry\n1,18446744073709551615,0\n",
+        &[(1, 18_446_744_073_709_551_615, 0)],
+    ),
+    (b"epoch,client,entry\n1,007,0\n", &[(1, 7, 0)]),
+    (b"epoch,client,entry\n1,\"17\",0\n", &[(1, 17, 0)]),
 ];
 
 /// The place of the first batch that has other arrivals.
@@ -108,49 +115,8 @@ fn records_are_those_of_csv(rt: HostRuntime) -> Result<(), Fail> {
     Ok(())
 }
 
-/// Batches of one client, and its number where that is one.
-const CLIENTS: [(&[u8], Option<u64>); 9] = [
-    (
-        b"epoch,client,entry\n1,18446744073709551615,0\n",
-        Some(18_446_744_073_709_551_615),
-    ),
-    (b"epoch,client,entry\n1,007,0\n", Some(7)),
-    (b"epoch,client,entry\n1,\"17\",0\n", Some(17)),
-    (b"epoch,client,entry\n1,18446744073709551616,0\n", None),
-    (b"epoch,client,entry\n1,+7,0\n", None),
-    (b"epoch,client,entry\n1,,0\n", None),
-    (b"epoch,client,entry\n1,000000000000000000007,0\n", None),
-    (b"epoch,client,entry\n1, 7,0\n", None),
-    (b"epoch,client,entry\n1,7\xff,0\n", None),
-];
-
-/// Whether a batch of one client tells this number, or is refused where there is none.
-fn is_number(alloc: Global, state: RandomState, text: &[u8], number: Option<u64>) -> bool {
-    match number {
-        Some(client) => is_read(alloc, state, text, &[(1, client, 0)]),
-        None => is_refused(alloc, state, text, 1, BatchCause::ClientNumber),
-    }
-}
-
-/// The place of the first batch of one client that tells another number.
-fn wrong_number(alloc: Global, state: RandomState) -> Option<usize> {
-    for (place, row) in CLIENTS.iter().enumerate() {
-        if !is_number(alloc, state, row.0, row.1) {
-            return Some(place);
-        }
-    }
-    None
-}
-
-#[test]
-fn identity_fields(rt: HostRuntime) -> Result<(), Fail> {
-    let wrong = wrong_number(rt.alloc(), RandomState::new(&rt)?);
-    assert_eq!(rt; wrong, None);
-    Ok(())
-}
-
 /// Inputs, at which record each is refused, and why.
-const REFUSED: [(&[u8], u64, BatchCause); 28] = [
+const REFUSED: [(&[u8], u64, BatchCause); 34] = [
     (b"", 0, BatchCause::Header),
     (b"\n\n", 0, BatchCause::Header),
     (b"1,17,0\n", 0, BatchCause::Header),
@@ -175,6 +141,24 @@ const REFUSED: [(&[u8], u64, BatchCause); 28] = [
     ),
     (b"epoch,client,entry\n-1,17,0\n", 1, BatchCause::EpochNumber),
     (b"epoch,client,entry\n1,y,z\n", 1, BatchCause::ClientNumber),
+    (
+        b"epoch,client,entry\n1,18446744073709551616,0\n",
+        1,
+        BatchCause::ClientNumber,
+    ),
+    (b"epoch,client,entry\n1,+7,0\n", 1, BatchCause::ClientNumber),
+    (b"epoch,client,entry\n1,,0\n", 1, BatchCause::ClientNumber),
+    (
+        b"epoch,client,entry\n1,000000000000000000007,0\n",
+        1,
+        BatchCause::ClientNumber,
+    ),
+    (b"epoch,client,entry\n1, 7,0\n", 1, BatchCause::ClientNumber),
+    (
+        b"epoch,client,entry\n1,7\xff,0\n",
+        1,
+        BatchCause::ClientNumber,
+    ),
     (b"epoch,client,entry\n1,17,z\n", 1, BatchCause::EntryNumber),
     (b"epoch,client,entry\n1,17,\n", 1, BatchCause::EntryNumber),
     (b"epoch,client,entry\n1,17,4\n", 1, BatchCause::EntryRange),

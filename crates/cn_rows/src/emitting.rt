@@ -55,15 +55,6 @@ fn write_cut_anywhere(rt: HostRuntime) {
 }
 
 #[test]
-fn a_failed_flush_tells_the_whole_length(rt: HostRuntime) {
-    let written = TEXT.len() as u64;
-    assert_eq!(rt;
-        emitted(Narrow::unflushed(rt.alloc()), TEXT, TEXT.len()),
-        (Err(EmitFault { written }), true, 1)
-    );
-}
-
-#[test]
 fn an_empty_text_is_flushed(rt: HostRuntime) {
     let writer = Narrow::new(rt.alloc(), 0, Then::TakesNothing);
     assert_eq!(rt; emitted(writer, b"", 0), (Ok(()), true, 1));

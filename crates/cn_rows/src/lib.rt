@@ -27,8 +27,6 @@ mod replaying;
 #[cfg(test)]
 mod reports;
 #[cfg(test)]
-mod run_words;
-#[cfg(test)]
 mod schedules;
 #[cfg(test)]
 mod serving;

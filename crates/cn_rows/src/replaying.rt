@@ -1,7 +1,6 @@
 //! Schedules, replayed end to end by the library.
 
-use cn_renamer::{Net, ReplayFault, replay};
-use cn_spec::limits::MOST_CLIENTS;
+use cn_renamer::{Net, replay};
 use cn_wiring::Kind;
 use std::alloc::{AllocError, Global};
 use std::hash::RandomState;
@@ -262,31 +261,6 @@ pub(crate) fn joined(alloc: Global, parts: &[&[u8]]) -> Result<Vec<u8>, AllocErr
     Ok(text)
 }
 
-fn is_replayed(alloc: Global, state: RandomState, row: &Row) -> Option<bool> {
-    let (kind, width, schedule, wanted) = *row;
-    let schedule = joined(alloc, schedule).ok()?;
-    let wanted = joined(alloc, wanted).ok()?;
-    let written = replayed(alloc, state, kind, width, &schedule)?;
-    Some(written.as_slice() == wanted.as_slice())
-}
-
-/// The place of the first row that is replayed otherwise.
-fn wrong_row(alloc: Global, state: RandomState) -> Option<usize> {
-    for (place, row) in ROWS.iter().enumerate() {
-        if is_replayed(alloc, state, row) != Some(true) {
-            return Some(place);
-        }
-    }
-    None
-}
-
-#[test]
-fn rows_are_replayed(rt: HostRuntime) -> Result<(), Fail> {
-    let wrong = wrong_row(rt.alloc(), RandomState::new(&rt)?);
-    assert_eq!(rt; wrong, None);
-    Ok(())
-}
-
 /// How many clients come in each of three epochs.
 const COMERS: u32 = 12;
 
@@ -400,111 +374,5 @@ fn are_three_epochs_replayed(alloc: Global, state: RandomState) -> Option<bool> 
 fn a_hundred_commands_over_three_epochs(rt: HostRuntime) -> Result<(), Fail> {
     let are_told = are_three_epochs_replayed(rt.alloc(), RandomState::new(&rt)?);
     assert_eq!(rt; are_told, Some(true));
-    Ok(())
-}
-
-/// One client more than an epoch may have, all on one entry.
-fn a_client_too_many(alloc: Global) -> Option<Vec<u8>> {
-    let mut text = String::new(alloc);
-    text.push_str("op,client,wire\n").ok()?;
-    for client in 0..=MOST_CLIENTS {
-        writeln!(text, "enter,{client},0").ok()?;
-    }
-    Some(text.into_bytes())
-}
-
-const FULL: &[u8] = b"enter 262143 wire 0\n\
-      refused enter 262144 EpochFull\n\
-      end epoch 0 entered 262144 inside 262144\n";
-
-/// Whether the one client is refused, and no other.
-fn is_one_too_many(alloc: Global, state: RandomState) -> Option<bool> {
-    let schedule = a_client_too_many(alloc)?;
-    let text = replayed(alloc, state, Kind::Tree, 2, &schedule)?;
-    Some(text.ends_with(FULL))
-}
-
-#[test]
-fn a_full_epoch_refuses_a_client(rt: HostRuntime) -> Result<(), Fail> {
-    let is_told = is_one_too_many(rt.alloc(), RandomState::new(&rt)?);
-    assert_eq!(rt; is_told, Some(true));
-    Ok(())
-}
-
-/// The fault of a schedule that is refused, and how many bytes are written.
-fn refusal(alloc: Global, state: RandomState, input: &[u8]) -> Option<(ReplayFault, usize)> {
-    let net = Net::new(Kind::Bitonic, 2).ok()?;
-    let mut written = Vec::new(alloc);
-    match replay(alloc, input, &mut written, &net, state) {
-        Ok(()) => None,
-        Err(fault) => Some((fault, written.len())),
-    }
-}
-
-/// Schedules that are refused, each with its fault line.
-const REFUSED: [(&[u8], &str); 9] = [
-    (b"", "renamer: record 0: Header"),
-    (b"op,client,wire\nleave,7,0\n", "renamer: record 1: Op"),
-    (
-        b"op,client,wire\nturn,7,\n",
-        "renamer: record 1: ClientNumber",
-    ),
-    (
-        b"op,client,wire\nturn,,3\n",
-        "renamer: record 1: WireNumber",
-    ),
-    (
-        b"op,client,wire\nenter,,0\n",
-        "renamer: record 1: ClientNumber",
-    ),
-    (
-        b"op,client,wire\nenter,7,\n",
-        "renamer: record 1: WireNumber",
-    ),
-    (
-        b"op,client,wire\nstep,7,0\n",
-        "renamer: record 1: WireNumber",
-    ),
-    (
-        b"op,client,wire\nenter,7\n",
-        "renamer: record 1: FieldCount",
-    ),
-    (
-        b"op,client,wire\nenter,7,0\nstep,7,\nstep,+7,\n",
-        "renamer: record 3: ClientNumber",
-    ),
-];
-
-fn has_line(alloc: Global, fault: &ReplayFault, line: &str) -> bool {
-    match fault.to_string(alloc) {
-        Ok(text) => text.as_str() == line,
-        Err(_) => false,
-    }
-}
-
-/// Whether a schedule is refused with this line and status 1, and nothing is written.
-fn is_refused(alloc: Global, state: RandomState, input: &[u8], line: &str) -> bool {
-    match refusal(alloc, state, input) {
-        Some((fault, written)) => {
-            written == 0 && fault.status() == 1 && has_line(alloc, &fault, line)
-        }
-        None => false,
-    }
-}
-
-/// The first schedule that is not refused so.
-fn wrong_refusal(alloc: Global, state: RandomState) -> Option<&'static [u8]> {
-    for (input, line) in &REFUSED {
-        if !is_refused(alloc, state, input, line) {
-            return Some(*input);
-        }
-    }
-    None
-}
-
-#[test]
-fn schedule_refusals(rt: HostRuntime) -> Result<(), Fail> {
-    let wrong = wrong_refusal(rt.alloc(), RandomState::new(&rt)?);
-    assert_eq!(rt; wrong, None);
     Ok(())
 }

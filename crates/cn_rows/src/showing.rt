@@ -33,20 +33,3 @@ fn is_shown(alloc: Global, kind: Kind, width: u32, wanted: &[u8]) -> bool {
 fn show_tree(rt: HostRuntime) {
     assert!(rt; is_shown(rt.alloc(), Kind::Tree, 4, TREE_FOUR));
 }
-
-const WIDE_BEGINS: &[u8] = b"network bitonic width 64 balancers 672 depth 21\n\
-      wire 0 balancer 0\n";
-
-/// Whether the text begins and ends so, and how many lines it has.
-fn wide(alloc: Global) -> Option<(bool, bool, usize)> {
-    let text = shown(alloc, Kind::Bitonic, 64)?;
-    let begins = text.starts_with(WIDE_BEGINS);
-    let ends = text.ends_with(b"\nend wires 1408\n");
-    let lines = text.iter().filter(|byte| **byte == b'\n').count();
-    Some((begins, ends, lines))
-}
-
-#[test]
-fn a_wide_bitonic_network_is_shown(rt: HostRuntime) {
-    assert_eq!(rt; wide(rt.alloc()), Some((true, true, 1_410)));
-}
