@@ -36,6 +36,19 @@ impl Guarded {
         }
     }
 
+    fn deal(&mut self, wire: u32, output: u32, outs: [u32; 2]) -> Option<()> {
+        let [out0, out1] = outs;
+        let wires = self.yard.wires();
+        let are_wires = wire < wires && out0 < wires && out1 < wires;
+        let are_apart = wire != out0 && wire != out1 && out0 != out1;
+        if are_wires && are_apart && output < 2 {
+            self.yard.deal(wire, output, out0, out1);
+            Some(())
+        } else {
+            None
+        }
+    }
+
     fn release(&mut self, token: Token) -> Option<u64> {
         if self.yard.is_live(token) {
             Some(self.yard.release(token))
@@ -203,6 +216,24 @@ const LINKED: [Pair; 3] = [
 #[test]
 fn linked_yard(rt: HostRuntime) {
     assert_eq!(rt; linked(rt.alloc()), Some(LINKED));
+}
+
+/// Client 1 on wire 2, and three on wire 0, who are dealt to the wires 2 and 3, the first of them to wire 3.
+fn dealt(alloc: Global) -> Option<[Row; 3]> {
+    let mut yard = yard_of(alloc, 4)?;
+    yard.admit(1, 2)?;
+    yard.admit(2, 0)?;
+    yard.admit(3, 0)?;
+    yard.admit(4, 0)?;
+    yard.deal(0, 1, [2, 3])?;
+    Some([yard.row(0), yard.row(2), yard.row(3)])
+}
+
+const DEALT: [Row; 3] = [NOBODY, [Some(1), Some(3), None], [Some(2), Some(4), None]];
+
+#[test]
+fn bulk_pass(rt: HostRuntime) {
+    assert_eq!(rt; dealt(rt.alloc()), Some(DEALT));
 }
 
 /// The places of two tokens on one wire, how many stand there, who is released, and whether it stands there still.

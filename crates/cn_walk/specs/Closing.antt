@@ -3,8 +3,6 @@ use Rattle.std.specs.Prelude.{◌≡◌, ℕ, ◌+◌, ◌<◌, ◌≤◌, List,
 use mathlib.Core.Option.{some}
 use lib.ListN.{get_elem?}
 use Rattle.atomic_table.specs.Table.{State}
-use Rattle.cn_wiring.specs.declared.end.End.{End}
-use Rattle.cn_wiring.specs.Table.{Stands, Table}
 use Rattle.cn_yard.specs.Lists.{tokens_in}
 use Rattle.cn_walk.specs.declared.floor.CloseFault.{CloseFault}
 use Rattle.cn_walk.specs.declared.floor.CloseFault.TheVariants.{StillWalking, Memory, LanesMissing}
@@ -14,7 +12,7 @@ use Rattle.cn_walk.specs.Ends.{IsQuiet}
 use Rattle.cn_walk.specs.Lane.{Home, LaneValue}
 use Rattle.cn_walk.specs.Rule.{IsKept}
 use Rattle.cn_walk.specs.Views.{base, inside_in}
-use Rattle.cn_walk.specs.Words.{clients_in, count_in, word_count}
+use Rattle.cn_walk.specs.Words.{clients_in, word_count}
 
 -- at a moment of the floor, at which the rule holds, these are the words, and one lane has this view
 pub record IsMoment (start : Start) (v : View) (words : List ℕ) : Type 0 where

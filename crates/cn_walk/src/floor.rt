@@ -455,9 +455,21 @@ impl<'a> Floor<'a> {
         if !lane.yard.is_empty() {
             return Err(CloseFault::StillWalking(self, lane));
         }
-        let Ok(room) = Vec::with_capacity(self.alloc, self.counters.len()) else {
-            return Err(CloseFault::Memory(self, lane));
-        };
+        match Vec::with_capacity(self.alloc, self.counters.len()) {
+            Ok(room) => self.end(lane, room),
+            Err(_) => Err(CloseFault::Memory(self, lane)),
+        }
+    }
+
+    /// Ends the floor by a lane with no token, with room for its words.
+    fn end(self, lane: Lane, room: Vec<u64>) -> Result<Remains<'a>, CloseFault<'a>>
+        requires own { lane.home ≡ self }
+        requires out { tokens_in lane.yard.lists ≡ 0 }
+        requires room { (room.items ≡ []) × (word_count self.start.network.table ≤ vec_capacity room) }
+        ensures ended { IfOk result (λ r. (r.ended.start ≡ self.entry.start) × (r.ended.did ≡ lane.view)) }
+        ensures remains { IfOk result AreRemains }
+        ensures refused { IfErr result (λ f. IsCloseRefused self.entry lane f) }
+    {
         let told = Snapshot::of(&lane);
         let Floor {
             alloc,

@@ -48,7 +48,7 @@ impl Gathering {
         }
     }
 
-    // Ends the latest epoch, if it has clients, and opens another.
+    /// Ends the latest epoch, if it has clients, and opens another.
     fn turn(&mut self, alloc: Global, number: u64) -> Result<(), AllocError>
         ensures { OnOk result ((self.new.over.items ≡ over_after self.old) × (self.new.latest.number ≡ number)
             × (self.new.latest.clients.items ≡ []) × (self.new.standing.keys ≡ [])) }
@@ -67,7 +67,7 @@ impl Gathering {
         Ok(())
     }
 
-    // Comes to this epoch.
+    /// Comes to this epoch.
     fn reach(&mut self, alloc: Global, epoch: u64) -> Result<(), AllocError>
         requires { self.old.latest.number ≤ epoch }
         ensures holds { OnOk result ((self.new.latest.number ≡ epoch) × ((before : List Arrival) → Holds self.old before → Holds self.new before)) }
@@ -83,8 +83,8 @@ impl Gathering {
         }
     }
 
-    // Takes a client of the latest epoch, which is record `at`, where it has no cause. One look-up finds whether it stands
-    // there and puts it in.
+    /// Takes a client of the latest epoch, which is record `at`, where it has no cause. One look-up finds whether it stands
+    /// there and puts it in.
     fn join(&mut self, at: u64, client: Client) -> Result<(), BatchCause>
         ensures ok { OnOk result ((joining_cause at self.old client ≡ None) × (self.new.over ≡ self.old.over)
             × (self.new.latest.number ≡ self.old.latest.number) × (self.new.latest.clients.items ≡ self.old.latest.clients.items ++ client ∷ [])

@@ -78,7 +78,7 @@ impl Granting {
         }
     }
 
-    // Ends the latest epoch, and tells it where it has grants and no gap was found.
+    /// Ends the latest epoch, and tells it where it has grants and no gap was found.
     fn end(&mut self, alloc: Global, width: u32) -> Result<(), AllocError>
         requires width { IsWidth width }
         requires few { self.old.count ≤ MOST_RECORDS }
@@ -99,7 +99,7 @@ impl Granting {
         Ok(())
     }
 
-    // Comes to this epoch.
+    /// Comes to this epoch.
     fn reach(&mut self, alloc: Global, width: u32, epoch: u64) -> Result<(), AllocError>
         requires width { IsWidth width }
         requires few { self.old.count ≤ MOST_RECORDS }
@@ -123,7 +123,7 @@ impl Granting {
         Ok(())
     }
 
-    // Takes a grant of the latest epoch, where it has no cause.
+    /// Takes a grant of the latest epoch, where it has no cause.
     fn join(&mut self, grant: Granted) -> Result<(), GrantCause>
         requires { self.old.count < MOST_RECORDS }
         ensures ok { OnOk result ((joining_cause self.old grant ≡ None) × (self.new.over ≡ self.old.over) × (self.new.gap ≡ self.old.gap) × (self.new.latest ≡ self.old.latest)

@@ -13,7 +13,7 @@ fn are_digits(field: &[u8]) -> bool
     field.iter().all(|byte| byte.is_ascii_digit())
 }
 
-// The value of a text of digits, if there is one and it is below 2 ^ 64.
+/// The value of a text of digits, if there is one and it is below 2 ^ 64.
 fn value_of(digits: &[u8]) -> Option<u64>
     requires { list_all is_ascii_digit digits.now ≡ true }
     ensures { result ≡ value_in digits.now }

@@ -48,7 +48,7 @@ fn put_epochs(text: &mut String, epochs: &[TightEpoch]) -> Result<(), AllocError
     Ok(())
 }
 
-// So wide that no number of epochs is too many.
+/// How many clients the epochs have in all, in 128 bits, which no number of epochs exceeds.
 fn count_clients(epochs: &[TightEpoch]) -> u128
     ensures { result ≡ sum_by (λ e. e.clients) epochs.now }
 {

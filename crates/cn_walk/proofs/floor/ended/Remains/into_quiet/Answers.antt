@@ -1,7 +1,6 @@
-use Rattle.std.proofs.Common.{rules, ◌≡◌, List, ℕ, ap, subst, sym, ◌∙◌}
+use Rattle.std.proofs.Common.{rules, ◌≡◌, List, ℕ, subst}
 use Rattle.std.specs.Prelude.{IfSome}
 use Rattle.cn_walk.specs.Carried.{WordsValue}
-use Rattle.cn_walk.specs.Ends.{QuietValue}
 use Rattle.cn_walk.specs.Words.{IsDifference, NoneWent}
 use Rattle.cn_walk.proofs.floor.ended.Remains.into_quiet.Goals as goal
 

@@ -1,4 +1,4 @@
-use Rattle.std.proofs.Common.{◌≡◌, sym, ap, ◌∙◌, subst}
+use Rattle.std.proofs.Common.{sym, ap, ◌∙◌, subst}
 use Rattle.cn_walk.specs.Carried.{IsClosed, clients_of}
 use Rattle.cn_walk.proofs.Rises.{none-went}
 use Rattle.cn_walk.proofs.floor.words.Words.risen_to.Goals as goal

@@ -10,7 +10,7 @@ use Rattle.cn_walk.specs.Views.{base, inside_in}
 use Rattle.cn_walk.specs.Words.{clients_in}
 use Rattle.cn_walk.proofs.Closings.{inside-yard}
 use Rattle.cn_walk.proofs.Rises.{all-empty}
-use Rattle.cn_walk.proofs.floor.Floor.close_for.Goals as goal
+use Rattle.cn_walk.proofs.floor.Floor.end.Goals as goal
 
 pub invariant_of-ended : goal.invariant_of-ended
 invariant_of-ended c =
