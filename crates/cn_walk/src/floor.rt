@@ -431,10 +431,7 @@ impl<'a> Floor<'a> {
         ensures out { IfOk result (λ q. tokens_in lane.yard.lists ≡ 0) }
         ensures refused { IfErr result (λ f. IsCloseRefused self.entry lane f) }
     {
-        match self.close_for(lane) {
-            Ok(remains) => Ok(remains.into_quiet()),
-            Err(fault) => Err(fault),
-        }
+        Ok(self.close_for(lane)?.into_quiet())
     }
 
     /// Gives up the floor, for the words with which it began.
@@ -482,8 +479,7 @@ impl<'a> Floor<'a> {
             seat,
             yard,
             grants,
-            quota: _quota,
-            room: _room,
+            ..
         } = lane;
         let words = counters.close(seat, room);
         let clients = clients_of(network, words.as_slice());
@@ -496,15 +492,10 @@ impl<'a> Floor<'a> {
                 grants,
             });
         }
-        let words = Words {
-            network,
-            words,
-            clients,
-        };
         let ended = Ended {
             alloc,
             lane: told,
-            words,
+            words: Words::closed(network, words, clients),
             grants,
         };
         Ok(Remains {

@@ -77,10 +77,8 @@ fn take_arrival<R: Read>(
         return Ok(false);
     }
     let arrival = arrival_of(row, heading, entries)?;
-    match gathering.take(alloc, entries, at, arrival) {
-        Ok(()) => Ok(true),
-        Err(cause) => Err(cause),
-    }
+    gathering.take(alloc, entries, at, arrival)?;
+    Ok(true)
 }
 
 /// Takes the header and the arrivals.

@@ -77,10 +77,8 @@ impl Gathering {
         if self.latest.number == epoch {
             return Ok(());
         }
-        match self.turn(alloc, epoch) {
-            Ok(()) => Ok(()),
-            Err(error) => Err(error),
-        }
+        self.turn(alloc, epoch)?;
+        Ok(())
     }
 
     /// Takes a client of the latest epoch, which is record `at`, where it has no cause. One look-up finds whether it stands
@@ -147,9 +145,7 @@ impl Gathering {
         ensures all { IfOk result (λ epochs. clients_of epochs.items ≡ gathered self) }
     {
         let mut gathering = self;
-        match gathering.turn(alloc, 0) {
-            Ok(()) => Ok(gathering.over),
-            Err(error) => Err(error),
-        }
+        gathering.turn(alloc, 0)?;
+        Ok(gathering.over)
     }
 }

@@ -65,10 +65,8 @@ fn take_grant<R: Read>(
     let Some(grant) = granted_of(row) else {
         return Err(GrantCause::Form);
     };
-    match granting.take(alloc, width, at, grant) {
-        Ok(()) => Ok(true),
-        Err(cause) => Err(cause),
-    }
+    granting.take(alloc, width, at, grant)?;
+    Ok(true)
 }
 
 /// Takes the header and the grants.

@@ -49,6 +49,19 @@ impl<'a> Words<'a> {
         })
     }
 
+    /// Those of a floor that is closed, with the number of all their clients.
+    pub(super) fn closed(network: &'a Counting, words: Vec<u64>, clients: u64) -> Words<'a>
+        requires closed { IsClosed (record { network = network.now; words = words.items }) }
+        requires clients { clients ≡ clients_of (record { network = network.now; words = words.items }) }
+        ensures { result ≡ record { network = network.now; words = words.items } }
+    {
+        Words {
+            network,
+            words,
+            clients,
+        }
+    }
+
     /// The same words once more.
     ///
     /// # Errors

@@ -12,9 +12,11 @@ returns-in_err-arrival-clause-refused g c =
     rw (told.1, told.2) (λ text before arrivals read gathered size.
     inl (fields_of c.next_row.new.row, rw c.if-not-branch.false at (c.in_ok-next_row.ensures.reads text before read), rw (← c.arrival_of.ensures, c.in_err-arrival.was) refl))
 
-pub returns-in-Err-clause-refused : goal.returns-in-Err-clause-refused
-returns-in-Err-clause-refused g c = λ text before arrivals read gathered size.
-    elim (c.in-Err.ensures.err arrivals gathered size) [
+pub returns-in_err-take-clause-refused : goal.returns-in_err-take-clause-refused
+returns-in_err-take-clause-refused g c =
+    let told = err_from_is_err_and c.from_residual-in_err-take.result c.from_residual-in_err-take.ensures.1 in
+    rw (told.1, told.2) (λ text before arrivals read gathered size.
+    elim (c.in_err-take.ensures.err arrivals gathered size) [
       | inl e ↦ inl (fields_of c.next_row.new.row, rw c.if-not-branch.false at (c.in_ok-next_row.ensures.reads text before read), rw (← c.in_ok-arrival.ensures) e)
       | inr e ↦ inr (inr e)
-    ]
+    ])

@@ -2,7 +2,7 @@ use Rattle.std.proofs.Common.{◌≡◌, ℕ, ◌+◌, ◌-◌, List, [], length
 use Rattle.cn_yard.specs.Lists.{tokens_in}
 use Rattle.cn_walk.specs.declared.view.Start.{Start}
 use Rattle.cn_walk.specs.declared.view.View.{View}
-use Rattle.cn_walk.specs.Carried.{IsClosed, clients_of, words_before}
+use Rattle.cn_walk.specs.Carried.{IsClosed, WordsValue, words_before}
 use Rattle.cn_walk.specs.Closing.{IsMissing}
 use Rattle.cn_walk.specs.Ends.{IsQuiet}
 use Rattle.cn_walk.specs.Lane.{Home, LaneValue}
@@ -28,14 +28,15 @@ invariant_of-ended c =
     let granted : c.len-granted.result ≡ length v.grants = search rules in
     let came : clients_in start.network.table ws ≡ base start + length v.grants = omega (arith, e.granted, c.self.invariant.carried, c.if-entered-granted.false) in
     let quiet : IsQuiet start v ws = e.quiet out came in
+    let after : c.closed.result.words ≡ ws = ap (λ (w : WordsValue). w.words) c.closed.ensures in
     record {
-      quiet = subst (λ (z : Start × View). IsQuiet z.0 z.1 ws) (λ i. (about i, view i)) quiet;
-      network = network ∙ ap (λ (s : Start). s.network) about;
+      quiet = subst (λ (z : Start × View × List ℕ). IsQuiet z.0 z.1 z.2) (λ i. (about i, view i, sym after i)) quiet;
+      network = ap (λ (w : WordsValue). w.network) c.closed.ensures ∙ network ∙ ap (λ (s : Start). s.network) about;
       grants = c.lane.invariant.grants ∙ ap (λ (x : View). x.grants) view;
     }
 
-pub invariant_of-words : goal.invariant_of-words
-invariant_of-words c =
+pub closed-requires-clause-closed : goal.closed-requires-clause-closed
+closed-requires-clause-closed c =
     let start : Start = c.self.inside.counters.start in
     let v : View = c.lane.inside.seat.me.0 in
     let ws : List ℕ = c.close-words.result.items in
@@ -53,11 +54,12 @@ invariant_of-words c =
       carried = quiet.closed;
       few = omega (arith, e.few, began.few, began.quota);
     } in
-    let same : record { network = start.network; words = ws } ≡ record { network = c.self.inside.network.now; words = ws } = λ i. record { network = sym network i; words = ws } in
-    record {
-      closed = subst IsClosed same closed;
-      clients = clients ∙ ap clients_of same;
-    }
+    subst IsClosed (λ i. record { network = sym network i; words = ws }) closed
+
+pub closed-requires-clause-clients : goal.closed-requires-clause-clients
+closed-requires-clause-clients c =
+    let ws : List ℕ = c.close-words.result.items in
+    c.clients_of-clients.ensures ∙ (λ i. clients_in c.self.inside.network.now.table (c.as_slice.ensures.value i))
 
 pub returns-clause-remains : goal.returns-clause-remains
 returns-clause-remains c =
