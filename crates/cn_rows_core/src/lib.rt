@@ -1,5 +1,5 @@
 //! Tests of the core and of epochs: worked rows by single calls and by runs, lists of some thousand clients, an epoch at
-//! its limit, one that is walked out in reverse, and whole batches, by their shares. They show what no clause can name.
+//! its limit, and one that is walked out in reverse. They show what no clause can name.
 #![tactic(auto)]
 
 #[cfg(test)]
@@ -16,5 +16,3 @@ mod overtaking;
 mod reverse_walkout;
 #[cfg(test)]
 mod two_wide;
-#[cfg(test)]
-mod walking;

@@ -7,6 +7,7 @@ use crate::walks::{close, enter, open};
 use cn_spec::limits::{MOST_CLIENTS, MOST_ROOM};
 use cn_tree::tree;
 use cn_walk::{Floor, Lane, Quiet};
+use cn_wiring::Counting;
 use std::alloc::Global;
 
 /// Lets a client in by entry 0, and walks it out.
@@ -84,18 +85,35 @@ fn rooms_of(floor: &Floor<'_>, lane: &mut Lane, rooms: &[u64]) -> Option<[u64; 3
     }
 }
 
+fn is_left_in_order(floor: Floor<'_>, lane: Lane) -> bool
+    requires { lane.home ≡ floor }
+{
+    match close(floor, lane) {
+        Some(quiet) => are_in_order(&quiet),
+        None => false,
+    }
+}
+
 fn walked(floor: Floor<'_>, mut lane: Lane, rooms: &[u64]) -> Option<Outcome>
     requires { lane.home ≡ floor }
 {
-    let told = rooms_of(&floor, &mut lane, rooms)?;
-    let quiet = close(floor, lane)?;
-    Some((told, are_in_order(&quiet)))
+    let told = rooms_of(&floor, &mut lane, rooms);
+    let is_in_order = is_left_in_order(floor, lane);
+    Some((told?, is_in_order))
+}
+
+fn on_network(alloc: Global, network: &Counting, rooms: &[u64]) -> Option<Outcome> {
+    match open(alloc, network, MOST_CLIENTS) {
+        Some((floor, lane)) => walked(floor, lane, rooms),
+        None => None,
+    }
 }
 
 fn full_floor(alloc: Global, rooms: &[u64]) -> Option<Outcome> {
-    let network = tree(alloc, 64).ok()?;
-    let (floor, lane) = open(alloc, &network, MOST_CLIENTS)?;
-    walked(floor, lane, rooms)
+    match tree(alloc, 64) {
+        Ok(network) => on_network(alloc, &network, rooms),
+        Err(_) => None,
+    }
 }
 
 /// The rooms that are taken for a lane, and how much it has before, after, and after the walk.

@@ -42,21 +42,22 @@ fn open_after<'a>(
     }
 }
 
+/// How many entered, and both answers.
+type Walk = (u64, [Option<Moved>; 2]);
+
 /// Client 7 comes in by entry 0, and goes out.
-fn seven(floor: Floor<'_>, mut lane: Lane) -> Option<(u64, [Option<Moved>; 2], Quiet<'_>)>
-    requires { lane.home ≡ floor }
+fn walk_seven(floor: &Floor<'_>, lane: &mut Lane) -> Option<Walk>
+    requires { lane.old.home ≡ floor.now }
+    ensures { lane.new.home ≡ lane.old.home }
 {
-    let token = enter(&floor, &mut lane, 7, 0).ok()?;
-    let moves = [
-        step(&floor, &mut lane, token),
-        step(&floor, &mut lane, token),
-    ];
-    let entered = entered(&floor, &mut lane);
-    Some((entered, moves, close(floor, lane)?))
+    let token = enter(floor, lane, 7, 0).ok()?;
+    let moves = [step(floor, lane, token), step(floor, lane, token)];
+    Some((entered(floor, lane), moves))
 }
 
-/// What a closed floor tells, where so many entered and these were the answers.
-fn told_by(quiet: &Quiet<'_>, entered: u64, moves: [Option<Moved>; 2]) -> Option<Told> {
+/// What a closed floor tells after this walk.
+fn told_by(quiet: &Quiet<'_>, walk: Walk) -> Option<Told> {
+    let (entered, moves) = walk;
     let [first, second] = quiet.counts() else {
         return None;
     };
@@ -72,21 +73,52 @@ fn told_by(quiet: &Quiet<'_>, entered: u64, moves: [Option<Moved>; 2]) -> Option
     })
 }
 
-/// What a floor tells on which it did, and its words.
-fn walked<'a>(alloc: Global, words: &Words<'a>) -> Option<(Told, Words<'a>)> {
-    let (floor, lane) = open_after(alloc, words, 1).ok()?;
-    let (entered, moves, quiet) = seven(floor, lane)?;
-    let told = told_by(&quiet, entered, moves)?;
+/// What a floor tells on which it walked, and its words.
+fn seven<'a>(floor: Floor<'a>, mut lane: Lane) -> Option<(Told, Words<'a>)>
+    requires { lane.home ≡ floor }
+{
+    let walk = walk_seven(&floor, &mut lane);
+    let quiet = close(floor, lane)?;
+    let told = told_by(&quiet, walk?)?;
     Some((told, quiet.into_words()))
 }
 
-/// A floor from words of 0, and another that goes on from it.
+/// The same of a floor that goes on from words.
+fn walked<'a>(alloc: Global, words: &Words<'a>) -> Option<(Told, Words<'a>)> {
+    match open_after(alloc, words, 1) {
+        Ok((floor, lane)) => seven(floor, lane),
+        Err(_) => None,
+    }
+}
+
+/// A floor from these words, and another that goes on from it.
+fn twice_from(alloc: Global, words: &Words<'_>) -> Option<[Told; 2]> {
+    match walked(alloc, words) {
+        Some((first, words)) => Some([first, next(alloc, &words)?]),
+        None => None,
+    }
+}
+
+fn next(alloc: Global, words: &Words<'_>) -> Option<Told> {
+    match walked(alloc, words) {
+        Some((told, _)) => Some(told),
+        None => None,
+    }
+}
+
+/// A floor from words of 0, and another.
 fn twice(alloc: Global) -> Option<[Told; 2]> {
-    let network = bitonic(alloc, 2).ok()?;
-    let zero = Words::zero(alloc, &network).ok()?;
-    let (first, words) = walked(alloc, &zero)?;
-    let (second, _) = walked(alloc, &words)?;
-    Some([first, second])
+    match bitonic(alloc, 2) {
+        Ok(network) => twice_on(alloc, &network),
+        Err(_) => None,
+    }
+}
+
+fn twice_on(alloc: Global, network: &Counting) -> Option<[Told; 2]> {
+    match Words::zero(alloc, network) {
+        Ok(zero) => twice_from(alloc, &zero),
+        Err(_) => None,
+    }
 }
 
 fn on(number: u64, wire: u32) -> Option<Moved> {
@@ -128,9 +160,17 @@ fn carried_twice(rt: HostRuntime) -> Result<(), Fail> {
 
 /// A floor of more clients than an epoch takes.
 fn wide_quota(alloc: Global) -> Option<Option<OpenFault>> {
-    let network = bitonic(alloc, 2).ok()?;
-    let zero = Words::zero(alloc, &network).ok()?;
-    open_after(alloc, &zero, MOST_CLIENTS + 1).err()
+    match bitonic(alloc, 2) {
+        Ok(network) => wide_quota_on(alloc, &network),
+        Err(_) => None,
+    }
+}
+
+fn wide_quota_on(alloc: Global, network: &Counting) -> Option<Option<OpenFault>> {
+    match Words::zero(alloc, network) {
+        Ok(zero) => open_after(alloc, &zero, MOST_CLIENTS + 1).err(),
+        Err(_) => None,
+    }
 }
 
 #[test]

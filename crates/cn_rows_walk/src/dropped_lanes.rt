@@ -8,6 +8,7 @@ use crate::walks::{enter, join, open, split};
 use cn_bitonic::bitonic;
 use cn_core::Moved;
 use cn_walk::{CloseFault, Floor, Grant, Lane, LaneFault, Quiet};
+use cn_wiring::Counting;
 use std::alloc::Global;
 
 /// The four steps of 7 and 8, who come in by entry 0 of bitonic 2, each in a lane of its own, and walk out one after
@@ -201,11 +202,26 @@ fn drop_lanes(floor: &Floor<'_>, lane: Lane, dropped: Dropped) -> Option<(Steps,
 }
 
 /// The steps of a story, and what a close tells then.
-fn told(alloc: Global, dropped: Dropped) -> Option<(Steps, End)> {
-    let network = bitonic(alloc, 2).ok()?;
-    let (floor, lane) = open(alloc, &network, 3)?;
+fn told_by(floor: Floor<'_>, lane: Lane, dropped: Dropped) -> Option<(Steps, End)>
+    requires { lane.home ≡ floor }
+{
     let (steps, lane) = drop_lanes(&floor, lane, dropped)?;
-    Some((steps, closed(floor, lane)?))
+    let end = closed(floor, lane)?;
+    Some((steps, end))
+}
+
+fn told_on(alloc: Global, network: &Counting, dropped: Dropped) -> Option<(Steps, End)> {
+    match open(alloc, network, 3) {
+        Some((floor, lane)) => told_by(floor, lane, dropped),
+        None => None,
+    }
+}
+
+fn told(alloc: Global, dropped: Dropped) -> Option<(Steps, End)> {
+    match bitonic(alloc, 2) {
+        Ok(network) => told_on(alloc, &network, dropped),
+        Err(_) => None,
+    }
 }
 
 const STORIES: [(Dropped, (Steps, End)); 4] = [

@@ -126,8 +126,20 @@ fn three_clients<R: Threads + Wait + Sync>(
     workers: u32,
     gate: &Tally,
 ) -> Option<[bool; 2]> {
-    let network = bitonic(alloc, 4).ok()?;
-    match run(rt, alloc, &network, &THREE_CLIENTS, workers, 1, gate) {
+    match bitonic(alloc, 4) {
+        Ok(network) => three_on(rt, alloc, &network, workers, gate),
+        Err(_) => None,
+    }
+}
+
+fn three_on<R: Threads + Wait + Sync>(
+    rt: &R,
+    alloc: Global,
+    network: &Counting,
+    workers: u32,
+    gate: &Tally,
+) -> Option<[bool; 2]> {
+    match run(rt, alloc, network, &THREE_CLIENTS, workers, 1, gate) {
         Ok(quiet) => are_named(&quiet, &[1, 1, 1, 0], &[5, 6, 7]),
         Err(_) => None,
     }
@@ -224,10 +236,21 @@ fn is_full<R: Threads + Wait + Sync>(
     clients: &[Client],
     row: &Full,
 ) -> Option<[bool; 2]> {
-    let (width, entered, counts) = *row;
-    let network = tree(alloc, width).ok()?;
-    match run(rt, alloc, &network, clients, 1, 1, &OpenGate) {
-        Ok(quiet) => Some(are_in_order(&quiet, counts, entered)),
+    match tree(alloc, row.0) {
+        Ok(network) => is_full_on(rt, alloc, &network, clients, row),
+        Err(_) => None,
+    }
+}
+
+fn is_full_on<R: Threads + Wait + Sync>(
+    rt: &R,
+    alloc: Global,
+    network: &Counting,
+    clients: &[Client],
+    row: &Full,
+) -> Option<[bool; 2]> {
+    match run(rt, alloc, network, clients, 1, 1, &OpenGate) {
+        Ok(quiet) => Some(are_in_order(&quiet, row.2, row.1)),
         Err(_) => None,
     }
 }

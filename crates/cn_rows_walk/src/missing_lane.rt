@@ -46,7 +46,9 @@ fn not_joined(floor: &Floor<'_>, first: Lane, second: Lane) -> Option<(JoinFault
 }
 
 /// What a lane that lacks a client's grant is told when the floor is closed.
-fn missed(floor: Floor<'_>, lane: Lane) -> Option<(u64, u64, Grant)>
+type Missed = (u64, u64, Grant);
+
+fn missed(floor: Floor<'_>, lane: Lane) -> Option<Missed>
     requires { lane.home ≡ floor }
 {
     let Err(
@@ -63,6 +65,16 @@ fn missed(floor: Floor<'_>, lane: Lane) -> Option<(u64, u64, Grant)>
         return None;
     };
     Some((entered, granted, *grant))
+}
+
+/// The second lane is dropped, since it cannot be joined, and its client is missed.
+fn not_joined_and_missed(floor: Floor<'_>, first: Lane, second: Lane) -> Option<(JoinFault, Missed)>
+    requires { (first.home ≡ floor) × (second.home ≡ floor) }
+{
+    match not_joined(&floor, first, second) {
+        Some((fault, first)) => Some((fault, missed(floor, first)?)),
+        None => None,
+    }
 }
 
 /// What the first lane is told while both have a client inside.
@@ -95,9 +107,9 @@ fn one_walks_out(
 ) -> Option<Outcome>
     requires { (first.home ≡ floor) × (second.home ≡ floor) }
 {
-    let (told, refused, moves) = told(&floor, &mut first, &mut second)?;
-    let (joined, first) = not_joined(&floor, first, second)?;
-    let (entered, granted, grant) = missed(floor, first)?;
+    let told = told(&floor, &mut first, &mut second);
+    let (joined, (entered, granted, grant)) = not_joined_and_missed(floor, first, second)?;
+    let (told, refused, moves) = told?;
     Some(Outcome {
         split,
         told,

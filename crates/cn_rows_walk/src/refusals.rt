@@ -64,7 +64,9 @@ fn not_closed<'a>(floor: Floor<'a>, lane: Lane) -> Option<(Floor<'a>, Lane)>
 }
 
 /// The counts, the passes and the number of grants of a closed floor.
-fn left_by(quiet: &Quiet<'_>) -> Option<([u64; 2], u64, usize)> {
+type Left = ([u64; 2], u64, usize);
+
+fn left_by(quiet: &Quiet<'_>) -> Option<Left> {
     let [first, second] = quiet.counts() else {
         return None;
     };
@@ -100,15 +102,35 @@ fn let_out(floor: &Floor<'_>, lane: &mut Lane, token: Token) -> (Told, [Option<M
     (still, [step(floor, lane, token), step(floor, lane, token)])
 }
 
+/// What is told after a close that is refused: what the lane tells then, the last two steps, and what the floor leaves.
+type Ended = (Told, [Option<Moved>; 2], Left);
+
+/// The token walks out, and the floor is closed.
+fn ended(floor: Floor<'_>, mut lane: Lane, token: Token) -> Option<Ended>
+    requires { lane.home ≡ floor }
+{
+    let (still, moves) = let_out(&floor, &mut lane, token);
+    match close(floor, lane) {
+        Some(quiet) => Some((still, moves, left_by(&quiet)?)),
+        None => None,
+    }
+}
+
+fn refused_and_ended(floor: Floor<'_>, lane: Lane, token: Token) -> Option<Ended>
+    requires { lane.home ≡ floor }
+{
+    match not_closed(floor, lane) {
+        Some((floor, lane)) => ended(floor, lane, token),
+        None => None,
+    }
+}
+
 /// A client comes in, and is alone.
 fn walked(floor: Floor<'_>, mut lane: Lane) -> Option<Outcome>
     requires { lane.home ≡ floor }
 {
     let ([before, entered], token, refused) = let_in(&floor, &mut lane)?;
-    let (floor, mut lane) = not_closed(floor, lane)?;
-    let (still, moves) = let_out(&floor, &mut lane, token);
-    let quiet = close(floor, lane)?;
-    let (counts, passes, grants) = left_by(&quiet)?;
+    let (still, moves, (counts, passes, grants)) = refused_and_ended(floor, lane, token)?;
     Some(Outcome {
         before,
         entered,

@@ -3,7 +3,7 @@
 use cn_bitonic::bitonic;
 use cn_core::Client;
 use cn_spec::limits::MOST_CARRIED;
-use cn_walk::{OpenGate, RunFault, Runner};
+use cn_walk::{OpenGate, Outcome, RunFault, Runner};
 use std::alloc::Global;
 use std::sync::Wait;
 use std::thread::Threads;
@@ -11,6 +11,16 @@ use std::thread::Threads;
 /// What is told of an epoch on bitonic 2: how many left by each exit, and how many came by the words with which the next
 /// begins.
 type Told = ([u64; 2], u64);
+
+/// How many left by each exit, where client 7 alone has a name.
+fn counts_of(ended: Result<Outcome, RunFault>) -> Option<[u64; 2]> {
+    let outcome = ended.ok()?;
+    let [first, second] = outcome.counts.as_slice() else {
+        return None;
+    };
+    let counts = [*first, *second];
+    (outcome.holders.as_slice() == [7].as_slice()).then_some(counts)
+}
 
 /// An epoch of client 7 alone, who gets its only name.
 fn next<'a, R: Threads + Wait + Sync>(
@@ -22,16 +32,8 @@ fn next<'a, R: Threads + Wait + Sync>(
         return None;
     }
     let clients = [Client { id: 7, entry: 0 }];
-    let (runner, Ok(outcome)) = runner.run(rt, alloc, &clients, 1, 1, &OpenGate) else {
-        return None;
-    };
-    let [first, second] = outcome.counts.as_slice() else {
-        return None;
-    };
-    let counts = [*first, *second];
-    if outcome.holders.as_slice() != [7].as_slice() {
-        return None;
-    }
+    let (runner, ended) = runner.run(rt, alloc, &clients, 1, 1, &OpenGate);
+    let counts = counts_of(ended)?;
     let came = runner.words().clients();
     Some(((counts, came), runner))
 }

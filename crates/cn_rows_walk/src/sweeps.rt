@@ -7,6 +7,7 @@ use crate::walks::{close, enter, open};
 use cn_bitonic::bitonic;
 use cn_core::Moved;
 use cn_walk::{Floor, Grant, Lane, Quiet, Sweep};
+use cn_wiring::Counting;
 use std::alloc::Global;
 use std::test::Fail;
 
@@ -78,13 +79,12 @@ fn are_left(quiet: &Quiet<'_>) -> [bool; 2] {
     ]
 }
 
-/// What a closed floor tells, where these were the answers.
-fn told_by(quiet: &Quiet<'_>, step: Option<Moved>, sweeps: [Option<Sweep>; 3]) -> Told {
-    let are_left = are_left(quiet);
-    Told {
-        step,
-        sweeps,
-        are_left,
+fn ended(floor: Floor<'_>, lane: Lane) -> Option<[bool; 2]>
+    requires { lane.home ≡ floor }
+{
+    match close(floor, lane) {
+        Some(quiet) => Some(are_left(&quiet)),
+        None => None,
     }
 }
 
@@ -92,21 +92,33 @@ fn told_by(quiet: &Quiet<'_>, step: Option<Moved>, sweeps: [Option<Sweep>; 3]) -
 fn swept(floor: Floor<'_>, mut lane: Lane) -> Option<Told>
     requires { lane.home ≡ floor }
 {
-    let step = come_in(&floor, &mut lane)?;
+    let step = come_in(&floor, &mut lane);
     let sweeps = [
         sweep(&floor, &mut lane, 0),
         sweep(&floor, &mut lane, 2),
         sweep(&floor, &mut lane, 3),
     ];
-    let quiet = close(floor, lane)?;
-    Some(told_by(&quiet, step, sweeps))
+    let are_left = ended(floor, lane)?;
+    Some(Told {
+        step: step?,
+        sweeps,
+        are_left,
+    })
 }
 
 /// The same, on a floor of its own.
 fn four_clients(alloc: Global) -> Option<Told> {
-    let network = bitonic(alloc, 2).ok()?;
-    let (floor, lane) = open(alloc, &network, 4)?;
-    swept(floor, lane)
+    match bitonic(alloc, 2) {
+        Ok(network) => four_on(alloc, &network),
+        Err(_) => None,
+    }
+}
+
+fn four_on(alloc: Global, network: &Counting) -> Option<Told> {
+    match open(alloc, network, 4) {
+        Some((floor, lane)) => swept(floor, lane),
+        None => None,
+    }
 }
 
 #[test]

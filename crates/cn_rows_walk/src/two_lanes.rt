@@ -161,13 +161,31 @@ fn told(floor: &Floor<'_>, first: &mut Lane, second: &mut Lane) -> Option<([u64;
 }
 
 /// The lanes become one again, and the floor is closed.
+fn ended(floor: Floor<'_>, first: Lane, second: Lane) -> Option<[bool; 3]>
+    requires { (first.home ≡ floor) × (second.home ≡ floor) }
+{
+    match join(&floor, first, second) {
+        Some(lane) => left_on(floor, lane),
+        None => None,
+    }
+}
+
+fn left_on(floor: Floor<'_>, lane: Lane) -> Option<[bool; 3]>
+    requires { lane.home ≡ floor }
+{
+    match close(floor, lane) {
+        Some(quiet) => Some(are_ended(&quiet)),
+        None => None,
+    }
+}
+
 fn walked(floor: Floor<'_>, mut first: Lane, mut second: Lane) -> Option<Outcome>
     requires { (first.home ≡ floor) × (second.home ≡ floor) }
 {
-    let (entered, moves) = told(&floor, &mut first, &mut second)?;
-    let lane = join(&floor, first, second)?;
-    let quiet = close(floor, lane)?;
-    Some((entered, moves, are_ended(&quiet)))
+    let told = told(&floor, &mut first, &mut second);
+    let are_ended = ended(floor, first, second)?;
+    let (entered, moves) = told?;
+    Some((entered, moves, are_ended))
 }
 
 fn overtaking(alloc: Global) -> Option<Outcome> {
