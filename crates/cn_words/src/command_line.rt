@@ -4,7 +4,7 @@ ghost use Rattle.std.specs.Prelude.{◌≡◌, false, true, codes, IfOk};
 ghost use Rattle.clap.specs.Words.{app_of, rule_of, with_rule, with_subcommand};
 ghost use Rattle.cn_words.specs.CommandLine.{check_words, command_line, flag_rule, network_words, option_with};
 ghost use Rattle.cn_words.specs.CommandLine.{renamer_words, replay_words, required_option};
-ghost use Rattle.cn_words.specs.CommandLine.{run_with_values, run_words, show_words, with_need};
+ghost use Rattle.cn_words.specs.CommandLine.{run_with_values, run_words, show_words, walking_words, with_need};
 
 use crate::help::HelpTexts;
 use clap::{Arg, ArgAction, Command};
@@ -158,13 +158,20 @@ fn with<'a>(command: Command<'a>, subcommand: Command<'a>) -> Result<Command<'a>
     command.subcommand(subcommand)
 }
 
+/// The program with those of its subcommands that send clients through a network.
+fn walking_command<'a>(alloc: Global, help: &'a HelpTexts) -> Result<Command<'a>, AllocError>
+    ensures { IfOk result (λ command. app_of command ≡ walking_words) }
+{
+    let renamer = renamer_command(alloc, help);
+    let renamer = with(renamer, run_command(alloc, help)?)?;
+    with(renamer, replay_command(alloc, help)?)
+}
+
 /// The whole command line, with each of its subcommands.
 pub(crate) fn command<'a>(alloc: Global, help: &'a HelpTexts) -> Result<Command<'a>, AllocError>
     ensures { IfOk result (λ command. app_of command ≡ command_line) }
 {
-    let renamer = renamer_command(alloc, help);
-    let renamer = with(renamer, run_command(alloc, help)?)?;
-    let renamer = with(renamer, replay_command(alloc, help)?)?;
+    let renamer = walking_command(alloc, help)?;
     let renamer = with(renamer, check_command(alloc, help)?)?;
     with(renamer, show_command(alloc, help)?)
 }

@@ -1,4 +1,4 @@
-use Rattle.std.proofs.Common.{◌≡◌, ◌∙◌, map, ap}
+use Rattle.std.proofs.Common.{◌≡◌, ◌∙◌, map, ap, rules}
 use Rattle.std.specs.List.{range_with_len}
 use Rattle.cn_spec.specs.Networks as net
 use Rattle.cn_wiring.specs.declared.kind.Kind.TheVariants.{Bitonic}
@@ -67,3 +67,6 @@ returns-clause-exits c level e f full =
     let done = c.in_ok-finish_counting.ensures in
     let row = (drawing (goal.at.returns-clause-exits c).In_ok-exits).flow f (done.draft f full) in
     rw same (done.exits f ∙ rw c.deref-2.ensures.value row)
+
+pub returns-in_default-clause-width : goal.returns-in_default-clause-width
+returns-in_default-clause-width c = search rules

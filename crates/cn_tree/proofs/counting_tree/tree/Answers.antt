@@ -1,4 +1,4 @@
-use Rattle.std.proofs.Common.{◌≡◌, ◌-◌, ◌^◌, ◌∙◌, refl}
+use Rattle.std.proofs.Common.{◌≡◌, ◌-◌, ◌^◌, ◌∙◌, refl, rules}
 use Rattle.cn_spec.specs.Networks as net
 use Rattle.cn_wiring.specs.declared.kind.Kind.TheVariants.{Tree}
 use Rattle.cn_spec.proofs.CallerLemmas.{same_level}
@@ -35,3 +35,6 @@ returns-clause-exits c level e f full =
     let done = c.in_ok-finish_counting.ensures in
     let row = (drawing (goal.at.returns-clause-exits c).In_ok-exits).flow f (done.draft f full) in
     rw same (done.exits f ∙ rw c.deref.ensures.value row)
+
+pub returns-in_default-clause-width : goal.returns-in_default-clause-width
+returns-in_default-clause-width c = search rules

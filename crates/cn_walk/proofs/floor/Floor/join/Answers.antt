@@ -1,4 +1,5 @@
-use Rattle.std.proofs.Common.{ℕ, List, length, get_or, rules, sym, ap, ◌∙◌, []}
+use Rattle.std.proofs.Common.{ℕ, List, length, get_or, rules, sym, ap, ◌∙◌, [], arith}
+use Rattle.std.proofs.lemmas.Grind.{common_steps}
 use Rattle.cn_yard.specs.Lists.{tokens_in}
 use Rattle.cn_yard.proofs.CallerLemmas.{nobody-on}
 use Rattle.cn_walk.proofs.floor.Floor.join.Goals.{then-lane-more+else-is_err, else-lane-more}
@@ -15,3 +16,6 @@ merge-requires-clause-quotas c =
 pub merge-requires-clause-out : goal.merge-requires-clause-out
 merge-requires-clause-out c u =
     ap (λ (ls : List (List (ℕ × ℕ))). length (get_or ls u [])) (sym c.other.invariant.tokens) ∙ nobody-on c.other.inside.yard.lists (search rules) u
+
+pub invariant_of-lane-2 : goal.invariant_of-lane-2
+invariant_of-lane-2 c = grind (arith, common_steps)

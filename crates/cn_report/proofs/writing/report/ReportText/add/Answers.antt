@@ -1,4 +1,5 @@
 use Rattle.std.proofs.Common.{ap, arith, length, length-append, string_bytes}
+use Rattle.std.proofs.lemmas.Grind.{common_steps}
 use Rattle.cn_report.specs.Writing.Report.{epoch_lines}
 use Rattle.cn_report.proofs.WritingLemmas.Reports.{some-byte}
 use Rattle.cn_report.proofs.writing.report.ReportText.add.Goals as goal
@@ -15,3 +16,6 @@ prove-unreachable-requires c =
       some-byte width epoch,
       c.self.invariant,
     )
+
+pub returns-clause-told : goal.returns-clause-told
+returns-clause-told c = grind (arith, common_steps)
