@@ -19,6 +19,8 @@ mod grants_form;
 #[cfg(test)]
 mod growing;
 #[cfg(test)]
+mod hostile;
+#[cfg(test)]
 mod meeting;
 #[cfg(test)]
 mod performing;
@@ -32,6 +34,8 @@ mod schedules;
 mod serving;
 #[cfg(test)]
 mod showing;
+#[cfg(test)]
+mod waiting;
 #[cfg(test)]
 mod words;
 #[cfg(test)]

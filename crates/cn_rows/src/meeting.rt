@@ -1,6 +1,7 @@
 //! Workers that meet, in runs of an epoch and in runs of a batch: each waits, before its first leave, for all the others.
 
 use crate::serving::served;
+use crate::waiting::comes_to;
 use cn_bitonic::bitonic;
 use cn_core::Client;
 use cn_walk::{Gate, Moment, Quiet, run_epoch};
@@ -19,16 +20,6 @@ struct Meeting {
     late: AtomicU64,
 }
 
-/// Whether the flag is set within 100,000,000 turns.
-fn is_met(flag: &AtomicU64) -> bool {
-    for _ in 0..100_000_000u64 {
-        if flag.load(Ordering::SeqCst) == 1 {
-            return true;
-        }
-    }
-    false
-}
-
 impl Gate for Meeting {
     fn before<R: Wait>(&self, _rt: &R, worker: u32, moment: Moment) {
         if moment != Moment::Leave {
@@ -39,7 +30,7 @@ impl Gate for Meeting {
         };
         own.store(1, Ordering::SeqCst);
         for flag in self.flags.iter() {
-            if !is_met(flag) {
+            if !comes_to(flag, 1) {
                 self.late.store(1, Ordering::SeqCst);
             }
         }

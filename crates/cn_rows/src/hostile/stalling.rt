@@ -1,7 +1,8 @@
 //! Workers of whom one is held before one of its moments until the other has come to its last: whatever it is held at,
 //! the counts and names are those of four clients. Where it is held from the start, the other has the first names.
 
-use crate::serving::{Asked, ran};
+use super::runs::{Asked, ran};
+use crate::waiting::comes_to;
 use cn_bitonic::bitonic;
 use cn_core::Client;
 use cn_renamer::Form;
@@ -26,16 +27,6 @@ struct Stall {
     late: AtomicU64,
 }
 
-/// Whether a worker comes to its last moment within 100,000,000 turns.
-fn is_there(come: &AtomicU64) -> bool {
-    for _ in 0..100_000_000u64 {
-        if come.load(Ordering::SeqCst) >= MOMENTS {
-            return true;
-        }
-    }
-    false
-}
-
 impl Gate for Stall {
     fn before<R: Wait>(&self, _rt: &R, worker: u32, _moment: Moment) {
         let [first, second] = &self.come;
@@ -44,7 +35,7 @@ impl Gate for Stall {
             _ => (second, first),
         };
         let earlier = own.fetch_add(1, Ordering::SeqCst);
-        if worker == self.held && earlier == self.moment && !is_there(other) {
+        if worker == self.held && earlier == self.moment && !comes_to(other, MOMENTS) {
             self.late.store(1, Ordering::SeqCst);
         }
     }

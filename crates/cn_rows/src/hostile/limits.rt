@@ -1,7 +1,7 @@
 //! Texts of as many records as may be, and of one more, which no list holds: a reader computes their bytes.
 
-use crate::computed::Computed;
-use crate::serving::{Answer, Asked, is_answered};
+use super::computed::Computed;
+use super::runs::{Answer, Asked, is_answered};
 use cn_renamer::{
     BatchCause, CheckFault, Flaw, Form, Net, ReplayFault, ScheduleCause, ScheduleFault, check,
     replay,

@@ -1,4 +1,4 @@
-//! Batches, served by the library, for the other modules.
+//! The run of a batch by the library, for the modules beside this one.
 
 use cn_renamer::{BatchCause, BatchFault, Form, Net, Options, ServeFault, serve};
 use cn_walk::Gate;

@@ -1,7 +1,7 @@
 //! A batch that is cut at each of its bytes, and batches that are no plain lines: the answer is that to the records
 //! that csv gives.
 
-use crate::serving::{Answer, Asked, is_answered};
+use super::runs::{Answer, Asked, is_answered};
 use cn_renamer::{BatchCause, Form};
 use cn_walk::OpenGate;
 use cn_wiring::Kind;

@@ -1,0 +1,62 @@
+"""Crates that stand apart from the gate, in folders of checks/: it neither proves nor runs them.
+
+Their files have endings that no check reads. They get those of a crate in a copy of the repository's libraries, in a
+temporary folder, and what is built there is kept in the folder's out/.
+"""
+import contextlib
+import itertools
+import pathlib
+import shutil
+import subprocess
+import tempfile
+
+ROOT = pathlib.Path(__file__).resolve().parent.parent
+# The endings of such a file, and in a crate.
+ENDINGS = {".rattle": ".rt", ".proof": ".antt"}
+
+
+def is_current(built, folder):
+    """Whether something is built, and no source of the repository or the folder is newer."""
+    if not built.exists():
+        return False
+    parts = itertools.product(("src", "specs", "proofs"), ("*.rt", "*.antt"))
+    sources = [path for part, kind in parts for path in ROOT.glob(f"crates/*/{part}/**/{kind}")]
+    sources += (path for kind in ENDINGS for path in folder.glob(f"**/*{kind}"))
+    return all(path.stat().st_mtime <= built.stat().st_mtime for path in sources)
+
+
+def libraries():
+    """The lines of crates.txt for the libraries of the repository, by name: such a crate may stand on each."""
+    lines = (line for line in (ROOT / "crates.txt").read_text().splitlines() if line.startswith("cn_"))
+    named = {line.split(":")[0]: line for line in lines}
+    return {name: line for name, line in named.items() if not name.startswith("cn_rows")}
+
+
+@contextlib.contextmanager
+def as_a_crate(folder, name, uses=()):
+    """The folder as a crate of that name, which also uses these of the kit, in a copy of the libraries with what is
+    proved of them."""
+    with tempfile.TemporaryDirectory() as copied:
+        copy, below = pathlib.Path(copied), libraries()
+        for library in below:
+            shutil.copytree(ROOT / "crates" / library, copy / "crates" / library)
+        crate = copy / "crates" / name
+        for path in folder.glob("**/*"):
+            if path.suffix in ENDINGS:
+                at = crate / path.relative_to(folder).with_suffix(ENDINGS[path.suffix])
+                at.parent.mkdir(parents=True, exist_ok=True)
+                shutil.copy(path, at)
+        shutil.copy(ROOT / "HANDLES", copy)
+        lines = [*below.values(), f"{name}: {' '.join([*below, *uses])}"]
+        (copy / "crates.txt").write_text("\n".join(lines) + "\n")
+        yield crate
+
+
+def build(built, folder, name, words, uses=()):
+    """Builds the crate by `rt` and these words, where a source is newer than what is built."""
+    if is_current(built, folder):
+        return
+    with as_a_crate(folder, name, uses) as crate:
+        subprocess.run(["rt", *words], cwd=crate, stdout=subprocess.DEVNULL, stdin=subprocess.DEVNULL, check=True)
+        built.parent.mkdir(exist_ok=True)
+        shutil.copy(crate / "out" / built.name, built)
