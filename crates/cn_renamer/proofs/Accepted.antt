@@ -3,14 +3,14 @@ use Rattle.std.proofs.Common.{◌≡◌, ◌<◌, ◌^◌, ℕ, Bool, List, [], 
 use Rattle.std.specs.List.{AllByRecursion, AllZip, sum_by}
 use Rattle.std.proofs.lemmas.List.Sorted.{All-permutation}
 use Rattle.std.proofs.lemmas.List.Sums.{sum_by-cons}
-use Rattle.cn_spec.specs.Step.{shares}
+use Rattle.cn_spec.specs.Step.{counts_after, shares, shares_after}
 use Rattle.cn_core.specs.declared.client.Client.{Client}
 use Rattle.cn_epoch.specs.declared.record.EpochRecord.{EpochRecord}
-use Rattle.cn_report.proofs.CallerLemmas.{IsSmallEpoch, batch_numbers, told_back, written_tight}
+use Rattle.cn_report.proofs.CallerLemmas.{IsSmallEpoch, batch_numbers, tight_after, told_back, written_tight}
 use Rattle.cn_report.specs.Reading.Batch.{AreRising}
 use Rattle.cn_report.specs.Reading.Grants.{IsTightList}
 use Rattle.cn_report.specs.Reading.Records.{records_of}
-use Rattle.cn_report.specs.Reading.Told.{told_epochs}
+use Rattle.cn_report.specs.Reading.Told.{names_in, told_epochs}
 use Rattle.cn_report.specs.Writing.Grants.{AreRisingRecords, AreTight, HasOwnNames, checked_epoch}
 use Rattle.cn_report.specs.Writing.Report.{clients_of}
 use Rattle.cn_report.specs.declared.reading.gathering.BatchEpoch.{BatchEpoch}
@@ -107,3 +107,7 @@ module _ (net : Description) (carry : Bool) (bytes text : List ℕ) (run : IsRun
       ap (λ (t : List ℕ). told_epochs w (records_of t)) run.written
       ∙ told_back w run.records tight (some-clients width run.epochs run.records each run.batch.holds.some)
       ∙ told-alike width w run.epochs run.records each
+
+  -- each epoch's names are shared out, after any number of clients
+  pub counted_after : (w m epoch : ℕ) → counts_after m w (names_in epoch (records_of text)) ≡ shares_after m (length (names_in epoch (records_of text))) w
+  counted_after = tight_after (records_of text) accepted

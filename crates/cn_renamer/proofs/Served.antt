@@ -2,13 +2,14 @@
 use Rattle.std.proofs.Common.{◌≡◌, ℕ, ◌≤◌, List, length, map, sym, subst, ◌∙◌, arith}
 use Rattle.std.specs.List.Sorted.{IsPermutation}
 use Rattle.std.proofs.lemmas.List.Sorted.{IsPermutation-trans}
+use Rattle.cn_spec.specs.Step.{shares_after}
 use Rattle.cn_spec.specs.Sums.{times}
 use Rattle.cn_spec.proofs.CallerLemmas.{order-times, times-map, times-order}
 use Rattle.cn_core.specs.declared.client.Client.{Client}
 use Rattle.cn_epoch.specs.declared.record.EpochRecord.{EpochRecord}
 use Rattle.cn_walk.specs.declared.view.Grant.{Grant}
 use Rattle.cn_walk.specs.declared.runner.Outcome.{Outcome}
-use Rattle.cn_walk.specs.Carried.{WordsValue, clients_of, shares_after}
+use Rattle.cn_walk.specs.Carried.{WordsValue, clients_of}
 use Rattle.cn_walk.specs.Ends.{ListsHolders, QuietValue}
 use Rattle.cn_walk.specs.Runner.{IsOutcomeOf}
 use Rattle.cn_walk.specs.Runs.{IsRunAfter}

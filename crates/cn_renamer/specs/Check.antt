@@ -23,7 +23,7 @@ pub record IsCheckOf (width : ℕ) (bytes text : List ℕ) : Type 0 where
   pub tight : IsTightList (records_of bytes)
   pub told : text ≡ tight_text (told_epochs width (records_of bytes))
 
--- the same, where the bytes that a reader has left are known
+-- this text is that of a check of the bytes that a reader has left, where they are known
 abbrev pub IsCheckOfKnown : ℕ → Option (List ℕ) → List ℕ → Type 0
 IsCheckOfKnown width known text = IfSome known (λ bytes. IsCheckOf width bytes text)
 
@@ -64,7 +64,7 @@ status_of_flaw (flaw.DuplicateName at) = 4
 status_of_flaw (flaw.Gap epoch name) = 4
 status_of_flaw flaw.Memory = 3
 
--- and that of a fault
+-- the status with which a fault of a check ends the program
 abbrev pub status_of_check : CheckFault → ℕ
 status_of_check (fault.Flaw why) = status_of_flaw why
 status_of_check fault.Memory = 3

@@ -5,10 +5,9 @@
 -- holds: `cn_walk`'s `IsKept`.)
 use Rattle.std.specs.Prelude.{ℕ, ◌≡◌, ◌+◌, ◌≤◌, [], ◌∷◌, Bool, IfSome, List, Option, length, map, ⊤}
 use Rattle.std.specs.List.Sorted.{IsPermutation}
-use Rattle.cn_spec.specs.Step.{shares}
+use Rattle.cn_spec.specs.Step.{shares, shares_after}
 use Rattle.cn_spec.specs.Sums.{times, when}
 use Rattle.cn_wiring.specs.Network.{Network}
-use Rattle.cn_walk.specs.Carried.{shares_after}
 use Rattle.cn_epoch.specs.declared.record.EpochRecord.{EpochRecord}
 use Rattle.cn_report.specs.Reading.Batch.{IsBatch}
 use Rattle.cn_report.specs.Reading.Records.{records_of}
@@ -55,7 +54,7 @@ pub record IsRunOf (net : Description) (form : Form) (carry : Bool) (bytes text 
   pub served : AreServed carry network.table.width 0 epochs records
   pub written : text ≡ text_in form network records
 
--- the same, where the bytes that a reader has left are known
+-- this text is that of a run of the bytes that a reader has left, where they are known
 abbrev pub IsRunOfKnown : Description → Form → Bool → Option (List ℕ) → List ℕ → Type 0
 IsRunOfKnown net form carry known text = IfSome known (λ bytes. IsRunOf net form carry bytes text)
 

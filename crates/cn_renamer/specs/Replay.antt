@@ -39,7 +39,7 @@ pub record IsReplayOf (net : Description) (bytes text : List ℕ) : Type 0 where
   pub schedule : IsSchedule (records_of bytes) commands
   pub replayed : IsReplayOfCommands net commands text
 
--- the same, where the bytes that a reader has left are known
+-- this text is that of a replay of the bytes that a reader has left, where they are known
 abbrev pub IsReplayOfKnown : Description → Option (List ℕ) → List ℕ → Type 0
 IsReplayOfKnown net known text = IfSome known (λ bytes. IsReplayOf net bytes text)
 

@@ -1,14 +1,14 @@
 //! The laws of what jobs write. Each function does nothing: its contract is the law, and a caller opens it by a call.
 
 ghost use Rattle.std.specs.Prelude.{◌≡◌, ℕ, Bool, List, length, map};
-ghost use Rattle.cn_spec.specs.Step.{shares};
+ghost use Rattle.cn_spec.specs.Step.{counts_after, shares, shares_after};
 ghost use Rattle.cn_wiring.specs.Network.{Network, IsNetwork};
 ghost use Rattle.cn_epoch.specs.declared.command.Command.{Command};
 ghost use Rattle.cn_epoch.specs.declared.record.EpochRecord.{EpochRecord};
 ghost use Rattle.cn_report.specs.Reading.Batch.{IsBatch};
 ghost use Rattle.cn_report.specs.Reading.Grants.{IsTightList};
 ghost use Rattle.cn_report.specs.Reading.Records.{records_of};
-ghost use Rattle.cn_report.specs.Reading.Told.{told_epochs};
+ghost use Rattle.cn_report.specs.Reading.Told.{names_in, told_epochs};
 ghost use Rattle.cn_report.specs.declared.reading.gathering.BatchEpoch.{BatchEpoch};
 ghost use Rattle.cn_words.specs.Net.{Description, entries_of};
 ghost use Rattle.cn_words.specs.declared.options.Form.TheVariants.{Grants};
@@ -16,7 +16,7 @@ ghost use Rattle.cn_renamer.specs.Headline.{IsRunOf, IsServed, served_epoch};
 ghost use Rattle.cn_renamer.specs.Replay.{IsReplayOf, IsReplayOfCommands, IsReplayText};
 ghost use Rattle.cn_renamer.specs.Show.{IsWiringOf};
 
-use cn_walk::laws::first_shares_are_shares;
+use cn_spec::laws::first_shares_are_shares;
 
 /// On one network commands have one text; so have commands, and the bytes of a schedule, on a network told by its kind and
 /// width.
@@ -43,11 +43,16 @@ pub fn counts_are_shares()
 }
 
 /// What a run writes in the grants form, with carry or without, is a list that a check takes for tight; and a check by any
-/// width tells the epochs of the batch, with as many names `n` of `n mod w = i` as the share of exit i.
+/// width tells the epochs of the batch, with as many names `n` of `n mod w = i` as the share of exit i. Of the k names of an
+/// epoch that comes after m clients as many have `(m + n) mod w = i` as the share of exit i in m + k clients less that in m:
+/// with carry this is the exit's count.
 pub fn written_grants_are_accepted()
     ensures tight { (net : Description) (carry : Bool) (bytes text : List ℕ) → IsRunOf net Grants carry bytes text
         → IsTightList (records_of text) }
     ensures told { (net : Description) (carry : Bool) (bytes text : List ℕ) → IsRunOf net Grants carry bytes text
         → (epochs : List BatchEpoch) × IsBatch (entries_of net.kind net.width) (records_of bytes) epochs
         × ((w : ℕ) → told_epochs w (records_of text) ≡ map (served_epoch w) epochs) }
+    ensures after { (net : Description) (carry : Bool) (bytes text : List ℕ) → IsRunOf net Grants carry bytes text
+        → (w m epoch : ℕ) → let names = names_in epoch (records_of text) in
+        counts_after m w names ≡ shares_after m (length names) w }
 {}

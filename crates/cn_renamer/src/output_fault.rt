@@ -16,7 +16,10 @@ pub enum OutputFault {
     Memory,
     /// A write failed, or the flush at the end, after this many bytes of the text.
     #[error("renamer: write after {written} bytes")]
-    Write { written: u64 },
+    Write {
+        /// How many bytes were written: they are the first of the text.
+        written: u64,
+    },
 }
 
 impl OutputFault {

@@ -32,7 +32,10 @@ pub enum ReplayFault {
     Memory,
     /// A write failed, or the flush at the end, after this many bytes of the text.
     #[error("renamer: write after {written} bytes")]
-    Write { written: u64 },
+    Write {
+        /// How many bytes were written: they are the first of the text.
+        written: u64,
+    },
 }
 
 impl ReplayFault {

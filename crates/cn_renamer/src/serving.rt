@@ -118,7 +118,7 @@ fn text_of<I: Read + Drop, G: Gate + Sync, R: Threads + Wait + Sync>(
 /// tells the network, each epoch's number and its number of clients, how many left by each exit, who holds which name, and
 /// how many epochs and grants there are; or the grant list, which `check` takes
 /// ([`crate::laws::written_grants_are_accepted`]). Each epoch has as many workers as the options have, each with so many
-/// clients in hand ([`cn_walk::run_epoch`]).
+/// clients in hand ([`Runner::run`], which does what [`cn_walk::run_epoch`] does for each).
 ///
 /// **The headline.** Of each epoch of k clients exit i of w has the count ceiling((k - i) / w), and the clients have the
 /// names 0 to k-1, each once (Aspnes, Herlihy, Shavit, *Counting Networks*, JACM 1994, section 2; renaming by Attiya,

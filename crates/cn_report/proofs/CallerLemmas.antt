@@ -11,6 +11,8 @@ pub use Rattle.cn_report.proofs.ReadBack.Batches.{IsSmallEpoch, batch_numbers}
 -- a grant list that is written of tight epochs is tight, and what a check tells of it
 pub use Rattle.cn_report.proofs.ReadBack.Tight.{written_tight}
 pub use Rattle.cn_report.proofs.ReadBack.Told.{told_back}
+-- of a tight list each epoch's names are shared out, after any number of clients
+pub use Rattle.cn_report.proofs.ReadBack.Told.{tight_after}
 -- records spell one list of commands
 pub use Rattle.cn_report.proofs.ReadingLemmas.OneSchedule.{one-schedule}
 -- what was written of a text

@@ -76,16 +76,43 @@ fn hand_decides_order(rt: HostRuntime) {
     assert_eq!(rt; [one, two], [Some([true, true]), Some([true, true])]);
 }
 
+/// How often a worker asks, before each kind of step.
+#[derive(Drop)]
+struct Asked {
+    enters: AtomicU64,
+    passes: AtomicU64,
+    leaves: AtomicU64,
+}
+
+impl Asked {
+    fn before(&self, moment: Moment) -> &AtomicU64 {
+        match moment {
+            Moment::Enter => &self.enters,
+            Moment::Pass => &self.passes,
+            Moment::Leave => &self.leaves,
+        }
+    }
+
+    /// Enters, passes and leaves.
+    fn read(&self) -> [u64; 3] {
+        [
+            self.enters.load(Ordering::SeqCst),
+            self.passes.load(Ordering::SeqCst),
+            self.leaves.load(Ordering::SeqCst),
+        ]
+    }
+}
+
 /// Counts how often each worker asks.
 #[derive(Drop)]
 struct Tally {
-    asked: Vec<AtomicU64>,
+    asked: Vec<Asked>,
 }
 
 impl Gate for Tally {
-    fn before<R: Wait>(&self, _rt: &R, worker: u32, _moment: Moment) {
+    fn before<R: Wait>(&self, _rt: &R, worker: u32, moment: Moment) {
         if let Some(asked) = self.asked.get(worker as usize) {
-            asked.fetch_add(1, Ordering::SeqCst);
+            asked.before(moment).fetch_add(1, Ordering::SeqCst);
         }
     }
 }
@@ -93,17 +120,23 @@ impl Gate for Tally {
 fn new_tally(alloc: Global) -> Option<Tally> {
     let mut asked = Vec::new(alloc);
     for _ in 0..8 {
-        asked.push(AtomicU64::new(0)).ok()?;
+        let none = Asked {
+            enters: AtomicU64::new(0),
+            passes: AtomicU64::new(0),
+            leaves: AtomicU64::new(0),
+        };
+        asked.push(none).ok()?;
     }
     Some(Tally { asked })
 }
 
-fn read(alloc: Global, tally: &Tally) -> Option<Vec<u64>> {
-    let mut asked = Vec::new(alloc);
-    for worker in tally.asked.iter() {
-        asked.push(worker.load(Ordering::SeqCst)).ok()?;
-    }
-    Some(asked)
+/// Whether each worker asked so often before enters, passes and leaves.
+fn have_asked(tally: &Tally, often: &[[u64; 3]]) -> bool {
+    tally
+        .asked
+        .iter()
+        .map(Asked::read)
+        .eq(often.iter().copied())
 }
 
 /// Whether so many left by each exit, and these clients have names.
@@ -113,57 +146,103 @@ fn are_named(quiet: &Quiet<'_>, counts: &[u64], clients: &[u64]) -> Option<[bool
     Some([quiet.counts() == counts, named.as_slice() == clients])
 }
 
-const THREE_CLIENTS: [Client; 3] = [
+/// Clients on bitonic 4, how many workers, and the hand; how many leave by each exit, who has names, and how often each of
+/// eight workers asks before enters, passes and leaves.
+type Told = (
+    &'static [Client],
+    u32,
+    u32,
+    [u64; 4],
+    &'static [u64],
+    [[u64; 3]; 8],
+);
+
+const THREE_CLIENTS: &[Client] = &[
     Client { id: 5, entry: 0 },
     Client { id: 6, entry: 1 },
     Client { id: 7, entry: 2 },
 ];
 
-/// Whether of the three one leaves by each of the first exits, and all have names.
-fn three_clients<R: Threads + Wait + Sync>(
+const IDLE: [u64; 3] = [0, 0, 0];
+
+const ONE_CLIENT: [u64; 3] = [1, 3, 1];
+
+const BY_ONE: Told = (
+    THREE_CLIENTS,
+    1,
+    1,
+    [1, 1, 1, 0],
+    &[5, 6, 7],
+    [[3, 9, 3], IDLE, IDLE, IDLE, IDLE, IDLE, IDLE, IDLE],
+);
+
+const BY_EIGHT: Told = (
+    THREE_CLIENTS,
+    8,
+    1,
+    [1, 1, 1, 0],
+    &[5, 6, 7],
+    [
+        IDLE, IDLE, ONE_CLIENT, IDLE, IDLE, ONE_CLIENT, IDLE, ONE_CLIENT,
+    ],
+);
+
+/// The two come in by one entry, and go by its balancer together.
+const TWO_AT_ONCE: Told = (
+    &[Client { id: 5, entry: 0 }, Client { id: 6, entry: 0 }],
+    1,
+    2,
+    [1, 1, 0, 0],
+    &[5, 6],
+    [[2, 5, 2], IDLE, IDLE, IDLE, IDLE, IDLE, IDLE, IDLE],
+);
+
+/// Whether so many leave by each exit, and these have names.
+fn are_told<R: Threads + Wait + Sync>(
     rt: &R,
     alloc: Global,
-    workers: u32,
+    row: &Told,
     gate: &Tally,
 ) -> Option<[bool; 2]> {
     match bitonic(alloc, 4) {
-        Ok(network) => three_on(rt, alloc, &network, workers, gate),
+        Ok(network) => are_told_on(rt, alloc, &network, row, gate),
         Err(_) => None,
     }
 }
 
-fn three_on<R: Threads + Wait + Sync>(
+fn are_told_on<R: Threads + Wait + Sync>(
     rt: &R,
     alloc: Global,
     network: &Counting,
-    workers: u32,
+    row: &Told,
     gate: &Tally,
 ) -> Option<[bool; 2]> {
-    match run(rt, alloc, network, &THREE_CLIENTS, workers, 1, gate) {
-        Ok(quiet) => are_named(&quiet, &[1, 1, 1, 0], &[5, 6, 7]),
+    let (clients, workers, hand, counts, named, _) = row;
+    match run(rt, alloc, network, clients, *workers, *hand, gate) {
+        Ok(quiet) => are_named(&quiet, counts, named),
         Err(_) => None,
     }
 }
 
-/// The same, and whether eight workers ask so often.
-fn asked_by<R: Threads + Wait + Sync>(
-    rt: &R,
-    alloc: Global,
-    workers: u32,
-    often: &[u64],
-) -> Option<([bool; 2], bool)> {
+/// The same, and whether the workers ask so often.
+fn asks<R: Threads + Wait + Sync>(rt: &R, alloc: Global, row: &Told) -> Option<([bool; 2], bool)> {
     let gate = new_tally(alloc)?;
-    let are_named = three_clients(rt, alloc, workers, &gate)?;
-    let asked = read(alloc, &gate)?;
-    Some((are_named, asked.as_slice() == often))
+    let are_named = are_told(rt, alloc, row, &gate)?;
+    Some((are_named, have_asked(&gate, &row.5)))
 }
 
 #[test]
 fn idle_workers(rt: HostRuntime) {
-    let one = asked_by(&rt, rt.alloc(), 1, &[15, 0, 0, 0, 0, 0, 0, 0]);
-    let eight = asked_by(&rt, rt.alloc(), 8, &[0, 0, 5, 0, 0, 5, 0, 5]);
+    let one = asks(&rt, rt.alloc(), &BY_ONE);
+    let eight = asks(&rt, rt.alloc(), &BY_EIGHT);
     let wanted = Some(([true, true], true));
     assert_eq!(rt; [one, eight], [wanted, wanted]);
+}
+
+#[test]
+fn a_sweep_asks_once(rt: HostRuntime) {
+    let asked = asks(&rt, rt.alloc(), &TWO_AT_ONCE);
+    assert_eq!(rt; asked, Some(([true, true], true)));
 }
 
 /// This many clients, numbered from 0, the first on entry 0 and the others on this entry.

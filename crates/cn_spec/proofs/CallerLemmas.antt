@@ -9,7 +9,7 @@ pub use Rattle.cn_spec.proofs.Times.{times-append, times-below, times-cons, time
 pub use Rattle.cn_spec.proofs.Times.{order-times, times-order, times-parts, times-place, times-two}
 -- ranges, shares and names
 pub use Rattle.cn_spec.proofs.EachBelow.{each_below, once-next}
-pub use Rattle.cn_spec.proofs.CountShares.{counts_shares}
+pub use Rattle.cn_spec.proofs.CountShares.{counts_shares, counts_shares_after, first_shares}
 pub use Rattle.cn_spec.proofs.Pigeonhole.{all_below, at_most_once, once_each, once_in, once_there}
 pub use Rattle.cn_spec.proofs.Names.{exit_of-name_of, name-below, name_of-exit_of, range_more}
 pub use Rattle.cn_spec.proofs.Shares.{get_or-shares, row_is_shares}

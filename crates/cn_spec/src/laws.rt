@@ -3,7 +3,8 @@
 
 ghost use Rattle.std.specs.Prelude.{◌≡◌, ◌+◌, ◌%◌, ◌/◌, ◌^◌, ◌<◌, ◌≤◌, ◌↔◌, ℕ, suc, List, [], ◌∷◌, length};
 ghost use Rattle.std.specs.List.{sum};
-ghost use Rattle.cn_spec.specs.Step.{IsEachBelow, IsStep, counts_of, half, name_of, names, share, shares};
+ghost use Rattle.cn_spec.specs.Step.{IsEachBelow, IsStep, counts_after, counts_of, half, name_of, names, share};
+ghost use Rattle.cn_spec.specs.Step.{shares, shares_after};
 ghost use Rattle.cn_spec.specs.Networks.{HasStepChains, IsRow, a_cochain, b_cochain, bitonic, block, merge, periodic, tree};
 ghost use Rattle.cn_spec.specs.Sums.{IsOnceBelow, times};
 ghost use Rattle.cn_spec.specs.declared.limits.TheConstants.{MOST_ARRIVALS, MOST_BALANCERS, MOST_CARRIED, MOST_CLIENTS, MOST_DIGITS, MOST_ENDS, MOST_HAND, MOST_LEVEL, MOST_RECORDS, MOST_ROOM, MOST_TOKENS, MOST_WORKERS};
@@ -31,6 +32,11 @@ pub fn shares_conserve()
     ensures shares { (m w : ℕ) → 0 < w → sum (shares m w) ≡ m }
 {}
 
+/// The shares of tokens that come after no others are their shares.
+pub fn first_shares_are_shares()
+    ensures { (k w : ℕ) → shares_after 0 k w ≡ shares k w }
+{}
+
 /// The names that the exits give out among m tokens are the numbers below m, each once; and a name tells its exit and
 /// its visit.
 pub fn names_are_tight()
@@ -53,9 +59,12 @@ pub fn all_below_is_each_below()
     ensures each_once { (m : ℕ) (xs : List ℕ) → IsEachBelow m xs → IsOnceBelow m xs }
 {}
 
-/// Of the names below k, in any order, as many are those of an exit as its share of k.
+/// Of the names below k, in any order, as many are those of an exit as its share of k; and where they are less m, since m
+/// tokens came before, as its share of m + k less its share of m.
 pub fn tight_names_are_shared()
-    ensures { (w k : ℕ) (names : List ℕ) → IsEachBelow k names → counts_of w names ≡ shares k w }
+    ensures first { (w k : ℕ) (names : List ℕ) → IsEachBelow k names → counts_of w names ≡ shares k w }
+    ensures after { (w m k : ℕ) (names : List ℕ) → IsEachBelow k names
+        → counts_after m w names ≡ shares_after m k w }
 {}
 
 /// The merger of two rows with the step property has it (Aspnes, Herlihy, Shavit 1994, section 3), and no token is

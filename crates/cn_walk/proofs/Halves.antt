@@ -16,6 +16,11 @@ use Rattle.cn_walk.specs.Views.{split_left, split_right}
 use Rattle.cn_walk.specs.Walks.{WalksAll}
 use Rattle.cn_walk.proofs.Walks.{length_both, nobody-there}
 
+-- how many pairs of halves there are
+abbrev pub nodes : Lanes → ℕ
+nodes (One lane worker) = 0
+nodes (Halves' at p left q right) = nodes left + nodes right + 1
+
 -- what a lane that had nothing has is put last
 put_last : {X : Type 0} (a b xs ys : List X) → b ≡ [] → (a ++ xs) ++ (b ++ ys) ≡ (a ++ b) ++ (xs ++ ys)
 put_last a b xs ys none =

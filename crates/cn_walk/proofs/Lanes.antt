@@ -15,7 +15,7 @@ use Rattle.cn_walk.specs.declared.view.Start.{Start}
 use Rattle.cn_walk.specs.InsideLane.{IsLane}
 use Rattle.cn_walk.specs.Lane.{LaneValue, PutsOn, StepsOn}
 use Rattle.cn_walk.specs.Plays.{IsLetBy}
-use Rattle.cn_walk.specs.Steps.{IsStep, answer_at}
+use Rattle.cn_walk.specs.Steps.{IsAtomicStep, answer_at}
 use Rattle.cn_walk.specs.Views.{base, entered, gone}
 use Rattle.cn_walk.proofs.Lists.{made}
 
@@ -105,7 +105,7 @@ module _ (old new : LaneValue) (token client wire n : ℕ) (answer : Moved) wher
         yard = subst (λ (e : End). PutsOn start e n old.yard new.yard token client) (sym at) yard;
         room = room;
         answered = says;
-        step = subst (λ (a : Moved). IsStep start old.view new.view (λ l m. IsMoveOf start.network.table (base start) l m client a)) (sym says) by.step;
+        step = subst (λ (a : Moved). IsAtomicStep start old.view new.view (λ l m. IsMoveOf start.network.table (base start) l m client a)) (sym says) by.step;
         few = by.few;
         sole = by.sole;
       }

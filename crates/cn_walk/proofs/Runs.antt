@@ -1,8 +1,9 @@
 -- A quiet floor on which nobody but these clients walked.
 use Rattle.std.proofs.Common.{◌≡◌, ℕ, ◌+◌, ◌-◌, ◌*◌, ◌/◌, ◌<◌, List, ◌++◌, length, get_or, map, sym, refl, ap, ◌∙◌, subst, arith}
 use Rattle.std.proofs.lemmas.Nat.{div-mul-add}
-use Rattle.cn_spec.specs.Step.{IsEachBelow, share, shares}
+use Rattle.cn_spec.specs.Step.{IsEachBelow, shares, shares_after}
 use Rattle.cn_spec.specs.Sums.{Agree, times}
+use Rattle.cn_spec.proofs.CallerLemmas.{first_shares}
 use Rattle.cn_wiring.specs.declared.end.End.TheVariants.{Balancer}
 use Rattle.cn_wiring.specs.Network.{Network}
 use Rattle.cn_wiring.specs.Table.{Table, sum_at}
@@ -11,7 +12,7 @@ use Rattle.cn_core.specs.declared.client.Client.{Client}
 use Rattle.cn_walk.specs.declared.view.Grant.{Grant}
 use Rattle.cn_walk.specs.declared.view.Start.{Start}
 use Rattle.cn_walk.specs.declared.view.View.{View}
-use Rattle.cn_walk.specs.Carried.{WordsValue, clients_of, shares_after, words_before, zero_words}
+use Rattle.cn_walk.specs.Carried.{WordsValue, clients_of, words_before, zero_words}
 use Rattle.cn_walk.specs.Closing.{IsMissing}
 use Rattle.cn_walk.specs.Ends.{IsQuiet, QuietValue}
 use Rattle.cn_walk.specs.Halves.{HasNothing, first_of}
@@ -25,20 +26,6 @@ use Rattle.cn_walk.proofs.Closings.{map-same}
 use Rattle.cn_walk.proofs.Halves.{nobody-in}
 use Rattle.cn_walk.proofs.Openings.{none-came, none-counted, none-entered}
 use Rattle.cn_walk.proofs.Raised.{count-word}
-
--- no share of nobody
-no-share : (w i : ℕ) → i < w → share 0 w i ≡ 0
-no-share w i low = ap (λ (x : ℕ). x / w) (omega arith) ∙ small (w - 1 - i) w (omega arith)
-  where
-    small : (n d : ℕ) → n < d → n / d ≡ 0
-    small n d l = ap (λ (x : ℕ). x / d) (omega arith) ∙ div-mul-add 0 d n l
-
--- the shares of those that come after nobody
-pub first-shares : (k w : ℕ) → shares_after 0 k w ≡ shares k w
-first-shares k w = map-same (λ i. share (0 + k) w i - share 0 w i) (λ i. share k w i) 0 w (λ i l h. omega (arith, no-share w i (omega arith), ap (λ (n : ℕ). share n w i) (zero-plus k)))
-  where
-    zero-plus : (n : ℕ) → 0 + n ≡ n
-    zero-plus n = omega arith
 
 -- all clients lie between the first of the first worker and that of the one after the last
 pub all-first : (k w : ℕ) → 0 < w → first_of k w w - first_of k w 0 ≡ k
@@ -110,7 +97,7 @@ from-zero network clients q is =
     record {
       over = is.over;
       counts = is.counts
-          ∙ (ap (λ (m : ℕ). shares_after m k t.width) nobody ∙ first-shares k t.width);
+          ∙ (ap (λ (m : ℕ). shares_after m k t.width) nobody ∙ first_shares k t.width);
       passes = λ f full from.
           is.passes f full (λ u l. omega (arith, from u l, none-entered t u))
           ∙ map-same (λ b. sum_at t (Balancer b) f - count_in t zero.words (Balancer b)) (λ b. sum_at t (Balancer b) f) 0 t.balancers (λ b l h. omega (arith, none-counted t (Balancer b)));

@@ -19,7 +19,7 @@ use Rattle.cn_walk.specs.declared.view.Start.{Start}
 use Rattle.cn_walk.specs.declared.view.View.{View}
 use Rattle.cn_core.specs.Calls.{IsMoveOf}
 use Rattle.cn_walk.specs.Plays.{Coming, ComesIn, Going, GoesOn, IsLetBy}
-use Rattle.cn_walk.specs.Steps.{IsStep, answer_at}
+use Rattle.cn_walk.specs.Steps.{IsAtomicStep, answer_at}
 use Rattle.cn_walk.specs.Sweeps.{GoesFrom}
 use Rattle.cn_walk.specs.Rule.{IsAccounted, IsFresh, IsKept, heard, ledger_of}
 use Rattle.cn_walk.specs.Views.{base, entered, gone}
@@ -100,7 +100,7 @@ module _ (start : Start) (id token client entry : ℕ) (v : View) (s : State (Un
         omega (arith, length_push v.entries entry, kept.quotas);
   }
 
-  pub step-entered : v.loads ≡ [] → IsStep start v w (λ old new. Enters start.network.table old new client entry)
+  pub step-entered : v.loads ≡ [] → IsAtomicStep start v w (λ old new. Enters start.network.table old new client entry)
   step-entered idle = record { old = s; new = after; id = id; here = here; views = refl; kept_before = kept; kept_after = kept-entered idle; happened = came_in }
 
 -- a client may come in
@@ -119,7 +119,7 @@ lets_in start slots id me is same no_slot idle of low inside some_quota s kept h
       keeps,
       tt,
       subst (λ (x : ℕ). IsKept start (stepped s (entry_word is.entry) x id me.1 w keeps)) no_wrap (kept-entered start id is.token is.client is.entry v s kept at of low inside some_quota idle),
-      (no_slot, (refl, subst (λ (z : Start). IsStep z v w (λ old new. Enters z.network.table old new is.client is.entry)) (sym same) (step-entered start id is.token is.client is.entry v s kept at of low inside some_quota idle))),
+      (no_slot, (refl, subst (λ (z : Start). IsAtomicStep z v w (λ old new. Enters z.network.table old new is.client is.entry)) (sym same) (step-entered start id is.token is.client is.entry v s kept at of low inside some_quota idle))),
     )
 
 -- ---- who goes on

@@ -1,7 +1,5 @@
 -- The words of closed floors, with which another floor may begin.
-use Rattle.std.specs.Prelude.{ℕ, ◌+◌, ◌-◌, ◌≤◌, List, [], map, replicate}
-use Rattle.std.specs.List.{range_with_len}
-use Rattle.cn_spec.specs.Step.{share}
+use Rattle.std.specs.Prelude.{ℕ, ◌+◌, ◌≤◌, List, [], replicate}
 use Rattle.cn_spec.specs.declared.limits.TheConstants.{MOST_CARRIED, MOST_CLIENTS}
 use Rattle.cn_wiring.specs.Network.{Network, IsNetwork}
 use Rattle.cn_ledger.specs.Ledger.{Ledger, IsTight}
@@ -43,7 +41,3 @@ start_after w quota = record { network = w.network; quota = quota; carried = w.w
 -- and the words with which a floor began
 abbrev pub words_before : Start → WordsValue
 words_before start = record { network = start.network; words = start.carried }
-
--- how many of k clients that come after m others leave by each of w exits: its share of all, less its share of those before
-abbrev pub shares_after : ℕ → ℕ → ℕ → List ℕ
-shares_after m k w = map (λ i. share (m + k) w i - share m w i) (range_with_len 0 w)

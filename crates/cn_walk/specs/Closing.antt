@@ -14,7 +14,7 @@ use Rattle.cn_walk.specs.Rule.{IsKept}
 use Rattle.cn_walk.specs.Views.{base, inside_in}
 use Rattle.cn_walk.specs.Words.{clients_in, word_count}
 
--- at a moment of the floor, at which the rule holds, these are the words, and one lane has this view
+-- in some state that keeps the rule these are the words, and one lane has this view
 pub record IsMoment (start : Start) (v : View) (words : List ℕ) : Type 0 where
   pub state : State (Unit {0}) View
   pub id : ℕ
@@ -31,7 +31,7 @@ pub record IsEnding (start : Start) (v : View) (words : List ℕ) : Type 0 where
   pub quiet : inside_in v ≡ 0 → clients_in start.network.table words ≡ base start + length v.grants
       → IsQuiet start v words
 
--- more came in than the lane has grants: so many, by the words of a moment of the floor
+-- more came in than the lane has grants: so many, by the words of some state that keeps the rule
 pub record IsMissing (start : Start) (v : View) (entered : ℕ) : Type 0 where
   pub words : List ℕ
   pub moment : IsMoment start v words

@@ -1,7 +1,7 @@
 -- A floor where nobody is inside, and what it leaves when it is closed.
 use Rattle.std.specs.Prelude.{◌≡◌, ℕ, ◌+◌, ◌-◌, ◌<◌, ◌≤◌, All, List, [], ◌∷◌, IsPermutation, length, map, slice_index, sum_by}
 use Rattle.std.specs.List.{range_with_len}
-use Rattle.cn_spec.specs.Step.{IsEachBelow, name_of, share}
+use Rattle.cn_spec.specs.Step.{IsEachBelow, name_of, share, shares_after}
 use Rattle.cn_spec.specs.Sums.{once_below, times}
 use Rattle.cn_wiring.specs.declared.end.End.{End}
 use Rattle.cn_wiring.specs.declared.end.End.TheVariants.{Exit}
@@ -65,9 +65,7 @@ pub record IsQuiet (start : Start) (v : View) (words : List ℕ) : Type 0 where
   -- flow brings there, and each name is granted once
   pub tight : IsTight start.network.table (ledger_of start.network.table start.carried words (v ∷ []))
   -- each exit's count is its share of all that ever came, less its share of those that came before
-  pub shares : counts_of start words
-      ≡ map (λ i. share (base start + length v.grants) start.network.table.width i - share (base start) start.network.table.width i)
-      (range_with_len 0 start.network.table.width)
+  pub shares : counts_of start words ≡ shares_after (base start) (length v.grants) start.network.table.width
   -- every answer that the lane was given is at most their number
   pub heeded : v.seen ≤ length v.grants
   -- each grant has the name of its exit and visit, and the names are those below the number of grants, each once

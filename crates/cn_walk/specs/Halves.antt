@@ -64,8 +64,3 @@ pub record IsPair (at : ℕ) (left right lanes : Lanes) : Type 0 where
   -- and where they are of workers that follow one another, it is of all these
   pub of : (k w from middle to : ℕ) → from < middle → middle < to → at ≡ first_of k w middle - first_of k w from
       → AreOf k w from middle left → AreOf k w middle to right → AreOf k w from to lanes
-
--- how many halves and lanes there are
-abbrev pub nodes : Lanes → ℕ
-nodes (One lane worker) = 0
-nodes (Halves' at p left q right) = nodes left + nodes right + 1

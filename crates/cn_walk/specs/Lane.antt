@@ -11,7 +11,7 @@ use Rattle.cn_core.specs.Calls.{IsMoveOf}
 use Rattle.cn_ledger.specs.Events.{Enters}
 use Rattle.cn_walk.specs.declared.view.Start.{Start}
 use Rattle.cn_walk.specs.declared.view.View.{View}
-use Rattle.cn_walk.specs.Steps.{IsStep, answer_at}
+use Rattle.cn_walk.specs.Steps.{IsAtomicStep, answer_at}
 use Rattle.cn_walk.specs.Views.{base, entered, gone, new_view, own_count}
 use Rattle.cn_walk.specs.Words.{count_in}
 
@@ -54,7 +54,7 @@ pub record LetsIn (old new : LaneValue) (token client entry : ℕ) : Type 0 wher
   pub yard : Admits old.yard new.yard token client entry
   pub room : new.room ≡ old.room - 1
   -- and that was one event
-  pub step : IsStep old.home.start old.view new.view (λ l m. Enters old.home.start.network.table l m client entry)
+  pub step : IsAtomicStep old.home.start old.view new.view (λ l m. Enters old.home.start.network.table l m client entry)
 
 -- a token that goes by an end with number n stands last on the balancer's output, or is gone
 abbrev pub PutsOn : Start → End → ℕ → Yard → Yard → ℕ → ℕ → Type 0
@@ -70,7 +70,7 @@ pub record StepsOn (old new : LaneValue) (token client wire n : ℕ) (answer : M
   pub room : new.room ≡ old.room
   pub answered : answer ≡ answer_at old.home.start (end_of old.home.start.network.table wire) n
   -- and that was one event
-  pub step : IsStep old.home.start old.view new.view
+  pub step : IsAtomicStep old.home.start old.view new.view
       (λ l m. IsMoveOf old.home.start.network.table (base old.home.start) l m client answer)
   pub few : n ≤ base old.home.start + old.home.start.quota
   -- a lane with the whole quota is given the count of its own

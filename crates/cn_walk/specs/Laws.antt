@@ -20,11 +20,11 @@ use Rattle.cn_walk.specs.Words.{clients_in, count_in}
 abbrev pub Floor : Type 0
 Floor = State (Unit {0}) View
 
--- whatever keeps the rule is such
+-- each state that keeps the rule is such
 abbrev pub AtEachMoment : (Start → Floor → Type 0) → Type 0
 AtEachMoment P = (start : Start) (s : Floor) → IsKept start s → P start s
 
--- and so is each view in it
+-- each view in each state that keeps the rule is such
 abbrev pub InEachView : (Start → Floor → View → Type 0) → Type 0
 InEachView P = AtEachMoment (λ start s. (id : ℕ) (v : View) → get_elem? s.views id ≡ some v → P start s v)
 

@@ -6,7 +6,7 @@ use Rattle.cn_core.specs.Calls.{IsMoveOf}
 use Rattle.cn_ledger.specs.Events.{Enters}
 use Rattle.cn_walk.specs.declared.view.Start.{Start}
 use Rattle.cn_walk.specs.declared.view.View.{View}
-use Rattle.cn_walk.specs.Steps.{IsAnswer, IsStep, answer_at}
+use Rattle.cn_walk.specs.Steps.{IsAnswer, IsAtomicStep, answer_at}
 use Rattle.cn_walk.specs.Views.{base, entered, gone, loaded, no_start, own_count}
 use Rattle.cn_walk.specs.Words.{count_in}
 
@@ -24,7 +24,7 @@ nobody_comes = record { start = no_start; token = 0; client = 0; entry = 0 }
 abbrev pub ComesIn : Coming → View → View → Type 0
 ComesIn c v w =
     (w ≡ entered c.token c.client c.entry v)
-    × IsStep c.start v w (λ old new. Enters c.start.network.table old new c.client c.entry)
+    × IsAtomicStep c.start v w (λ old new. Enters c.start.network.table old new c.client c.entry)
 
 -- who goes from which wire by which end, on which floor
 pub record Going : Type 0 where
@@ -40,7 +40,7 @@ nobody_goes = record { start = no_start; token = 0; client = 0; wire = 0; end = 
 -- a client goes by an end, where it finds the number n
 pub record IsLetBy (start : Start) (v w : View) (client : ℕ) (end : End) (n : ℕ) : Type 0 where
   -- it is one event
-  pub step : IsStep start v w (λ old new. IsMoveOf start.network.table (base start) old new client (answer_at start end n))
+  pub step : IsAtomicStep start v w (λ old new. IsMoveOf start.network.table (base start) old new client (answer_at start end n))
   pub few : n ≤ base start + start.quota
   -- a lane with the whole quota is given the count of its own
   pub sole : v.quota + length v.entries ≡ start.quota

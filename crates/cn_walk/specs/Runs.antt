@@ -1,7 +1,7 @@
 -- What a run of an epoch gives, and why it is refused.
 use Rattle.std.specs.Prelude.{◌≡◌, ℕ, ◌+◌, ◌-◌, ◌<◌, ◌≤◌, All, List, length, map, slice_index_or}
 use Rattle.std.specs.List.{range_with_len}
-use Rattle.cn_spec.specs.Step.{IsEachBelow, name_of, shares}
+use Rattle.cn_spec.specs.Step.{IsEachBelow, name_of, shares, shares_after}
 use Rattle.cn_spec.specs.Sums.{times}
 use Rattle.cn_spec.specs.declared.limits.TheConstants.{MOST_CLIENTS, MOST_HAND, MOST_WORKERS}
 use Rattle.cn_wiring.specs.declared.end.End.TheVariants.{Balancer}
@@ -11,7 +11,7 @@ use Rattle.cn_wiring.specs.Table.{IsFullFlow, sum_at}
 use Rattle.cn_core.specs.declared.client.Client.{Client}
 use Rattle.cn_walk.specs.declared.running.RunFault.{RunFault}
 use Rattle.cn_walk.specs.declared.running.RunFault.TheVariants.{Workers, Hand, TooMany, NoSuchEntry, Memory}
-use Rattle.cn_walk.specs.Carried.{WordsValue, clients_of, shares_after}
+use Rattle.cn_walk.specs.Carried.{WordsValue, clients_of}
 use Rattle.cn_walk.specs.Ends.{QuietValue, counts_of, passes_of}
 use Rattle.cn_walk.specs.Walks.{AreFor}
 use Rattle.cn_walk.specs.Words.{clients_in, count_in, entered_in}

@@ -17,7 +17,7 @@ use Rattle.cn_walk.specs.Views.{base}
 
 -- At a moment of the floor one view becomes another and no other changes, and that is this event on the ledger; the rule
 -- holds before it and after.
-pub record IsStep (start : Start) (v w : View) (event : Ledger → Ledger → Type 0) : Type 0 where
+pub record IsAtomicStep (start : Start) (v w : View) (event : Ledger → Ledger → Type 0) : Type 0 where
   pub old : State (Unit {0}) View
   pub new : State (Unit {0}) View
   pub id : ℕ

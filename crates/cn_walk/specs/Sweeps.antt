@@ -14,7 +14,7 @@ use Rattle.cn_walk.specs.declared.view.Sweep.{Sweep}
 use Rattle.cn_walk.specs.declared.view.Sweep.TheVariants.{On, Out}
 use Rattle.cn_walk.specs.declared.view.View.{View}
 use Rattle.cn_walk.specs.Lane.{LaneValue}
-use Rattle.cn_walk.specs.Steps.{IsStep}
+use Rattle.cn_walk.specs.Steps.{IsAtomicStep}
 use Rattle.cn_walk.specs.Views.{base, gone, no_start, own_count}
 use Rattle.cn_walk.specs.Words.{count_in}
 
@@ -50,7 +50,7 @@ nobody_sweeps = record { start = no_start; wire = 0; end = Exit 0 }
 -- the tokens of a wire go by its end, where the first finds the number n
 pub record AreLetBy (start : Start) (v w : View) (wire : ℕ) (end : End) (n : ℕ) : Type 0 where
   -- it is one step, and as many events in a row as tokens
-  pub step : IsStep start v w (GoInRow start.network.table wire end n (on v.tokens wire))
+  pub step : IsAtomicStep start v w (GoInRow start.network.table wire end n (on v.tokens wire))
   pub few : n + length (on v.tokens wire) ≤ base start + start.quota
   -- no name is that of a client that came before the floor began
   pub late : (i : ℕ) → end ≡ Exit i → base start ≤ name_of start.network.table.width i n

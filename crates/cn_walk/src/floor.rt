@@ -54,8 +54,9 @@ pub use words::Words;
 pub struct Floor<'a> {
     alloc: Global,
     network: &'a Counting,
-    /// How many clients came before it began, and the words as they then were.
+    /// How many clients came before it began.
     carried: u64,
+    /// The words as they then were.
     before: Words<'a>,
     counters: Counters,
 }
@@ -156,7 +157,7 @@ impl<'a> Floor<'a> {
 
     /// A floor over the network of these words, which goes on from them: its numbers and visits begin with theirs, and its
     /// names are those of its own clients. It has one lane with the whole quota. Over words that are all 0 it is that of
-    /// [`Floor::open`].
+    /// [`Floor::open`]. They tell of at most [`cn_spec::limits::MOST_CARRIED`] clients.
     ///
     /// # Errors
     /// The first that stands: `Quota` (more than [`MOST_CLIENTS`]), `Memory`.

@@ -134,8 +134,8 @@ fn pair(alloc: Global, at: u32, left: Lanes, right: Lanes) -> Option<Lanes>
     Some(Lanes::Halves(at, left, right))
 }
 
-/// Walks the clients through the lanes, each half in a thread of its own, and joins the lanes. A half that gets no thread
-/// is walked after the other; one lane alone is walked here.
+/// Walks the clients through the lanes, the first half in a thread of its own beside the second, and joins the lanes. Where
+/// there is no thread to be had the halves are walked one after the other; one lane alone is walked here.
 pub(crate) fn walk_lanes<F: Ground + Sync, G: Gate + Sync, R: Threads + Wait + Sync>(
     rt: &R,
     ground: &F,

@@ -29,7 +29,7 @@ pub struct Outcome {
 }
 
 /// Runs epochs over one network, one after another, and keeps what they share: the words with which each begins, and the
-/// yard of the first worker's lane, which is made once. Where it carries, each epoch goes on from the words of the last;
+/// yard of the first worker's lane. Where it carries, each epoch goes on from the words of the last;
 /// else all begin with words that are 0.
 #[derive(Drop)]
 pub struct Runner<'a> {

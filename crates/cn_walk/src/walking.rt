@@ -36,8 +36,8 @@ fn walk_in<'a, G: Gate, R: Wait>(
     }
 }
 
-/// The lowest wire that has a token, given as it is now. A token that is alone in the lane passes all balancers on its way
-/// before, with its wire in a local: its sweeps would be the same steps.
+/// The lowest wire that has a token, once a token that is alone in the lane has passed all balancers on its way; else
+/// `lowest`, which is that wire. The lone token's wire is in a local, and its sweeps would be the same steps.
 fn bring_on<'a, G: Gate, R: Wait>(
     rt: &R,
     floor: &Floor<'a>,
@@ -87,7 +87,8 @@ fn walk_out<'a, G: Gate, R: Wait>(rt: &R, floor: &Floor<'a>, lane: &mut Lane, ga
 /// nobody is inside, all tokens on the lowest wire that has one go by its end in a sweep; and so on until no client is left.
 /// It asks the gate before each of its atomic steps, in the worker's name.
 ///
-/// It takes no memory and refuses nothing, but returns only if the gate lets it on.
+/// Nobody is inside before; the lane's room and quota are at least the number of clients, each entry is one of the
+/// network's, and `hand` is at least 1. It takes no memory and refuses nothing, but returns only if the gate lets it on.
 pub fn walk_all<'a, G: Gate, R: Wait>(
     rt: &R,
     floor: &Floor<'a>,

@@ -3,16 +3,17 @@ use Rattle.std.proofs.Common.{◌≡◌, ◌<◌, ◌+◌, ℕ, List, [], ◌∷
 use Rattle.std.specs.Prelude.{◌||◌, drop, nat_eq}
 use Rattle.std.specs.List.{AllByRecursion, fold, list_any, range_with_len}
 use Rattle.std.proofs.lemmas.Bool.{eq-eqb, ne_eqb}
-use Rattle.std.proofs.lemmas.List.{append-nil, append_assoc}
+use Rattle.std.proofs.lemmas.List.{append-nil, append_assoc, length-map}
 use Rattle.std.proofs.lemmas.List.FromFn.{length-map-range_with_len}
 use Rattle.std.proofs.lemmas.List.Sorted.{IsPermutation-refl}
 use Rattle.std.proofs.lemmas.List.Sums.{fold-append}
-use Rattle.cn_spec.specs.Step.{counts_of, shares}
-use Rattle.cn_spec.proofs.CallerLemmas.{counts_shares}
+use Rattle.cn_spec.specs.Step.{counts_after, counts_of, shares, shares_after}
+use Rattle.cn_spec.proofs.CallerLemmas.{counts_shares, counts_shares_after}
 use Rattle.cn_epoch.specs.declared.record.EpochRecord.{EpochRecord}
 use Rattle.cn_report.specs.Reading.Granted.{grants_in, of_epoch}
 use Rattle.cn_report.specs.Reading.Records.{Record, records_of}
-use Rattle.cn_report.specs.Reading.Told.{epoch_numbers, told_epoch, told_epochs, with_number}
+use Rattle.cn_report.specs.Reading.Grants.{IsTightList}
+use Rattle.cn_report.specs.Reading.Told.{epoch_numbers, names_in, told_epoch, told_epochs, with_number}
 use Rattle.cn_report.specs.declared.reading.grant.Granted.{Granted}
 use Rattle.cn_report.specs.Writing.Grants.{AreRisingRecords, AreTight, checked_epoch, grants_text}
 use Rattle.cn_report.proofs.ReadBack.Epochs.{all_grants, first_epoch, grant_at, grants_of, later_epoch, names_given}
@@ -127,3 +128,13 @@ told_back width records tight some =
     (λ i. map (told_epoch width (spells i)) (epoch_numbers (spells i)))
     ∙ ap (map (told_epoch width all)) (all_numbers [] records tight.rising some (none_below records))
     ∙ told_each width all records (own_grants records tight.rising)
+
+-- ---- any tight list
+
+-- each epoch's names are those below their number, so they are shared out, after any number of clients
+pub tight_after : (rows : List Record) → IsTightList rows → (w m epoch : ℕ) → counts_after m w (names_in epoch rows) ≡ shares_after m (length (names_in epoch rows)) w
+tight_after rows tight w m epoch =
+    let grants = of_epoch epoch (grants_in (drop 1 rows)) in
+    let many : length (names_in epoch rows) ≡ length grants = length-map grants (λ (g : Granted). g.name) in
+    counts_shares_after w m (length grants) (names_in epoch rows) (tight.tight epoch).names
+    ∙ ap (λ (k : ℕ). shares_after m k w) (sym many)

@@ -29,6 +29,10 @@ told_epoch width grants e = (e, length (of_epoch e grants), counts_of width (map
 abbrev pub plain_tight : TightEpoch → ℕ × ℕ × List ℕ
 plain_tight epoch = (epoch.number, epoch.clients, epoch.counts.items)
 
+-- the names that the records give in an epoch
+abbrev pub names_in : ℕ → List Record → List ℕ
+names_in epoch rows = map (λ g. g.name) (of_epoch epoch (grants_in (drop 1 rows)))
+
 -- what the records tell of their epochs, in order
 abbrev pub told_epochs : ℕ → List Record → List (ℕ × ℕ × List ℕ)
 told_epochs width rows = map (told_epoch width (grants_in (drop 1 rows))) (epoch_numbers (grants_in (drop 1 rows)))

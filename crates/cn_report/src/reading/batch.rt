@@ -122,8 +122,9 @@ fn take_arrivals<R: Read>(
 
 /// The epochs of a batch: a header `epoch,client,entry`, and then a record of three numbers for each client, as `csv`
 /// reads them; or a header `epoch,client`, and then a record of two numbers for each, whose entry is the client modulo
-/// `entries`, which is at least 1. An epoch is a run of records of one number, and the numbers rise. Whatever the reader gives, the epochs are
-/// such as a network with `entries` entries can serve, and all of them have no more clients than a batch has records.
+/// `entries`, which is at least 1. An epoch is a run of records of one number, and the numbers rise. Whatever the reader
+/// gives, the epochs are such as a network with `entries` entries can serve, and all of them have no more clients than a
+/// batch has records.
 ///
 /// # Errors
 ///

@@ -14,7 +14,9 @@ pub struct EmitFault {
 
 /// Writes the text and flushes once at the end.
 ///
-/// A write that fails, is interrupted or takes no byte ends it; the bytes written until then are the first of the text.
+/// # Errors
+/// `EmitFault` where a write fails, is interrupted or takes no byte, which ends it: the bytes written until then are the
+/// first of the text. A failed flush is told with its whole length.
 pub fn emit<W: Write>(writer: &mut W, text: &[u8]) -> Result<(), EmitFault>
     ensures all { OnOk result (Appends (W.contents writer.old) (W.contents writer.new) text.now) }
     ensures within { IfErr result (λ fault. fault.written ≤ length text.now) }

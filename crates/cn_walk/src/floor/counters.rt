@@ -1,5 +1,5 @@
-//! The shared words of a floor, and the atomic steps on them. No other module reaches the table: each step of a lane
-//! outside this file is a call of a function of this file, and the lane's view counts it.
+//! The shared words of a floor, and the atomic steps on them. No other module reaches the table: each step of a lane on the
+//! word of an entry, a balancer or an exit is a call of a function of this file, and the lane's view counts it.
 
 ghost use Rattle.std.specs.Prelude.{◌≡◌, ◌+◌, ◌<◌, ◌≤◌, ℕ, [], length, vec_capacity, IfOk};
 ghost use Rattle.std.specs.Mem.Slots.{slots_items, slots_len, IsFull};

@@ -39,8 +39,8 @@ impl Lane {
     ghost use Rattle.cn_walk.specs.Lane.{with_room};
 
     /// What holds of each lane: its yard has the tokens of its view, wire by wire, and it has a wire for each of the
-    /// network; those inside and its quota are few; no token stands there twice, and one that does stands on one wire, for one
-    /// client.
+    /// network; those inside and its quota are at most [`MOST_CLIENTS`] together; no token stands there twice, and one that
+    /// does stands on one wire, for one client.
     ///
     /// It does nothing: its contract is the law.
     pub fn lane_laws(&self)

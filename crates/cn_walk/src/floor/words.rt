@@ -14,7 +14,7 @@ use std::marker::Model;
 /// The words of closed floors over a network: how many clients came in by each entry, passed each balancer and left by each
 /// exit since each word was 0. Another floor may go on from them ([`super::Floor::open_after`]).
 ///
-/// [`Words::zero`], the close of a floor and [`Words::copy`] alone make them. No reader takes memory.
+/// [`Words::zero`] and the close of a floor alone make them. No reader takes memory.
 #[derive(Drop)]
 pub struct Words<'a> {
     pub(super) network: &'a Counting,

@@ -1,4 +1,4 @@
-use Rattle.cn_ledger.proofs.CallerLemmas.{bounded, names-differ}
+use Rattle.cn_ledger.proofs.CallerLemmas.{bounded, granted-once, names-differ}
 use Rattle.cn_walk.specs.Laws.{ledger_at}
 use Rattle.cn_walk.proofs.Fresh.{heard_few}
 use Rattle.std.proofs.Common.{arith, refl}
@@ -7,6 +7,9 @@ use Rattle.cn_walk.proofs.laws.names_differ_and_are_low.Goals as goal
 pub returns-clause-differ : goal.returns-clause-differ
 returns-clause-differ c start s kept =
     λ client other exit another visit second name one two. names-differ start.network.table (ledger_at start s) kept.sound client other exit another visit second name name one two refl
+
+pub returns-clause-once : goal.returns-clause-once
+returns-clause-once c start s kept = granted-once start.network.table (ledger_at start s) kept.sound
 
 pub returns-clause-low : goal.returns-clause-low
 returns-clause-low c start s kept =
