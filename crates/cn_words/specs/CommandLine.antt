@@ -54,10 +54,8 @@ with_need app = record app { top = record app.top { subcommand_required = true; 
 abbrev pub renamer_words : App
 renamer_words = with_need (new_app (codes "renamer"))
 
--- the program's name, with the subcommands that send clients through a network
-abbrev pub walking_words : App
-walking_words = with_subcommand (with_subcommand renamer_words run_words.top) replay_words.top
-
 -- the whole command line
 abbrev pub command_line : App
-command_line = with_subcommand (with_subcommand walking_words check_words.top) show_words.top
+command_line =
+    with_subcommand (with_subcommand (with_subcommand (with_subcommand renamer_words run_words.top)
+    replay_words.top) check_words.top) show_words.top

@@ -21,7 +21,7 @@ use thiserror::Error;
 
 /// Why options that clap takes ask for no job.
 #[derive(Clone, Copy, Debug, PartialEq, Eq, Error)]
-pub enum ChoiceFault {
+pub(crate) enum ChoiceFault {
     /// They are of no subcommand that the program has.
     #[error("renamer: no such subcommand")]
     Subcommand,

@@ -1,10 +1,10 @@
 //! The command line as clap is told of it.
 
-ghost use Rattle.std.specs.Prelude.{◌≡◌, false, true, codes, IfOk};
+ghost use Rattle.std.specs.Prelude.{◌≡◌, false, true, codes, IfOk, IsOkAnd};
 ghost use Rattle.clap.specs.Words.{app_of, rule_of, with_rule, with_subcommand};
 ghost use Rattle.cn_words.specs.CommandLine.{check_words, command_line, flag_rule, network_words, option_with};
 ghost use Rattle.cn_words.specs.CommandLine.{renamer_words, replay_words, required_option};
-ghost use Rattle.cn_words.specs.CommandLine.{run_with_values, run_words, show_words, walking_words, with_need};
+ghost use Rattle.cn_words.specs.CommandLine.{run_with_values, run_words, show_words, with_need};
 
 use crate::help::HelpTexts;
 use clap::{Arg, ArgAction, Command};
@@ -150,7 +150,10 @@ fn renamer_command<'a>(alloc: Global, help: &'a HelpTexts) -> Command<'a>
 }
 
 /// The command with one more subcommand.
-fn with<'a>(command: Command<'a>, subcommand: Command<'a>) -> Result<Command<'a>, AllocError>
+fn with_subcommand<'a>(
+    command: Command<'a>,
+    subcommand: Command<'a>,
+) -> Result<Command<'a>, AllocError>
     requires { (app_of subcommand).top.is_plain ≡ true }
     ensures { IfOk result (λ whole. app_of whole
         ≡ with_subcommand (app_of command.entry) (app_of subcommand.entry).top) }
@@ -158,20 +161,25 @@ fn with<'a>(command: Command<'a>, subcommand: Command<'a>) -> Result<Command<'a>
     command.subcommand(subcommand)
 }
 
-/// The program with those of its subcommands that send clients through a network.
-fn walking_command<'a>(alloc: Global, help: &'a HelpTexts) -> Result<Command<'a>, AllocError>
-    ensures { IfOk result (λ command. app_of command ≡ walking_words) }
+/// The same, where the subcommand got its memory.
+fn with<'a>(
+    command: Command<'a>,
+    subcommand: Result<Command<'a>, AllocError>,
+) -> Result<Command<'a>, AllocError>
+    requires { IfOk subcommand (λ made. (app_of made).top.is_plain ≡ true) }
+    ensures { IfOk result (λ whole. IsOkAnd subcommand.entry (λ made.
+        app_of whole ≡ with_subcommand (app_of command.entry) (app_of made).top)) }
 {
-    let renamer = renamer_command(alloc, help);
-    let renamer = with(renamer, run_command(alloc, help)?)?;
-    with(renamer, replay_command(alloc, help)?)
+    with_subcommand(command, subcommand?)
 }
 
 /// The whole command line, with each of its subcommands.
 pub(crate) fn command<'a>(alloc: Global, help: &'a HelpTexts) -> Result<Command<'a>, AllocError>
     ensures { IfOk result (λ command. app_of command ≡ command_line) }
 {
-    let renamer = walking_command(alloc, help)?;
-    let renamer = with(renamer, check_command(alloc, help)?)?;
-    with(renamer, show_command(alloc, help)?)
+    let renamer = renamer_command(alloc, help);
+    let renamer = with(renamer, run_command(alloc, help))?;
+    let renamer = with(renamer, replay_command(alloc, help))?;
+    let renamer = with(renamer, check_command(alloc, help))?;
+    with(renamer, show_command(alloc, help))
 }

@@ -68,7 +68,7 @@ Status:
   0  done
   1  the input is refused
   2  the command line is refused
-  3  not finished: no memory, or a write failed
+  3  not finished: no memory, no random numbers, or a write failed
   4  the grant list is not tight";
 
 // ---- run
@@ -143,7 +143,7 @@ Status:
   0  done
   1  the batch is refused
   2  the command line is refused
-  3  not finished: no memory, or a write failed";
+  3  not finished: no memory, no random numbers, or a write failed";
 
 // ---- replay
 
@@ -206,7 +206,7 @@ Status:
   0  done, also where commands are refused
   1  the schedule is refused
   2  the command line is refused
-  3  not finished: no memory, or a write failed";
+  3  not finished: no memory, no random numbers, or a write failed";
 
 // ---- check
 

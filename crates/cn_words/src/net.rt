@@ -36,7 +36,7 @@ impl Model for Net {
 #[derive(Clone, Copy, Debug, PartialEq, Eq, Error)]
 pub enum NetFault {
     /// No network of this width is built.
-    #[error("renamer: no such network")]
+    #[error("renamer: no such width")]
     Width,
 }
 
@@ -73,7 +73,7 @@ impl Net {
         self.kind
     }
 
-    /// The width of the network: how many entries or exits it has, whichever is more.
+    /// The width of the network: how many exits it has.
     pub fn width(&self) -> u32
         ensures width { result ≡ self.now.width }
         ensures built { IsWidth self.now.width }
