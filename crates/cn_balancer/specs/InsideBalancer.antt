@@ -4,6 +4,7 @@ use Rattle.cn_spec.specs.declared.limits.TheConstants.{MOST_ARRIVALS}
 use Rattle.cn_balancer.specs.declared.balancer.Balancer.TheInside.{Inside}
 use Rattle.cn_balancer.specs.Traffic.{Traffic, all_arrivals}
 
+-- the traffic that contracts see
 abbrev pub traffic_of : Inside → Traffic
 traffic_of b = record { arrivals = b.arrivals; passages = b.passages }
 

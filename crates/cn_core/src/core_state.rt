@@ -92,7 +92,7 @@ impl<'a> Core<'a> {
         })
     }
 
-    /// How many clients entered: at most [`MOST_CLIENTS`]. Those of earlier epochs are not among them.
+    /// How many clients entered: at most [`MOST_CLIENTS`] ([`Core::state_laws`]). Those of earlier epochs are not among them.
     pub fn entered(&self) -> u64
         ensures value { result ≡ length self.now.clients }
         ensures by_history { ByHistories self.now (λ history carried. result ≡ enters_of history) }

@@ -5,6 +5,7 @@ use Rattle.cn_core.specs.SinceCleared as core
 use Rattle.cn_epoch.specs.declared.epochs.Epochs.TheInside.{Inside}
 use Rattle.cn_epoch.specs.SinceCleared.{Epochs}
 
+-- the epochs that contracts see
 abbrev pub epochs_of : Inside → Epochs
 epochs_of e = record { number = e.number; carries = e.carries; core = e.core }
 

@@ -82,22 +82,25 @@ MayAnswer table turns history carried (Enter client entry) answer = MayReply tab
 MayAnswer table turns history carried (Step client) answer = MayReply table history carried (StepEvent client) answer
 MayAnswer table turns history carried Turn answer = MayTurn table turns history carried answer
 
--- the number of turns done, and the history, after an answer: a turn that is done cuts the history
+-- how many turns are done after an answer
 abbrev pub turns_after : ℕ → Answer → ℕ
 turns_after turns (Turned r) = turns + 1
 turns_after turns (Replied reply) = turns
 turns_after turns (TurnRefused fault) = turns
 
+-- the history after an answer to an event
 abbrev pub replied_to : List Event → Event → Answer → List Event
 replied_to history event (Replied reply) = core.grown history event reply
 replied_to history event (Turned r) = history
 replied_to history event (TurnRefused fault) = history
 
+-- and to a turn, which cuts it where it is done
 abbrev pub cut_by : List Event → Answer → List Event
 cut_by history (Turned r) = []
 cut_by history (Replied reply) = history
 cut_by history (TurnRefused fault) = history
 
+-- the history after an answer to a command
 abbrev pub grown : List Event → Command → Answer → List Event
 grown history (Enter client entry) answer = replied_to history (EnterEvent client entry) answer
 grown history (Step client) answer = replied_to history (StepEvent client) answer
@@ -109,6 +112,7 @@ earlier_after earlier history (Turned r) = history ∷ earlier
 earlier_after earlier history (Replied reply) = earlier
 earlier_after earlier history (TurnRefused fault) = earlier
 
+-- the same, where turns may clear: then no earlier epochs are kept
 abbrev pub kept_after : Option (List (List Event)) → List Event → Answer → Option (List (List Event))
 kept_after kept history answer = option_map (λ earlier. earlier_after earlier history answer) kept
 
@@ -121,21 +125,24 @@ MayAnswerAll table turns history kept (command ∷ commands) (answer ∷ answers
 MayAnswerAll table turns history kept [] (answer ∷ answers) = ⊥
 MayAnswerAll table turns history kept (command ∷ commands) [] = ⊥
 
--- the number of turns done, the history, and the earlier epochs, once the commands have these answers
+-- how many turns are done once commands have these answers
 abbrev pub turns_by : ℕ → List Answer → ℕ
 turns_by turns [] = turns
 turns_by turns (answer ∷ answers) = turns_by (turns_after turns answer) answers
 
+-- the history then
 abbrev pub grown_by : List Event → List Command → List Answer → List Event
 grown_by history [] answers = history
 grown_by history (command ∷ commands) [] = history
 grown_by history (command ∷ commands) (answer ∷ answers) = grown_by (grown history command answer) commands answers
 
+-- the earlier epochs then, where turns carry
 abbrev pub earlier_by : List (List Event) → List Event → List Command → List Answer → List (List Event)
 earlier_by earlier history [] answers = earlier
 earlier_by earlier history (command ∷ commands) [] = earlier
 earlier_by earlier history (command ∷ commands) (answer ∷ answers) =
     earlier_by (earlier_after earlier history answer) (grown history command answer) commands answers
 
+-- the same, where turns may clear
 abbrev pub kept_by : Option (List (List Event)) → List Event → List Command → List Answer → Option (List (List Event))
 kept_by kept history commands answers = option_map (λ earlier. earlier_by earlier history commands answers) kept

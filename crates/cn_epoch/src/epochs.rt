@@ -125,7 +125,7 @@ impl<'a> Epochs<'a> {
         self.number
     }
 
-    /// How many clients entered the epoch that stands open: at most [`MOST_CLIENTS`].
+    /// How many clients entered the epoch that stands open: at most [`MOST_CLIENTS`] ([`Epochs::state_laws`]).
     pub fn entered(&self) -> u64
         ensures value { result ≡ length self.now.core.clients }
         ensures by_history { ByHistories self.now (λ turns history carried. result ≡ enters_of history) }

@@ -7,7 +7,7 @@ pub struct EpochRecord {
     pub number: u64,
     /// How many clients entered.
     pub clients: u64,
-    /// How many left by each exit, from exit 0 up.
+    /// How many clients of the epoch left by each exit, from exit 0 up.
     pub counts: Vec<u64>,
     /// Who holds each name, from name 0 up.
     pub holders: Vec<u64>,

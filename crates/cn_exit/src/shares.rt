@@ -29,7 +29,7 @@ fn never_rises(counts: &[u64]) -> bool
 }
 
 /// Whether the counts, from exit 0 up, have the step property: each is at least any later one, and at most one more. No
-/// counts have it, and so has one alone. It looks at each count a fixed number of times, whatever the counts are.
+/// counts have it, and so has one alone. It looks at each count at most a fixed number of times.
 ///
 /// Aspnes, Herlihy, Shavit 1994, section 2.
 pub fn is_step(counts: &[u64]) -> bool

@@ -3,7 +3,8 @@
 ghost use Rattle.std.specs.Prelude.{◌≡◌, ℕ, ◌+◌, ◌-◌, ◌^◌, ◌≤◌, ◌↔◌, [], ◌∷◌, length, map, IfOk, IsErrOf};
 ghost use Rattle.cn_spec.specs.Networks as net;
 ghost use Rattle.cn_spec.specs.Networks.{IsRow};
-ghost use Rattle.cn_wiring.specs.Built.{IsBuilt, exit_flows};
+ghost use Rattle.cn_wiring.specs.Built.{IsBuilt};
+ghost use Rattle.cn_wiring.specs.Network.{exit_flows};
 ghost use Rattle.cn_wiring.specs.Made.{IsTableOf};
 ghost use Rattle.cn_wiring.specs.Plan.{AllLoose, Builds, IsFlow};
 ghost use Rattle.cn_wiring.specs.Table.{IsFullFlow};

@@ -8,9 +8,9 @@ use Rattle.cn_spec.specs.Step.{IsStep}
 use Rattle.cn_spec.specs.Sums.{times}
 use Rattle.cn_wiring.specs.declared.end.End.TheVariants.{Exit}
 use Rattle.cn_wiring.specs.declared.kind.Kind.{Kind}
-use Rattle.cn_wiring.specs.Built.{IsBuilt, exit_flows}
+use Rattle.cn_wiring.specs.Built.{IsBuilt}
 use Rattle.cn_wiring.specs.Made.{IsTableOf}
-use Rattle.cn_wiring.specs.Network.{Network, IsNetwork}
+use Rattle.cn_wiring.specs.Network.{Network, IsNetwork, exit_flows}
 use Rattle.cn_wiring.specs.Plan.{Plan, Builds, Each, HasLevel, IsFlow, entries_alone, loose}
 use Rattle.cn_wiring.specs.Table.{Table, IsFullFlow, plan_of_table, sum_at}
 use Rattle.cn_wiring.proofs.Close.{flow-plan}

@@ -56,7 +56,8 @@ pub record BalancersFed (t : Table) : Type 0 where
   pub lead_on : EndsLeadOn t
   pub fed : (b : ℕ) → b < t.balancers → IsFed t b
 
--- the fault stands, with the least number, and no earlier kind of fault does
+-- the fault stands, with the least number, and no earlier kind of fault does; want of memory is told where none of the
+-- first three kinds stands
 abbrev pub IsFault : Table → WiringFault → Type 0
 IsFault t Length = ¬ SizesFit t
 IsFault t (NoSuchEnd wire) = SizesFit t × IsFirst (length t.ends) (StandsAt t) wire

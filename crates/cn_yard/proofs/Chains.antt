@@ -4,7 +4,12 @@ use Rattle.std.proofs.lemmas.Bool.{cases_eq}
 use Rattle.std.proofs.lemmas.Bool.Decides.{nat_tests}
 use Rattle.cn_spec.specs.Sums.{times}
 use Rattle.cn_spec.proofs.CallerLemmas.{times-cons, times-nil}
-use Rattle.cn_yard.specs.Chains.{Chain, but, head_or, last_or, tail_of, walk}
+use Rattle.cn_yard.specs.Chains.{Chain, but, head_or, last_or, walk}
+
+-- all numbers but the first
+abbrev pub tail_of : List ℕ → List ℕ
+tail_of [] = []
+tail_of (x ∷ xs) = xs
 
 -- ---- all but one
 

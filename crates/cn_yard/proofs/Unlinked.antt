@@ -6,11 +6,11 @@ use Rattle.std.proofs.lemmas.List.{get_or-set_other, get_or-set_same, length-set
 use Rattle.cn_spec.specs.Sums.{times}
 use Rattle.cn_yard.specs.declared.records.Record.{Record}
 use Rattle.cn_yard.specs.declared.lines.Line.{Line}
-use Rattle.cn_yard.specs.Chains.{Chain, but, head_or, last_or, tail_of}
+use Rattle.cn_yard.specs.Chains.{Chain, but, head_or, last_or}
 use Rattle.cn_yard.specs.Lines.{Ends, IsOff, Linked, count_of, line_of, line_without, no_line}
 use Rattle.cn_yard.specs.Records.{IsLink, next_of, prev_of, wire_of}
 use Rattle.cn_spec.proofs.CallerLemmas.{times-cons, times-nil}
-use Rattle.cn_yard.proofs.Chains.{but-cons, but-head, but-out, chain-but, chain-but-last, chain-rest, chain-same, chain-tied, last-but, last-in, last-left, length-but, next-in, prev-in, times-but}
+use Rattle.cn_yard.proofs.Chains.{but-cons, but-head, but-out, chain-but, chain-but-last, chain-rest, chain-same, chain-tied, last-but, last-in, last-left, length-but, next-in, prev-in, tail_of, times-but}
 
 -- ---- what is left of one line, with its links n and p
 

@@ -32,11 +32,6 @@ unfoldable pub last_or : ℕ → List ℕ → ℕ
 last_or d [] = d
 last_or d (x ∷ xs) = last_or x xs
 
--- all numbers but the first
-abbrev pub tail_of : List ℕ → List ℕ
-tail_of [] = []
-tail_of (x ∷ xs) = xs
-
 -- a number and the first of those after it are linked both ways
 abbrev pub Tied : (ℕ → ℕ) → (ℕ → ℕ) → ℕ → List ℕ → Type 0
 Tied next prev x [] = Unit {0}

@@ -6,9 +6,11 @@ use Rattle.cn_yard.specs.declared.lines.Line.{Line}
 use Rattle.cn_yard.specs.Chains.{Chain, head_or, last_or}
 use Rattle.cn_yard.specs.Records.{client_of, next_of, prev_of, wire_of}
 
+-- what is read where there is no line
 abbrev pub no_line : Line
 no_line = record { first = 0; last = 0; count = 0 }
 
+-- the line with a number
 abbrev pub line_of : List Line → ℕ → Line
 line_of lines u = get_or lines u no_line
 
