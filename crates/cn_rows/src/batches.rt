@@ -1,18 +1,12 @@
 //! Batches, read.
 
+use crate::serving::FIVE_ON_ONE_ENTRY;
 use crate::writers::Broken;
 use cn_report::{Batch, BatchCause, BatchEpoch, BatchFault, read_batch};
 use std::alloc::Global;
 use std::hash::RandomState;
 use std::io;
 use std::test::Fail;
-
-const FIVE_ON_ONE_ENTRY: &[u8] = b"epoch,client,entry\n\
-      1,17,3\n\
-      1,5,3\n\
-      1,99,3\n\
-      1,23,3\n\
-      1,42,3\n";
 
 /// A client that comes: its epoch's number, its own and its entry's.
 type Arrival = (u64, u64, u64);

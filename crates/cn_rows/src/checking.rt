@@ -5,7 +5,7 @@ pub(crate) const TWO_EPOCHS: &[u8] = b"epoch,client,name\n\
       1,10,0\n\
       2,10,0\n";
 
-const TWO_EPOCHS_TIGHT: &[u8] = b"epoch 1 clients 2 counts 1 1 0 0\n\
+pub(crate) const TWO_EPOCHS_TIGHT: &[u8] = b"epoch 1 clients 2 counts 1 1 0 0\n\
       epoch 2 clients 1 counts 1 0 0 0\n\
       tight epochs 2 grants 3\n";
 

@@ -1,19 +1,11 @@
 //! Grant lists, judged.
 
+use crate::checking::{TWO_EPOCHS, TWO_EPOCHS_TIGHT};
 use crate::writers::Broken;
 use cn_report::{Flaw, Tight, check_grants, render_tight};
 use cn_wiring::is_width;
 use std::alloc::Global;
 use std::io;
-
-const TWO_EPOCHS: &[u8] = b"epoch,client,name\n\
-      1,11,1\n\
-      1,10,0\n\
-      2,10,0\n";
-
-const TWO_EPOCHS_TIGHT: &[u8] = b"epoch 1 clients 2 counts 1 1 0 0\n\
-      epoch 2 clients 1 counts 1 0 0 0\n\
-      tight epochs 2 grants 3\n";
 
 /// Judges a list for width 4.
 fn judged<I: io::Read + Drop>(alloc: Global, reader: I) -> Option<Result<Tight, Flaw>> {

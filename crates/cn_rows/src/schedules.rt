@@ -1,18 +1,11 @@
 //! Schedules, read.
 
+use crate::replaying::TWO_CLIENTS;
 use crate::writers::Broken;
 use cn_epoch::Command;
 use cn_report::{ScheduleCause, ScheduleFault, read_schedule};
 use std::alloc::Global;
 use std::io;
-
-const TWO_CLIENTS: &[u8] = b"op,client,wire\n\
-      enter,7,0\n\
-      enter,9,1\n\
-      step,9,\n\
-      step,7,\n\
-      step,9,\n\
-      step,7,\n";
 
 const TWO_CLIENTS_COMMANDS: [Command; 6] = [
     Command::Enter {

@@ -1,24 +1,15 @@
 //! A batch that is cut at each of its bytes, and batches that are no plain lines: the answer is that to the records
 //! that csv gives.
 
-use super::runs::{Answer, Asked, is_answered};
-use cn_renamer::{BatchCause, Form};
+use super::runs::{Answer, is_answered};
+use crate::serving::{BITONIC_FOUR, FIVE_ON_ONE_ENTRY};
+use cn_renamer::BatchCause;
 use cn_walk::OpenGate;
-use cn_wiring::Kind;
 use std::alloc::Global;
 use std::hash::RandomState;
 use std::sync::Wait;
 use std::test::Fail;
 use std::thread::Threads;
-
-const BITONIC_FOUR: Asked = Asked {
-    kind: Kind::Bitonic,
-    width: 4,
-    workers: 1,
-    form: Form::Grants,
-};
-
-const FIVE_ON_ONE_ENTRY: &[u8] = b"epoch,client,entry\n1,17,3\n1,5,3\n1,99,3\n1,23,3\n1,42,3\n";
 
 /// How many bytes are left at most, counted on from the row before, and the answer to each of these cuts. What is
 /// left of the header is no header but where it is one of the two; what is left of a record has too few fields, then an entry

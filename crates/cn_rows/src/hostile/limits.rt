@@ -1,10 +1,10 @@
 //! Texts of as many records as may be, and of one more, which no list holds: a reader computes their bytes.
 
 use super::computed::Computed;
-use super::runs::{Answer, Asked, is_answered};
+use super::runs::{Answer, is_answered};
+use crate::serving::Asked;
 use cn_renamer::{
-    BatchCause, CheckFault, Flaw, Form, Net, ReplayFault, ScheduleCause, ScheduleFault, check,
-    replay,
+    BatchCause, CheckFault, Flaw, Net, ReplayFault, ScheduleCause, ScheduleFault, check, replay,
 };
 use cn_report::{Batch, read_batch};
 use cn_walk::OpenGate;
@@ -15,12 +15,7 @@ use std::sync::Wait;
 use std::test::Fail;
 use std::thread::Threads;
 
-const TREE_TWO: Asked = Asked {
-    kind: Kind::Tree,
-    width: 2,
-    workers: 1,
-    form: Form::Grants,
-};
+const TREE_TWO: Asked = (Kind::Tree, 2, 1, 1);
 
 /// Full epochs from 1 on, of which each client comes once in all, and this end.
 fn full_epochs(records: u64, last: &'static [u8]) -> Computed {

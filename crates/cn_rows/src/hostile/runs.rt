@@ -1,27 +1,13 @@
 //! The run of a batch by the library, for the modules beside this one.
 
-use cn_renamer::{BatchCause, BatchFault, Form, Net, Options, ServeFault, serve};
+use crate::serving::{Asked, options_of};
+use cn_renamer::{BatchCause, BatchFault, Form, ServeFault, serve};
 use cn_walk::Gate;
-use cn_wiring::Kind;
 use std::alloc::Global;
 use std::hash::RandomState;
 use std::io;
 use std::sync::Wait;
 use std::thread::Threads;
-
-/// A run on a network of a kind and a width, by workers with one client in hand each.
-#[derive(Clone, Copy, Debug, PartialEq, Eq)]
-pub(crate) struct Asked {
-    pub(crate) kind: Kind,
-    pub(crate) width: u32,
-    pub(crate) workers: u32,
-    pub(crate) form: Form,
-}
-
-fn options_of(asked: Asked) -> Option<Options> {
-    let net = Net::new(asked.kind, asked.width).ok()?;
-    Options::new(net, asked.workers, 1, asked.form).ok()
-}
 
 /// How a run ends, and what it writes.
 pub(crate) fn ran<I: io::Read + Drop, G: Gate + Sync, R: Threads + Wait + Sync>(
@@ -29,10 +15,11 @@ pub(crate) fn ran<I: io::Read + Drop, G: Gate + Sync, R: Threads + Wait + Sync>(
     alloc: Global,
     state: RandomState,
     asked: Asked,
+    form: Form,
     reader: I,
     gate: &G,
 ) -> Option<(Result<(), ServeFault>, Vec<u8>)> {
-    let options = options_of(asked)?;
+    let options = options_of(asked, form)?;
     let mut written = Vec::new(alloc);
     let done = serve(rt, alloc, reader, &mut written, &options, state, gate);
     Some((done, written))
@@ -45,7 +32,7 @@ pub(crate) enum Answer {
     Refused(u64, BatchCause),
 }
 
-/// Whether this is the answer to a batch, and nothing is written of one that is refused.
+/// Whether this is the answer to a batch in the grants form, and nothing is written of one that is refused.
 pub(crate) fn is_answered<I: io::Read + Drop, G: Gate + Sync, R: Threads + Wait + Sync>(
     rt: &R,
     alloc: Global,
@@ -55,7 +42,7 @@ pub(crate) fn is_answered<I: io::Read + Drop, G: Gate + Sync, R: Threads + Wait 
     gate: &G,
     wanted: Answer,
 ) -> bool {
-    let Some((done, written)) = ran(rt, alloc, state, asked, reader, gate) else {
+    let Some((done, written)) = ran(rt, alloc, state, asked, Form::Grants, reader, gate) else {
         return false;
     };
     match wanted {

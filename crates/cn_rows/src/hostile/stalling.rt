@@ -1,7 +1,8 @@
 //! Workers of whom one is held before one of its moments until the other has come to its last: whatever it is held at,
 //! the counts and names are those of four clients. Where it is held from the start, the other has the first names.
 
-use super::runs::{Asked, ran};
+use super::runs::ran;
+use crate::serving::Asked;
 use crate::waiting::comes_to;
 use cn_bitonic::bitonic;
 use cn_core::Client;
@@ -95,12 +96,7 @@ fn is_epoch_right<R: Threads + Wait + Sync>(rt: &R, alloc: Global, gate: &Stall)
 
 const BATCH: &[u8] = b"epoch,client,entry\n1,0,0\n1,1,1\n1,2,2\n1,3,3\n";
 
-const ASKED: Asked = Asked {
-    kind: Kind::Bitonic,
-    width: 4,
-    workers: 2,
-    form: Form::Report,
-};
+const BY_TWO: Asked = (Kind::Bitonic, 4, 2, 1);
 
 const COUNTED: &[u8] = b"network bitonic width 4 balancers 6 depth 3\n\
       epoch 1 clients 4\n\
@@ -145,7 +141,7 @@ fn is_batch_right<R: Threads + Wait + Sync>(
     state: RandomState,
     gate: &Stall,
 ) -> bool {
-    let Some((Ok(()), report)) = ran(rt, alloc, state, ASKED, BATCH, gate) else {
+    let Some((Ok(()), report)) = ran(rt, alloc, state, BY_TWO, Form::Report, BATCH, gate) else {
         return false;
     };
     match holders_of(&report) {
