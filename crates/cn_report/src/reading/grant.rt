@@ -5,10 +5,13 @@ ghost use Rattle.csv.specs.Records.{fields_of};
 ghost use Rattle.cn_report.specs.Reading.Number.{number_in};
 ghost use Rattle.cn_report.specs.Reading.Granted.{granted_in, granting};
 ghost use Rattle.cn_report.specs.Reading.Grants.{flaw_name, flaw_of, grant_cause_of_row};
+ghost use Rattle.cn_report.specs.declared.reading.grant.Flaw.TheVariants as flaws;
+ghost use Rattle.cn_report.specs.declared.reading.grant.GrantCause.TheVariants as causes;
 
 use crate::reading::number::number_of;
 use crate::reading::rows::{RowFault, field};
 use csv::ByteRecord;
+use std::alloc::AllocError;
 use std::fmt;
 
 /// A client that got a name in an epoch.
@@ -66,6 +69,22 @@ impl fmt::Display for Flaw {
             Flaw::Memory => "Memory",
         };
         f.write_str(name)
+    }
+}
+
+impl From<AllocError> for GrantCause {
+    ghost from_gives = { λ _ cause. cause ≡ causes.Memory };
+
+    fn from(_error: AllocError) -> Self {
+        GrantCause::Memory
+    }
+}
+
+impl From<AllocError> for Flaw {
+    ghost from_gives = { λ _ flaw. flaw ≡ flaws.Memory };
+
+    fn from(_error: AllocError) -> Self {
+        Flaw::Memory
     }
 }
 

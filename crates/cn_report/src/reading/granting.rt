@@ -69,13 +69,11 @@ impl Granting {
         if let Some(gap) = self.gap {
             return Some(gap);
         }
-        match self.names.least_missing(self.count) {
-            Some(name) => Some(Gap {
-                epoch: self.latest,
-                name,
-            }),
-            None => None,
-        }
+        let name = self.names.least_missing(self.count)?;
+        Some(Gap {
+            epoch: self.latest,
+            name,
+        })
     }
 
     /// Ends the latest epoch, and tells it where it has grants and no gap was found.
@@ -112,10 +110,7 @@ impl Granting {
         if self.latest == epoch {
             return Ok(());
         }
-        match self.end(alloc, width) {
-            Ok(()) => {}
-            Err(error) => return Err(error),
-        }
+        self.end(alloc, width)?;
         self.latest = epoch;
         self.count = 0;
         self.clients.clear();
@@ -165,10 +160,7 @@ impl Granting {
         if grant.epoch < self.latest || at > MOST_RECORDS {
             return Err(GrantCause::Form);
         }
-        match self.reach(alloc, width, grant.epoch) {
-            Ok(()) => {}
-            Err(_) => return Err(GrantCause::Memory),
-        }
+        self.reach(alloc, width, grant.epoch)?;
         self.join(grant)
     }
 
@@ -181,10 +173,7 @@ impl Granting {
             → map plain_tight tight.epochs.items ≡ map (shared_epoch width grants) (epoch_numbers grants)) }
     {
         let mut granting = self;
-        match granting.end(alloc, width) {
-            Ok(()) => {}
-            Err(_) => return Err(Flaw::Memory),
-        }
+        granting.end(alloc, width)?;
         match granting.gap {
             Some(gap) => Err(Flaw::Gap {
                 epoch: gap.epoch,

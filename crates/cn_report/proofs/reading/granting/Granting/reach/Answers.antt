@@ -4,9 +4,9 @@ use Rattle.cn_report.proofs.reading.granting.Granting.reach.Goals as goal
 
 pub returns-clause-holds : goal.returns-clause-holds
 returns-clause-holds c = λ grants held.
-    reached c.args.self.now _ grants (omega (arith, c.requires.later, c.if-self-epoch.false)) refl c.clear.ensures c.clear-2.ensures (c.in-Ok.ensures.gap grants held) held
+    reached c.args.self.now _ grants (omega (arith, c.requires.later, c.if-self-epoch.false)) refl c.clear.ensures c.clear-2.ensures (c.in_ok-end.ensures.gap grants held) held
 
 pub returns-clause-tells : goal.returns-clause-tells
 returns-clause-tells c = λ grants held tells none.
-    let (before, over) = c.in-Ok.ensures.over none in
+    let (before, over) = c.in_ok-end.ensures.over none in
     rw over (told_turn c.args.width _ c.args.self.now.latest c.args.self.now.count c.args.epoch grants (tells before) held.count (omega (arith, c.requires.later, c.if-self-epoch.false)))

@@ -18,17 +18,17 @@ pub returns-clause-ok : goal.returns-clause-ok
 returns-clause-ok c =
     on_ok_map c.join.result c.join.ensures.ok (λ j before checked size.
     let (none, over, gap, latest, count, clients, names) = j in
-    let held = c.in-Ok.ensures.holds before checked.holds in (
-      sym (told c.reach.new.self before c.args.grant held c.in-Ok.ensures.here (omega (arith, checked.last, c.if-grant-self.false)) (omega (arith, size, c.if-at-gt-MOST_RECORDS.false))) ∙ none,
-      joined c.args.width c.reach.new.self c.join.new.self before c.args.grant held (c.in-Ok.ensures.tells before checked.holds checked.tells) c.in-Ok.ensures.here over gap latest count clients names,
+    let held = c.in_ok-reach.ensures.holds before checked.holds in (
+      sym (told c.reach.new.self before c.args.grant held c.in_ok-reach.ensures.here (omega (arith, checked.last, c.if-grant-self.false)) (omega (arith, size, c.if-at-gt-MOST_RECORDS.false))) ∙ none,
+      joined c.args.width c.reach.new.self c.join.new.self before c.args.grant held (c.in_ok-reach.ensures.tells before checked.holds checked.tells) c.in_ok-reach.ensures.here over gap latest count clients names,
     ))
 
 pub returns-clause-err : goal.returns-clause-err
 returns-clause-err c =
     if_err_map c.join.result c.join.ensures.err (λ cause e before checked size.
-    let held = c.in-Ok.ensures.holds before checked.holds in
+    let held = c.in_ok-reach.ensures.holds before checked.holds in
     elim e [
       | inl is ↦
-          inl (sym (told c.reach.new.self before c.args.grant held c.in-Ok.ensures.here (omega (arith, checked.last, c.if-grant-self.false)) (omega (arith, size, c.if-at-gt-MOST_RECORDS.false))) ∙ is)
+          inl (sym (told c.reach.new.self before c.args.grant held c.in_ok-reach.ensures.here (omega (arith, checked.last, c.if-grant-self.false)) (omega (arith, size, c.if-at-gt-MOST_RECORDS.false))) ∙ is)
       | inr is ↦ inr is
     ])
