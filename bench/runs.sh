@@ -1,7 +1,7 @@
 #!/usr/bin/env bash
 # Compares the processor time of `renamer run` with a plain Rust peer that does the same work by single steps, with linked
 # tokens and words that are cleared, in turn: full batches (16 epochs of 65,536 clients with random identities and entries)
-# on bitonic 64 with hands of 1 and of 64 and on the tree of width 64, by one worker and by four; 65,536 epochs of one
+# on bitonic 64 with hands of 1 and of 64 and on the tree of width 64, by one worker, with a hand of 1 on bitonic 64 by four too; 65,536 epochs of one
 # client; four epochs of 262,144 clients on bitonic 256; and a Python script that keeps a dict from client to name. Runs with
 # `--carry` are compared with runs without, of the full batch and of the epochs of one client. The last lines are the memory
 # that an epoch of 262,144 clients takes, and what one more balancer on a token's way costs, in uncontended atomic adds. The

@@ -8,7 +8,8 @@
 # Of a core over the bitonic network of width 64, with 60,000 clients: where each is walked out before the next enters, so
 # that one token is inside, and where all enter and then each takes one step after the other; less what the enters take.
 # What a look-up in the table of clients takes is measured with look-ups in the place of the steps. The program,
-# core/main.rattle, is proved and built in a copy of the crates that it uses.
+# core/main.rattle, is proved and built in a copy of the crates that it uses. The plain loop is in readers/, which takes
+# `csv` and `indexmap` from a folder of crates: the argument, or Debian's.
 set -euo pipefail
 cd "$(dirname "$0")"
 crates=${1:-/usr/share/cargo/registry}
