@@ -1,6 +1,6 @@
 //! The running network of epochs, by one thread.
 
-ghost use Rattle.std.specs.Prelude.{◌≡◌, ℕ, ◌+◌, ◌<◌, ◌≤◌, ◌↔◌, List, [], ◌∷◌, Some, length, slice_index, IfOk, OnOk, OnErr, IfSome, IsTrue};
+ghost use Rattle.std.specs.Prelude.{◌≡◌, ℕ, ◌+◌, ◌<◌, ◌≤◌, ◌↔◌, List, [], Some, length, slice_index, IfOk, OnOk, OnErr, IfSome, IsTrue};
 ghost use Rattle.cn_spec.specs.declared.limits.TheConstants.{MOST_ARRIVALS, MOST_CARRIED, MOST_CLIENTS};
 ghost use Rattle.cn_spec.specs.Step.{share};
 ghost use Rattle.cn_spec.specs.Sums.{one_more};

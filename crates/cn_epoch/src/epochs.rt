@@ -1,6 +1,6 @@
 //! Epochs, one after another on one network.
 
-ghost use Rattle.std.specs.Prelude.{◌≡◌, ℕ, ◌+◌, ◌<◌, ◌≤◌, ◌^◌, Bool, true, false, List, [], None, Option, Some, length, slice_index, IfOk, OnErr};
+ghost use Rattle.std.specs.Prelude.{◌≡◌, ℕ, ◌+◌, ◌<◌, ◌≤◌, ◌^◌, true, false, List, [], None, Option, Some, length, slice_index, IfOk, OnErr};
 ghost use Rattle.cn_spec.specs.Step.{share};
 ghost use Rattle.cn_spec.specs.declared.limits.TheConstants.{MOST_CARRIED, MOST_CLIENTS};
 ghost use Rattle.cn_core.specs.Calls.{entered_reply, stepped_reply};
@@ -9,7 +9,7 @@ ghost use Rattle.cn_core.specs.SinceCleared.{enters_of, inside_of};
 ghost use Rattle.cn_core.specs.State.{came_in, inside_in, start};
 ghost use Rattle.cn_core.specs.StateLedger.{HasSoundLedger};
 ghost use Rattle.cn_core.specs.Tight.{HasShares, IsBoundedState};
-ghost use Rattle.cn_epoch.specs.Calls.{AnswersByHistory, RunsTo, TakesTo, RepliesTo, RunsByHistory, TurnsTo, turned_answer};
+ghost use Rattle.cn_epoch.specs.Calls.{AnswersByHistory, RunsTo, TakesTo, RunsByHistory, turned_answer};
 ghost use Rattle.cn_epoch.specs.SinceCleared.{Agrees, ByHistories, next};
 
 use crate::answer::{Answer, TurnFault};
@@ -63,7 +63,6 @@ fn exit_counts(alloc: Global, core: &Core, network: &Counting) -> Result<Vec<u64
 }
 
 impl<'a> Epochs<'a> {
-    ghost use Rattle.cn_core.specs.declared.event.Event.TheVariants.{Enter as EnterEvent, Step as StepEvent};
     ghost use Rattle.cn_core.specs.declared.event.Event.{Event};
     ghost use Rattle.cn_epoch.specs.declared.answer.Answer.TheVariants.{Replied};
     ghost use Rattle.cn_epoch.specs.declared.command.Command.TheVariants.{Enter, Step, Turn};

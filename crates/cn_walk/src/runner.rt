@@ -1,6 +1,6 @@
 //! Epochs over one network, one after another.
 
-ghost use Rattle.std.specs.Prelude.{◌≡◌, ◌≤◌, IfErr, IfOk, IfSome, OnErr, OnOk, length};
+ghost use Rattle.std.specs.Prelude.{◌≡◌, ◌≤◌, IfErr, IfOk, IfSome, OnErr, OnOk};
 ghost use Rattle.cn_spec.specs.declared.limits.TheConstants.{MOST_CARRIED};
 ghost use Rattle.cn_walk.specs.Carried.{clients_of, words_before, zero_words};
 ghost use Rattle.cn_walk.specs.Lane.{IsIdle};

@@ -1,6 +1,6 @@
 //! Drafts of networks, to which balancers are added one by one.
 
-ghost use Rattle.std.specs.Prelude.{◌≡◌, ℕ, ◌+◌, ◌*◌, ◌<◌, ◌≤◌, ◌↔◌, List, [], ◌∷◌, ◌++◌, map, IfOk, IfErr, OnErr, OnOk, IsTrue, length, replicate, None, is_none, slice_index, slice_index_or};
+ghost use Rattle.std.specs.Prelude.{◌≡◌, ℕ, ◌+◌, ◌*◌, ◌<◌, ◌≤◌, ◌↔◌, List, [], ◌∷◌, ◌++◌, map, IfOk, IfErr, OnErr, OnOk, IsTrue, length, None, is_none, slice_index, slice_index_or};
 ghost use Rattle.std.specs.List.{range_with_len};
 ghost use Rattle.cn_spec.specs.Networks.{layer};
 ghost use Rattle.cn_spec.specs.Step.{IsStep, half};
