@@ -1,12 +1,10 @@
-//! Prints 65,536 clients that share one bucket of a table of their number, and of each smaller table, under the kit's hasher
+//! Prints so many clients that share one bucket of a table of 65,536, and of each smaller table, under the kit's hasher
 //! with one fixed state: that of two zero keys, with which it hashes as Rust's `DefaultHasher::new()` does.
 
 use std::collections::hash_map::DefaultHasher;
 use std::hash::{Hash, Hasher};
 
-const CLIENTS: usize = 65_536;
-
-/// A table has a power of two of groups, each of nine keys on average.
+/// A table of 65,536 has a power of two of groups, each of nine keys on average.
 const GROUPS: u64 = 8_192;
 
 /// All clients have twenty digits, so that their texts are of one length.
@@ -21,7 +19,8 @@ fn group(key: u64) -> u64 {
 }
 
 fn main() {
-    for key in (FIRST..).filter(|key| group(*key) == 0).take(CLIENTS) {
+    let count = std::env::args().nth(1).expect("how many").parse().expect("a number");
+    for key in (FIRST..).filter(|key| group(*key) == 0).take(count) {
         println!("{key}");
     }
 }

@@ -1,41 +1,54 @@
-//! The peer of `show`, in plain Rust without contracts.
+//! The peers, in plain Rust without contracts. Each does the work of a job of the program, and prints the same:
+//!
+//!     plain show bitonic|periodic WIDTH              the wiring
+//!     plain check                                    judges a grant list by width 4
+//!     plain run                                      runs a batch on the tree of width 2, each client straight through
+//!     plain walk NETWORK WIDTH WORKERS HAND FORM     runs a batch as `renamer run` does, by single steps
+//!     plain report ROUNDS                            renders a report of a million names so many times
+//!     plain add                                      adds to an atomic word a hundred million times
 
 mod network;
+mod reading;
+mod showing;
+mod walks;
+mod writing;
 
-use network::{End, bitonic_network, periodic_network};
-use std::fmt::Write as _;
-use std::io::Write as _;
+use reading::Refused;
+use std::io::{self, Write as _};
+use std::process::ExitCode;
+use std::sync::atomic::{AtomicU64, Ordering};
 
-fn show(kind: &str, width: usize) -> String {
-    let level = width.ilog2() as usize;
-    let (network, depth) = match kind {
-        "periodic" => (periodic_network(width), level * level),
-        _ => (bitonic_network(width), level * (level + 1) / 2),
-    };
-    let balancers = network.balancers();
-    let mut text = format!("network {kind} width {width} balancers {balancers} depth {depth}\n");
-    for (wire, end) in network.ends.iter().enumerate() {
-        match end {
-            End::Balancer(balancer) => writeln!(text, "wire {wire} balancer {balancer}"),
-            End::Exit(exit) => writeln!(text, "wire {wire} exit {exit}"),
-            End::Loose => unreachable!("each wire ends somewhere"),
-        }
-        .expect("a string takes it");
+/// What an atomic add costs where nobody else adds.
+fn add() -> String {
+    let word = AtomicU64::new(0);
+    for _ in 0..100_000_000 {
+        word.fetch_add(1, Ordering::AcqRel);
     }
-    writeln!(text, "end wires {}", network.ends.len()).expect("a string takes it");
-    text
+    format!("{}\n", word.into_inner())
 }
 
-fn main() -> std::io::Result<()> {
-    let words: Vec<String> = std::env::args().skip(1).collect();
+fn perform(words: &[String]) -> Result<String, Refused> {
     match words.iter().map(String::as_str).collect::<Vec<_>>()[..] {
-        ["show", kind, width] => {
-            let width = width.parse().expect("a width");
-            std::io::stdout().write_all(show(kind, width).as_bytes())
+        ["show", kind, width] => Ok(showing::show(kind, width.parse().expect("a width"))),
+        ["check"] => reading::check(),
+        ["run"] => reading::run(),
+        ["walk", ..] => reading::walk(&words[1..]),
+        ["report", rounds] => Ok(writing::report(rounds.parse().expect("a number"))),
+        ["add"] => Ok(add()),
+        _ => Err("plain show | check | run | walk | report | add".to_string()),
+    }
+}
+
+fn main() -> ExitCode {
+    let words: Vec<String> = std::env::args().skip(1).collect();
+    match perform(&words) {
+        Ok(text) => {
+            io::stdout().write_all(text.as_bytes()).expect("a writer that takes all");
+            ExitCode::SUCCESS
         }
-        _ => {
-            eprintln!("plain show bitonic|periodic WIDTH");
-            std::process::exit(2);
+        Err(refused) => {
+            eprintln!("{refused}");
+            ExitCode::FAILURE
         }
     }
 }

@@ -33,7 +33,6 @@ impl Network {
         (first, first + 1)
     }
 
-    #[allow(dead_code)]
     pub fn fork(&mut self, u: usize) -> (usize, usize) {
         let balancer = self.balancers();
         let first = self.ends.len();
@@ -105,7 +104,6 @@ fn block(network: &mut Network, wires: &[usize]) -> Vec<usize> {
 }
 
 /// The periodic network.
-#[allow(dead_code)]
 pub fn periodic_network(width: usize) -> Network {
     let level = width.ilog2() as usize;
     let mut network = Network::new(width, width / 2 * level * level);
@@ -117,4 +115,15 @@ pub fn periodic_network(width: usize) -> Network {
         network.ends[wire] = End::Exit(exit);
     }
     network
+}
+
+/// The line that heads a text on a network.
+pub fn heading(kind: &str, width: usize, network: &Network) -> String {
+    let level = width.ilog2() as usize;
+    let depth = match kind {
+        "tree" => level,
+        "periodic" => level * level,
+        _ => level * (level + 1) / 2,
+    };
+    format!("network {kind} width {width} balancers {} depth {depth}\n", network.balancers())
 }

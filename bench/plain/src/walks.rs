@@ -1,7 +1,7 @@
-//! Runs of a batch by many workers on the bitonic network or the counting tree, each token by single steps, in plain Rust.
+//! Runs of a batch by many workers, each token by single steps.
 
-use crate::network::{End, Network, bitonic_network};
-use crate::{Client, Epoch};
+use crate::network::{End, Network, bitonic_network, heading, periodic_network};
+use crate::reading::{Client, Epoch};
 use std::sync::atomic::{AtomicU64, Ordering};
 
 /// The counting tree: leaf by leaf each exit's wire, by the bits of its number from the lowest.
@@ -92,10 +92,18 @@ pub struct Floor {
 
 impl Floor {
     pub fn new(kind: &str, width: usize) -> Floor {
-        let network = if kind == "tree" { tree_network(width) } else { bitonic_network(width) };
+        let network = match kind {
+            "tree" => tree_network(width),
+            "periodic" => periodic_network(width),
+            _ => bitonic_network(width),
+        };
         let count = network.entries + network.balancers() + width;
         let words = (0..count).map(|_| AtomicU64::new(0)).collect();
         Floor { network, width, words }
+    }
+
+    pub fn heading(&self, kind: &str) -> String {
+        heading(kind, self.width, &self.network)
     }
 
     pub fn entries(&self) -> usize {

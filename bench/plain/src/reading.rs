@@ -1,21 +1,13 @@
-//! The peers of the jobs that read CSV, in plain Rust without contracts: `readers check` reads a grant list of width 4 and
-//! prints the tight text, `readers run` reads a batch for the tree of width 2, walks each client straight through, and
-//! prints the report. `readers walk NETWORK WIDTH WORKERS HAND FORM` reads a batch for the bitonic network or the tree and
-//! walks its clients as `renamer run` does, by single steps. `readers add` adds to an atomic word a hundred million times.
+//! The peers of the jobs that read CSV.
 
-#[path = "../../plain/src/network.rs"]
-mod network;
-mod walks;
-
+use crate::walks::{Floor, Workers};
 use csv::{ByteRecord, Reader, ReaderBuilder};
 use indexmap::IndexSet;
 use std::fmt::Write as _;
-use std::io::{self, Stdin, Write as _};
-use std::process::ExitCode;
+use std::io::{self, Stdin};
 use std::sync::atomic::{AtomicU64, Ordering};
-use walks::{Floor, Workers};
 
-type Refused = String;
+pub type Refused = String;
 
 fn number(field: &[u8]) -> Option<u64> {
     if field.is_empty() || field.len() > 20 || !field.iter().all(u8::is_ascii_digit) {
@@ -103,7 +95,7 @@ impl Granting {
     }
 }
 
-fn check() -> Result<String, Refused> {
+pub fn check() -> Result<String, Refused> {
     let mut rows = open([b"epoch", b"client", b"name"])?;
     let mut row = ByteRecord::new();
     let mut granting = Granting::default();
@@ -120,14 +112,14 @@ fn check() -> Result<String, Refused> {
 
 // ---- run
 
-struct Client {
-    id: u64,
-    entry: u64,
+pub struct Client {
+    pub id: u64,
+    pub entry: u64,
 }
 
-struct Epoch {
+pub struct Epoch {
     number: u64,
-    clients: Vec<Client>,
+    pub clients: Vec<Client>,
 }
 
 fn read_batch(entries: u64) -> Result<Vec<Epoch>, Refused> {
@@ -186,14 +178,18 @@ fn put_epoch(text: &mut String, epoch: &Epoch) {
     }
 }
 
-fn run() -> Result<String, Refused> {
+fn put_end(text: &mut String, epochs: &[Epoch]) {
+    let grants: usize = epochs.iter().map(|epoch| epoch.clients.len()).sum();
+    writeln!(text, "end epochs {} grants {grants}", epochs.len()).unwrap();
+}
+
+pub fn run() -> Result<String, Refused> {
     let epochs = read_batch(1)?;
     let mut text = String::from("network tree width 2 balancers 1 depth 1\n");
     for epoch in &epochs {
         put_epoch(&mut text, epoch);
     }
-    let grants: usize = epochs.iter().map(|epoch| epoch.clients.len()).sum();
-    writeln!(text, "end epochs {} grants {grants}", epochs.len()).unwrap();
+    put_end(&mut text, &epochs);
     Ok(text)
 }
 
@@ -215,53 +211,27 @@ fn put_grants(text: &mut String, epoch: &Epoch, holders: &[u64]) {
     }
 }
 
-fn walk(words: &[String]) -> Result<String, Refused> {
+pub fn walk(words: &[String]) -> Result<String, Refused> {
     let [kind, width, workers, hand, form] = words else {
-        return Err("readers walk NETWORK WIDTH WORKERS HAND FORM".to_string());
+        return Err("plain walk NETWORK WIDTH WORKERS HAND FORM".to_string());
     };
     let size = |word: &String| word.parse::<usize>().map_err(|e| e.to_string());
     let (width, workers, hand) = (size(width)?, size(workers)?, size(hand)?);
     let floor = Floor::new(kind, width);
     let mut workers = Workers::new(&floor, workers, hand);
     let epochs = read_batch(floor.entries() as u64)?;
-    let mut text = String::new();
+    let is_list = form == "grants";
+    let mut text = if is_list { "epoch,client,name\n".to_string() } else { floor.heading(kind) };
     for epoch in &epochs {
         let holders = workers.run(&floor, epoch);
-        if form == "grants" {
+        if is_list {
             put_grants(&mut text, epoch, &holders);
         } else {
             put_walked(&mut text, &floor, width, epoch, &holders);
         }
     }
+    if !is_list {
+        put_end(&mut text, &epochs);
+    }
     Ok(text)
-}
-
-/// What an atomic add costs where nobody else adds.
-fn add() -> Result<String, Refused> {
-    let word = AtomicU64::new(0);
-    for _ in 0..100_000_000 {
-        word.fetch_add(1, Ordering::AcqRel);
-    }
-    Ok(format!("{}\n", word.into_inner()))
-}
-
-fn main() -> ExitCode {
-    let words: Vec<String> = std::env::args().skip(1).collect();
-    let done = match words.first().map(String::as_str) {
-        Some("check") => check(),
-        Some("run") => run(),
-        Some("walk") => walk(&words[1..]),
-        Some("add") => add(),
-        _ => Err("readers check | run | walk | add".to_string()),
-    };
-    match done {
-        Ok(text) => {
-            io::stdout().write_all(text.as_bytes()).expect("a writer that takes all");
-            ExitCode::SUCCESS
-        }
-        Err(refused) => {
-            eprintln!("{refused}");
-            ExitCode::FAILURE
-        }
-    }
 }
