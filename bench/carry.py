@@ -12,10 +12,7 @@ import measure
 
 def instructions(bench, words, path):
     counting = ["valgrind", "--tool=callgrind", "--callgrind-out-file=/dev/null", *words]
-    with open(bench.folder / "counted", "w+b") as counted:
-        bench.run(counting, path, errors=counted)
-        counted.seek(0)
-        found = re.search(rb"Collected : (\d+)", counted.read())
+    found = re.search(rb"Collected : (\d+)", bench.written(counting, path, stream="errors"))
     if found is None:
         raise measure.Failed("valgrind counted no instructions")
     return int(found[1])
@@ -29,6 +26,7 @@ def rows(bench):
     for name, path, form in inputs:
         words = bench.ours("bitonic", 64, "--form", form)
         pair = [*words, "--carry"], words
+        bench.agree(pair, path)
         counts = [instructions(bench, job, path) for job in pair]
         yield measure.Row(f"{name}, instructions", counts[0] / counts[1], " and ".join(f"{count:,}" for count in counts))
         yield bench.compare(f"{name}, times", [(job, path) for job in pair], bench.size(60, 3))

@@ -35,7 +35,7 @@ def rows(bench):
     keys = bench.compiled(["rustc", "-O"], "enemies/keys.rs", "keys")
     zeros = bench.compiled(["gcc", "-shared", "-fPIC", "-O1"], "enemies/zeros.c", "zeros.so")
     count = str(bench.size(65_536, 4_096))
-    enemies = [int(client) for client in bench.output([keys, count]).split()]
+    enemies = [int(client) for client in bench.written([keys, count]).split()]
     theirs = inputs(bench, "enemies", enemies)
     others = inputs(bench, "others", [bench.chance.randrange(10**19, 2**64) for _ in enemies])
     tree = ["--network", "tree", "--width", "2"]

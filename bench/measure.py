@@ -59,13 +59,13 @@ def goals():
         return {(goal["script"], goal["row"]): float(goal["at_most"]) for goal in csv.DictReader(text)}
 
 
-def line(script, row):
+def line(script, row, small):
     """A row as it is printed, and whether it has a goal that it misses."""
     goal = goals().get((script, row.name))
     missed = goal is not None and row.value > goal
-    judged = "no goal" if goal is None else f"at most {goal:g}, {'not met' if missed else 'met'}"
+    judged = "no goal" if goal is None else f"at most {goal:g}, {'not met' if missed else 'met'}{' at a small size' * small}"
     detail = f" ({row.detail})" if row.detail else ""
-    return f"{script}, {row.name}: {row.value:.3g}{row.unit}; {judged}{detail}", missed
+    return f"{script}, {row.name}: {row.value:.3f}{row.unit}; {judged}{detail}", missed
 
 
 class Bench:
@@ -160,24 +160,27 @@ class Bench:
             )
             timer = threading.Timer(max(self.ends - time.monotonic(), 0), child.kill)
             timer.start()
-            _, ended, usage = os.wait4(child.pid, 0)
+            try:
+                _, ended, usage = os.wait4(child.pid, 0)
+            finally:
+                timer.cancel()
             took = time.perf_counter() - began
-            timer.cancel()
         child.returncode = os.waitstatus_to_exitcode(ended)
         if child.returncode != status:
             late = ", as no time was left" if self.ends <= time.monotonic() else ""
             raise Failed(f"{' '.join(words)}: status {child.returncode}{late}")
         return Spent(usage.ru_utime + usage.ru_stime, took)
 
-    def output(self, words, path=os.devnull, status=0):
-        with open(self.folder / "output", "wb") as output:
-            self.run(words, path, status, output)
-        return (self.folder / "output").read_bytes()
+    def written(self, words, path=os.devnull, status=0, stream="output"):
+        """What a run writes to its standard output, or to the stream `errors`."""
+        with open(self.folder / "written", "wb") as text:
+            self.run(words, path, status, **{stream: text})
+        return (self.folder / "written").read_bytes()
 
-    def agree(self, jobs, path=os.devnull, status=0, seen=lambda output: output):
-        """Fails unless the outputs of the jobs are one, as they are seen, and there is one where they succeed."""
-        first, *others = (seen(self.output(words, path, status)) for words in jobs)
-        if (status == 0 and not first) or any(other != first for other in others):
+    def agree(self, jobs, path=os.devnull, seen=lambda text: text, **how):
+        """Fails unless all of the jobs write the same, as it is seen, and something."""
+        first, *others = (seen(self.written(words, path, **how)) for words in jobs)
+        if not first or any(other != first for other in others):
             raise Failed(f"outputs differ: {', '.join(' '.join(words) for words in jobs)}")
 
     def in_turn(self, jobs, rounds):
@@ -232,7 +235,7 @@ def measure(script, rows, chosen):
     with tempfile.TemporaryDirectory() as folder:
         try:
             for row in rows(Bench(chosen, folder)):
-                text, is_missed = line(script, row)
+                text, is_missed = line(script, row, chosen.small)
                 print(text, flush=True)
                 names.append(row.name)
                 missed += [row.name] * is_missed

@@ -9,21 +9,19 @@ import measure
 
 
 def rows(bench):
+    words = bench.ours("bitonic", 256)
     peak = bench.compiled(["gcc", "-O1"], "memory/peak.c", "peak")
 
     def of(path):
         """The peak in bytes of a run."""
-        with open(bench.folder / "said", "w+b") as said:
-            bench.run([peak, *bench.ours("bitonic", 256)], path, errors=said)
-            said.seek(0)
-            return 1024 * int(said.read())
+        return 1024 * int(bench.written([peak, *words], path, stream="errors"))
 
     epochs, clients = bench.size(1_048_576, 4_096), bench.size(262_144, 16_384)
     yield measure.Row("epochs of one client, bitonic 256", of(bench.single(epochs)) / 1e6, f"{epochs:,} epochs", " MB")
 
     empty = of(bench.batch("empty", 0, 0, 256))
     epoch = bench.batch("epoch", 1, clients, 256)
-    most, text = of(epoch), len(bench.output(bench.ours("bitonic", 256), epoch))
+    most, text = of(epoch), len(bench.written(words, epoch))
     detail = f"{most / 1e6:.1f} MB, empty {empty / 1e6:.1f} MB, text {text / 1e6:.1f} MB"
     yield measure.Row(f"an epoch of {clients:,} clients", (most - empty - text) / clients, detail, " bytes a client")
 

@@ -11,6 +11,11 @@ import measure
 EPOCHS = 16
 
 
+def cause(said):
+    """The record that was refused, and why."""
+    return said.split(b"record ")[-1]
+
+
 def rows(bench):
     clients, chance = bench.size(62_500, 2_000), bench.chance
 
@@ -18,8 +23,8 @@ def rows(bench):
         records = (f"{epoch},{chance.getrandbits(64)},{field}" for epoch in range(EPOCHS) for field in fields())
         return bench.write(name, f"epoch,client,{last}", itertools.chain(records, after))
 
-    def compare(name, pair, path, status=0):
-        bench.agree(pair, path, status)
+    def compare(name, pair, path, status=0, **how):
+        bench.agree(pair, path, status=status, **how)
         return bench.compare(name, [(words, path, status) for words in pair], bench.size(10, 3))
 
     check = [bench.proved, "check", "--width", "4"], [bench.plain, "check"]
@@ -29,7 +34,7 @@ def rows(bench):
     shuffled = write("shuffled", "name", lambda: chance.sample(range(clients), clients))
     yield compare("check, names shuffled", check, shuffled)
     refused = write("refused", "entry", lambda: [0] * clients, f"{EPOCHS},1,1")
-    yield compare("reading only", run, refused, 1)
+    yield compare("reading only", run, refused, 1, stream="errors", seen=cause)
     batch = write("batch", "entry", lambda: [0] * clients)
     yield compare("run on tree 2", run, batch)
 
