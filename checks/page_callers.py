@@ -84,9 +84,10 @@ def find():
             shown = blocks(lines)
             wrong += (f"{crate}/README.md: {what}" for what in wrong_below(heading, lines, shown))
             if heading.startswith("A caller"):
-                named = [SAID.search(text) for _, text in shown]
-                said += sum(map(bool, named))
-                callers += (Caller(crate, heading, code, test and test.group(1)) for (code, _), test in zip(shown, named))
+                for code, text in shown:
+                    test = SAID.search(text)
+                    said += bool(test)
+                    callers.append(Caller(crate, heading, code, test and test.group(1)))
         if len(SAID.findall(page.read_text())) != said:
             wrong.append(f"{crate}/README.md: it says `It is a test of` without the code of one caller before it")
     if not callers:

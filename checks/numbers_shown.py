@@ -1,0 +1,266 @@
+"""Whether help and the manual page show the right numbers: limits, counts, statuses and fault lines.
+
+The limits are those of the law `limits_are` (crates/cn_spec/src/laws.rt), and the statuses, the fault lines and the
+names of causes those of the formats. A text is compared with the phrases that it is to have, each with its numbers
+in place: a phrase that is missing is named, and so is each number that stands in none of them.
+
+Free is only the record of a fault line, and the epoch and the name of a gap: an input is made that has the fault there.
+"""
+import dataclasses
+import pathlib
+import re
+import shlex
+
+LAWS = pathlib.Path(__file__).resolve().parent.parent / "crates" / "cn_spec" / "src" / "laws.rt"
+# A number, in digits or as a word.
+NUMBER = re.compile(r"\d+|\b(?:two|three|four|five|six|seven|eight|nine|ten)\b")
+# So far may a record of a fault line lie, so that an input that long is soon made.
+FARTHEST = 1000
+
+
+def limits():
+    """The limits of the service, by name, as the law says them."""
+    law = re.search(r"^pub fn limits_are\(\)\n(.*?)^\{\}", LAWS.read_text(), re.M | re.S).group(1)
+    found = {}
+    for name, base, power in re.findall(r"\b([A-Z_]+) ≡ ([0-9_]+)(?: \^ ([0-9]+))?", law):
+        found[name] = int(base) ** int(power or 1)
+    return found
+
+
+# ---- what each text is to say
+
+def phrases_of_help(job):
+    """The forms of the phrases with numbers that the help of a job, or of the program, is to have."""
+    limit = limits()
+    epoch = rf"epoch has at most {limit['MOST_CLIENTS']} clients\b"
+    records = rf"at most {limit['MOST_RECORDS']} records\b"
+    numbers, header = r"numbers below 2\^64", r"count from 0: the header is record 0\b"
+    width = rf"width of the network: a power of two from 2 to {2 ** limit['MOST_LEVEL']}\b"
+    return {
+        "renamer": [],
+        "run": [
+            numbers,
+            r"Entries are 0 to W-1\b",
+            r"a tree has (only )?entry 0\b",
+            epoch,
+            records,
+            r"have the names 0 to k-1\b",
+            header,
+            width,
+            rf"How many workers [^:]*: 1 to {limit['MOST_WORKERS']} \[default: 1\]",
+            rf"How many tokens in hand [^:]*: 1 to {limit['MOST_HAND']} \[default: 1\]",
+        ],
+        "check": [numbers, records, r"have the names 0 to k-1\b", r"remainders 0, 1, 2 and 3\b", header, width],
+        "replay": [numbers, epoch, records, header, width],
+        "show": [r"the two outputs of balancer 0, then those of balancer 1\b", width],
+    }[job]
+
+
+def phrases_of_manual():
+    """The forms of the phrases with numbers that the manual page is to have, but for its statuses."""
+    limit = limits()
+    clients, records = limit["MOST_CLIENTS"], limit["MOST_RECORDS"]
+    *narrow, wide = [2**level for level in range(1, limit["MOST_LEVEL"] + 1)]
+    return [
+        r"^RENAMER 1\b",
+        r"identities are below 2\^64",
+        r"get the names 0 to k-1\b",
+        r"its two outputs",
+        r"token, counted from 0\b",
+        rf"width of the network: {', '.join(map(str, narrow))} or {wide}\.",
+        rf"How many workers [^:]*: 1 to {limit['MOST_WORKERS']}\. By default 1\.",
+        rf"How many tokens in hand [^:]*: 1 to {limit['MOST_HAND']}\. By default 1\.",
+        rf"numbers below 2\^64 in 1 to {limit['MOST_DIGITS']} decimal digits",
+        r"Record 0 is the header",
+        rf"After the header come at most {records} records\.",
+        r"Entries are 0 to W-1\b",
+        r"a tree has (only )?entry 0\b",
+        rf"epoch has at most {clients} clients, and no client twice",
+        r"grants have the names 0 to k-1\b",
+        rf"epoch has at most {clients} clients\.",
+        r"for each exit, from 0 to W-1\b",
+        r"for each name, from 0 to K-1\b",
+        r"\(k - i\) / W, rounded up, and 0 (if|where) i is not below k\b",
+        r"counts C0 C1 \.\. C\(W-1\)",
+        r"the two outputs of balancer 0, then those of balancer 1\b",
+        r"the status is 0\.",
+        r"FieldCount \(not three fields, or under the shorter header not two\)",
+        rf"EpochFull \(the epoch has {clients} clients\)",
+        rf"BatchFull \(more than {records} records\)",
+        r"FieldCount \(not three fields\)",
+        rf"ScheduleFull \(more than {records} records\)",
+        rf"Form for another header, a record that is not three numbers, [^.]*, or more than {records} records\.",
+        r"What status 3 (means|tells)\b",
+        r"by eight workers",
+    ]
+
+
+# What each status means, by the words that texts have for it.
+STATUSES = [
+    r"done\b.*|the list is tight",
+    r"the (input|batch|schedule|list) is refused\.?",
+    r"the command line is refused\.?",
+    r"not finished: no memory, (no random numbers, )?(or )?a write (that )?failed\b.*",
+    r"the (grant )?list is not tight\.?",
+]
+# The statuses that each job can end with.
+ENDS = {
+    "renamer": [0, 1, 2, 3, 4],
+    "run": [0, 1, 2, 3],
+    "check": [0, 1, 2, 3, 4],
+    "replay": [0, 1, 2, 3],
+    "show": [0, 2, 3],
+}
+# Why a command of a schedule is refused.
+REFUSALS = ["NoSuchEntry", "AlreadyIn", "EpochFull", "Stranger", "HasName M", "NotQuiet S"]
+# The causes of each input, in the order in which they are asked.
+CAUSES = {
+    "a batch": "Read Header FieldCount EpochNumber ClientNumber EntryNumber EpochBackwards EntryRange Duplicate"
+    " EpochFull BatchFull",
+    "a schedule": "Read Header FieldCount Op ClientNumber WireNumber ScheduleFull",
+    "a grant list": "Read Form",
+}
+FAULT_LINES = [
+    "renamer: record R: CAUSE",
+    "renamer: flaw: DuplicateClient record R",
+    "renamer: flaw: DuplicateName record R",
+    "renamer: flaw: Gap epoch E name M",
+    "renamer: no such network",
+    "renamer: no such width",
+    "renamer: workers out of range",
+    "renamer: hand out of range",
+    "renamer: no such form",
+    "renamer: memory",
+    "renamer: runtime",
+    "renamer: write after B bytes",
+]
+
+
+# ---- what a text says
+
+def wrong_in_prose(prose, forms):
+    """Each phrase of these forms that a text lacks, and each number of it that stands in none of them."""
+    left, wrong = prose, []
+    for form in forms:
+        left, count = re.subn(form, "|", left, count=1, flags=re.M)
+        if count == 0:
+            wrong.append(f"it does not say: {form}")
+    for number in NUMBER.finditer(left):
+        near = left[max(0, number.start() - 30) : number.end() + 20]
+        wrong.append(f"nothing is known of the number {number.group()} in: {' '.join(near.split())}")
+    return wrong
+
+
+def wrong_in_statuses(statuses, ends):
+    """Each status that means something else, and those that are missing or too many."""
+    wrong = []
+    for number, words in statuses:
+        if number >= len(STATUSES) or not re.fullmatch(STATUSES[number], words, re.I | re.S):
+            wrong.append(f"status {number} is not: {words}")
+    if [number for number, _ in statuses] != ends:
+        wrong.append(f"the statuses are not {ends}")
+    return wrong
+
+
+def wrong_in_refusals(text):
+    """Each reason to refuse a command that a text does not name."""
+    missing = [name for name in REFUSALS if not re.search(rf"\b{name}\b", text)]
+    return [f"it does not say when a command is refused by {name}" for name in missing]
+
+
+def wrong_in_help(job, shown):
+    """What is wrong in the numbers of the help of a job, or of the program."""
+    wrong = wrong_in_prose(shown.prose, phrases_of_help(job)) + wrong_in_statuses(shown.statuses, ENDS[job])
+    return wrong + (wrong_in_refusals(shown.prose) if job == "replay" else [])
+
+
+def without_escapes(page):
+    """The text of a manual page without its marks for signs."""
+    return page.replace(r"\-", "-").replace(r"\e", "\\")
+
+
+def without_macros(page):
+    """The lines of a manual page without its macros, and without the commands that it shows with their output."""
+    lines = []
+    for line in re.sub(r"^    \$ .*\n(?: {4}.*\n)*", "", without_escapes(page), flags=re.M).splitlines():
+        macro, _, rest = line.partition(" ") if line.startswith(".") else ("", "", line)
+        # Such a macro sets its words by turns in two types, with nothing between them.
+        lines.append("".join(shlex.split(rest)) if re.fullmatch(r"\.[BIR]{2}", macro) else rest)
+    return lines
+
+
+def wrong_in_causes(text):
+    """Each input whose causes are not those that the text names, in their order."""
+    marks = [f"Of {named}" for named in CAUSES]
+    wrong = []
+    for mark, names in zip(marks, CAUSES.values()):
+        part = re.search(rf"{mark}\b(.*?)(?=Of a |renamer: |$)", text, re.S)
+        found = re.findall(r"\b[A-Z]\w+", part.group(1)) if part else []
+        if found != names.split():
+            wrong.append(f"the causes are not: {mark} {names}")
+    return wrong
+
+
+def wrong_in_manual(page):
+    """What is wrong in the numbers, statuses and fault lines of the manual page."""
+    lines = without_macros(page)
+    text = "\n".join(lines)
+    status = re.search(r"^EXIT STATUS\n(.*?)^DIAGNOSTICS\n(.*?)^EXAMPLES$", text, re.M | re.S)
+    if not status:
+        return ["it has no exit statuses and diagnostics"]
+    pairs = re.findall(r"^(\d+)\n(.*?)(?=^\d+\n|\Z)", status.group(1), re.M | re.S)
+    statuses = [(int(number), " ".join(words.split())) for number, words in pairs]
+    wrong = wrong_in_statuses(statuses, ENDS["renamer"])
+    if [line for line in lines if line.startswith("renamer: ")] != FAULT_LINES:
+        wrong.append(f"its fault lines are not {FAULT_LINES}")
+    wrong += wrong_in_refusals(text) + wrong_in_causes(status.group(2))
+    prose = " ".join(re.sub(r"^\d$", "", text, flags=re.M).split())
+    return wrong + wrong_in_prose(prose, phrases_of_manual())
+
+
+# ---- fault lines of help
+
+@dataclasses.dataclass
+class Fault:
+    """A command, an input at which it has a fault, and the status that it then ends with."""
+
+    command: str
+    input: str
+    status: int
+
+
+def records_before(record, text):
+    """Records 1, 2, .. up to one before this record, each with its number for `#`, and one less for `@`."""
+    numbers = range(1, record)
+    return [text.replace("#", str(number)).replace("@", str(number - 1)) for number in numbers]
+
+
+def grants_with_gap(epoch, name):
+    """Grants of an epoch that lacks this name and no other one."""
+    names = [*range(name), name + 1]
+    return [f"{epoch},{client},{one}" for client, one in enumerate(names)]
+
+
+# The jobs' fault lines that help may show: the form of the line, and the records of an input that has the fault there.
+MADE = {
+    "run": [(r"renamer: record (\d+): Duplicate", 1, lambda at: [*records_before(at, "1,#,0"), "1,1,0"])],
+    "replay": [(r"renamer: record (\d+): Op", 1, lambda at: [*records_before(at, "enter,#,0"), "leave,1,"])],
+    "check": [
+        (r"renamer: record (\d+): Form", 1, lambda at: [*records_before(at, "1,#,@"), "1,x,0"]),
+        (r"renamer: flaw: DuplicateClient record (\d+)", 4, lambda at: [*records_before(at, "1,#,@"), f"1,1,{at}"]),
+        (r"renamer: flaw: DuplicateName record (\d+)", 4, lambda at: [*records_before(at, "1,#,@"), f"1,{at},0"]),
+        (r"renamer: flaw: Gap epoch (\d+) name (\d+)", 4, grants_with_gap),
+    ],
+}
+HEADERS = {"run": "epoch,client,entry", "replay": "op,client,wire", "check": "epoch,client,name"}
+
+
+def made_fault(job, line):
+    """The command, and the input, by which a job is to write this fault line; none is known of other lines."""
+    for form, status, records in MADE.get(job, []):
+        found = re.fullmatch(form, line)
+        if found and all(int(number) <= FARTHEST for number in found.groups()):
+            options = "--width 4" if job == "check" else "--network bitonic --width 4"
+            lines = [HEADERS[job], *records(*map(int, found.groups()))]
+            return Fault(f"renamer {job} {options}", "".join(f"{one}\n" for one in lines), status)
+    return None
