@@ -56,42 +56,48 @@ def phrases_of_help(job):
     }[job]
 
 
+# The forms of phrases of the manual page that have no limit.
+MANUAL = [
+    r"^RENAMER 1\b",
+    r"identities are below 2\^64",
+    r"get the names 0 to k-1\b",
+    r"its two outputs",
+    r"token, counted from 0\b",
+    r"Record 0 is the header",
+    r"Entries are 0 to W-1\b",
+    r"a tree has (only )?entry 0\b",
+    r"grants have the names 0 to k-1\b",
+    r"for each exit, from 0 to W-1\b",
+    r"for each name, from 0 to K-1\b",
+    r"\(k - i\) / W, rounded up, and 0 (if|where) i is not below k\b",
+    r"counts C0 C1 \.\. C\(W-1\)",
+    r"the two outputs of balancer 0, then those of balancer 1\b",
+    r"the status is 0\.",
+    r"FieldCount \(not three fields, or under the shorter header not two\)",
+    r"FieldCount \(not three fields\)",
+    r"What status 3 (means|tells)\b",
+    r"by eight workers",
+]
+
+
 def phrases_of_manual():
     """The forms of the phrases with numbers that the manual page is to have, but for its statuses."""
     limit = limits()
     clients, records = limit["MOST_CLIENTS"], limit["MOST_RECORDS"]
     *narrow, wide = [2**level for level in range(1, limit["MOST_LEVEL"] + 1)]
     return [
-        r"^RENAMER 1\b",
-        r"identities are below 2\^64",
-        r"get the names 0 to k-1\b",
-        r"its two outputs",
-        r"token, counted from 0\b",
+        *MANUAL,
         rf"width of the network: {', '.join(map(str, narrow))} or {wide}\.",
         rf"How many workers [^:]*: 1 to {limit['MOST_WORKERS']}\. By default 1\.",
         rf"How many tokens in hand [^:]*: 1 to {limit['MOST_HAND']}\. By default 1\.",
         rf"numbers below 2\^64 in 1 to {limit['MOST_DIGITS']} decimal digits",
-        r"Record 0 is the header",
         rf"After the header come at most {records} records\.",
-        r"Entries are 0 to W-1\b",
-        r"a tree has (only )?entry 0\b",
         rf"epoch has at most {clients} clients, and no client twice",
-        r"grants have the names 0 to k-1\b",
         rf"epoch has at most {clients} clients\.",
-        r"for each exit, from 0 to W-1\b",
-        r"for each name, from 0 to K-1\b",
-        r"\(k - i\) / W, rounded up, and 0 (if|where) i is not below k\b",
-        r"counts C0 C1 \.\. C\(W-1\)",
-        r"the two outputs of balancer 0, then those of balancer 1\b",
-        r"the status is 0\.",
-        r"FieldCount \(not three fields, or under the shorter header not two\)",
         rf"EpochFull \(the epoch has {clients} clients\)",
         rf"BatchFull \(more than {records} records\)",
-        r"FieldCount \(not three fields\)",
         rf"ScheduleFull \(more than {records} records\)",
         rf"Form for another header, a record that is not three numbers, [^.]*, or more than {records} records\.",
-        r"What status 3 (means|tells)\b",
-        r"by eight workers",
     ]
 
 
