@@ -18,7 +18,8 @@ IsCleanBefore cause rows end = (at : ℕ) → at < end → cause rows at ≡ Non
 abbrev pub IsClean : {C : Type 0} → (List Record → ℕ → Option C) → List Record → Type 0
 IsClean cause rows = (at : ℕ) → cause rows at ≡ None
 
--- the first record with a cause, and its first cause; what is no record's fault is told at the record that was being read
+-- the first record with a cause, and its first cause; or what is no record's fault, at a record before which none has a
+-- cause: that it is the record that was being read is tested
 pub record IsFirstFault {C : Type 0} (cause : List Record → ℕ → Option C) (IsOther : C → Type 0) (rows : List Record) (at : ℕ) (why : C) : Type 0 where
   pub within : at ≤ length rows
   pub clean : IsCleanBefore cause rows at
