@@ -3,7 +3,7 @@
 ghost use Rattle.std.specs.Prelude.{◌≡◌};
 
 use crate::one_lane::step;
-use crate::walks::{close, enter, open};
+use crate::walks::{close, enter, join, open, split};
 use cn_spec::limits::{MOST_CLIENTS, MOST_ROOM};
 use cn_tree::tree;
 use cn_walk::{Floor, Lane, Quiet};
@@ -136,4 +136,51 @@ fn wrong_row(alloc: Global) -> Option<usize> {
 #[test]
 fn always_memory(rt: HostRuntime) {
     assert_eq!(rt; wrong_row(rt.alloc()), None);
+}
+
+/// The room of a lane that is taken while a client is inside.
+fn room_beside(floor: &Floor<'_>, lane: &mut Lane) -> Option<u64>
+    requires { lane.old.home ≡ floor.now }
+    ensures { lane.new.home ≡ lane.old.home }
+{
+    enter(floor, lane, 0, 0).ok()?;
+    if reserve(lane, 5) {
+        Some(lane.room())
+    } else {
+        None
+    }
+}
+
+fn room_with_one_inside(alloc: Global) -> Option<u64> {
+    let network = tree(alloc, 64).ok()?;
+    let (floor, mut lane) = open(alloc, &network, 6)?;
+    room_beside(&floor, &mut lane)
+}
+
+#[test]
+fn room_is_taken_beside_a_client(rt: HostRuntime) {
+    assert_eq!(rt; room_with_one_inside(rt.alloc()), Some(5));
+}
+
+/// Three clients walk out by a second lane, and the first, which has no room, takes it in: whether it has their grants.
+fn has_three(floor: &Floor<'_>, lane: Lane) -> Option<bool>
+    requires { lane.home ≡ floor.now }
+{
+    let (first, mut second) = split(floor, lane, 3)?;
+    if !walk_all_out(floor, &mut second, 3) {
+        return None;
+    }
+    let lane = join(floor, first, second)?;
+    Some(lane.grants().iter().map(|grant| grant.client).eq(0..3))
+}
+
+fn three_joined(alloc: Global) -> Option<bool> {
+    let network = tree(alloc, 64).ok()?;
+    let (floor, lane) = open(alloc, &network, 3)?;
+    has_three(&floor, lane)
+}
+
+#[test]
+fn grants_are_joined_without_room(rt: HostRuntime) {
+    assert_eq!(rt; three_joined(rt.alloc()), Some(true));
 }

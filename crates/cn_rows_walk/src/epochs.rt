@@ -23,59 +23,6 @@ pub(crate) fn run<'a, G: Gate + Sync, R: Threads + Wait + Sync>(
     run_epoch(rt, alloc, network, clients, workers, hand, gate)
 }
 
-/// Whether so many left by each exit, and these are the clients by name.
-fn are_left(quiet: &Quiet<'_>, counts: &[u64], holders: &[u64]) -> [bool; 2] {
-    let are_holders = match quiet.holders() {
-        Ok(told) => told.as_slice() == holders,
-        Err(_) => false,
-    };
-    [quiet.counts() == counts, are_holders]
-}
-
-/// Clients, and the hand of one worker; how many leave by each exit of bitonic 4, and the clients by name.
-type Row = (&'static [Client], u32, [u64; 4], &'static [u64]);
-
-fn is_run<R: Threads + Wait + Sync>(rt: &R, alloc: Global, row: &Row) -> Option<[bool; 2]> {
-    let (clients, hand, counts, holders) = *row;
-    let network = bitonic(alloc, 4).ok()?;
-    match run(rt, alloc, &network, clients, 1, hand, &OpenGate) {
-        Ok(quiet) => Some(are_left(&quiet, &counts, holders)),
-        Err(_) => None,
-    }
-}
-
-const FIVE_ON_ONE_ENTRY: Row = (
-    &[
-        Client { id: 17, entry: 3 },
-        Client { id: 5, entry: 3 },
-        Client { id: 99, entry: 3 },
-        Client { id: 23, entry: 3 },
-        Client { id: 42, entry: 3 },
-    ],
-    1,
-    [2, 1, 1, 1],
-    &[17, 5, 99, 23, 42],
-);
-
-#[test]
-fn five_on_one_entry(rt: HostRuntime) {
-    let is_told = is_run(&rt, rt.alloc(), &FIVE_ON_ONE_ENTRY);
-    assert_eq!(rt; is_told, Some([true, true]));
-}
-
-const TWO_CLIENTS: &[Client] = &[Client { id: 100, entry: 2 }, Client { id: 200, entry: 0 }];
-
-const HAND_OF_ONE: Row = (TWO_CLIENTS, 1, [1, 1, 0, 0], &[100, 200]);
-
-const HAND_OF_TWO: Row = (TWO_CLIENTS, 2, [1, 1, 0, 0], &[200, 100]);
-
-#[test]
-fn hand_decides_order(rt: HostRuntime) {
-    let one = is_run(&rt, rt.alloc(), &HAND_OF_ONE);
-    let two = is_run(&rt, rt.alloc(), &HAND_OF_TWO);
-    assert_eq!(rt; [one, two], [Some([true, true]), Some([true, true])]);
-}
-
 /// How often a worker asks, before each kind of step.
 #[derive(Drop)]
 struct Asked {
@@ -119,7 +66,7 @@ impl Gate for Tally {
 
 fn new_tally(alloc: Global) -> Option<Tally> {
     let mut asked = Vec::new(alloc);
-    for _ in 0..8 {
+    for _ in 0..64 {
         let none = Asked {
             enters: AtomicU64::new(0),
             passes: AtomicU64::new(0),
@@ -130,13 +77,26 @@ fn new_tally(alloc: Global) -> Option<Tally> {
     Some(Tally { asked })
 }
 
-/// Whether each worker asked so often before enters, passes and leaves.
-fn have_asked(tally: &Tally, often: &[[u64; 3]]) -> bool {
-    tally
-        .asked
-        .iter()
-        .map(Asked::read)
-        .eq(often.iter().copied())
+/// A worker, and how often it asks before enters, passes and leaves.
+type Often = (usize, [u64; 3]);
+
+/// Whether a worker that is among these asked so often, and any other not at all.
+fn has_asked(worker: usize, asked: &Asked, often: &[Often]) -> bool {
+    let wanted = match often.iter().find(|told| told.0 == worker) {
+        Some(told) => told.1,
+        None => [0, 0, 0],
+    };
+    asked.read() == wanted
+}
+
+/// The first worker that did not ask so.
+fn wrong_asker(tally: &Tally, often: &[Often]) -> Option<usize> {
+    for (worker, asked) in tally.asked.iter().enumerate() {
+        if !has_asked(worker, asked, often) {
+            return Some(worker);
+        }
+    }
+    None
 }
 
 /// Whether so many left by each exit, and these clients have names.
@@ -146,16 +106,9 @@ fn are_named(quiet: &Quiet<'_>, counts: &[u64], clients: &[u64]) -> Option<[bool
     Some([quiet.counts() == counts, named.as_slice() == clients])
 }
 
-/// Clients on bitonic 4, how many workers, and the hand; how many leave by each exit, who has names, and how often each of
-/// eight workers asks before enters, passes and leaves.
-type Told = (
-    &'static [Client],
-    u32,
-    u32,
-    [u64; 4],
-    &'static [u64],
-    [[u64; 3]; 8],
-);
+/// Clients on bitonic 4, how many workers, and the hand; how many leave by each exit, who has names, and which workers ask
+/// how often.
+type Told<'a> = (&'a [Client], u32, u32, [u64; 4], &'a [u64], &'a [Often]);
 
 const THREE_CLIENTS: &[Client] = &[
     Client { id: 5, entry: 0 },
@@ -163,45 +116,50 @@ const THREE_CLIENTS: &[Client] = &[
     Client { id: 7, entry: 2 },
 ];
 
-const IDLE: [u64; 3] = [0, 0, 0];
-
 const ONE_CLIENT: [u64; 3] = [1, 3, 1];
 
-const BY_ONE: Told = (
+const BY_ONE: Told<'_> = (
     THREE_CLIENTS,
     1,
     1,
     [1, 1, 1, 0],
     &[5, 6, 7],
-    [[3, 9, 3], IDLE, IDLE, IDLE, IDLE, IDLE, IDLE, IDLE],
+    &[(0, [3, 9, 3])],
 );
 
-const BY_EIGHT: Told = (
+const BY_EIGHT: Told<'_> = (
     THREE_CLIENTS,
     8,
     1,
     [1, 1, 1, 0],
     &[5, 6, 7],
-    [
-        IDLE, IDLE, ONE_CLIENT, IDLE, IDLE, ONE_CLIENT, IDLE, ONE_CLIENT,
-    ],
+    &[(2, ONE_CLIENT), (5, ONE_CLIENT), (7, ONE_CLIENT)],
+);
+
+const BY_SIXTY_FOUR: Told<'_> = (
+    THREE_CLIENTS,
+    64,
+    1,
+    [1, 1, 1, 0],
+    &[5, 6, 7],
+    &[(21, ONE_CLIENT), (42, ONE_CLIENT), (63, ONE_CLIENT)],
 );
 
 /// The two come in by one entry, and go by its balancer together.
-const TWO_AT_ONCE: Told = (
+const TWO_AT_ONCE: Told<'_> = (
     &[Client { id: 5, entry: 0 }, Client { id: 6, entry: 0 }],
     1,
     2,
     [1, 1, 0, 0],
     &[5, 6],
-    [[2, 5, 2], IDLE, IDLE, IDLE, IDLE, IDLE, IDLE, IDLE],
+    &[(0, [2, 5, 2])],
 );
 
 /// Whether so many leave by each exit, and these have names.
 fn are_told<R: Threads + Wait + Sync>(
     rt: &R,
     alloc: Global,
-    row: &Told,
+    row: &Told<'_>,
     gate: &Tally,
 ) -> Option<[bool; 2]> {
     match bitonic(alloc, 4) {
@@ -214,7 +172,7 @@ fn are_told_on<R: Threads + Wait + Sync>(
     rt: &R,
     alloc: Global,
     network: &Counting,
-    row: &Told,
+    row: &Told<'_>,
     gate: &Tally,
 ) -> Option<[bool; 2]> {
     let (clients, workers, hand, counts, named, _) = row;
@@ -224,25 +182,64 @@ fn are_told_on<R: Threads + Wait + Sync>(
     }
 }
 
-/// The same, and whether the workers ask so often.
-fn asks<R: Threads + Wait + Sync>(rt: &R, alloc: Global, row: &Told) -> Option<([bool; 2], bool)> {
-    let gate = new_tally(alloc)?;
-    let are_named = are_told(rt, alloc, row, &gate)?;
-    Some((are_named, have_asked(&gate, &row.5)))
+/// Whether all of a row is so.
+fn is_asked<R: Threads + Wait + Sync>(rt: &R, alloc: Global, row: &Told<'_>) -> bool {
+    let Some(gate) = new_tally(alloc) else {
+        return false;
+    };
+    are_told(rt, alloc, row, &gate) == Some([true; 2]) && wrong_asker(&gate, row.5).is_none()
+}
+
+/// The place of the first of these rows that is not so.
+fn wrong_row<R: Threads + Wait + Sync>(rt: &R, alloc: Global, rows: &[Told<'_>]) -> Option<usize> {
+    for (place, row) in rows.iter().enumerate() {
+        if !is_asked(rt, alloc, row) {
+            return Some(place);
+        }
+    }
+    None
 }
 
 #[test]
 fn idle_workers(rt: HostRuntime) {
-    let one = asks(&rt, rt.alloc(), &BY_ONE);
-    let eight = asks(&rt, rt.alloc(), &BY_EIGHT);
-    let wanted = Some(([true, true], true));
-    assert_eq!(rt; [one, eight], [wanted, wanted]);
+    let rows = [BY_ONE, BY_EIGHT, BY_SIXTY_FOUR];
+    assert_eq!(rt; wrong_row(&rt, rt.alloc(), &rows), None);
 }
 
 #[test]
 fn a_sweep_asks_once(rt: HostRuntime) {
-    let asked = asks(&rt, rt.alloc(), &TWO_AT_ONCE);
-    assert_eq!(rt; asked, Some(([true, true], true)));
+    assert_eq!(rt; wrong_row(&rt, rt.alloc(), &[TWO_AT_ONCE]), None);
+}
+
+/// Numbers from 0 up to, not including, 64, and that each worker of these numbers asks as for one client.
+fn sixty_four(alloc: Global) -> Option<(Vec<u64>, Vec<Often>)> {
+    let mut numbers = Vec::new(alloc);
+    let mut often = Vec::new(alloc);
+    for number in 0..64 {
+        numbers.push(number).ok()?;
+        often.push((number as usize, ONE_CLIENT)).ok()?;
+    }
+    Some((numbers, often))
+}
+
+/// Whether 64 workers with a client each ask in their own names.
+fn ask_in_their_names<R: Threads + Wait + Sync>(rt: &R, alloc: Global) -> Option<bool> {
+    let clients = many_clients(alloc, 64, 1)?;
+    let (named, often) = sixty_four(alloc)?;
+    let row = (
+        clients.as_slice(),
+        64,
+        1,
+        [16; 4],
+        named.as_slice(),
+        often.as_slice(),
+    );
+    Some(is_asked(rt, alloc, &row))
+}
+
+#[test]
+fn each_worker_asks_in_its_own_name(rt: HostRuntime) {
+    assert_eq!(rt; ask_in_their_names(&rt, rt.alloc()), Some(true));
 }
 
 /// This many clients, numbered from 0, the first on entry 0 and the others on this entry.

@@ -15,11 +15,15 @@ mod missing_lane;
 #[cfg(test)]
 mod one_lane;
 #[cfg(test)]
+mod one_worker;
+#[cfg(test)]
 mod own_threads;
 #[cfg(test)]
 mod refusals;
 #[cfg(test)]
 mod runners;
+#[cfg(test)]
+mod stalls;
 #[cfg(test)]
 mod sweeps;
 #[cfg(test)]
