@@ -63,41 +63,76 @@ fn carried<R: Threads + Wait + Sync>(
     }
 }
 
-/// A text without the fourth word of each line that begins with `n`: of a name's line that is its client's number.
-fn without_clients(alloc: Global, text: &[u8]) -> Option<Vec<u8>> {
+/// A report in two parts.
+#[derive(Drop)]
+struct Parts {
+    /// The clients' numbers, line by line.
+    clients: Vec<u64>,
+    /// The report without them.
+    rest: Vec<u8>,
+}
+
+/// Parts a report: the fourth word of a line that begins with `n`, where it is the last, is a client's number.
+fn parted(alloc: Global, text: &[u8]) -> Option<Parts> {
+    let mut clients = Vec::new(alloc);
     let mut rest = Vec::new(alloc);
     let mut is_name = false;
     let mut spaces = 0u32;
+    let mut client = 0u64;
     let mut before = b'\n';
     for byte in text {
         if before == b'\n' {
             is_name = *byte == b'n';
             spaces = 0;
+            client = 0;
+        }
+        before = *byte;
+        if is_name && spaces == 3 && *byte != b' ' && *byte != b'\n' {
+            let digit = byte.checked_sub(b'0')?;
+            client = client.saturating_mul(10).saturating_add(u64::from(digit));
+            continue;
         }
         if *byte == b' ' {
             spaces = spaces.saturating_add(1);
         }
-        if !is_name || spaces != 3 || *byte == b'\n' {
-            rest.push(*byte).ok()?;
+        if is_name && spaces == 3 && *byte == b'\n' {
+            clients.push(client).ok()?;
         }
-        before = *byte;
+        rest.push(*byte).ok()?;
     }
-    Some(rest)
+    Some(Parts { clients, rest })
 }
 
-/// Whether what so many workers write of the batch is that of one, but for the clients' numbers.
+/// Whether the clients of each epoch have its names, each client one.
+fn have_names(clients: &[u64]) -> bool {
+    if clients.len() != 8 {
+        return false;
+    }
+    let (first, second) = clients.split_at(5);
+    let are_five = [17, 5, 99, 23, 42]
+        .iter()
+        .all(|client| first.contains(client));
+    let are_three = [1, 2, 3].iter().all(|client| second.contains(client));
+    are_five && are_three
+}
+
+/// Whether what so many workers write of the batch is that of one, but for the clients' numbers, and whether these are
+/// those of the batch.
 fn is_alike<R: Threads + Wait + Sync>(
     rt: &R,
     alloc: Global,
     state: RandomState,
     workers: u32,
-) -> Option<bool> {
+) -> Option<[bool; 2]> {
     let batch = batch(alloc)?;
     let asked = (Kind::Bitonic, 4, workers, 1);
     let text = carried(rt, alloc, state, asked, Form::Report, &batch)?;
-    let told = without_clients(alloc, &text)?;
-    let wanted = without_clients(alloc, &batch_served(alloc)?)?;
-    Some(told.as_slice() == wanted.as_slice())
+    let told = parted(alloc, &text)?;
+    let wanted = parted(alloc, &batch_served(alloc)?)?;
+    Some([
+        told.rest.as_slice() == wanted.rest.as_slice(),
+        have_names(&told.clients),
+    ])
 }
 
 #[test]
@@ -105,6 +140,6 @@ fn carried_by_many(rt: HostRuntime) -> Result<(), Fail> {
     let (alloc, state) = (rt.alloc(), RandomState::new(&rt)?);
     let two = is_alike(&rt, alloc, state, 2);
     let eight = is_alike(&rt, alloc, state, 8);
-    assert_eq!(rt; [two, eight], [Some(true), Some(true)]);
+    assert_eq!(rt; [two, eight], [Some([true; 2]), Some([true; 2])]);
     Ok(())
 }

@@ -45,6 +45,14 @@ const BATCH_ON_BITONIC_TWO: &[u8] = b"network bitonic width 2 balancers 1 depth 
       name 0 client 17\n\
       end epochs 1 grants 1\n";
 
+const TWO_CLIENTS: &[u8] = b"epoch,client,entry\n\
+      1,100,2\n\
+      1,200,0\n";
+
+const HAND_OF_TWO_AS_GRANTS: &[u8] = b"epoch,client,name\n\
+      1,200,0\n\
+      1,100,1\n";
+
 const GRANTS: &[u8] = b"epoch,client,name\n\
       1,17,0\n";
 
@@ -353,7 +361,7 @@ fn writes<R: Threads + Wait + Sync>(
     }
 }
 
-const LINES: [(&str, &[u8], &[u8]); 5] = [
+const LINES: [(&str, &[u8], &[u8]); 6] = [
     (
         "renamer replay --network bitonic --width 4",
         ONE_CLIENT,
@@ -373,6 +381,11 @@ const LINES: [(&str, &[u8], &[u8]); 5] = [
         "renamer run --network bitonic --width 2 --hand 64",
         BATCH,
         BATCH_ON_BITONIC_TWO,
+    ),
+    (
+        "renamer run --network bitonic --width 4 --hand 2 --form grants",
+        TWO_CLIENTS,
+        HAND_OF_TWO_AS_GRANTS,
     ),
     ("renamer check --width 2", GRANTS, GRANTS_OF_WIDTH_TWO),
 ];

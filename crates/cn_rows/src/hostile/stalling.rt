@@ -1,5 +1,5 @@
-//! Workers of whom one is held before one of its moments until the other has come to its last: whatever it is held at,
-//! the counts and names are those of four clients. Where it is held from the start, the other has the first names.
+//! Workers of whom one is held before one of its moments until the other has come to its last. The other begins when the
+//! first is held: so the order of all passages is fixed, and each client has the name that comes of it.
 
 use super::runs::ran;
 use crate::serving::Asked;
@@ -19,10 +19,11 @@ use std::thread::Threads;
 /// To how many moments a worker comes: each of its two clients comes in, passes three balancers, and leaves.
 const MOMENTS: u64 = 10;
 
-/// Counts the moments to which two workers come, and holds one of them before one of its moments.
+/// Counts the moments to which two workers come. It holds one of them before one of its moments until the other has come
+/// to its last, and that one before its first moment until the first is held.
 #[derive(Drop)]
 struct Stall {
-    held: u32,
+    held: usize,
     moment: u64,
     come: [AtomicU64; 2],
     late: AtomicU64,
@@ -36,14 +37,19 @@ impl Gate for Stall {
             _ => (second, first),
         };
         let earlier = own.fetch_add(1, Ordering::SeqCst);
-        if worker == self.held && earlier == self.moment && !comes_to(other, MOMENTS) {
+        let (stop, awaited) = if worker as usize == self.held {
+            (self.moment, MOMENTS)
+        } else {
+            (0, self.moment.saturating_add(1))
+        };
+        if earlier == stop && !comes_to(other, awaited) {
             self.late.store(1, Ordering::SeqCst);
         }
     }
 }
 
 /// A gate that holds this worker before this one of its moments, counted from 0.
-fn stalled(held: u32, moment: u64) -> Stall {
+fn stalled(held: usize, moment: u64) -> Stall {
     Stall {
         held,
         moment,
@@ -52,20 +58,41 @@ fn stalled(held: u32, moment: u64) -> Stall {
     }
 }
 
-/// Whether the worker was held no longer than it may be, and both came to all their moments.
+/// Whether neither was held for longer than it may be, and both came to all their moments.
 fn has_held(gate: &Stall) -> bool {
     let [first, second] = &gate.come;
     let come = (first.load(Ordering::SeqCst), second.load(Ordering::SeqCst));
     gate.late.load(Ordering::SeqCst) == 0 && come == (MOMENTS, MOMENTS)
 }
 
-/// Whether the four clients, two of each worker, have the names 0 to 3, and those of the worker that is not held have
-/// the first ones in their order where the other is held from the start.
-fn are_named(holders: &[u64], gate: &Stall) -> bool {
-    let first = if gate.held == 1 { [0, 1] } else { [2, 3] };
-    let are_all = (0..4).all(|client| holders.contains(&client));
-    holders.len() == 4 && are_all && (gate.moment > 0 || holders.starts_with(&first))
-}
+/// Who has the names 0 to 3, by the worker that is held and the moment. The two balancers behind the entries serve the
+/// two clients of a worker each, so the order of the workers shows at the four others; one client leaves by each exit.
+const HOLDERS: [[[u64; 4]; 10]; 2] = [
+    [
+        [2, 3, 0, 1],
+        [2, 3, 0, 1],
+        [2, 3, 0, 1],
+        [2, 0, 3, 1],
+        [0, 2, 3, 1],
+        [0, 2, 3, 1],
+        [0, 2, 3, 1],
+        [0, 2, 3, 1],
+        [0, 1, 2, 3],
+        [0, 1, 2, 3],
+    ],
+    [
+        [0, 1, 2, 3],
+        [0, 1, 2, 3],
+        [0, 1, 2, 3],
+        [0, 2, 1, 3],
+        [2, 0, 1, 3],
+        [2, 0, 1, 3],
+        [2, 0, 1, 3],
+        [2, 0, 1, 3],
+        [2, 3, 0, 1],
+        [2, 3, 0, 1],
+    ],
+];
 
 const CLIENTS: [Client; 4] = [
     Client { id: 0, entry: 0 },
@@ -74,22 +101,27 @@ const CLIENTS: [Client; 4] = [
     Client { id: 3, entry: 3 },
 ];
 
-/// Whether one client left by each exit, and the clients are named.
-fn are_counted(quiet: &Quiet<'_>, gate: &Stall) -> bool {
+/// Whether one client left by each exit, and these are the clients by name.
+fn are_counted(quiet: &Quiet<'_>, holders: &[u64; 4]) -> bool {
     let are_named = match quiet.holders() {
-        Ok(holders) => are_named(&holders, gate),
+        Ok(told) => told.as_slice() == holders.as_slice(),
         Err(_) => false,
     };
     are_named && quiet.counts() == [1, 1, 1, 1].as_slice()
 }
 
 /// Whether the run of an epoch is told so.
-fn is_epoch_right<R: Threads + Wait + Sync>(rt: &R, alloc: Global, gate: &Stall) -> bool {
+fn is_epoch_right<R: Threads + Wait + Sync>(
+    rt: &R,
+    alloc: Global,
+    gate: &Stall,
+    holders: &[u64; 4],
+) -> bool {
     let Ok(network) = bitonic(alloc, 4) else {
         return false;
     };
     match run_epoch(rt, alloc, &network, &CLIENTS, 2, 1, gate) {
-        Ok(quiet) => are_counted(&quiet, gate),
+        Ok(quiet) => are_counted(&quiet, holders),
         Err(_) => false,
     }
 }
@@ -140,13 +172,11 @@ fn is_batch_right<R: Threads + Wait + Sync>(
     alloc: Global,
     state: RandomState,
     gate: &Stall,
+    holders: &[u64; 4],
 ) -> bool {
-    let Some((Ok(()), report)) = ran(rt, alloc, state, BY_TWO, Form::Report, BATCH, gate) else {
-        return false;
-    };
-    match holders_of(&report) {
-        Some(holders) => are_named(&holders, gate),
-        None => false,
+    match ran(rt, alloc, state, BY_TWO, Form::Report, BATCH, gate) {
+        Some((Ok(()), report)) => holders_of(&report) == Some(*holders),
+        _ => false,
     }
 }
 
@@ -155,14 +185,15 @@ fn are_right<R: Threads + Wait + Sync>(
     rt: &R,
     alloc: Global,
     state: RandomState,
-    held: u32,
+    held: usize,
     moment: u64,
+    holders: &[u64; 4],
 ) -> [bool; 4] {
     let (one, other) = (stalled(held, moment), stalled(held, moment));
     [
-        is_epoch_right(rt, alloc, &one),
+        is_epoch_right(rt, alloc, &one, holders),
         has_held(&one),
-        is_batch_right(rt, alloc, state, &other),
+        is_batch_right(rt, alloc, state, &other, holders),
         has_held(&other),
     ]
 }
@@ -172,10 +203,10 @@ fn wrong_stall<R: Threads + Wait + Sync>(
     rt: &R,
     alloc: Global,
     state: RandomState,
-) -> Option<(u32, u64)> {
-    for held in 0..2 {
-        for moment in 0..MOMENTS {
-            if are_right(rt, alloc, state, held, moment) != [true; 4] {
+) -> Option<(usize, usize)> {
+    for (held, rows) in HOLDERS.iter().enumerate() {
+        for (moment, holders) in rows.iter().enumerate() {
+            if are_right(rt, alloc, state, held, moment as u64, holders) != [true; 4] {
                 return Some((held, moment));
             }
         }
