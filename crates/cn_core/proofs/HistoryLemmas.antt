@@ -20,7 +20,7 @@ use Rattle.cn_core.specs.declared.reply.StepFault.TheVariants.{Stranger, HasName
 use Rattle.cn_core.specs.declared.reply.Reply.{Reply}
 use Rattle.cn_core.specs.declared.reply.Reply.TheVariants.{Entered, EnterRefused, Stepped, StepRefused}
 use Rattle.cn_core.specs.State.{State, IsState, position_in, with_position, position_past, past, after_carry, after_enter, after_step, start, is_named, is_inside, inside_in}
-use Rattle.cn_core.specs.SinceCleared.{Carried, position_after, leaves_of, inside_of, end_at, is_leave, IsHistory, Agrees, AgreesAfter, MayAnswerAll, carried_by, grown, steps_before}
+use Rattle.cn_core.specs.SinceCleared.{Carried, position_after, leaves_of, inside_of, end_at, is_leave, IsHistory, Agrees, AgreesAfter, MayAnswerAll, carried_by, history_after, steps_before}
 use Rattle.cn_core.specs.Calls.{EntersTo, StepsTo, TakesTo, IsLedgerEvent, AnswersByHistory, RunsByHistory, RunsTo}
 use Rattle.cn_yard.proofs.CallerLemmas.{lookup-push, lookup-set, count-push, count-set}
 use Rattle.cn_core.proofs.StateLemmas.{stands-at}
@@ -125,8 +125,8 @@ history-step old client (EnterRefused fault) new is none h earlier a = absurd no
 pub runs-cons : (old mid new : State) (c : Event) (cs : List Event) (r : Reply) (rs : List Reply)
     → AnswersByHistory old c r mid → mid.network ≡ old.network → RunsByHistory mid cs rs new → RunsByHistory old (c ∷ cs) (r ∷ rs) new
 runs-cons old mid new c cs r rs answered same runs h earlier a =
-    let rest = runs (grown h c r) earlier (answered h earlier a).1 in
-    (((answered h earlier a).0, subst (λ (n : Network). MayAnswerAll n.table (grown h c r) (carried_by n.table earlier) cs rs) same rest.0), rest.1)
+    let rest = runs (history_after h c r) earlier (answered h earlier a).1 in
+    (((answered h earlier a).0, subst (λ (n : Network). MayAnswerAll n.table (history_after h c r) (carried_by n.table earlier) cs rs) same rest.0), rest.1)
 
 -- the same, from the i-th event on
 pub runs-at : (old mid new : State) (cs : List Event) (i : ℕ) (d : Event) (r : Reply) (rs : List Reply) → i < length cs

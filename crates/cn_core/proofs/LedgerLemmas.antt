@@ -21,9 +21,10 @@ use Rattle.cn_core.specs.SinceCleared.{AgreesAfter, ByHistories, Carried, carrie
 use Rattle.cn_core.specs.Passages.{passages_of, times_passed, with_passage}
 use Rattle.cn_ledger.specs.Ledger.{IsSound}
 use Rattle.cn_ledger.specs.Events.{Enters, Passes, Leaves, one_number}
-use Rattle.cn_core.specs.declared.reply.Moved.{Moved}
+use Rattle.cn_ledger.specs.declared.moved.Moved.{Moved}
 use Rattle.cn_core.specs.declared.reply.Reply.TheVariants.{Stepped}
-use Rattle.cn_core.specs.Calls.{IsMoveOf, MovesLedger, StepsTo}
+use Rattle.cn_ledger.specs.Moves.{IsMoveOf}
+use Rattle.cn_core.specs.Calls.{MovesLedger, StepsTo}
 use Rattle.cn_core.specs.StateLedger.{is_on, holds, given_before, given_in, ledger_of, HasSoundLedger, IsCore}
 use Rattle.cn_yard.proofs.CallerLemmas.{count-push, count-set, count_pair-push, count_pair-set}
 use Rattle.cn_core.proofs.StateLemmas.{name-later, share-zero, stands-at, IsState-start, IsState-after_enter, IsState-after_step}

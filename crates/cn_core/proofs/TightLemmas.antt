@@ -14,7 +14,7 @@ use Rattle.cn_wiring.specs.Table.{Stands}
 use Rattle.cn_core.specs.declared.position.Position.{Position}
 use Rattle.cn_core.specs.declared.position.Position.TheVariants.{On, Holds}
 use Rattle.cn_core.specs.State.{State, IsState, came_in, past, position_in, name_at, name_in, times_entered, is_inside, is_named, inside_in}
-use Rattle.cn_ledger.specs.Ledger.{IsQuiet, Ledger, times_given}
+use Rattle.cn_ledger.specs.Ledger.{IsQuiescent, Ledger, times_given}
 use Rattle.cn_core.specs.SinceCleared.{carried_by}
 use Rattle.cn_core.specs.StateLedger.{is_on, holds, given_before, granted_in, ledger_of, IsCore}
 use Rattle.cn_core.specs.Tight.{grants_in, IsTightState, IsBoundedState}
@@ -120,7 +120,7 @@ pub tight-state : (s : State) → IsCore s → inside_in s ≡ 0 → IsTightStat
 tight-state s is none =
     let (h, earlier, a, sound) = is.reached in
     let l : Ledger = ledger_of s h (carried_by s.network.table earlier) in
-    let quiet : IsQuiet s.network.table l = λ u within. omega (arith, on-inside u s.clients) in
+    let quiet : IsQuiescent s.network.table l = λ u within. omega (arith, on-inside u s.clients) in
     let t = tight s.network.table is.state.network.formed is.state.network.counts l sound quiet in
     let w : ℕ = s.network.table.width in
     let (least, most) = is.state.network.formed.width in

@@ -1,12 +1,8 @@
 -- What the calls of a core answer and leave.
-use Rattle.std.specs.Prelude.{◌≡◌, ℕ, ◌+◌, ◌%◌, ◌<◌, ◌≤◌, List, [], ◌∷◌, None, Some, Result, Ok, Err, length, IsSome}
+use Rattle.std.specs.Prelude.{◌≡◌, ℕ, ◌<◌, ◌≤◌, List, [], ◌∷◌, None, Some, Result, Ok, Err, length, IsSome}
 use Rattle.cn_spec.specs.declared.limits.TheConstants.{MOST_CLIENTS}
-use Rattle.cn_spec.specs.Step.{name_of}
-use Rattle.cn_wiring.specs.declared.end.End.TheVariants.{Balancer, Exit}
-use Rattle.cn_wiring.specs.Table.{Table, end_of, output_wire}
+use Rattle.cn_wiring.specs.Table.{end_of}
 use Rattle.cn_core.specs.declared.position.Position.TheVariants.{On, Holds}
-use Rattle.cn_core.specs.declared.reply.Moved.{Moved}
-use Rattle.cn_core.specs.declared.reply.Moved.TheVariants.{On as Passed, Out}
 use Rattle.cn_core.specs.declared.reply.EnterFault.{EnterFault}
 use Rattle.cn_core.specs.declared.reply.EnterFault.TheVariants.{NoSuchEntry, AlreadyIn, EpochFull, Memory}
 use Rattle.cn_core.specs.declared.reply.StepFault.{StepFault}
@@ -15,11 +11,12 @@ use Rattle.cn_core.specs.declared.reply.Reply.{Reply}
 use Rattle.cn_core.specs.declared.reply.Reply.TheVariants.{Entered, EnterRefused, Stepped, StepRefused}
 use Rattle.cn_core.specs.declared.event.Event.{Event}
 use Rattle.cn_core.specs.declared.event.Event.TheVariants.{Enter, Step}
-use Rattle.cn_ledger.specs.Ledger.{Ledger}
-use Rattle.cn_ledger.specs.Events.{Enters, Passes, Leaves}
+use Rattle.cn_ledger.specs.declared.moved.Moved.{Moved}
+use Rattle.cn_ledger.specs.Events.{Enters}
+use Rattle.cn_ledger.specs.Moves.{IsMoveOf}
 use Rattle.cn_core.specs.StateLedger.{ledger_of}
 use Rattle.cn_core.specs.State.{State, position_in, past, after_enter, after_step}
-use Rattle.cn_core.specs.SinceCleared.{Agrees, ByHistories, carried_by, MayAnswer, MayAnswerAll, grown, grown_by, moved_past}
+use Rattle.cn_core.specs.SinceCleared.{Agrees, ByHistories, carried_by, MayAnswer, MayAnswerAll, history_after, history_by, moved_past}
 
 -- the reply of an enter
 abbrev pub entered_reply : {U : Type 0} → Result U EnterFault → Reply
@@ -70,7 +67,7 @@ abbrev pub AnswersByHistory : State → Event → Reply → State → Type 0
 AnswersByHistory old event reply new =
     (history : List Event) (earlier : List (List Event)) → Agrees old history earlier
     → MayAnswer old.network.table history (carried_by old.network.table earlier) event reply
-    × Agrees new (grown history event reply) earlier
+    × Agrees new (history_after history event reply) earlier
 
 -- by every history and earlier epochs that the old state agrees with these are answers to the events, and the new state
 -- agrees with the history after them
@@ -78,7 +75,7 @@ abbrev pub RunsByHistory : State → List Event → List Reply → State → Typ
 RunsByHistory old events replies new =
     (history : List Event) (earlier : List (List Event)) → Agrees old history earlier
     → MayAnswerAll old.network.table history (carried_by old.network.table earlier) events replies
-    × Agrees new (grown_by history events replies) earlier
+    × Agrees new (history_by history events replies) earlier
 
 -- by every history and earlier epochs that the old state agrees with, the new one agrees with no event yet, after these epochs
 -- and that of the history
@@ -86,16 +83,6 @@ abbrev pub CarriesByHistory : State → State → Type 0
 CarriesByHistory old new =
     (history : List Event) (earlier : List (List Event)) → Agrees old history earlier
     → Agrees new [] (history ∷ earlier)
-
--- a step that moved a client so is one event on the ledger: a passage, or a leave. The name that is told is that of the
--- visit less the base, the number of those that came in before the epoch.
-abbrev pub IsMoveOf : Table → ℕ → Ledger → Ledger → ℕ → Moved → Type 0
-IsMoveOf table base old new client (Passed balancer number wire) =
-    (from : ℕ) × Passes table old new client from balancer
-    × (number ≡ old.count (Balancer balancer)) × (wire ≡ output_wire table balancer (number % 2))
-IsMoveOf table base old new client (Out exit visit name) =
-    (from : ℕ) × Leaves table old new client from exit
-    × (visit ≡ old.count (Exit exit)) × (name + base ≡ name_of table.width exit visit)
 
 -- an accepted enter is one event on the ledger
 abbrev pub EntersLedger : State → ℕ → ℕ → State → Type 0

@@ -6,7 +6,7 @@ use Rattle.cn_core.specs.declared.event.Event.{Event}
 use Rattle.cn_core.specs.declared.reply.Reply.{Reply}
 use Rattle.cn_core.specs.SinceCleared as since
 use Rattle.cn_core.specs.SinceCleared.{nothing}
-pub use Rattle.cn_core.specs.SinceCleared.{enters_of, grown}
+pub use Rattle.cn_core.specs.SinceCleared.{enters_of, history_after}
 
 -- the position of a client
 abbrev pub position_after : Table → List Event → ℕ → Option Position

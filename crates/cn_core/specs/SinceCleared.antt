@@ -14,8 +14,8 @@ use Rattle.cn_core.specs.declared.position.Position.{Position}
 use Rattle.cn_core.specs.declared.position.Position.TheVariants.{On, Holds}
 use Rattle.cn_core.specs.declared.event.Event.{Event}
 use Rattle.cn_core.specs.declared.event.Event.TheVariants.{Enter, Step}
-use Rattle.cn_core.specs.declared.reply.Moved.{Moved}
-use Rattle.cn_core.specs.declared.reply.Moved.TheVariants.{On as Passed, Out}
+use Rattle.cn_ledger.specs.declared.moved.Moved.{Moved}
+use Rattle.cn_ledger.specs.declared.moved.Moved.TheVariants.{On as Passed, Out}
 use Rattle.cn_core.specs.declared.reply.EnterFault.TheVariants.{NoSuchEntry, AlreadyIn, EpochFull, Memory}
 use Rattle.cn_core.specs.declared.reply.StepFault.TheVariants.{Stranger, HasName}
 use Rattle.cn_core.specs.declared.reply.Reply.{Reply}
@@ -125,21 +125,21 @@ is_accepted (EnterRefused fault) = false
 is_accepted (StepRefused fault) = false
 
 -- the history once an event has its answer: a refused event is not in it
-abbrev pub grown : List Event → Event → Reply → List Event
-grown history event reply = if is_accepted reply then event ∷ history else history
+abbrev pub history_after : List Event → Event → Reply → List Event
+history_after history event reply = if is_accepted reply then event ∷ history else history
 
 -- the answers to events, one after another
 abbrev pub answers_to : Table → List Event → Carried → List Event → List Reply
 answers_to table history carried [] = []
 answers_to table history carried (event ∷ events) =
     answer_to table history carried event
-    ∷ answers_to table (grown history event (answer_to table history carried event)) carried events
+    ∷ answers_to table (history_after history event (answer_to table history carried event)) carried events
 
 -- the history once the events have these answers
-abbrev pub grown_by : List Event → List Event → List Reply → List Event
-grown_by history [] replies = history
-grown_by history (event ∷ events) [] = history
-grown_by history (event ∷ events) (reply ∷ replies) = grown_by (grown history event reply) events replies
+abbrev pub history_by : List Event → List Event → List Reply → List Event
+history_by history [] replies = history
+history_by history (event ∷ events) [] = history
+history_by history (event ∷ events) (reply ∷ replies) = history_by (history_after history event reply) events replies
 
 -- a core may give this answer: want of memory may stand in place of an acceptance of an enter
 abbrev pub MayAnswer : Table → List Event → Carried → Event → Reply → Type 0
@@ -151,7 +151,7 @@ MayAnswer table history carried event reply =
 abbrev pub MayAnswerAll : Table → List Event → Carried → List Event → List Reply → Type 0
 MayAnswerAll table history carried [] [] = Unit {0}
 MayAnswerAll table history carried (event ∷ events) (reply ∷ replies) =
-    MayAnswer table history carried event reply × MayAnswerAll table (grown history event reply) carried events replies
+    MayAnswer table history carried event reply × MayAnswerAll table (history_after history event reply) carried events replies
 MayAnswerAll table history carried [] (reply ∷ replies) = ⊥
 MayAnswerAll table history carried (event ∷ events) [] = ⊥
 

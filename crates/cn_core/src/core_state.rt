@@ -1,6 +1,8 @@
 //! The running network of epochs, by one thread.
 
-ghost use Rattle.std.specs.Prelude.{◌≡◌, ℕ, ◌+◌, ◌<◌, ◌≤◌, ◌↔◌, List, [], Some, length, slice_index, IfOk, OnOk, OnErr, IfSome, IsTrue};
+mod running;
+
+ghost use Rattle.std.specs.Prelude.{◌≡◌, ℕ, ◌+◌, ◌<◌, ◌≤◌, ◌↔◌, List, [], Some, length, slice_index, IfOk, OnOk, IfSome, IsTrue};
 ghost use Rattle.cn_spec.specs.declared.limits.TheConstants.{MOST_ARRIVALS, MOST_CARRIED, MOST_CLIENTS};
 ghost use Rattle.cn_spec.specs.Step.{share};
 ghost use Rattle.cn_spec.specs.Sums.{one_more};
@@ -8,10 +10,10 @@ ghost use Rattle.cn_wiring.specs.Table.{sum_at};
 ghost use Rattle.cn_wiring.specs.declared.end.End.TheVariants.{Balancer};
 
 use crate::clients::{Clients, Found};
-use crate::event::Event;
-use crate::reply::{EnterFault, Moved, Reply, StepFault};
+use crate::reply::{EnterFault, StepFault};
 use cn_balancer::output_of;
 use cn_exit::{Exits, Leave};
+use cn_ledger::Moved;
 use cn_spec::limits::{MOST_ARRIVALS, MOST_CLIENTS};
 use cn_wiring::{Counting, End};
 use std::alloc::{AllocError, Global};
@@ -71,7 +73,7 @@ impl<'a> Core<'a> {
     ghost use Rattle.cn_core.specs.SinceCleared.{Agrees, ByHistories, enters_of, inside_of};
     ghost use Rattle.cn_core.specs.StateLedger.{HasSoundLedger};
     ghost use Rattle.cn_core.specs.Tight.{BringsAll, HasShares, IsBoundedState, IsTightState, ListsHolders};
-    ghost use Rattle.cn_core.specs.Calls.{AnswersByHistory, CarriesByHistory, EntersLedger, EntersTo, IsLedgerEvent, MovesLedger, RunsByHistory, RunsTo, StepsTo, TakesTo, entered_reply, stepped_reply};
+    ghost use Rattle.cn_core.specs.Calls.{AnswersByHistory, CarriesByHistory, EntersLedger, EntersTo, MovesLedger, StepsTo, entered_reply, stepped_reply};
 
     /// A network that nobody has entered. The table of its clients hashes by `state`.
     ///
@@ -110,12 +112,10 @@ impl<'a> Core<'a> {
         self.base
     }
 
-    /// What holds in every state: its clients are few, and so are the carried ones, and all came in by entries; each exit has
-    /// a count; some history leads to it, and by each that does its ledger is sound, and what is carried by each exit is its
+    /// What holds in every state, a law: clients, carried ones too, are few, and all came in by entries; each exit has a
+    /// count; some history leads to it, and by each that does its ledger is sound, and what is carried by each exit is its
     /// share of the carried clients; no count is more than what came in, and no exit has let out more than its share of that,
     /// nor less than its share of the carried clients; the names differ and are below the number of the clients.
-    ///
-    /// It does nothing: its contract is the law.
     pub fn state_laws(&self)
         ensures few { length self.now.clients ≤ MOST_CLIENTS }
         ensures carried { self.now.base ≤ MOST_CARRIED }
@@ -295,40 +295,5 @@ impl<'a> Core<'a> {
                 Ok(Moved::Out { exit, visit, name })
             }
         }
-    }
-
-    /// The reply to one event.
-    fn answer(&mut self, event: Event) -> Reply
-        ensures event { TakesTo self.old event result self.new }
-        ensures history { AnswersByHistory self.old event result self.new }
-        ensures ledger { IsLedgerEvent self.old event result self.new }
-        ensures network { self.new.network ≡ self.old.network }
-    {
-        match event {
-            Event::Enter { client, entry } => self.enter(client, entry).into(),
-            Event::Step { client } => self.step(client).into(),
-        }
-    }
-
-    /// One event after another, as by [`Core::enter`] and [`Core::step`], and their replies. The room for the replies is
-    /// taken first.
-    ///
-    /// # Errors
-    /// `AllocError` where the replies get no room; then no event has been applied. An enter that meets want of memory is a
-    /// reply like the others.
-    pub fn run(&mut self, events: &[Event]) -> Result<Vec<Reply>, AllocError>
-        ensures events { IfOk result (λ replies.
-            RunsTo self.old events.now replies.items self.new) }
-        ensures history { IfOk result (λ replies.
-            RunsByHistory self.old events.now replies.items self.new) }
-        ensures network { self.new.network ≡ self.old.network }
-        ensures refused { OnErr result (self.new ≡ self.old) }
-    {
-        let mut replies = Vec::with_capacity(self.alloc, events.len())?;
-        for event in events {
-            let reply = self.answer(*event);
-            replies.push_reserved(reply);
-        }
-        Ok(replies)
     }
 }

@@ -10,7 +10,7 @@ ghost use Rattle.cn_core.specs.SinceCleared.{AreEpochs, carried_by, enters_of};
 ghost use Rattle.cn_core.specs.declared.event.Event.{Event};
 ghost use Rattle.cn_core.specs.declared.event.Event.TheVariants.{Enter, Step};
 ghost use Rattle.cn_core.specs.declared.reply.EnterFault.TheVariants.{AlreadyIn, NoSuchEntry};
-ghost use Rattle.cn_core.specs.declared.reply.Moved.TheVariants.{On as Passed, Out};
+ghost use Rattle.cn_ledger.specs.declared.moved.Moved.TheVariants.{On as Passed, Out};
 ghost use Rattle.cn_core.specs.declared.reply.Reply.TheVariants.{Entered, EnterRefused, StepRefused, Stepped};
 ghost use Rattle.cn_core.specs.declared.reply.StepFault.TheVariants.{HasName, Stranger};
 

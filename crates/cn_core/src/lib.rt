@@ -1,7 +1,6 @@
 //! One-shot renaming on a counting network, one event at a time.
 #![tactic(auto)]
 
-mod client;
 mod clients;
 mod core_state;
 mod event;
@@ -9,8 +8,8 @@ pub mod laws;
 mod position;
 mod reply;
 
-pub use client::Client;
+pub use cn_ledger::{Client, Moved};
 pub use core_state::Core;
 pub use event::Event;
 pub use position::Position;
-pub use reply::{EnterFault, Moved, Reply, StepFault};
+pub use reply::{EnterFault, Reply, StepFault};

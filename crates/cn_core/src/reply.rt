@@ -3,22 +3,7 @@
 ghost use Rattle.std.specs.Prelude.{◌≡◌};
 ghost use Rattle.cn_core.specs.Calls.{entered_reply, stepped_reply};
 
-/// Where a step led.
-#[derive(Clone, Copy, Debug, PartialEq, Eq)]
-pub enum Moved {
-    /// The token passed a balancer, as its passage `number`, and stands on `wire`.
-    On {
-        balancer: u32,
-        number: u64,
-        wire: u32,
-    },
-    /// The token left by an exit, as its visit `visit`, and the client holds `name`.
-    Out {
-        exit: u32,
-        visit: u64,
-        name: u64,
-    },
-}
+use cn_ledger::Moved;
 
 /// Why an enter is refused; the first cause that stands is told.
 #[derive(Clone, Copy, Debug, PartialEq, Eq)]

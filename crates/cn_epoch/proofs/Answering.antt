@@ -8,7 +8,7 @@ use Rattle.cn_core.specs.declared.event.Event.TheVariants.{Enter as EnterEvent, 
 use Rattle.cn_core.specs.declared.position.Position.{Position}
 use Rattle.cn_core.specs.declared.position.Position.TheVariants.{On, Holds}
 use Rattle.std.specs.Prelude.{IfOk}
-use Rattle.cn_core.specs.declared.reply.Moved.{Moved}
+use Rattle.cn_ledger.specs.declared.moved.Moved.{Moved}
 use Rattle.cn_core.specs.declared.reply.StepFault.{StepFault}
 use Rattle.cn_core.specs.SinceCleared as core
 use Rattle.cn_core.specs.SinceCleared.{AgreesAfter, Carried, inside_of}

@@ -17,7 +17,7 @@ use Rattle.cn_epoch.specs.declared.command.Command.{Command}
 use Rattle.cn_epoch.specs.declared.command.Command.TheVariants.{Enter, Step, Turn}
 use Rattle.cn_epoch.specs.declared.record.EpochRecord.{EpochRecord}
 use Rattle.cn_epoch.specs.SinceCleared as since
-use Rattle.cn_epoch.specs.SinceCleared.{cut_by, grown, grown_by, replied_to, turns_after, turns_by}
+use Rattle.cn_epoch.specs.SinceCleared.{cut_by, history_after, history_by, replied_to, turns_after, turns_by}
 use Rattle.cn_epoch.specs.Turns.{HadMemory, IsRecordOf, IsSameAnswer, IsSameRecord, MayAnswerAll, MayAnswer}
 
 module _ (network : Network) (is : IsNetwork network) where
@@ -67,7 +67,7 @@ module _ (network : Network) (is : IsNetwork network) where
   -- answers that tell the same leave the same
   left-same : (turns : ℕ) (history : List Event) (event : Event) (answer other : Answer) → IsSameAnswer answer other
       → (turns_after turns answer ≡ turns_after turns other) × (replied_to history event answer ≡ replied_to history event other) × (cut_by history answer ≡ cut_by history other)
-  left-same turns history event (Replied reply) (Replied other) same = (refl, ap (core.grown history event) same, refl)
+  left-same turns history event (Replied reply) (Replied other) same = (refl, ap (core.history_after history event) same, refl)
   left-same turns history event (Turned r) (Turned s) same = (refl, refl, refl)
   left-same turns history event (TurnRefused fault) (TurnRefused other) same = (refl, refl, refl)
   left-same turns history event (Replied reply) (Turned s) same = absurd same
@@ -80,7 +80,7 @@ module _ (network : Network) (is : IsNetwork network) where
   turns-same : (turns : ℕ) (answer other : Answer) → IsSameAnswer answer other → turns_after turns answer ≡ turns_after turns other
   turns-same turns answer other same = (left-same turns [] (StepEvent 0) answer other same).0
 
-  history-same : (history : List Event) (command : Command) (answer other : Answer) → IsSameAnswer answer other → grown history command answer ≡ grown history command other
+  history-same : (history : List Event) (command : Command) (answer other : Answer) → IsSameAnswer answer other → history_after history command answer ≡ history_after history command other
   history-same history (Enter client entry) answer other same = (left-same 0 history (EnterEvent client entry) answer other same).1
   history-same history (Step client) answer other same = (left-same 0 history (StepEvent client) answer other same).1
   history-same history Turn answer other same = (left-same 0 history (StepEvent 0) answer other same).2
@@ -92,7 +92,7 @@ module _ (network : Network) (is : IsNetwork network) where
   one-list turns history (command ∷ commands) (answer ∷ answers) (other ∷ others) (may, rest) (might, remaining) told also =
       let same = same-answer turns history command answer other may might (All-head HadMemory answer answers told) (All-head HadMemory other others also) in (
         same,
-        one-list (turns_after turns answer) (grown history command answer) commands answers others rest
+        one-list (turns_after turns answer) (history_after history command answer) commands answers others rest
             (rw (turns-same turns answer other same, history-same history command answer other same) remaining) (All-tail HadMemory answer answers told) (All-tail HadMemory other others also),
       )
   one-list turns history [] [] (other ∷ others) may might told also = absurd might
@@ -108,10 +108,10 @@ module _ (network : Network) (is : IsNetwork network) where
   turns_by-same turns [] (other ∷ others) same = absurd same
   turns_by-same turns (answer ∷ answers) [] same = absurd same
 
-  pub grown_by-same : (history : List Event) (commands : List Command) (answers others : List Answer) → AllZip IsSameAnswer answers others → grown_by history commands answers ≡ grown_by history commands others
-  grown_by-same history [] answers others same = refl
-  grown_by-same history (command ∷ commands) [] [] same = refl
-  grown_by-same history (command ∷ commands) (answer ∷ answers) (other ∷ others) (same, rest) =
-      ap (λ h. grown_by h commands answers) (history-same history command answer other same) ∙ grown_by-same (grown history command other) commands answers others rest
-  grown_by-same history (command ∷ commands) [] (other ∷ others) same = absurd same
-  grown_by-same history (command ∷ commands) (answer ∷ answers) [] same = absurd same
+  pub history_by-same : (history : List Event) (commands : List Command) (answers others : List Answer) → AllZip IsSameAnswer answers others → history_by history commands answers ≡ history_by history commands others
+  history_by-same history [] answers others same = refl
+  history_by-same history (command ∷ commands) [] [] same = refl
+  history_by-same history (command ∷ commands) (answer ∷ answers) (other ∷ others) (same, rest) =
+      ap (λ h. history_by h commands answers) (history-same history command answer other same) ∙ history_by-same (history_after history command other) commands answers others rest
+  history_by-same history (command ∷ commands) [] (other ∷ others) same = absurd same
+  history_by-same history (command ∷ commands) (answer ∷ answers) [] same = absurd same

@@ -14,7 +14,7 @@ use Rattle.cn_epoch.specs.declared.answer.TurnFault.TheVariants.{NotQuiet, Memor
 use Rattle.cn_epoch.specs.declared.command.Command.{Command}
 use Rattle.cn_epoch.specs.declared.command.Command.TheVariants.{Enter, Step, Turn}
 use Rattle.cn_epoch.specs.declared.record.EpochRecord.{EpochRecord}
-use Rattle.cn_epoch.specs.SinceCleared.{Agrees, Epochs, MayAnswerAll, MayAnswer, carried_in, grown, grown_by, kept_after, kept_by, next, turns_after, turns_by}
+use Rattle.cn_epoch.specs.SinceCleared.{Agrees, Epochs, MayAnswerAll, MayAnswer, carried_in, history_after, history_by, kept_after, kept_by, next, turns_after, turns_by}
 use Rattle.cn_epoch.specs.Turns.{IsTightRecord}
 
 -- the answer of a turn
@@ -62,7 +62,7 @@ abbrev pub AnswersByHistory : Epochs → Command → Answer → Epochs → Type 
 AnswersByHistory old command answer new =
     (turns : ℕ) (history : List Event) (kept : Option (List (List Event))) → Agrees old turns history kept
     → MayAnswer old.core.network.table turns history (carried_in old.core.network.table kept) command answer
-    × Agrees new (turns_after turns answer) (grown history command answer) (kept_after kept history answer)
+    × Agrees new (turns_after turns answer) (history_after history command answer) (kept_after kept history answer)
 
 -- commands with these answers take the old epochs to the new ones, one after another
 abbrev pub RunsTo : Epochs → List Command → List Answer → Epochs → Type 0
@@ -78,4 +78,4 @@ abbrev pub RunsByHistory : Epochs → List Command → List Answer → Epochs �
 RunsByHistory old commands answers new =
     (turns : ℕ) (history : List Event) (kept : Option (List (List Event))) → Agrees old turns history kept
     → MayAnswerAll old.core.network.table turns history kept commands answers
-    × Agrees new (turns_by turns answers) (grown_by history commands answers) (kept_by kept history commands answers)
+    × Agrees new (turns_by turns answers) (history_by history commands answers) (kept_by kept history commands answers)

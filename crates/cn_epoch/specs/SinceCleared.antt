@@ -90,7 +90,7 @@ turns_after turns (TurnRefused fault) = turns
 
 -- the history after an answer to an event
 abbrev pub replied_to : List Event → Event → Answer → List Event
-replied_to history event (Replied reply) = core.grown history event reply
+replied_to history event (Replied reply) = core.history_after history event reply
 replied_to history event (Turned r) = history
 replied_to history event (TurnRefused fault) = history
 
@@ -101,10 +101,10 @@ cut_by history (Replied reply) = history
 cut_by history (TurnRefused fault) = history
 
 -- the history after an answer to a command
-abbrev pub grown : List Event → Command → Answer → List Event
-grown history (Enter client entry) answer = replied_to history (EnterEvent client entry) answer
-grown history (Step client) answer = replied_to history (StepEvent client) answer
-grown history Turn answer = cut_by history answer
+abbrev pub history_after : List Event → Command → Answer → List Event
+history_after history (Enter client entry) answer = replied_to history (EnterEvent client entry) answer
+history_after history (Step client) answer = replied_to history (StepEvent client) answer
+history_after history Turn answer = cut_by history answer
 
 -- the earlier epochs after an answer, where turns carry: a turn that is done adds the history
 abbrev pub earlier_after : List (List Event) → List Event → Answer → List (List Event)
@@ -121,7 +121,7 @@ abbrev pub MayAnswerAll : Table → ℕ → List Event → Option (List (List Ev
 MayAnswerAll table turns history kept [] [] = Unit {0}
 MayAnswerAll table turns history kept (command ∷ commands) (answer ∷ answers) =
     MayAnswer table turns history (carried_in table kept) command answer
-    × MayAnswerAll table (turns_after turns answer) (grown history command answer) (kept_after kept history answer) commands answers
+    × MayAnswerAll table (turns_after turns answer) (history_after history command answer) (kept_after kept history answer) commands answers
 MayAnswerAll table turns history kept [] (answer ∷ answers) = ⊥
 MayAnswerAll table turns history kept (command ∷ commands) [] = ⊥
 
@@ -131,17 +131,17 @@ turns_by turns [] = turns
 turns_by turns (answer ∷ answers) = turns_by (turns_after turns answer) answers
 
 -- the history then
-abbrev pub grown_by : List Event → List Command → List Answer → List Event
-grown_by history [] answers = history
-grown_by history (command ∷ commands) [] = history
-grown_by history (command ∷ commands) (answer ∷ answers) = grown_by (grown history command answer) commands answers
+abbrev pub history_by : List Event → List Command → List Answer → List Event
+history_by history [] answers = history
+history_by history (command ∷ commands) [] = history
+history_by history (command ∷ commands) (answer ∷ answers) = history_by (history_after history command answer) commands answers
 
 -- the earlier epochs then, where turns carry
 abbrev pub earlier_by : List (List Event) → List Event → List Command → List Answer → List (List Event)
 earlier_by earlier history [] answers = earlier
 earlier_by earlier history (command ∷ commands) [] = earlier
 earlier_by earlier history (command ∷ commands) (answer ∷ answers) =
-    earlier_by (earlier_after earlier history answer) (grown history command answer) commands answers
+    earlier_by (earlier_after earlier history answer) (history_after history command answer) commands answers
 
 -- the same, where turns may clear
 abbrev pub kept_by : Option (List (List Event)) → List Event → List Command → List Answer → Option (List (List Event))

@@ -14,7 +14,7 @@ use Rattle.cn_epoch.specs.declared.answer.TurnFault.TheVariants.{Memory}
 use Rattle.cn_epoch.specs.declared.command.Command.{Command}
 use Rattle.cn_epoch.specs.declared.record.EpochRecord.{EpochRecord}
 use Rattle.cn_epoch.specs.SinceCleared as since
-pub use Rattle.cn_epoch.specs.SinceCleared.{grown, grown_by, turns_after, turns_by}
+pub use Rattle.cn_epoch.specs.SinceCleared.{history_after, history_by, turns_after, turns_by}
 
 -- the record of a history
 abbrev pub IsRecordOf : Table → ℕ → List Event → EpochRecord → Type 0

@@ -1,6 +1,8 @@
 //! Epochs, one after another on one network.
 
-ghost use Rattle.std.specs.Prelude.{◌≡◌, ℕ, ◌+◌, ◌<◌, ◌≤◌, ◌^◌, true, false, List, [], None, Option, Some, length, slice_index, IfOk, OnErr};
+mod running;
+
+ghost use Rattle.std.specs.Prelude.{◌≡◌, ℕ, ◌+◌, ◌<◌, ◌≤◌, ◌^◌, true, false, List, [], None, Option, Some, length, slice_index, IfOk};
 ghost use Rattle.cn_spec.specs.Step.{share};
 ghost use Rattle.cn_spec.specs.declared.limits.TheConstants.{MOST_CARRIED, MOST_CLIENTS};
 ghost use Rattle.cn_core.specs.Calls.{entered_reply, stepped_reply};
@@ -9,11 +11,10 @@ ghost use Rattle.cn_core.specs.SinceCleared.{enters_of, inside_of};
 ghost use Rattle.cn_core.specs.State.{came_in, inside_in, start};
 ghost use Rattle.cn_core.specs.StateLedger.{HasSoundLedger};
 ghost use Rattle.cn_core.specs.Tight.{HasShares, IsBoundedState};
-ghost use Rattle.cn_epoch.specs.Calls.{AnswersByHistory, RunsTo, TakesTo, RunsByHistory, turned_answer};
+ghost use Rattle.cn_epoch.specs.Calls.{AnswersByHistory, TakesTo, turned_answer};
 ghost use Rattle.cn_epoch.specs.SinceCleared.{Agrees, ByHistories, next};
 
 use crate::answer::{Answer, TurnFault};
-use crate::command::Command;
 use crate::record::EpochRecord;
 use cn_core::{Core, EnterFault, Moved, StepFault};
 use cn_exit::expected;
@@ -127,7 +128,8 @@ impl<'a> Epochs<'a> {
     /// How many clients entered the epoch that stands open: at most [`MOST_CLIENTS`] ([`Epochs::state_laws`]).
     pub fn entered(&self) -> u64
         ensures value { result ≡ length self.now.core.clients }
-        ensures by_history { ByHistories self.now (λ turns history carried. result ≡ enters_of history) }
+        ensures by_history { ByHistories self.now (λ turns history carried. result
+            ≡ enters_of history) }
     {
         self.core.entered()
     }
@@ -136,7 +138,8 @@ impl<'a> Epochs<'a> {
     /// most [`MOST_CARRIED`]. It takes no memory.
     pub fn base(&self) -> u64
         ensures value { result ≡ self.now.core.base }
-        ensures by_history { ByHistories self.now (λ turns history carried. result ≡ carried.enters) }
+        ensures by_history { ByHistories self.now (λ turns history carried. result
+            ≡ carried.enters) }
         ensures few { result ≤ MOST_CARRIED }
         ensures cleared { self.now.carries ≡ false → result ≡ 0 }
     {
@@ -204,7 +207,8 @@ impl<'a> Epochs<'a> {
         requires quiet { inside_in self.old.core ≡ 0 }
         requires carried { self.old.carries ≡ true
             → self.old.core.base + length self.old.core.clients ≤ MOST_CARRIED }
-        ensures { self.new ≡ record { number = self.old.number + 1; carries = self.old.carries; core = next self.old.carries self.old.core } }
+        ensures { self.new
+            ≡ record { number = self.old.number + 1; carries = self.old.carries; core = next self.old.carries self.old.core } }
     {
         if self.carries {
             self.core.carry();
@@ -251,56 +255,5 @@ impl<'a> Epochs<'a> {
         };
         self.begin_next();
         Ok(ended)
-    }
-
-    /// The answer to one command.
-    fn answer(&mut self, command: Command) -> Answer
-        requires number { self.old.number + 1 < 2 ^ 64 }
-        requires carried { self.old.carries ≡ true
-            → self.old.core.base + length self.old.core.clients ≤ MOST_CARRIED }
-        ensures event { TakesTo self.old command result self.new }
-        ensures history { AnswersByHistory self.old command result self.new }
-        ensures network { self.new.core.network ≡ self.old.core.network }
-        ensures number { self.new.number ≤ self.old.number + 1 }
-        ensures carries { self.new.carries ≡ self.old.carries }
-        ensures came { self.new.core.base + length self.new.core.clients
-            ≤ self.old.core.base + length self.old.core.clients + 1 }
-    {
-        match command {
-            Command::Enter { client, entry } => {
-                Answer::Replied(self.enter(client, entry).into())
-            }
-            Command::Step { client } => Answer::Replied(self.step(client).into()),
-            Command::Turn => self.turn().into(),
-        }
-    }
-
-    /// One command after another, as by [`Epochs::enter`], [`Epochs::step`] and [`Epochs::turn`], and their answers. The
-    /// room for the answers is taken first.
-    ///
-    /// [`Epochs::number`] and the number of commands together are below 2^64. Where turns carry ([`Epochs::carrying`]), the
-    /// carried clients ([`Epochs::base`]), those that entered and the number of commands are together at most
-    /// [`MOST_CARRIED`].
-    ///
-    /// # Errors
-    /// `AllocError` where the answers get no room; then no command has been applied. A command that meets want of memory
-    /// is answered like the others.
-    pub fn run(&mut self, commands: &[Command]) -> Result<Vec<Answer>, AllocError>
-        requires number { self.old.number + length commands.now < 2 ^ 64 }
-        requires carried { self.old.carries ≡ true
-            → self.old.core.base + length self.old.core.clients + length commands.now ≤ MOST_CARRIED }
-        ensures events { IfOk result (λ answers.
-            RunsTo self.old commands.now answers.items self.new) }
-        ensures history { IfOk result (λ answers.
-            RunsByHistory self.old commands.now answers.items self.new) }
-        ensures network { self.new.core.network ≡ self.old.core.network }
-        ensures refused { OnErr result (self.new ≡ self.old) }
-    {
-        let mut answers = Vec::with_capacity(self.alloc, commands.len())?;
-        for command in commands {
-            let answer = self.answer(*command);
-            answers.push_reserved(answer);
-        }
-        Ok(answers)
     }
 }

@@ -12,7 +12,7 @@ use Rattle.cn_spec.specs.Sums.{when, sum_below, Agree, once_below}
 use Rattle.cn_wiring.specs.Table.{Table, is_end, sum_at, Stands, IsWellFormed, IsFullFlow}
 use Rattle.cn_wiring.specs.Network.{Counts}
 use Rattle.cn_wiring.proofs.CallerLemmas.{full_flow-exists, full_flow-sum, full_flow-unique, older}
-use Rattle.cn_ledger.specs.Ledger.{Ledger, put, IsSound, all_entered, IsQuiet, IsBounded, IsTight, times_given}
+use Rattle.cn_ledger.specs.Ledger.{Ledger, put, IsSound, all_entered, IsQuiescent, IsBounded, IsTight, times_given}
 
 pub put-entry : (t : Table) (l : Ledger) (u : ℕ) → u < t.entries → put t l u ≡ l.entered u
 put-entry t l u h = rw (lt-ltb u t.entries h)
@@ -60,7 +60,7 @@ module _ (t : Table) (w : IsWellFormed t) (l : Ledger) (sound : IsSound t l) (f 
       omega arith
 
 -- Where no token is inside, what has been put on the wires is the full flow.
-module _ (t : Table) (w : IsWellFormed t) (l : Ledger) (sound : IsSound t l) (quiet : IsQuiet t l) where
+module _ (t : Table) (w : IsWellFormed t) (l : Ledger) (sound : IsSound t l) (quiet : IsQuiescent t l) where
   quiet-count : (end : End) → Stands t end → l.count end ≡ sum_at t end (put t l)
   quiet-count end h =
       let s = sound.balanced end h in
@@ -131,7 +131,7 @@ bounded t w counts l sound =
         let under : v < l.count (Exit i) = once-given (l.count (Exit i)) v (rw (sound.numbered (Exit i) v h) at g) in
         (name-below (all_entered t l) t.width i v h).0 (omega arith)
 
-pub tight : (t : Table) → IsWellFormed t → Counts t → (l : Ledger) → IsSound t l → IsQuiet t l → IsTight t l
+pub tight : (t : Table) → IsWellFormed t → Counts t → (l : Ledger) → IsSound t l → IsQuiescent t l → IsTight t l
 tight t w counts l sound quiet =
     let flow = quiet-flow t w l sound quiet in
     let same : sum_below t.entries (put t l) ≡ all_entered t l = sum_below-same t.entries (put t l) l.entered (put-entry t l) in

@@ -3,7 +3,7 @@ use Rattle.std.proofs.Common.{◌≡◌, ℕ, ◌+◌, ◌%◌, ◌≤◌, arith
 use Rattle.cn_spec.specs.Sums.{sum_below, total_where}
 use Rattle.cn_wiring.specs.declared.end.End.TheVariants.{Balancer, Exit}
 use Rattle.cn_wiring.specs.Table.{output_wire}
-use Rattle.cn_ledger.specs.Ledger.{Ledger, IsSound, IsQuiet, all_entered, empty_ledger}
+use Rattle.cn_ledger.specs.Ledger.{Ledger, IsSound, IsQuiescent, all_entered, empty_ledger}
 use Rattle.cn_ledger.specs.Events.{Enters, Passes, Leaves, one_at}
 use Rattle.cn_ledger.proofs.Happening.{standing-le-on}
 use Rattle.cn_ledger.specs.WorkedNetworks.{two_wide}
@@ -27,7 +27,7 @@ module _ (a b c d e f : Ledger) (ea : Enters two_wide empty_ledger a 7 0) (eb : 
   none : (q i v name : ℕ) → d.granted q i v name ≡ 0
   none q i v name = omega (arith, pd.granted q i v name, pc.granted q i v name, eb.granted q i v name, ea.granted q i v name)
 
-  quiet : IsQuiet two_wide f
+  quiet : IsQuiescent two_wide f
   quiet u h =
       let first : one_at (output_wire two_wide 0 (b.count (Balancer 0) % 2)) u ≡ one_at 2 u = ap {B = ℕ} (λ n. one_at (output_wire two_wide 0 (n % 2)) u) b0 in
       let second : one_at (output_wire two_wide 0 (c.count (Balancer 0) % 2)) u ≡ one_at 3 u = ap {B = ℕ} (λ n. one_at (output_wire two_wide 0 (n % 2)) u) c0 in
@@ -53,7 +53,7 @@ module _ (a b c d e f : Ledger) (ea : Enters two_wide empty_ledger a 7 0) (eb : 
       let r : f.granted 7 1 0 1 ≡ e.granted 7 1 0 1 + 1 = rw e1 at (lf.granted 7 1 0 1) in
       omega (arith, le.granted 7 1 0 1, none 7 1 0 1)
 
-  pub two_clients : IsQuiet two_wide f × (all_entered two_wide f ≡ 2) × (f.count (Exit 0) ≡ 1) × (f.count (Exit 1) ≡ 1) × (f.granted 9 0 0 0 ≡ 1) × (f.granted 7 1 0 1 ≡ 1)
+  pub two_clients : IsQuiescent two_wide f × (all_entered two_wide f ≡ 2) × (f.count (Exit 0) ≡ 1) × (f.count (Exit 1) ≡ 1) × (f.granted 9 0 0 0 ≡ 1) × (f.granted 7 1 0 1 ≡ 1)
   two_clients = (quiet, two, one_left, other_left, nine, seven)
 
 pub lost : IsSound two_wide (record empty_ledger { entered = one_at 0 }) → ⊥

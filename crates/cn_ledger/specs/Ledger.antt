@@ -58,8 +58,8 @@ abbrev pub all_entered : Table → Ledger → ℕ
 all_entered t l = sum_below t.entries l.entered
 
 -- nobody is inside: the network is quiescent (section 2.2)
-abbrev pub IsQuiet : Table → Ledger → Type 0
-IsQuiet t l = (u : ℕ) → u < length t.ends → l.on u ≡ 0
+abbrev pub IsQuiescent : Table → Ledger → Type 0
+IsQuiescent t l = (u : ℕ) → u < length t.ends → l.on u ≡ 0
 
 -- the counts and the names are no more than what entered allows
 pub record IsBounded (t : Table) (l : Ledger) : Type 0 where

@@ -3,3 +3,4 @@ pub mod Events
 pub mod Grants
 pub mod WorkedNetworks
 pub mod Laws
+pub mod Moves

@@ -8,7 +8,7 @@ ghost use Rattle.cn_wiring.specs.declared.end.End.TheVariants.{Balancer, Exit};
 ghost use Rattle.cn_ledger.specs.Events.{Enters, Passes, Leaves, one_at};
 ghost use Rattle.cn_ledger.specs.Grants.{Grant, ListsGrants};
 ghost use Rattle.cn_ledger.specs.Laws.{AllSound, GrantsOnce, HasFewCounts, KeepsSound, NamesDiffer, NobodyIsLost, StandsAt, StoodThere};
-ghost use Rattle.cn_ledger.specs.Ledger.{Ledger, IsSound, IsQuiet, IsBounded, IsTight, all_entered, empty_ledger};
+ghost use Rattle.cn_ledger.specs.Ledger.{Ledger, IsSound, IsQuiescent, IsBounded, IsTight, all_entered, empty_ledger};
 ghost use Rattle.cn_ledger.specs.WorkedNetworks.{two_wide};
 
 /// In a sound ledger no count is more than its share of what entered, and each name is below the number that entered.
@@ -35,7 +35,7 @@ pub fn names_differ()
 /// In a sound ledger where nobody is inside, the counts are the shares of what entered, and the names are the numbers
 /// below that, each granted once.
 pub fn quiet_ledgers_are_tight()
-    ensures { AllSound (λ table ledger. IsQuiet table ledger → IsTight table ledger) }
+    ensures { AllSound (λ table ledger. IsQuiescent table ledger → IsTight table ledger) }
 {}
 
 /// From one tight ledger to a later one, a list of the grants made between has the names from 0 to one less than the
@@ -98,7 +98,7 @@ pub fn worked_ledgers()
         → Enters two_wide empty_ledger first 7 0 → Enters two_wide first second 9 1
         → Passes two_wide second third 9 1 0 → Passes two_wide third fourth 7 0 0
         → Leaves two_wide fourth fifth 9 2 0 → Leaves two_wide fifth last 7 3 1
-        → IsQuiet two_wide last × (all_entered two_wide last ≡ 2)
+        → IsQuiescent two_wide last × (all_entered two_wide last ≡ 2)
         × (last.count (Exit 0) ≡ 1) × (last.count (Exit 1) ≡ 1)
         × (last.granted 9 0 0 0 ≡ 1) × (last.granted 7 1 0 1 ≡ 1) }
     ensures no_lost_client { IsSound two_wide (record empty_ledger { entered = one_at 0 }) → ⊥ }

@@ -4,7 +4,7 @@ use Rattle.std.specs.List.{AllByRecursion, AllZip, sum_by}
 use Rattle.std.proofs.lemmas.List.Sorted.{All-permutation}
 use Rattle.std.proofs.lemmas.List.Sums.{sum_by-cons}
 use Rattle.cn_spec.specs.Step.{counts_after, shares, shares_after}
-use Rattle.cn_core.specs.declared.client.Client.{Client}
+use Rattle.cn_ledger.specs.declared.client.Client.{Client}
 use Rattle.cn_epoch.specs.declared.record.EpochRecord.{EpochRecord}
 use Rattle.cn_report.proofs.CallerLemmas.{IsSmallEpoch, batch_numbers, tight_after, told_back, written_tight}
 use Rattle.cn_report.specs.Reading.Batch.{AreRising}
@@ -14,8 +14,8 @@ use Rattle.cn_report.specs.Reading.Told.{names_in, told_epochs}
 use Rattle.cn_report.specs.Writing.Grants.{AreRisingRecords, AreTight, HasOwnNames, checked_epoch}
 use Rattle.cn_report.specs.Writing.Report.{clients_of}
 use Rattle.cn_report.specs.declared.reading.gathering.BatchEpoch.{BatchEpoch}
-use Rattle.cn_words.specs.Net.{Description, entries_of}
-use Rattle.cn_words.specs.declared.options.Form.TheVariants.{Grants}
+use Rattle.cn_cli.specs.Net.{Description, entries_of}
+use Rattle.cn_cli.specs.declared.options.Form.TheVariants.{Grants}
 use Rattle.cn_renamer.specs.Headline.{IsRunOf, IsServed, served_epoch}
 use Rattle.cn_renamer.proofs.Headline.{AfterSome, as-many, each-served}
 

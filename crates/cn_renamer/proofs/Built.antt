@@ -1,9 +1,9 @@
 -- A job that words ask for has a width that networks are built of.
 use Rattle.std.specs.Prelude.{List, None, Option, Some}
 use Rattle.clap.specs.Words.{Row, Text}
-use Rattle.cn_words.specs.Words.{Asks, IsJobOf}
-use Rattle.cn_words.specs.declared.words.Job.{Job}
-use Rattle.cn_words.specs.declared.words.Job.TheVariants.{Check, Replay, Run, Show}
+use Rattle.cn_cli.specs.Words.{Asks, IsJobOf}
+use Rattle.cn_cli.specs.declared.words.Job.{Job}
+use Rattle.cn_cli.specs.declared.words.Job.TheVariants.{Check, Replay, Run, Show}
 use Rattle.cn_renamer.specs.Performing.{IsBuiltFor}
 
 built-for : (asked : Option (Text × List Row)) (job : Job) → Asks asked job → IsBuiltFor job

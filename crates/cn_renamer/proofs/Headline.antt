@@ -9,7 +9,7 @@ use Rattle.std.proofs.lemmas.List.Sums.{sum_by-cons}
 use Rattle.cn_spec.specs.Step.{share}
 use Rattle.cn_spec.specs.Sums.{when}
 use Rattle.cn_wiring.specs.Network.{Network}
-use Rattle.cn_core.specs.declared.client.Client.{Client}
+use Rattle.cn_ledger.specs.declared.client.Client.{Client}
 use Rattle.cn_epoch.specs.declared.record.EpochRecord.{EpochRecord}
 use Rattle.cn_report.specs.Reading.Batch.{IsBatch, clients_of}
 use Rattle.cn_report.specs.Reading.Records.{records_of}
@@ -17,8 +17,8 @@ use Rattle.cn_report.specs.declared.reading.gathering.BatchEpoch.{BatchEpoch}
 use Rattle.cn_report.proofs.CallerLemmas.{known_map}
 use Rattle.cn_report.specs.Writing.Outcome.{IsWholeRecord}
 use Rattle.cn_report.specs.Writing.Written.{HasWritten, Whole}
-use Rattle.cn_words.specs.Net.{Description, IsNetworkOf}
-use Rattle.cn_words.specs.declared.options.Form.{Form}
+use Rattle.cn_cli.specs.Net.{Description, IsNetworkOf}
+use Rattle.cn_cli.specs.declared.options.Form.{Form}
 use Rattle.cn_renamer.specs.declared.output_fault.OutputFault.{OutputFault}
 use Rattle.cn_renamer.specs.declared.output_fault.OutputFault.TheVariants as output
 use Rattle.cn_renamer.specs.Headline.{AreServed, IsRunOf, IsRunOfKnown, IsServed, after, text_in}

@@ -3,15 +3,15 @@ use Rattle.std.proofs.Common.{◌≡◌, ℕ, List, [], ◌++◌, sym, ap, subst
 use Rattle.cn_wiring.specs.Network.{Network, IsNetwork}
 use Rattle.cn_core.specs.History.{enters_of, inside_of}
 use Rattle.cn_epoch.specs.declared.command.Command.{Command}
-use Rattle.cn_epoch.specs.Turns.{grown_by, turns_by}
-use Rattle.cn_epoch.proofs.CallerLemmas.{grown_by-same, one-list, turns_by-same}
+use Rattle.cn_epoch.specs.Turns.{history_by, turns_by}
+use Rattle.cn_epoch.proofs.CallerLemmas.{history_by-same, one-list, turns_by-same}
 use Rattle.cn_report.specs.Writing.Replay.{end_line}
 use Rattle.cn_report.proofs.CallerLemmas.{lines-same}
 use Rattle.cn_report.specs.Writing.Text.{heading}
 use Rattle.cn_report.proofs.CallerLemmas.{one-schedule}
 use Rattle.cn_report.specs.Writing.Wiring.{wiring_text}
-use Rattle.cn_words.specs.Net.{Description}
-use Rattle.cn_words.proofs.CallerLemmas.{one-network}
+use Rattle.cn_cli.specs.Net.{Description}
+use Rattle.cn_cli.proofs.CallerLemmas.{one-network}
 use Rattle.cn_renamer.specs.Replay.{IsReplayOf, IsReplayOfCommands, IsReplayText}
 use Rattle.cn_renamer.specs.Show.{IsWiringOf}
 
@@ -20,8 +20,8 @@ module _ (network : Network) (is : IsNetwork network) where
   one-text commands text other one another =
       let same = one-list network is 0 [] commands one.answers another.answers one.by_history another.by_history one.memory another.memory in
       one.replayed
-      ∙ rw (turns_by-same network is 0 one.answers another.answers same, grown_by-same network is [] commands one.answers another.answers same)
-      (ap (λ (lines : List ℕ). heading network ++ lines ++ end_line (turns_by 0 another.answers) (enters_of (grown_by [] commands another.answers)) (inside_of network.table (grown_by [] commands another.answers)))
+      ∙ rw (turns_by-same network is 0 one.answers another.answers same, history_by-same network is [] commands one.answers another.answers same)
+      (ap (λ (lines : List ℕ). heading network ++ lines ++ end_line (turns_by 0 another.answers) (enters_of (history_by [] commands another.answers)) (inside_of network.table (history_by [] commands another.answers)))
       (lines-same network.table.width commands one.answers another.answers same))
       ∙ sym another.replayed
 

@@ -5,12 +5,12 @@ use Rattle.std.proofs.lemmas.List.Sorted.{IsPermutation-trans}
 use Rattle.cn_spec.specs.Step.{shares_after}
 use Rattle.cn_spec.specs.Sums.{times}
 use Rattle.cn_spec.proofs.CallerLemmas.{order-times, times-map, times-order}
-use Rattle.cn_core.specs.declared.client.Client.{Client}
+use Rattle.cn_ledger.specs.declared.client.Client.{Client}
 use Rattle.cn_epoch.specs.declared.record.EpochRecord.{EpochRecord}
-use Rattle.cn_walk.specs.declared.view.Grant.{Grant}
+use Rattle.cn_floor.specs.declared.view.Grant.{Grant}
 use Rattle.cn_walk.specs.declared.runner.Outcome.{Outcome}
-use Rattle.cn_walk.specs.Carried.{WordsValue, clients_of}
-use Rattle.cn_walk.specs.Ends.{ListsHolders, QuietValue}
+use Rattle.cn_floor.specs.Carried.{WordsValue, client_count}
+use Rattle.cn_floor.specs.Ends.{ListsHolders, QuietValue}
 use Rattle.cn_walk.specs.Runner.{IsOutcomeOf}
 use Rattle.cn_walk.specs.Runs.{IsRunAfter}
 use Rattle.cn_walk.specs.Walks.{AreFor}
@@ -35,7 +35,7 @@ module _ (clients : List Client) (grants : List Grant) (theirs : AreFor clients 
 
 -- the record of a run is that of its epoch, served after so many clients
 pub served : (entries width m : ℕ) (epoch : BatchEpoch) (before : WordsValue) (quiet : QuietValue) (outcome : Outcome) (r : EpochRecord) → MayCome entries epoch.clients.items
-    → before.network.table.width ≡ width → clients_of before ≡ m → IsRunAfter before epoch.clients.items quiet → IsOutcomeOf quiet outcome
+    → before.network.table.width ≡ width → client_count before ≡ m → IsRunAfter before epoch.clients.items quiet → IsOutcomeOf quiet outcome
     → r.number ≡ epoch.number → r.clients ≡ length epoch.clients.items → r.counts ≡ outcome.counts → r.holders ≡ outcome.holders → IsServed width m epoch r
 served entries width m epoch before quiet outcome r come wide after run came number many counts holders =
     let clients : List Client = epoch.clients.items in

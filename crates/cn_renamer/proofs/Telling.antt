@@ -7,7 +7,7 @@ use Rattle.cn_report.specs.Reading.Batch.{clients_of}
 use Rattle.cn_report.specs.Writing.Outcome.{IsWholeRecord}
 use Rattle.cn_report.specs.Writing.Report.{ReportSoFar}
 use Rattle.cn_report.specs.declared.reading.gathering.BatchEpoch.{BatchEpoch}
-use Rattle.cn_words.specs.declared.options.Form.{Form}
+use Rattle.cn_cli.specs.declared.options.Form.{Form}
 use Rattle.cn_renamer.specs.declared.forms.EpochsText.{EpochsText}
 use Rattle.cn_renamer.specs.declared.forms.EpochsText.TheVariants.{Report, Grants}
 use Rattle.cn_renamer.specs.Headline.{IsServed}

@@ -2,7 +2,7 @@
 -- their steps, what a run writes gives, for each epoch of k clients, exit i the count ceiling((k - i) / w) and its clients
 -- the names 0 to k-1, each once. Where counters are carried: for each epoch of k clients after m, exit i its share of m + k
 -- clients less its share of m. Without carry m is 0, and both are one. (At every moment before that the rule of the floor
--- holds: `cn_walk`'s `IsKept`.)
+-- holds: `cn_walk`'s `KeepsRule`.)
 use Rattle.std.specs.Prelude.{ℕ, ◌≡◌, ◌+◌, ◌≤◌, [], ◌∷◌, Bool, IfSome, List, Option, length, map, ⊤}
 use Rattle.std.specs.List.Sorted.{IsPermutation}
 use Rattle.cn_spec.specs.Step.{shares, shares_after}
@@ -14,9 +14,9 @@ use Rattle.cn_report.specs.Reading.Records.{records_of}
 use Rattle.cn_report.specs.declared.reading.gathering.BatchEpoch.{BatchEpoch}
 use Rattle.cn_report.specs.Writing.Grants.{grants_text}
 use Rattle.cn_report.specs.Writing.Report.{report_text}
-use Rattle.cn_words.specs.Net.{Description, IsNetworkOf, entries_of}
-use Rattle.cn_words.specs.declared.options.Form.{Form}
-use Rattle.cn_words.specs.declared.options.Form.TheVariants.{Report, Grants}
+use Rattle.cn_cli.specs.Net.{Description, IsNetworkOf, entries_of}
+use Rattle.cn_cli.specs.declared.options.Form.{Form}
+use Rattle.cn_cli.specs.declared.options.Form.TheVariants.{Report, Grants}
 
 -- of an epoch of k clients after m each exit i of w has its share of m + k less its share of m, where the share of k is
 -- ceiling((k - i) / w); and the clients, each once, are the holders of the names 0 to k-1, in the order of these names

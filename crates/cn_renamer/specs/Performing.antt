@@ -3,11 +3,11 @@ use Rattle.std.specs.Prelude.{ℕ, ◌≡◌, List, MatchResult, IfErr, Option, 
 use Rattle.clap.specs.Words.{Text}
 use Rattle.cn_wiring.specs.Widths.{IsWidth}
 use Rattle.cn_report.specs.Writing.Written.{HasWritten, Written, Nothing, written_by}
-use Rattle.cn_words.specs.Words.{IsFaultOf, IsJobOf}
-use Rattle.cn_words.specs.declared.words.Job.{Job}
-use Rattle.cn_words.specs.declared.words.Job.TheVariants as job
-use Rattle.cn_words.specs.declared.words.WordsFault.{WordsFault}
-use Rattle.cn_words.specs.declared.words.WordsFault.TheVariants as words
+use Rattle.cn_cli.specs.Words.{IsFaultOf, IsJobOf}
+use Rattle.cn_cli.specs.declared.words.Job.{Job}
+use Rattle.cn_cli.specs.declared.words.Job.TheVariants as job
+use Rattle.cn_cli.specs.declared.words.WordsFault.{WordsFault}
+use Rattle.cn_cli.specs.declared.words.WordsFault.TheVariants as words
 use Rattle.cn_renamer.specs.declared.fault.Fault.{Fault}
 use Rattle.cn_renamer.specs.declared.fault.Fault.TheVariants.{Refused, Runtime, Serve, Replay, Check, Output}
 use Rattle.cn_renamer.specs.declared.output_fault.OutputFault.TheVariants as output

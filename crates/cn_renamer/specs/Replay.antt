@@ -4,7 +4,7 @@ use Rattle.cn_wiring.specs.Network.{Network}
 use Rattle.cn_core.specs.History.{enters_of, inside_of}
 use Rattle.cn_epoch.specs.declared.answer.Answer.{Answer}
 use Rattle.cn_epoch.specs.declared.command.Command.{Command}
-use Rattle.cn_epoch.specs.Turns.{HadMemory, MayAnswerAll, grown_by, turns_by}
+use Rattle.cn_epoch.specs.Turns.{HadMemory, MayAnswerAll, history_by, turns_by}
 use Rattle.cn_report.specs.Reading.Records.{records_of}
 use Rattle.cn_report.specs.Writing.Replay.{replay_text}
 use Rattle.cn_report.specs.Reading.Schedule.{IsSchedule, IsScheduleFault}
@@ -12,7 +12,7 @@ use Rattle.cn_report.specs.declared.reading.schedule_fault.ScheduleCause.{Schedu
 use Rattle.cn_report.specs.declared.reading.schedule_fault.ScheduleCause.TheVariants as cause
 use Rattle.cn_report.specs.declared.reading.schedule_fault.ScheduleFault.{ScheduleFault}
 use Rattle.cn_report.specs.Writing.Written.{Written, First, Nothing}
-use Rattle.cn_words.specs.Net.{Description, IsNetworkOf}
+use Rattle.cn_cli.specs.Net.{Description, IsNetworkOf}
 use Rattle.cn_renamer.specs.declared.output_fault.OutputFault.{OutputFault}
 use Rattle.cn_renamer.specs.declared.output_fault.OutputFault.TheVariants as output
 use Rattle.cn_renamer.specs.declared.replaying.ReplayFault.{ReplayFault}
@@ -25,7 +25,7 @@ pub record IsReplayText (network : Network) (commands : List Command) (text : Li
   pub by_history : MayAnswerAll network.table 0 [] commands answers
   pub memory : All HadMemory answers
   -- the end line tells the epochs that ended, and the enters of the open one and who is inside
-  pub replayed : text ≡ replay_text network commands answers (turns_by 0 answers) (enters_of (grown_by [] commands answers)) (inside_of network.table (grown_by [] commands answers))
+  pub replayed : text ≡ replay_text network commands answers (turns_by 0 answers) (enters_of (history_by [] commands answers)) (inside_of network.table (history_by [] commands answers))
 
 -- this text is that of a replay of the commands on a network of this kind and width
 pub record IsReplayOfCommands (net : Description) (commands : List Command) (text : List ℕ) : Type 0 where

@@ -6,7 +6,7 @@ use Rattle.cn_report.specs.declared.reading.batch_fault.BatchCause.{BatchCause}
 use Rattle.cn_report.specs.declared.reading.batch_fault.BatchCause.TheVariants as cause
 use Rattle.cn_report.specs.declared.reading.batch_fault.BatchFault.{BatchFault}
 use Rattle.cn_report.specs.Writing.Written.{Written, First, Nothing}
-use Rattle.cn_words.specs.Net.{Description, entries_of}
+use Rattle.cn_cli.specs.Net.{Description, entries_of}
 use Rattle.cn_renamer.specs.declared.output_fault.OutputFault.{OutputFault}
 use Rattle.cn_renamer.specs.declared.output_fault.OutputFault.TheVariants as output
 use Rattle.cn_renamer.specs.declared.serve_fault.ServeFault.{ServeFault}

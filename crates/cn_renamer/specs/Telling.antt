@@ -6,8 +6,8 @@ use Rattle.cn_report.specs.declared.reading.gathering.BatchEpoch.{BatchEpoch}
 use Rattle.cn_report.specs.Writing.Grants.{HasHolders, grants_text}
 use Rattle.cn_report.specs.Writing.Outcome.{IsWholeRecord}
 use Rattle.cn_report.specs.Writing.Report.{report_so_far}
-use Rattle.cn_words.specs.declared.options.Form.{Form}
-use Rattle.cn_words.specs.declared.options.Form.TheVariants as form
+use Rattle.cn_cli.specs.declared.options.Form.{Form}
+use Rattle.cn_cli.specs.declared.options.Form.TheVariants as form
 use Rattle.cn_renamer.specs.declared.forms.EpochsText.{EpochsText}
 use Rattle.cn_renamer.specs.declared.forms.EpochsText.TheVariants.{Report, Grants}
 use Rattle.cn_renamer.specs.Headline.{AreServed}

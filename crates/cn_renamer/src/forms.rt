@@ -5,12 +5,12 @@ ghost use Rattle.cn_epoch.specs.declared.record.EpochRecord.{EpochRecord};
 ghost use Rattle.cn_renamer.specs.Headline.{text_in};
 ghost use Rattle.cn_renamer.specs.Telling.{CanTell, Tells};
 ghost use Rattle.cn_wiring.specs.Network.{Network};
-ghost use Rattle.cn_words.specs.declared.options.Form.{Form};
+ghost use Rattle.cn_cli.specs.declared.options.Form.{Form};
 
+use cn_cli::Form;
 use cn_epoch::EpochRecord;
 use cn_report::{GrantsText, ReportText};
 use cn_wiring::Counting;
-use cn_words::Form;
 use std::alloc::{AllocError, Global};
 
 /// The text of the epochs that have ended, in one of the forms.
@@ -34,7 +34,8 @@ impl EpochsText {
     /// The text with one epoch more, whose record this is.
     pub(crate) fn add(self, epoch: &EpochRecord) -> Result<Self, AllocError>
         requires { CanTell self epoch.now }
-        ensures { (form : Form) (network : Network) (records : List EpochRecord) → Tells form network records self
+        ensures { (form : Form) (network : Network) (records : List EpochRecord)
+            → Tells form network records self
             → IfOk result (Tells form network (records ++ epoch.now ∷ [])) }
     {
         match self {
@@ -45,7 +46,8 @@ impl EpochsText {
 
     /// The whole text.
     pub(crate) fn end(self) -> Result<Vec<u8>, AllocError>
-        ensures { (form : Form) (network : Network) (records : List EpochRecord) → Tells form network records self
+        ensures { (form : Form) (network : Network) (records : List EpochRecord)
+            → Tells form network records self
             → IfOk result (λ text. text.items ≡ text_in form network records) }
     {
         match self {

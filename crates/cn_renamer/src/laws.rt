@@ -10,8 +10,8 @@ ghost use Rattle.cn_report.specs.Reading.Grants.{IsTightList};
 ghost use Rattle.cn_report.specs.Reading.Records.{records_of};
 ghost use Rattle.cn_report.specs.Reading.Told.{names_in, told_epochs};
 ghost use Rattle.cn_report.specs.declared.reading.gathering.BatchEpoch.{BatchEpoch};
-ghost use Rattle.cn_words.specs.Net.{Description, entries_of};
-ghost use Rattle.cn_words.specs.declared.options.Form.TheVariants.{Grants};
+ghost use Rattle.cn_cli.specs.Net.{Description, entries_of};
+ghost use Rattle.cn_cli.specs.declared.options.Form.TheVariants.{Grants};
 ghost use Rattle.cn_renamer.specs.Headline.{IsRunOf, IsServed, served_epoch};
 ghost use Rattle.cn_renamer.specs.Replay.{IsReplayOf, IsReplayOfCommands, IsReplayText};
 ghost use Rattle.cn_renamer.specs.Show.{IsWiringOf};
@@ -21,17 +21,20 @@ use cn_spec::laws::first_shares_are_shares;
 /// On one network commands have one text; so have commands, and the bytes of a schedule, on a network told by its kind and
 /// width.
 pub fn a_replay_has_one_text()
-    ensures on_a_network { (network : Network) (commands : List Command) (text other : List ℕ) → IsNetwork network
+    ensures on_a_network { (network : Network) (commands : List Command) (text other : List ℕ)
+        → IsNetwork network
         → IsReplayText network commands text → IsReplayText network commands other → text ≡ other }
     ensures of_commands { (net : Description) (commands : List Command) (text other : List ℕ)
-        → IsReplayOfCommands net commands text → IsReplayOfCommands net commands other → text ≡ other }
+        → IsReplayOfCommands net commands text → IsReplayOfCommands net commands other
+        → text ≡ other }
     ensures of_bytes { (net : Description) (bytes text other : List ℕ)
         → IsReplayOf net bytes text → IsReplayOf net bytes other → text ≡ other }
 {}
 
 /// A network told by its kind and width has one text of its wiring.
 pub fn a_wiring_has_one_text()
-    ensures { (net : Description) (text other : List ℕ) → IsWiringOf net text → IsWiringOf net other → text ≡ other }
+    ensures { (net : Description) (text other : List ℕ) → IsWiringOf net text → IsWiringOf net other
+        → text ≡ other }
 {}
 
 /// Without carry each exit of each epoch of a run has its share of the epoch's clients for its count.
@@ -47,12 +50,16 @@ pub fn counts_are_shares()
 /// epoch that comes after m clients as many have `(m + n) mod w = i` as the share of exit i in m + k clients less that in m:
 /// with carry this is the exit's count.
 pub fn written_grants_are_accepted()
-    ensures tight { (net : Description) (carry : Bool) (bytes text : List ℕ) → IsRunOf net Grants carry bytes text
+    ensures tight { (net : Description) (carry : Bool) (bytes text : List ℕ)
+        → IsRunOf net Grants carry bytes text
         → IsTightList (records_of text) }
-    ensures told { (net : Description) (carry : Bool) (bytes text : List ℕ) → IsRunOf net Grants carry bytes text
-        → (epochs : List BatchEpoch) × IsBatch (entries_of net.kind net.width) (records_of bytes) epochs
+    ensures told { (net : Description) (carry : Bool) (bytes text : List ℕ)
+        → IsRunOf net Grants carry bytes text
+        → (epochs : List BatchEpoch)
+        × IsBatch (entries_of net.kind net.width) (records_of bytes) epochs
         × ((w : ℕ) → told_epochs w (records_of text) ≡ map (served_epoch w) epochs) }
-    ensures after { (net : Description) (carry : Bool) (bytes text : List ℕ) → IsRunOf net Grants carry bytes text
+    ensures after { (net : Description) (carry : Bool) (bytes text : List ℕ)
+        → IsRunOf net Grants carry bytes text
         → (w m epoch : ℕ) → let names = names_in epoch (records_of text) in
         counts_after m w names ≡ shares_after m (length names) w }
 {}

@@ -15,8 +15,8 @@ mod showing;
 mod writing;
 
 pub use checking::{CheckFault, check};
+pub use cn_cli::{Form, Job, Net, NetFault, OptionFault, Options, WordsFault, parse_words};
 pub use cn_report::{BatchCause, BatchFault, Flaw, ScheduleCause, ScheduleFault};
-pub use cn_words::{Form, Job, Net, NetFault, OptionFault, Options, WordsFault, parse_words};
 pub use fault::{Fault, end};
 pub use output_fault::OutputFault;
 pub use performing::{perform, run};

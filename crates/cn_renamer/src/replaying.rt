@@ -11,11 +11,11 @@ ghost use Rattle.cn_renamer.specs.Replay.{IsReplayFault, IsReplayOfCommands, IsR
 
 use crate::output_fault::OutputFault;
 use crate::writing::write_text;
+use cn_cli::Net;
 use cn_core::{EnterFault, Reply};
 use cn_epoch::{Answer, Command, Epochs, TurnFault};
 use cn_report::{ScheduleCause, ScheduleFault, read_schedule, render_replay};
 use cn_wiring::Counting;
-use cn_words::Net;
 use std::alloc::Global;
 use std::hash::RandomState;
 use std::io::{Read, Write};

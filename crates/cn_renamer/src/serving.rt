@@ -3,11 +3,10 @@
 ghost use Rattle.std.specs.Prelude.{◌≡◌, ◌+◌, ◌≤◌, IfErr, IfOk, length};
 ghost use Rattle.cn_spec.specs.declared.limits.TheConstants.{MOST_CARRIED, MOST_RECORDS};
 ghost use Rattle.cn_spec.specs.Sums.{when};
-ghost use Rattle.cn_walk.specs.Carried.{clients_of};
-ghost use Rattle.cn_report.specs.Reading.Batch.{AreServable, MayCome};
-ghost use Rattle.cn_report.specs.Reading.Batch.{clients_of as clients_in};
+ghost use Rattle.cn_floor.specs.Carried.{client_count};
+ghost use Rattle.cn_report.specs.Reading.Batch.{AreServable, MayCome, clients_of};
 ghost use Rattle.cn_report.specs.Writing.Written.{HasWritten, Nothing, written_by};
-ghost use Rattle.cn_words.specs.Net.{IsNetworkOf};
+ghost use Rattle.cn_cli.specs.Net.{IsNetworkOf};
 ghost use Rattle.cn_renamer.specs.Headline.{IsRunOfKnown, IsServed};
 ghost use Rattle.cn_renamer.specs.Serve.{IsServeFault, until_serve};
 ghost use Rattle.cn_renamer.specs.Telling.{TellsServed};
@@ -15,11 +14,11 @@ ghost use Rattle.cn_renamer.specs.Telling.{TellsServed};
 use crate::forms::EpochsText;
 use crate::serve_fault::ServeFault;
 use crate::writing::write_text;
+use cn_cli::Options;
 use cn_epoch::EpochRecord;
 use cn_report::{BatchEpoch, read_batch};
 use cn_walk::{Gate, Outcome, RunFault, Runner};
 use cn_wiring::Counting;
-use cn_words::Options;
 use std::alloc::{AllocError, Global};
 use std::hash::RandomState;
 use std::io::{Read, Write};
@@ -51,12 +50,13 @@ fn run_next<'n, G: Gate + Sync, R: Threads + Wait + Sync>(
     gate: &G,
 ) -> Result<(EpochRecord, Runner<'n>), AllocError>
     requires come { MayCome runner.words.network.table.entries epoch.now.clients.items }
-    requires few { clients_of runner.words ≤ MOST_CARRIED }
-    ensures served { IfOk result (λ r. IsServed runner.entry.words.network.table.width (clients_of runner.entry.words) epoch.now r.0) }
+    requires few { client_count runner.words ≤ MOST_CARRIED }
+    ensures served { IfOk result (λ r.
+        IsServed runner.entry.words.network.table.width (client_count runner.entry.words) epoch.now r.0) }
     ensures network { IfOk result (λ r. r.1.words.network ≡ runner.entry.words.network) }
     ensures carries { IfOk result (λ r. r.1.carries ≡ runner.entry.carries) }
-    ensures came { IfOk result (λ r. clients_of r.1.words
-        ≡ clients_of runner.entry.words + when runner.entry.carries (length epoch.now.clients.items)) }
+    ensures came { IfOk result (λ r. client_count r.1.words
+        ≡ client_count runner.entry.words + when runner.entry.carries (length epoch.now.clients.items)) }
 {
     let (workers, hand) = (options.workers(), options.hand());
     let (runner, ended) = runner.run(rt, alloc, &epoch.clients, workers, hand, gate);
@@ -81,7 +81,7 @@ fn run_all<G: Gate + Sync, R: Threads + Wait + Sync>(
     gate: &G,
 ) -> Result<EpochsText, AllocError>
     requires servable { AreServable network.now.table.entries epochs.now }
-    requires few { clients_in epochs.now ≤ MOST_RECORDS }
+    requires few { clients_of epochs.now ≤ MOST_RECORDS }
     ensures { IfOk result (TellsServed options.now.form options.now.carry network.now epochs.now) }
 {
     let mut text = EpochsText::begin(alloc, network, options.form())?;

@@ -6,8 +6,8 @@ ghost use Rattle.cn_renamer.specs.Show.{IsWiringOf};
 
 use crate::output_fault::OutputFault;
 use crate::writing::write_text;
+use cn_cli::Net;
 use cn_report::render_wiring;
-use cn_words::Net;
 use std::alloc::Global;
 use std::io::Write;
 

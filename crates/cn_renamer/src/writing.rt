@@ -13,7 +13,8 @@ use std::io::Write;
 /// # Errors
 /// `Write` where a write failed or the flush at the end: the bytes that were written are the first of the text.
 pub(crate) fn write_text<W: Write>(writer: &mut W, text: &[u8]) -> Result<(), OutputFault>
-    ensures { HasWritten W.contents (λ written. written ≡ text.now) (written_by until_output result) writer.old writer.new }
+    ensures { HasWritten W.contents (λ written. written
+        ≡ text.now) (written_by until_output result) writer.old writer.new }
 {
     emit(writer, text)?;
     Ok(())

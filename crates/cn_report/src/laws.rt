@@ -12,7 +12,8 @@ ghost use Rattle.cn_report.specs.Writing.Grants.{AreTight, checked_epoch, grants
 
 /// The records of a text tell its batch: two batches that they are have the same epochs.
 pub fn batch_is_one()
-    ensures { (entries : ℕ) (rows : List Record) (one other : List BatchEpoch) → IsBatch entries rows one → IsBatch entries rows other
+    ensures { (entries : ℕ) (rows : List Record) (one other : List BatchEpoch)
+        → IsBatch entries rows one → IsBatch entries rows other
         → map plain_epoch one ≡ map plain_epoch other }
 {}
 
@@ -20,7 +21,8 @@ pub fn batch_is_one()
 /// [`crate::render_grants`] wrote of them. Where each epoch has some client, a check tells of each its number, its number
 /// of clients, and as many names for each exit as its share: how many are `i` modulo the width.
 pub fn written_grants_are_tight()
-    ensures tight { (records : List EpochRecord) → AreTight records → IsTightList (records_of (grants_text records)) }
+    ensures tight { (records : List EpochRecord) → AreTight records
+        → IsTightList (records_of (grants_text records)) }
     ensures told { (width : ℕ) (records : List EpochRecord) → AreTight records
         → AllByRecursion (λ r. 0 < r.clients) records
         → told_epochs width (records_of (grants_text records)) ≡ map (checked_epoch width) records }

@@ -1,6 +1,6 @@
 //! Words of command lines.
 
-use cn_words::{WordsFault, parse_words};
+use cn_cli::{WordsFault, parse_words};
 use std::alloc::{AllocError, Global};
 
 /// The words of a line.

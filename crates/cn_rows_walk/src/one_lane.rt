@@ -1,5 +1,5 @@
-//! Three clients in one lane of a counting tree of width 4, where the last overtakes the others: the caller of cn_walk's
-//! page, word for word, and what it is told.
+//! Three clients in one lane of a counting tree of width 4, where the last overtakes the others: the caller of
+//! the floor's page, word for word, and what it is told.
 
 ghost use Rattle.std.specs.Prelude.{◌≡◌};
 

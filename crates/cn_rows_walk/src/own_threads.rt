@@ -1,4 +1,4 @@
-//! A caller with threads of its own, each with a lane of a floor that they share: that of cn_walk's page, word for word.
+//! A caller with threads of its own, each with a lane of a floor that they share: that of cn_floor's page, word for word.
 
 ghost use Rattle.std.specs.Prelude.{◌≡◌, IfSome};
 
@@ -42,17 +42,17 @@ fn name_all(floor: &Floor<'_>, mut lane: Lane, first: u64, entry: u64) -> Lane
 
 /// What the threads share. The closure of a thread that captures a `&Floor<'a>` promises nothing, so it captures a type
 /// parameter, for which the floor stands.
-trait Ground {
-    ghost use Rattle.cn_walk.specs.Lane.{Home};
+trait Shared {
+    ghost use Rattle.cn_floor.specs.Lane.{FloorValue};
 
-    ghost home: { Self → Home };
+    ghost home: { Self → FloorValue };
 
     fn name_all(&self, lane: Lane, first: u64, entry: u64) -> Lane
         requires { lane.home ≡ Self.home self.now }
         ensures { result.home ≡ Self.home self.now };
 }
 
-impl<'a> Ground for Floor<'a> {
+impl<'a> Shared for Floor<'a> {
     ghost home = { λ floor. floor };
 
     fn name_all(&self, lane: Lane, first: u64, entry: u64) -> Lane {
@@ -64,41 +64,41 @@ impl<'a> Ground for Floor<'a> {
 #[derive(Clone, Copy)]
 struct IsOn<'g, G>(&'g G);
 
-impl<'g, G: Ground> Promise<Lane> for IsOn<'g, G> {
+impl<'g, G: Shared> Promise<Lane> for IsOn<'g, G> {
     ghost kept_by = { λ p lane. lane.home ≡ G.home p.0.now };
 }
 
 /// Two threads name clients at once, each by a lane of its own. `None` where a thread is refused.
-fn name_by_two<G: Ground + Sync, R: Threads + Wait>(
+fn name_by_two<G: Shared + Sync, R: Threads + Wait>(
     rt: &R,
-    ground: &G,
+    shared: &G,
     first: Lane,
     second: Lane,
 ) -> Option<(Lane, Lane)>
-    requires { (first.home ≡ G.home ground.now) × (second.home ≡ G.home ground.now) }
-    ensures { IfSome result (λ r. (r.0.home ≡ G.home ground.now) × (r.1.home ≡ G.home ground.now)) }
+    requires { (first.home ≡ G.home shared.now) × (second.home ≡ G.home shared.now) }
+    ensures { IfSome result (λ r. (r.0.home ≡ G.home shared.now) × (r.1.home ≡ G.home shared.now)) }
 {
     thread::scope(
         thread::scope_env(),
         rt,
         move |scope| -> Option<(Lane, Lane)>
-            requires { (first.home ≡ G.home ground.now) × (second.home ≡ G.home ground.now) }
-            ensures { IfSome result (λ r. (r.0.home ≡ G.home ground.entry.now)
-                × (r.1.home ≡ G.home ground.entry.now)) }
+            requires { (first.home ≡ G.home shared.now) × (second.home ≡ G.home shared.now) }
+            ensures { IfSome result (λ r. (r.0.home ≡ G.home shared.entry.now)
+                × (r.1.home ≡ G.home shared.entry.now)) }
         {
             let one = scope.spawn_with(
-                IsOn(ground),
+                IsOn(shared),
                 move || -> Lane
-                    requires { first.home ≡ G.home ground.now }
-                    ensures { result.home ≡ G.home ground.entry.now }
-                { ground.name_all(first, 10, 0) },
+                    requires { first.home ≡ G.home shared.now }
+                    ensures { result.home ≡ G.home shared.entry.now }
+                { shared.name_all(first, 10, 0) },
             );
             let two = scope.spawn_with(
-                IsOn(ground),
+                IsOn(shared),
                 move || -> Lane
-                    requires { second.home ≡ G.home ground.now }
-                    ensures { result.home ≡ G.home ground.entry.now }
-                { ground.name_all(second, 20, 1) },
+                    requires { second.home ≡ G.home shared.now }
+                    ensures { result.home ≡ G.home shared.entry.now }
+                { shared.name_all(second, 20, 1) },
             );
             Some((one.ok()?.join(rt), two.ok()?.join(rt)))
         },

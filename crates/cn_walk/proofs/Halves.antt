@@ -5,16 +5,17 @@ use Rattle.std.proofs.lemmas.Bool.{cases_lt}
 use Rattle.std.proofs.lemmas.List.{append_assoc, get_or-replicate, get_or_past, length-replicate, map-append}
 use Rattle.std.proofs.lemmas.Nat.{le-div}
 use Rattle.std.proofs.lemmas.List.Sums.{sum_by-append}
-use Rattle.cn_core.specs.declared.client.Client.{Client}
+use Rattle.cn_ledger.specs.declared.client.Client.{Client}
 use Rattle.cn_yard.specs.Lists.{empty, on, tokens_in}
 use Rattle.cn_walk.specs.declared.forking.Lanes.{Lanes}
 use Rattle.cn_walk.specs.declared.forking.Lanes.TheVariants.{One, Halves'}
-use Rattle.cn_walk.specs.declared.view.Grant.{Grant}
+use Rattle.cn_floor.specs.declared.view.Grant.{Grant}
 use Rattle.cn_walk.specs.Halves.{AreReady, HasNothing, IsPair, IsReady, first_of, together, whole}
-use Rattle.cn_walk.specs.Lane.{Home, LaneValue, new_lane, with_room}
-use Rattle.cn_walk.specs.Views.{split_left, split_right}
+use Rattle.cn_floor.specs.Lane.{FloorValue, LaneValue, empty_lane, with_room}
+use Rattle.cn_floor.specs.Views.{after_split, split_off}
 use Rattle.cn_walk.specs.Walks.{WalksAll}
-use Rattle.cn_walk.proofs.Walks.{length_both, nobody-there}
+use Rattle.cn_floor.proofs.InLane.Yards.{nobody-in}
+use Rattle.cn_walk.proofs.Walks.{length_both}
 
 -- how many pairs of halves there are
 abbrev pub nodes : Lanes → ℕ
@@ -57,7 +58,7 @@ both_walked a b c d xs ys no_entries no_grants p q =
     }
 
 -- lanes that are ready are so as one
-pub whole_ready : (home : Home) (n : ℕ) (lanes : Lanes) → AreReady home n lanes → IsReady home n (whole lanes)
+pub whole_ready : (home : FloorValue) (n : ℕ) (lanes : Lanes) → AreReady home n lanes → IsReady home n (whole lanes)
 whole_ready home n (One lane worker) r = r
 whole_ready home n (Halves' at p left q right) r = r.0
 
@@ -65,26 +66,18 @@ whole_ready home n (Halves' at p left q right) r = r.0
 pub first_later : (k w a b : ℕ) → 0 < w → a ≤ b → first_of k w a ≤ first_of k w b
 first_later k w a b some h = le-div (a * k / w) (b * k) w some (omega (arith, div-mul-le_self (a * k) w, mul-le-mul_right k h))
 
--- an empty yard
-pub nobody-in : (n : ℕ) → tokens_in (empty n).lists ≡ 0
-nobody-in n =
-    nobody-there (empty n).lists (λ u. ap (λ (es : List (ℕ × ℕ)). length es) (none u))
-  where
-    none : (u : ℕ) → on (empty n).lists u ≡ []
-    none u = elim (cases_lt u n) [ inl l ↦ get_or-replicate n u [] [] l | inr l ↦ get_or_past (replicate n []) u [] (omega (arith, length-replicate {A = List (ℕ × ℕ)} n [])) ]
-
 -- a lane for which more is reserved, of which some is split off, and the one that is split off
 pub reserved_nothing : (n : ℕ) (a b : LaneValue) → HasNothing a → b ≡ with_room n a → HasNothing b
 reserved_nothing n a b is same = subst HasNothing (sym same) (record { inside = is.inside; entries = is.entries; grants = is.grants })
 
-pub left_nothing : (q : ℕ) (a b : LaneValue) → HasNothing a → b ≡ record a { view = split_left q a.view } → HasNothing b
+pub left_nothing : (q : ℕ) (a b : LaneValue) → HasNothing a → b ≡ record a { view = after_split q a.view } → HasNothing b
 left_nothing q a b is same = subst HasNothing (sym same) (record { inside = is.inside; entries = is.entries; grants = is.grants })
 
-pub right_nothing : (q : ℕ) (a b : LaneValue) → b ≡ record (new_lane a.home q) { view = split_right q a.view } → HasNothing b
+pub right_nothing : (q : ℕ) (a b : LaneValue) → b ≡ record (empty_lane a.home q) { view = split_off q a.view } → HasNothing b
 right_nothing q a b same = subst HasNothing (sym same) (record { inside = nobody-in (length a.home.start.network.table.ends); entries = refl; grants = refl })
 
 -- two halves that are ready
-pub both_ready : (home : Home) (n at : ℕ) (left right : Lanes) → at ≤ n → n ≤ (whole left).room → AreReady home at left → AreReady home (n - at) right → IsReady home n (together (whole left) (whole right))
+pub both_ready : (home : FloorValue) (n at : ℕ) (left right : Lanes) → at ≤ n → n ≤ (whole left).room → AreReady home at left → AreReady home (n - at) right → IsReady home n (together (whole left) (whole right))
 both_ready home n at left right h room a b =
     let x = whole_ready home at left a in
     let y = whole_ready home (n - at) right b in
@@ -100,7 +93,7 @@ both_ready home n at left right h room a b =
     }
 
 -- what a pair is ready for
-pub pair_ready : (home : Home) (n at r : ℕ) (left right lanes : Lanes) → IsPair at left right lanes → at ≤ n → n ≤ (whole left).room → AreReady home at left → AreReady home r right → r ≡ n - at
+pub pair_ready : (home : FloorValue) (n at r : ℕ) (left right lanes : Lanes) → IsPair at left right lanes → at ≤ n → n ≤ (whole left).room → AreReady home at left → AreReady home r right → r ≡ n - at
     → AreReady home n lanes
 pair_ready home n at r left right lanes is less room a b rest =
     let second : AreReady home (n - at) right = subst (λ (k : ℕ). AreReady home k right) rest b in

@@ -8,24 +8,24 @@ use Rattle.cn_wiring.specs.declared.end.End.TheVariants.{Balancer}
 use Rattle.cn_wiring.specs.Network.{Network}
 use Rattle.cn_wiring.specs.Table.{Table, sum_at}
 use Rattle.cn_yard.specs.Lists.{Yard, tokens_in}
-use Rattle.cn_core.specs.declared.client.Client.{Client}
-use Rattle.cn_walk.specs.declared.view.Grant.{Grant}
-use Rattle.cn_walk.specs.declared.view.Start.{Start}
-use Rattle.cn_walk.specs.declared.view.View.{View}
-use Rattle.cn_walk.specs.Carried.{WordsValue, clients_of, words_before, zero_words}
-use Rattle.cn_walk.specs.Closing.{IsMissing}
-use Rattle.cn_walk.specs.Ends.{IsQuiet, QuietValue}
+use Rattle.cn_ledger.specs.declared.client.Client.{Client}
+use Rattle.cn_floor.specs.declared.view.Grant.{Grant}
+use Rattle.cn_floor.specs.declared.view.Start.{Start}
+use Rattle.cn_floor.specs.declared.view.View.{View}
+use Rattle.cn_floor.specs.Carried.{WordsValue, client_count, words_before, zero_words}
+use Rattle.cn_floor.specs.Closing.{IsMissing}
+use Rattle.cn_floor.specs.Ends.{IsClosedFloor, QuietValue}
 use Rattle.cn_walk.specs.Halves.{HasNothing, first_of}
-use Rattle.cn_walk.specs.Lane.{Home, IsIdle, LaneValue, new_lane}
+use Rattle.cn_floor.specs.Lane.{FloorValue, IsIdle, LaneValue, empty_lane}
 use Rattle.cn_walk.specs.Runs.{IsRun, IsRunAfter}
-use Rattle.cn_walk.specs.Views.{base}
+use Rattle.cn_floor.specs.Views.{base}
 use Rattle.cn_walk.specs.Walks.{AreFor, WalksAll}
-use Rattle.cn_walk.specs.Words.{clients_in, count_in, entered_in}
-use Rattle.cn_walk.proofs.Bounds.{few_came}
-use Rattle.cn_walk.proofs.Closings.{map-same}
-use Rattle.cn_walk.proofs.Halves.{nobody-in}
-use Rattle.cn_walk.proofs.Openings.{none-came, none-counted, none-entered}
-use Rattle.cn_walk.proofs.Raised.{count-word}
+use Rattle.cn_floor.specs.Words.{clients_in, count_in, entered_in}
+use Rattle.cn_floor.proofs.AtMoments.Bounds.{few_came}
+use Rattle.cn_floor.proofs.AtClose.Closings.{map-same}
+use Rattle.cn_floor.proofs.InLane.Yards.{nobody-in}
+use Rattle.cn_floor.proofs.AtMoments.Openings.{none-came, none-counted, none-entered}
+use Rattle.cn_floor.proofs.AtMoments.Raised.{count-word}
 
 -- all clients lie between the first of the first worker and that of the one after the last
 pub all-first : (k w : ℕ) → 0 < w → first_of k w w - first_of k w 0 ≡ k
@@ -35,7 +35,7 @@ all-first k w some =
     omega (arith, one, none)
 
 -- a lane that is new has done nothing
-pub new_nothing : (home : Home) (q : ℕ) (yard : Yard) (a : LaneValue) → a ≡ record (new_lane home q) { yard = yard } → IsIdle home.start.network yard.lists → HasNothing a
+pub new_nothing : (home : FloorValue) (q : ℕ) (yard : Yard) (a : LaneValue) → a ≡ record (empty_lane home q) { yard = yard } → IsIdle home.start.network yard.lists → HasNothing a
 new_nothing home q yard a is idle =
     subst HasNothing (sym is) (record { inside = ap tokens_in idle ∙ nobody-in (length home.start.network.table.ends); entries = refl; grants = refl })
 
@@ -48,7 +48,7 @@ none-missing start v entered is all =
     omega (arith, is.came, is.more)
 
 -- a quiet floor that went on from words, where its lane let these clients in
-module _ (q : QuietValue) (clients : List Client) (quiet : IsQuiet q.start q.did q.words) where
+module _ (q : QuietValue) (clients : List Client) (quiet : IsClosedFloor q.start q.did q.words) where
   abbrev t : Table
   t = q.start.network.table
 
@@ -61,12 +61,12 @@ module _ (q : QuietValue) (clients : List Client) (quiet : IsQuiet q.start q.did
         came = omega (arith, quiet.came, many);
         counts = quiet.shares ∙ ap (λ (k : ℕ). shares_after (base q.start) k t.width) many;
         passes = λ f full is.
-            map-same (λ b. get_or q.words (1 + t.entries + b) 0 - get_or q.start.carried (1 + t.entries + b) 0) (λ b. sum_at t (Balancer b) f - count_in t q.start.carried (Balancer b)) 0 t.balancers
+            map-same (λ b. get_or q.words (1 + t.entries + b) 0 - get_or q.start.words (1 + t.entries + b) 0) (λ b. sum_at t (Balancer b) f - count_in t q.start.words (Balancer b)) 0 t.balancers
             (λ b l h.
             let low : b < t.balancers = omega arith in
             let came : Agree t.entries f (entered_in t q.words) = λ u less. omega (arith, is u less, quiet.entered u less, ap (λ (es : List ℕ). times u es) entries) in
             let now : get_or q.words (1 + t.entries + b) 0 ≡ sum_at t (Balancer b) f = sym (count-word t q.words (Balancer b) low) ∙ quiet.tight.passes f full came b low in
-            let was : get_or q.start.carried (1 + t.entries + b) 0 ≡ count_in t q.start.carried (Balancer b) = sym (count-word t q.start.carried (Balancer b) low) in
+            let was : get_or q.start.words (1 + t.entries + b) 0 ≡ count_in t q.start.words (Balancer b) = sym (count-word t q.start.words (Balancer b) low) in
             λ x. now x - was x);
         names = subst (λ (n : ℕ). IsEachBelow n (map (λ (g : Grant). g.name) q.did.grants)) many quiet.names;
         named = quiet.named;
@@ -81,7 +81,7 @@ all-theirs a b clients none is =
     (is.entries ∙ ap (λ (es : List ℕ). es ++ map (λ (c : Client). c.entry) clients) none.entries, subst (λ (gs : List Grant). AreFor clients gs) (sym same) for)
 
 -- a floor that its lane closes, after a walk
-pub ran : (q : QuietValue) (start : Start) (a b : LaneValue) (clients : List Client) → q.start ≡ start → IsQuiet q.start q.did q.words → q.did ≡ b.view → HasNothing a → WalksAll a b clients → IsRunAfter (words_before start) clients q
+pub ran : (q : QuietValue) (start : Start) (a b : LaneValue) (clients : List Client) → q.start ≡ start → IsClosedFloor q.start q.did q.words → q.did ≡ b.view → HasNothing a → WalksAll a b clients → IsRunAfter (words_before start) clients q
 ran q start a b clients same quiet did none is =
     let (entries, theirs) = all-theirs a b clients none is in
     subst (λ (s : Start). IsRunAfter (words_before s) clients q) same
@@ -92,7 +92,7 @@ pub from-zero : (network : Network) (clients : List Client) (q : QuietValue) →
 from-zero network clients q is =
     let t : Table = network.table in
     let zero : WordsValue = zero_words network in
-    let nobody : clients_of zero ≡ 0 = none-came t in
+    let nobody : client_count zero ≡ 0 = none-came t in
     let k : ℕ = length clients in
     record {
       over = is.over;

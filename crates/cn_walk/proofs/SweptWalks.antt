@@ -6,19 +6,19 @@ use Rattle.cn_spec.specs.Step.{name_of}
 use Rattle.cn_wiring.specs.declared.end.End.{End}
 use Rattle.cn_wiring.specs.declared.end.End.TheVariants.{Balancer, Exit}
 use Rattle.cn_wiring.specs.Table.{IsWellFormed, LeadsOn, Stands, Table, end_of, output_wire}
-use Rattle.cn_core.specs.declared.client.Client.{Client}
+use Rattle.cn_ledger.specs.declared.client.Client.{Client}
 use Rattle.cn_yard.specs.Deals.{Frees}
 use Rattle.cn_yard.specs.Lists.{IsThere, Yard, on, times_in, without}
-use Rattle.cn_walk.specs.declared.view.Grant.{Grant}
-use Rattle.cn_walk.specs.declared.view.Start.{Start}
-use Rattle.cn_walk.specs.declared.view.Sweep.{Sweep}
-use Rattle.cn_walk.specs.declared.view.View.{View}
-use Rattle.cn_walk.specs.Lane.{LaneValue}
-use Rattle.cn_walk.specs.Sweeps.{PutsAll, SweepsOn, gone_by, grants_out, swept}
-use Rattle.cn_walk.specs.Views.{base, gone}
+use Rattle.cn_floor.specs.declared.view.Grant.{Grant}
+use Rattle.cn_floor.specs.declared.view.Start.{Start}
+use Rattle.cn_floor.specs.declared.view.Sweep.{Sweep}
+use Rattle.cn_floor.specs.declared.view.View.{View}
+use Rattle.cn_floor.specs.Lane.{LaneValue}
+use Rattle.cn_floor.specs.Sweeps.{PutsAll, SweepsOn, after_steps, after_sweep, grants_out}
+use Rattle.cn_floor.specs.Views.{after_step, base}
 use Rattle.cn_walk.specs.Walks.{Walks, inside_by, steps_left}
-use Rattle.cn_walk.proofs.Sweeps.{MayGo, goes-there, rest-may}
-use Rattle.cn_walk.proofs.Swept.{grants-kept, grants-left, kin-by, some-inside}
+use Rattle.cn_floor.proofs.AtMoments.Sweeps.{MayGo, goes-there, rest-may}
+use Rattle.cn_floor.proofs.InLane.Swept.{grants-kept, grants-left, kin-by, some-inside}
 use Rattle.cn_walk.proofs.Walks.{IsHeld, left_by, less_left, less_passed, passed_by}
 
 -- what the clients of tokens weigh that leave by an end
@@ -54,19 +54,19 @@ module _ (start : Start) (wire : ℕ) (end : End) (formed : IsWellFormed start.n
 
   -- nobody is lost or made
   one-weighs : (f : ℕ → ℕ) (n token client : ℕ) (v : View) (rest : List (ℕ × ℕ)) → May v ((token, client) ∷ rest)
-      → inside_by f (gone token client end n v) + out_by f end ((token, client) ∷ []) ≡ inside_by f v
+      → inside_by f (after_step token client end n v) + out_by f end ((token, client) ∷ []) ≡ inside_by f v
   one-weighs f n token client v rest may = by end refl
     where
       is : IsThere v.tokens token client wire
       is = goes-there start wire end formed low ends stands v token client rest may
 
-      by : (e : End) → end ≡ e → inside_by f (gone token client e n v) + out_by f e ((token, client) ∷ []) ≡ inside_by f v
+      by : (e : End) → end ≡ e → inside_by f (after_step token client e n v) + out_by f e ((token, client) ∷ []) ≡ inside_by f v
       by (Balancer b) at = omega (arith, passed_by token client wire n v is f b (lands b n at v ((token, client) ∷ rest) may).0)
       by (Exit i) at = omega (arith, left_by token client wire n v is f i)
 
   pub all-weigh : (f : ℕ → ℕ) (tokens : List (ℕ × ℕ)) (v : View) (n : ℕ) → May v tokens
-      → inside_by f (gone_by end n tokens v) + out_by f end tokens ≡ inside_by f v
-  unfolding gone_by
+      → inside_by f (after_steps end n tokens v) + out_by f end tokens ≡ inside_by f v
+  unfolding after_steps
   all-weigh f [] v n may = by end
     where
       by : (e : End) → inside_by f v + out_by f e [] ≡ inside_by f v
@@ -74,7 +74,7 @@ module _ (start : Start) (wire : ℕ) (end : End) (formed : IsWellFormed start.n
       by (Exit i) = omega arith
   all-weigh f ((token, client) ∷ rest) v n may =
       let one = one-weighs f n token client v rest may in
-      let more = all-weigh f rest (gone token client end n v) (n + 1) (rest-may start wire end formed low ends stands n v token client rest may) in
+      let more = all-weigh f rest (after_step token client end n v) (n + 1) (rest-may start wire end formed low ends stands n v token client rest may) in
       omega (arith, one, more, parts end)
     where
       parts : (e : End) → out_by f e ((token, client) ∷ rest) ≡ out_by f e ((token, client) ∷ []) + out_by f e rest
@@ -82,7 +82,7 @@ module _ (start : Start) (wire : ℕ) (end : End) (formed : IsWellFormed start.n
       parts (Exit i) = omega (arith, sum_by-cons (λ (x : ℕ × ℕ). f x.1) (token, client) rest, sum_by-cons (λ (x : ℕ × ℕ). f x.1) (token, client) [])
 
   -- less is left
-  one-less : (n token client : ℕ) (v : View) (rest : List (ℕ × ℕ)) → May v ((token, client) ∷ rest) → steps_left (gone token client end n v) < steps_left v
+  one-less : (n token client : ℕ) (v : View) (rest : List (ℕ × ℕ)) → May v ((token, client) ∷ rest) → steps_left (after_step token client end n v) < steps_left v
   one-less n token client v rest may = by end refl
     where
       is : IsThere v.tokens token client wire
@@ -91,30 +91,30 @@ module _ (start : Start) (wire : ℕ) (end : End) (formed : IsWellFormed start.n
       there : wire < length v.start.network.table.ends
       there = omega (arith, low, ap (λ (s : Start). length s.network.table.ends) may.of)
 
-      by : (e : End) → end ≡ e → steps_left (gone token client e n v) < steps_left v
+      by : (e : End) → end ≡ e → steps_left (after_step token client e n v) < steps_left v
       by (Balancer b) at =
           let on = lands b n at v ((token, client) ∷ rest) may in
           less_passed token client wire n v is there b on.0 on.1
       by (Exit i) at = less_left token client wire n v is there i
 
-  no-more : (tokens : List (ℕ × ℕ)) (v : View) (n : ℕ) → May v tokens → steps_left (gone_by end n tokens v) ≤ steps_left v
-  unfolding gone_by
+  no-more : (tokens : List (ℕ × ℕ)) (v : View) (n : ℕ) → May v tokens → steps_left (after_steps end n tokens v) ≤ steps_left v
+  unfolding after_steps
   no-more [] v n may = omega arith
   no-more ((token, client) ∷ rest) v n may =
       omega (
         arith,
         one-less n token client v rest may,
-        no-more rest (gone token client end n v) (n + 1) (rest-may start wire end formed low ends stands n v token client rest may),
+        no-more rest (after_step token client end n v) (n + 1) (rest-may start wire end formed low ends stands n v token client rest may),
       )
 
-  pub less : (tokens : List (ℕ × ℕ)) (v : View) (n : ℕ) → May v tokens → 0 < length tokens → steps_left (gone_by end n tokens v) < steps_left v
-  unfolding gone_by
+  pub less : (tokens : List (ℕ × ℕ)) (v : View) (n : ℕ) → May v tokens → 0 < length tokens → steps_left (after_steps end n tokens v) < steps_left v
+  unfolding after_steps
   less [] v n may some = absurd (omega (arith, some))
   less ((token, client) ∷ rest) v n may some =
       omega (
         arith,
         one-less n token client v rest may,
-        no-more rest (gone token client end n v) (n + 1) (rest-may start wire end formed low ends stands n v token client rest may),
+        no-more rest (after_step token client end n v) (n + 1) (rest-may start wire end formed low ends stands n v token client rest may),
       )
 
 -- where nobody stands, nobody stands once others are gone
@@ -153,7 +153,7 @@ module _ (a b : LaneValue) (wire n : ℕ) (answer : Sweep) (is : SweepsOn a b wi
       let stands : Stands a.home.start.network.table e = subst (Stands a.home.start.network.table) ends (formed.stands wire inside) in
       let all = may e ends stands in
       let like = kin-by e n tokens v in
-      let view : b.view ≡ swept wire e n v = is.view ∙ ap (λ (x : End). swept wire x n v) ends in (
+      let view : b.view ≡ after_sweep wire e n v = is.view ∙ ap (λ (x : End). after_sweep wire x n v) ends in (
         record {
           home = is.home;
           quota = omega (arith, ap (λ (x : View). x.quota) view, like.quota);
@@ -165,12 +165,12 @@ module _ (a b : LaneValue) (wire n : ℕ) (answer : Sweep) (is : SweepsOn a b wi
         omega (arith, ap steps_left view, less a.home.start wire e formed inside ends stands tokens v n all some-tokens),
       )
     where
-      weighed : (e : End) (ends : end_of a.home.start.network.table wire ≡ e) (stands : Stands a.home.start.network.table e) → b.view ≡ swept wire e n v → (f : ℕ → ℕ)
+      weighed : (e : End) (ends : end_of a.home.start.network.table wire ≡ e) (stands : Stands a.home.start.network.table e) → b.view ≡ after_sweep wire e n v → (f : ℕ → ℕ)
           → inside_by f b.view + out_by f e tokens ≡ inside_by f v
       weighed e ends stands view f =
           omega (arith, ap (λ (x : View). inside_by f x) view, all-weigh a.home.start wire e formed inside ends stands f tokens v n (may e ends stands))
 
-      granted : (e : End) (ends : end_of a.home.start.network.table wire ≡ e) (stands : Stands a.home.start.network.table e) → b.view ≡ swept wire e n v
+      granted : (e : End) (ends : end_of a.home.start.network.table wire ≡ e) (stands : Stands a.home.start.network.table e) → b.view ≡ after_sweep wire e n v
           → (more : List Grant) × (b.view.grants ≡ v.grants ++ more)
           × ((f : ℕ → ℕ) → sum_by (λ g. f g.client) more + inside_by f b.view ≡ inside_by f v + sum_by (λ (c : Client). f c.id) [])
       granted (Balancer c) ends stands view = (

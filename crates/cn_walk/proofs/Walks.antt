@@ -13,19 +13,19 @@ use Rattle.cn_spec.proofs.CallerLemmas.{sum_below-one, sum_below-plus, sum_below
 use Rattle.cn_wiring.specs.declared.end.End.{End}
 use Rattle.cn_wiring.specs.declared.end.End.TheVariants.{Balancer, Exit}
 use Rattle.cn_wiring.specs.Table.{LeadsOn, Stands, Table, end_of, output_wire}
-use Rattle.cn_core.specs.declared.client.Client.{Client}
-use Rattle.cn_core.specs.declared.reply.Moved.{Moved}
+use Rattle.cn_ledger.specs.declared.client.Client.{Client}
+use Rattle.cn_ledger.specs.declared.moved.Moved.{Moved}
 use Rattle.cn_yard.specs.Lists.{IsLowest, IsThere, Lists, first_of, here_or, last_on, on, standing, standing_below, times_in, tokens_in, without}
-use Rattle.cn_walk.specs.declared.view.Grant.{Grant}
-use Rattle.cn_walk.specs.declared.view.Start.{Start}
-use Rattle.cn_walk.specs.declared.view.View.{View}
-use Rattle.cn_walk.specs.Lane.{LaneValue, LetsIn, StepsOn}
-use Rattle.cn_walk.specs.Views.{base, entered, gone, on_in}
+use Rattle.cn_floor.specs.declared.view.Grant.{Grant}
+use Rattle.cn_floor.specs.declared.view.Start.{Start}
+use Rattle.cn_floor.specs.declared.view.View.{View}
+use Rattle.cn_floor.specs.Lane.{LaneValue, LetsIn, StepsOn}
+use Rattle.cn_floor.specs.Views.{after_enter, after_step, base, on_in}
 use Rattle.cn_walk.specs.Walks.{WalksAll, Walks, inside_by, steps_left}
-use Rattle.cn_walk.proofs.Closings.{inside-yard, none-on}
-use Rattle.cn_walk.proofs.Accounts.{at-none, at-one, weighed-went}
-use Rattle.cn_walk.proofs.Ledgers.{Lands}
-use Rattle.cn_walk.proofs.Lists.{ones, weigh-come, weigh-leave, weigh-pass}
+use Rattle.cn_floor.proofs.AtClose.Closings.{inside-yard, none-on}
+use Rattle.cn_floor.proofs.AtMoments.Accounts.{at-none, at-one, weighed-went}
+use Rattle.cn_floor.proofs.AtMoments.Ledgers.{Lands}
+use Rattle.cn_floor.proofs.Lists.{ones, weigh-come, weigh-leave, weigh-pass}
 
 -- nothing happens
 pub stays : (a : LaneValue) → Walks a a []
@@ -72,10 +72,10 @@ pub record IsHeld (a : LaneValue) : Type 0 where
 
 -- ---- a client comes in
 
-came_by : (f : ℕ → ℕ) (token client entry : ℕ) (v : View) → entry < length v.tokens → inside_by f (entered token client entry v) ≡ inside_by f v + f client
+came_by : (f : ℕ → ℕ) (token client entry : ℕ) (v : View) → entry < length v.tokens → inside_by f (after_enter token client entry v) ≡ inside_by f v + f client
 came_by f token client entry v inside =
     let m : ℕ = length v.tokens in
-    let w : View = entered token client entry v in
+    let w : View = after_enter token client entry v in
     let weight : ℕ → ℕ = λ u. sum_by (λ (e : ℕ × ℕ). f e.1) (on v.tokens u) in
     let wires : length w.tokens ≡ m = length-map-range_with_len (λ u. on v.tokens u ++ last_on token client entry u) 0 m in
     let same : sum_below m (λ u. sum_by (λ (e : ℕ × ℕ). f e.1) (on w.tokens u)) ≡ sum_below m (λ u. weight u + when (eqb entry u) (f client)) =
@@ -110,23 +110,23 @@ comes_next a b c i d xs l p is =
 -- ---- a token goes on
 
 module _ (token client wire n : ℕ) (v : View) (is : IsThere v.tokens token client wire) (f : ℕ → ℕ) where
-  long : (end : End) → length (gone token client end n v).tokens ≡ length v.tokens
+  long : (end : End) → length (after_step token client end n v).tokens ≡ length v.tokens
   long (Balancer b) = length-map-range_with_len (λ u. without token (get_or v.tokens u []) ++ last_on token client (output_wire v.start.network.table b (n % 2)) u) 0 (length v.tokens)
   long (Exit i) = length-map-range_with_len (λ u. without token (get_or v.tokens u []) ++ []) 0 (length v.tokens)
 
-  pub passed_by : (b : ℕ) → Lands n v (Balancer b) → inside_by f (gone token client (Balancer b) n v) ≡ inside_by f v
+  pub passed_by : (b : ℕ) → Lands n v (Balancer b) → inside_by f (after_step token client (Balancer b) n v) ≡ inside_by f v
   passed_by b lands =
       let m : ℕ = length v.tokens in
-      let w : View = gone token client (Balancer b) n v in
+      let w : View = after_step token client (Balancer b) n v in
       let to : ℕ = output_wire v.start.network.table b (n % 2) in
       let moved = sum_below-shift m (λ u. sum_by (λ (e : ℕ × ℕ). f e.1) (on w.tokens u)) (λ u. when (eqb wire u) (f client)) (λ u. sum_by (λ (e : ℕ × ℕ). f e.1) (on v.tokens u)) (λ u. when (eqb to u) (f client))
       (λ u l. weigh-pass v.tokens token client wire to is lands u (λ e. f e.1)) in
       ap (λ (k : ℕ). sum_below k (λ u. sum_by (λ (e : ℕ × ℕ). f e.1) (on w.tokens u))) (long (Balancer b)) ∙ omega (arith, moved, sum_below-one m wire (f client) is.inside, sum_below-one m to (f client) lands)
 
-  pub left_by : (i : ℕ) → inside_by f (gone token client (Exit i) n v) + f client ≡ inside_by f v
+  pub left_by : (i : ℕ) → inside_by f (after_step token client (Exit i) n v) + f client ≡ inside_by f v
   left_by i =
       let m : ℕ = length v.tokens in
-      let w : View = gone token client (Exit i) n v in
+      let w : View = after_step token client (Exit i) n v in
       let moved = sum_below-shift m (λ u. sum_by (λ (e : ℕ × ℕ). f e.1) (on w.tokens u)) (λ u. when (eqb wire u) (f client)) (λ u. sum_by (λ (e : ℕ × ℕ). f e.1) (on v.tokens u)) (λ u. 0)
       (λ u l. omega (arith, weigh-leave v.tokens token client wire is u (λ e. f e.1))) in
       let same = ap (λ (k : ℕ). sum_below k (λ u. sum_by (λ (e : ℕ × ℕ). f e.1) (on w.tokens u))) (long (Exit i)) in
@@ -137,16 +137,16 @@ module _ (token client wire n : ℕ) (v : View) (is : IsThere v.tokens token cli
   abbrev g : ℕ → ℕ
   g u = length v.tokens - u
 
-  left : (end : End) → sum_below (length (gone token client end n v).tokens) (λ u. g u * on_in u (gone token client end n v)) ≡ steps_left (gone token client end n v)
+  left : (end : End) → sum_below (length (after_step token client end n v).tokens) (λ u. g u * on_in u (after_step token client end n v)) ≡ steps_left (after_step token client end n v)
   left end =
-      let w : View = gone token client end n v in
+      let w : View = after_step token client end n v in
       ap (λ (k : ℕ). sum_below (length w.tokens) (λ u. (k - u) * on_in u w)) (sym (long token client wire n v is (λ _. 0) end))
 
-  pub less_passed : (b : ℕ) → Lands n v (Balancer b) → wire < output_wire v.start.network.table b (n % 2) → steps_left (gone token client (Balancer b) n v) < steps_left v
+  pub less_passed : (b : ℕ) → Lands n v (Balancer b) → wire < output_wire v.start.network.table b (n % 2) → steps_left (after_step token client (Balancer b) n v) < steps_left v
   less_passed b lands on =
       omega (arith, left (Balancer b), weighed-went v.start.network token client wire n v is there refl g (Balancer b) lands, at-one (length v.tokens) (output_wire v.start.network.table b (n % 2)) g lands)
 
-  pub less_left : (i : ℕ) → steps_left (gone token client (Exit i) n v) < steps_left v
+  pub less_left : (i : ℕ) → steps_left (after_step token client (Exit i) n v) < steps_left v
   less_left i =
       omega (arith, left (Exit i), weighed-went v.start.network token client wire n v is there refl g (Exit i) tt, at-none (length v.tokens) g, is.inside)
 
@@ -170,7 +170,7 @@ goes a b token client wire n answer is held = by (end_of a.home.start.network.ta
 
     by : (e : End) → end_of t wire ≡ e → Walks a b [] × (steps_left b.view < steps_left a.view)
     by (Balancer c) ends =
-        let view : b.view ≡ gone token client (Balancer c) n v = is.view ∙ ap (λ (e : End). gone token client e n v) ends in
+        let view : b.view ≡ after_step token client (Balancer c) n v = is.view ∙ ap (λ (e : End). after_step token client e n v) ends in
         let formed = is.step.kept_before.began.network.formed in
         let stands : c < t.balancers = subst (λ (e : End). Stands t e) ends (formed.stands wire inside) in
         let forward : wire < t.entries + 2 * c = subst (λ (e : End). LeadsOn t wire e) ends (formed.forward wire inside) in
@@ -188,7 +188,7 @@ goes a b token client wire n answer is held = by (end_of a.home.start.network.ta
           omega (arith, ap steps_left view, less_passed token client wire n v at here c lands (omega (arith, entries, forward))),
         )
     by (Exit i) ends =
-        let view : b.view ≡ gone token client (Exit i) n v = is.view ∙ ap (λ (e : End). gone token client e n v) ends in
+        let view : b.view ≡ after_step token client (Exit i) n v = is.view ∙ ap (λ (e : End). after_step token client e n v) ends in
         let grant : Grant = record { client = client; exit = i; visit = n; name = name_of v.start.network.table.width i n - base v.start } in (
           record {
             home = is.home;
@@ -238,42 +238,7 @@ walked a b xs w out before after =
       );
     }
 
--- ---- the yard of a lane
-
--- where nobody stands on any wire nobody is inside
-pub nobody-there : (y : Lists) → ((wire : ℕ) → length (on y wire) ≡ 0) → tokens_in y ≡ 0
-nobody-there y none = sum_below-zero (length y) (λ u. length (on y u)) none
-
--- the lowest wire is a wire of the network
-pub lowest-inside : (y : Lists) (wire : ℕ) → IsLowest y wire → wire < length y
-lowest-inside y wire is = elim (cases_lt wire (length y)) [
-  | inl l ↦ l
-  | inr l ↦ absurd (omega (arith, is.some, ap (λ (es : List (ℕ × ℕ)). length es) (get_or_past y wire [] l)))
-]
-
-found : (es : List (ℕ × ℕ)) (token : ℕ) → first_of es ≡ Some token → IsSome (lookup (eqb token) es)
-found [] token h = cc
-found (e ∷ es) token h = let same : e.0 ≡ token = cc in rw (eq-eqb token e.0 (sym same)) (search rules)
-
-stands-below : (y : Lists) (wire token n : ℕ) → IsSome (lookup (eqb token) (on y wire)) → wire < n → IsSome (standing_below n y token)
-unfolding standing_below
-stands-below y wire token zero some h = absurd (omega arith)
-stands-below y wire token (suc n) some h = by (lookup (eqb token) (on y n)) refl (λ l. stands-below y wire token n some l)
-  where
-    by : (o : Option ℕ) → lookup (eqb token) (on y n) ≡ o → (wire < n → IsSome (standing_below n y token)) → IsSome (here_or n o (standing_below n y token))
-    by (Some c) is rest = search rules
-    by None is rest = elim (cases_eq wire n) [
-      | inl e ↦ absurd (none (on y n) (subst (λ (u : ℕ). IsSome (lookup (eqb token) (on y u))) e some) is)
-      | inr d ↦ rest (omega arith)
-    ]
-      where
-        none : (es : List (ℕ × ℕ)) → IsSome (lookup (eqb token) es) → lookup (eqb token) es ≡ None → ⊥
-        none es a b = cc
-
--- the first token of a wire stands in the yard
-pub first-stands : (y : Lists) (wire token : ℕ) → wire < length y → first_of (on y wire) ≡ Some token → IsSome (standing y token)
-first-stands y wire token inside first = stands-below y wire token (length y) (found (on y wire) token first) inside
-
+-- a list without members
 pub none_left : {X : Type 0} (xs : List X) → length xs ≡ 0 → xs ≡ []
 none_left [] h = refl
 none_left (x ∷ xs) h = absurd (omega arith)

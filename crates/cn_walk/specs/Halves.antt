@@ -1,11 +1,11 @@
 -- The lanes of many workers, in halves.
 use Rattle.std.specs.Prelude.{◌≡◌, ℕ, ◌+◌, ◌-◌, ◌*◌, ◌/◌, ◌<◌, ◌≤◌, All, List, [], length}
-use Rattle.cn_core.specs.declared.client.Client.{Client}
+use Rattle.cn_ledger.specs.declared.client.Client.{Client}
 use Rattle.cn_yard.specs.Lists.{tokens_in}
 use Rattle.cn_walk.specs.declared.forking.Lanes.{Lanes}
 use Rattle.cn_walk.specs.declared.forking.Lanes.TheVariants.{One, Halves'}
-use Rattle.cn_walk.specs.Lane.{Home, LaneValue}
-use Rattle.cn_walk.specs.Views.{joined}
+use Rattle.cn_floor.specs.Lane.{FloorValue, LaneValue}
+use Rattle.cn_floor.specs.Views.{after_join}
 
 -- the position of a worker's first client among k, of w workers
 abbrev pub first_of : ℕ → ℕ → ℕ → ℕ
@@ -14,7 +14,7 @@ first_of k w worker = worker * k / w
 -- the second lane taken into the first
 abbrev pub together : LaneValue → LaneValue → LaneValue
 together lane other = record lane {
-  view = joined lane.view other.view;
+  view = after_join lane.view other.view;
   room = lane.room - length other.view.grants;
 }
 
@@ -30,14 +30,14 @@ pub record HasNothing (lane : LaneValue) : Type 0 where
   pub grants : lane.view.grants ≡ []
 
 -- and has quota and room for so many clients
-pub record IsReady (home : Home) (clients : ℕ) (lane : LaneValue) : Type 0 where
+pub record IsReady (home : FloorValue) (clients : ℕ) (lane : LaneValue) : Type 0 where
   pub home_is : lane.home ≡ home
   pub nothing : HasNothing lane
   pub quota : clients ≤ lane.view.quota
   pub room : clients ≤ lane.room
 
 -- so is each half for its clients, and all of them together
-abbrev pub AreReady : Home → ℕ → Lanes → Type 0
+abbrev pub AreReady : FloorValue → ℕ → Lanes → Type 0
 AreReady home clients (One lane worker) = IsReady home clients lane
 AreReady home clients (Halves' at p left q right) =
     IsReady home clients (together (whole left) (whole right)) × (at ≤ clients)
@@ -52,14 +52,14 @@ AreOf k w from to (Halves' at p left q right) =
     × AreOf k w from middle left × AreOf k w middle to right
 
 -- these clients may be walked through the lanes
-abbrev pub MayWalk : Home → List Client → ℕ → Lanes → Type 0
+abbrev pub MayWalk : FloorValue → List Client → ℕ → Lanes → Type 0
 MayWalk home clients hand lanes =
     AreReady home (length clients) lanes × All (λ c. c.entry < home.start.network.table.entries) clients × (0 < hand)
 
 -- two halves make lanes: where they are ready for the first clients and for the others, and together for all, so are these
 pub record IsPair (at : ℕ) (left right lanes : Lanes) : Type 0 where
   pub whole_is : whole lanes ≡ together (whole left) (whole right)
-  pub ready : (home : Home) (n : ℕ) → IsReady home n (together (whole left) (whole right)) → at ≤ n
+  pub ready : (home : FloorValue) (n : ℕ) → IsReady home n (together (whole left) (whole right)) → at ≤ n
       → AreReady home at left → AreReady home (n - at) right → AreReady home n lanes
   -- and where they are of workers that follow one another, it is of all these
   pub of : (k w from middle to : ℕ) → from < middle → middle < to → at ≡ first_of k w middle - first_of k w from

@@ -1,19 +1,15 @@
 -- Epochs that are run one after another.
 use Rattle.std.specs.Prelude.{◌≡◌, Bool, true, false, List}
-use Rattle.cn_core.specs.declared.client.Client.{Client}
+use Rattle.cn_ledger.specs.declared.client.Client.{Client}
 use Rattle.cn_walk.specs.declared.runner.Outcome.{Outcome}
-use Rattle.cn_walk.specs.Carried.{WordsValue}
-use Rattle.cn_walk.specs.Ends.{ListsHolders, QuietValue, counts_of}
+use Rattle.cn_floor.specs.Carried.{WordsValue}
+use Rattle.cn_floor.specs.Ends.{ListsHolders, QuietValue, counts_of, words_after}
 use Rattle.cn_walk.specs.Runs.{IsRunAfter}
 
 -- what came of a closed floor: how many left by each exit, and the clients by rising name
 pub record IsOutcomeOf (quiet : QuietValue) (outcome : Outcome) : Type 0 where
   pub counts : outcome.counts.items ≡ counts_of quiet.start quiet.words
   pub holders : ListsHolders quiet.did.grants outcome.holders.items
-
--- the words of a closed floor
-abbrev pub words_after : QuietValue → WordsValue
-words_after quiet = record { network = quiet.start.network; words = quiet.words }
 
 -- a runner of epochs as contracts see it: the words with which the next begins, and whether later ones go on from its own
 pub record RunnerValue : Type 0 where

@@ -8,13 +8,13 @@ use Rattle.cn_wiring.specs.declared.end.End.TheVariants.{Balancer}
 use Rattle.cn_wiring.specs.Faults.{IsFirst, IsWithin}
 use Rattle.cn_wiring.specs.Network.{Network}
 use Rattle.cn_wiring.specs.Table.{IsFullFlow, sum_at}
-use Rattle.cn_core.specs.declared.client.Client.{Client}
+use Rattle.cn_ledger.specs.declared.client.Client.{Client}
 use Rattle.cn_walk.specs.declared.running.RunFault.{RunFault}
 use Rattle.cn_walk.specs.declared.running.RunFault.TheVariants.{Workers, Hand, TooMany, NoSuchEntry, Memory}
-use Rattle.cn_walk.specs.Carried.{WordsValue, clients_of}
-use Rattle.cn_walk.specs.Ends.{QuietValue, counts_of, passes_of}
+use Rattle.cn_floor.specs.Carried.{WordsValue, client_count}
+use Rattle.cn_floor.specs.Ends.{QuietValue, counts_of, passes_of}
 use Rattle.cn_walk.specs.Walks.{AreFor}
-use Rattle.cn_walk.specs.Words.{clients_in, count_in, entered_in}
+use Rattle.cn_floor.specs.Words.{clients_in, count_in, entered_in}
 
 -- the client at a position comes by an entry that is there
 abbrev pub ComesByOne : ℕ → List Client → ℕ → Type 0
@@ -49,11 +49,11 @@ IsRefused entries clients workers hand Memory = MayRun entries clients workers h
 -- a floor that went on from words, on which these clients walked, and nobody else
 pub record IsRunAfter (before : WordsValue) (clients : List Client) (quiet : QuietValue) : Type 0 where
   pub over : quiet.start.network ≡ before.network
-  pub after : quiet.start.carried ≡ before.words
+  pub after : quiet.start.words ≡ before.words
   -- they came after the clients of the words
-  pub came : clients_in before.network.table quiet.words ≡ clients_of before + length clients
+  pub came : clients_in before.network.table quiet.words ≡ client_count before + length clients
   -- each exit let out its share of all, less its share of those that came before
-  pub counts : counts_of quiet.start quiet.words ≡ shares_after (clients_of before) (length clients) before.network.table.width
+  pub counts : counts_of quiet.start quiet.words ≡ shares_after (client_count before) (length clients) before.network.table.width
   -- each balancer passed what the full flow of all entries brings there, less what passed before
   pub passes : (f : ℕ → ℕ) → IsFullFlow before.network.table f
       → ((u : ℕ) → u < before.network.table.entries
@@ -65,7 +65,7 @@ pub record IsRunAfter (before : WordsValue) (clients : List Client) (quiet : Qui
   -- clients came before
   pub names : IsEachBelow (length clients) (map (λ g. g.name) quiet.did.grants)
   pub named : All (λ g. (g.exit < before.network.table.width)
-      × (g.name + clients_of before ≡ name_of before.network.table.width g.exit g.visit)) quiet.did.grants
+      × (g.name + client_count before ≡ name_of before.network.table.width g.exit g.visit)) quiet.did.grants
   -- and the grants are theirs, to each client as often as it is among them
   pub theirs : AreFor clients quiet.did.grants
 

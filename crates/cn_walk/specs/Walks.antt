@@ -1,12 +1,12 @@
 -- What a walk of clients makes of a lane.
 use Rattle.std.specs.Prelude.{◌≡◌, ℕ, ◌+◌, ◌-◌, ◌*◌, ◌++◌, ◌==◌, List, count_by, length, map, sum_by}
 use Rattle.cn_spec.specs.Sums.{sum_below}
-use Rattle.cn_core.specs.declared.client.Client.{Client}
+use Rattle.cn_ledger.specs.declared.client.Client.{Client}
 use Rattle.cn_yard.specs.Lists.{on, tokens_in}
-use Rattle.cn_walk.specs.declared.view.Grant.{Grant}
-use Rattle.cn_walk.specs.declared.view.View.{View}
-use Rattle.cn_walk.specs.Lane.{LaneValue}
-use Rattle.cn_walk.specs.Views.{on_in}
+use Rattle.cn_floor.specs.declared.view.Grant.{Grant}
+use Rattle.cn_floor.specs.declared.view.View.{View}
+use Rattle.cn_floor.specs.Lane.{LaneValue}
+use Rattle.cn_floor.specs.Views.{on_in}
 
 -- grants for these clients: as many as they are, and to each client as often as it is among them
 pub record AreFor (clients : List Client) (grants : List Grant) : Type 0 where

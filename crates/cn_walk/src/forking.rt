@@ -7,11 +7,9 @@ ghost use Rattle.cn_walk.specs.Halves.{AreOf, AreReady, HasNothing, IsPair, IsRe
 ghost use Rattle.cn_walk.specs.Walks.{WalksAll};
 ghost use denote.Param.Send.{IsSync};
 
-use crate::fault::JoinFault;
-use crate::floor::{Floor, Lane};
-use crate::gate::Gate;
 use crate::walking::walk_all;
-use cn_core::Client;
+use cn_floor::{Floor, Gate, JoinFault, Lane};
+use cn_ledger::Client;
 use std::alloc::Global;
 use std::sync::Wait;
 use std::thread;
@@ -26,12 +24,12 @@ pub(crate) enum Lanes {
     Halves(u32, Box<Lanes>, Box<Lanes>),
 }
 
-/// What lanes are walked on. A closure that captures a `&Floor<'a>` itself promises nothing where threads join: so the
-/// recursion is over a type parameter, and [`Floor`] is the one type that it stands for.
-pub(crate) trait Ground {
-    ghost use Rattle.cn_walk.specs.Lane.{Home};
+/// What walks clients through lanes, and joins the lanes. A closure that captures a `&Floor<'a>` itself promises nothing
+/// where threads join: so the recursion is over a type parameter, and [`Floor`] is the one type that it stands for.
+pub(crate) trait LaneWalker {
+    ghost use Rattle.cn_floor.specs.Lane.{FloorValue};
 
-    ghost home: { Self → Home };
+    ghost home: { Self → FloorValue };
 
     fn walk<G: Gate, R: Wait>(
         &self,
@@ -43,7 +41,8 @@ pub(crate) trait Ground {
         worker: u32,
     ) -> Lane
         requires ready { IsReady (Self.home self.now) (length clients.now) lane }
-        requires entries { All (λ c. c.entry < (Self.home self.now).start.network.table.entries) clients.now }
+        requires entries { All (λ c.
+            c.entry < (Self.home self.now).start.network.table.entries) clients.now }
         requires hand { 0 < hand }
         ensures { WalksAll lane result clients.now };
 
@@ -54,7 +53,7 @@ pub(crate) trait Ground {
         ensures { result ≡ together lane other };
 }
 
-impl<'a> Ground for Floor<'a> {
+impl<'a> LaneWalker for Floor<'a> {
     ghost home = { λ f. f };
 
     fn walk<G: Gate, R: Wait>(
@@ -103,7 +102,8 @@ pub(crate) fn make_lanes<'a>(
     requires range { (from < to) × (to ≤ workers) × (clients ≤ MOST_CLIENTS) }
     requires nothing { HasNothing lane }
     requires quota { first_of clients workers to - first_of clients workers from ≤ lane.view.quota }
-    ensures ready { IfSome result (λ lanes. AreReady floor.now (first_of clients workers to - first_of clients workers from) lanes) }
+    ensures ready { IfSome result (λ lanes.
+        AreReady floor.now (first_of clients workers to - first_of clients workers from) lanes) }
     ensures workers { IfSome result (λ lanes. AreOf clients workers from to lanes) }
     ensures room { IfSome result (λ lanes. lane.room ≤ (whole lanes).room) }
 {
@@ -136,21 +136,22 @@ fn pair(alloc: Global, at: u32, left: Lanes, right: Lanes) -> Option<Lanes>
 
 /// Walks the clients through the lanes, the first half in a thread of its own beside the second, and joins the lanes. Where
 /// there is no thread to be had the halves are walked one after the other; one lane alone is walked here.
-pub(crate) fn walk_lanes<F: Ground + Sync, G: Gate + Sync, R: Threads + Wait + Sync>(
+pub(crate) fn walk_lanes<F: LaneWalker + Sync, G: Gate + Sync, R: Threads + Wait + Sync>(
     rt: &R,
-    ground: &F,
+    floor: &F,
     lanes: Lanes,
     clients: &[Client],
     hand: u32,
     gate: &G,
 ) -> Lane
-    requires ready { AreReady (F.home ground.now) (length clients.now) lanes }
-    requires entries { All (λ c. c.entry < (F.home ground.now).start.network.table.entries) clients.now }
+    requires ready { AreReady (F.home floor.now) (length clients.now) lanes }
+    requires entries { All (λ c.
+        c.entry < (F.home floor.now).start.network.table.entries) clients.now }
     requires hand { 0 < hand }
     ensures { WalksAll (whole lanes) result clients.now }
 {
     match lanes {
-        Lanes::One(lane, worker) => ground.walk(rt, lane, clients, hand, gate, worker),
+        Lanes::One(lane, worker) => floor.walk(rt, lane, clients, hand, gate, worker),
         Lanes::Halves(at, left, right) => {
             let left = Box::into_inner(left);
             let right = Box::into_inner(right);
@@ -158,15 +159,17 @@ pub(crate) fn walk_lanes<F: Ground + Sync, G: Gate + Sync, R: Threads + Wait + S
             let (lane, other) = thread::join(
                 rt,
                 move || -> Lane
-                    requires { IsSync R.row × IsSync F.row × IsSync G.row × MayWalk (F.home ground.now) first.now hand left }
+                    requires { IsSync R.row × IsSync F.row × IsSync G.row
+                        × MayWalk (F.home floor.now) first.now hand left }
                     ensures { WalksAll (whole left) result first.entry.now }
-                { walk_lanes(rt, ground, left, first, hand, gate) },
+                { walk_lanes(rt, floor, left, first, hand, gate) },
                 move || -> Lane
-                    requires { IsSync R.row × IsSync F.row × IsSync G.row × MayWalk (F.home ground.now) second.now hand right }
+                    requires { IsSync R.row × IsSync F.row × IsSync G.row
+                        × MayWalk (F.home floor.now) second.now hand right }
                     ensures { WalksAll (whole right) result second.entry.now }
-                { walk_lanes(rt, ground, right, second, hand, gate) },
+                { walk_lanes(rt, floor, right, second, hand, gate) },
             );
-            ground.join(lane, other)
+            floor.join(lane, other)
         }
     }
 }

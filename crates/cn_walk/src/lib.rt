@@ -1,20 +1,15 @@
-//! A counting network on atomic words, which lanes share.
+//! Walks of clients over a floor, by many workers, and the epochs that they run.
 #![tactic(auto)]
 
-mod fault;
-mod floor;
 mod forking;
-mod gate;
-pub mod laws;
 mod runner;
 mod running;
-mod view;
 mod walking;
 
-pub use fault::{JoinFault, LaneFault, OpenFault, SplitFault};
-pub use floor::{CloseFault, Floor, Lane, Quiet, Words};
-pub use gate::{Gate, Moment, OpenGate};
+pub use cn_floor::{
+    CloseFault, ClosedFloor, Floor, Gate, Grant, JoinFault, Lane, LaneFault, Leftovers, Moment,
+    OpenFault, OpenGate, Opening, Passage, Quiet, SplitFault, Start, Sweep, View, Words, laws,
+};
 pub use runner::{Outcome, Runner};
 pub use running::{RunFault, run_epoch, run_epoch_after};
-pub use view::{Grant, Opening, Passage, Start, Sweep, View};
 pub use walking::walk_all;

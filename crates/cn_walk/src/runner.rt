@@ -1,19 +1,15 @@
 //! Epochs over one network, one after another.
 
-ghost use Rattle.std.specs.Prelude.{◌≡◌, ◌≤◌, IfErr, IfOk, IfSome, OnErr, OnOk};
+ghost use Rattle.std.specs.Prelude.{◌≡◌, ◌≤◌, IfErr, IfOk, OnErr, OnOk};
 ghost use Rattle.cn_spec.specs.declared.limits.TheConstants.{MOST_CARRIED};
-ghost use Rattle.cn_walk.specs.Carried.{clients_of, words_before, zero_words};
-ghost use Rattle.cn_walk.specs.Lane.{IsIdle};
-ghost use Rattle.cn_walk.specs.Remains.{AreRemains};
+ghost use Rattle.cn_floor.specs.Carried.{client_count, words_before, zero_words};
 ghost use Rattle.cn_walk.specs.Runner.{IsOutcomeOf, RunsNext, next_words};
 ghost use Rattle.cn_walk.specs.Runs.{IsRefused, IsRunAfter, MayRun};
 
-use crate::floor::{Ended, Floor, Remains, Words, yard_for};
-use crate::gate::Gate;
 use crate::running::{RunFault, may_run, run_on};
-use cn_core::Client;
+use cn_floor::{ClosedFloor, Floor, Gate, Leftovers, Words};
+use cn_ledger::Client;
 use cn_wiring::Counting;
-use cn_yard::Yard;
 use std::alloc::{AllocError, Global};
 use std::marker::Model;
 use std::sync::Wait;
@@ -29,25 +25,21 @@ pub struct Outcome {
 }
 
 /// Runs epochs over one network, one after another, and keeps what they share: the words with which each begins, and the
-/// yard of the first worker's lane. Where it carries, each epoch goes on from the words of the last;
-/// else all begin with words that are 0.
+/// yard of the first worker's lane. If it carries, each epoch goes on from the words of the last; else all begin with words
+/// that are 0.
 #[derive(Drop)]
 pub struct Runner<'a> {
-    words: Words<'a>,
+    leftovers: Leftovers<'a>,
     carries: bool,
-    /// With nobody in it; none where it was lost with a refused epoch.
-    yard: Option<Yard>,
 }
 
 impl<'a> Model for Runner<'a> {
-    ghost use Rattle.cn_walk.specs.InsideRunner.{KeepsRunner, runner_of};
+    ghost use Rattle.cn_walk.specs.InsideRunner.{runner_of};
     ghost use Rattle.cn_walk.specs.Runner.{RunnerValue};
 
     ghost Value = { RunnerValue };
 
     ghost view = { runner_of };
-
-    ghost invariant = { KeepsRunner };
 }
 
 impl<'a> Runner<'a> {
@@ -60,13 +52,13 @@ impl<'a> Runner<'a> {
         network: &'a Counting,
         carries: bool,
     ) -> Result<Runner<'a>, AllocError>
-        ensures zero { IfOk result (λ r. r ≡ record { words = zero_words network.now; carries = carries }) }
-        ensures nobody { IfOk result (λ r. clients_of r.words ≡ 0) }
+        ensures zero { IfOk result (λ r. r
+            ≡ record { words = zero_words network.now; carries = carries }) }
+        ensures nobody { IfOk result (λ r. client_count r.words ≡ 0) }
     {
         Ok(Runner {
-            words: Words::zero(alloc, network)?,
+            leftovers: Leftovers::new(alloc, network)?,
             carries,
-            yard: Some(yard_for(alloc, network)?),
         })
     }
 
@@ -74,7 +66,7 @@ impl<'a> Runner<'a> {
     pub fn words(&self) -> &Words<'a>
         ensures { result.now ≡ self.now.words }
     {
-        &self.words
+        self.leftovers.words()
     }
 
     /// Runs an epoch of these clients as [`crate::run_epoch_after`] does, on a floor that goes on from the runner's words,
@@ -91,13 +83,13 @@ impl<'a> Runner<'a> {
         hand: u32,
         gate: &G,
     ) -> (Runner<'a>, Result<Outcome, RunFault>)
-        requires few { clients_of self.words ≤ MOST_CARRIED }
+        requires few { client_count self.words ≤ MOST_CARRIED }
         ensures run { IfOk result.1 (RunsNext self.entry result.0 clients.now) }
         ensures back { OnErr result.1 (result.0 ≡ self.entry) }
         ensures refused { IfErr result.1 (IsRefused self.entry.words.network.table.entries clients.now workers hand) }
         ensures allowed { OnOk result.1 (MayRun self.entry.words.network.table.entries clients.now workers hand) }
     {
-        match may_run(self.words.network(), clients, workers, hand) {
+        match may_run(self.words().network(), clients, workers, hand) {
             Ok(()) => self.run_allowed(rt, alloc, clients, workers, hand, gate),
             Err(fault) => (self, Err(fault)),
         }
@@ -113,115 +105,78 @@ impl<'a> Runner<'a> {
         hand: u32,
         gate: &G,
     ) -> (Runner<'a>, Result<Outcome, RunFault>)
-        requires few { clients_of self.words ≤ MOST_CARRIED }
+        requires few { client_count self.words ≤ MOST_CARRIED }
         requires allowed { MayRun self.words.network.table.entries clients.now workers hand }
         ensures run { IfOk result.1 (RunsNext self.entry result.0 clients.now) }
         ensures back { OnErr result.1 (result.0 ≡ self.entry) }
         ensures refused { IfErr result.1 (λ fault. fault ≡ RunFault.Memory) }
     {
-        let Runner {
-            words,
-            carries,
-            yard,
-        } = self;
-        match run_words(rt, alloc, words, yard, clients, workers, hand, gate) {
-            Ok(remains) => keep(remains, carries),
-            Err(words) => (
-                Runner {
-                    words,
-                    carries,
-                    yard: None,
-                },
-                Err(RunFault::Memory),
-            ),
+        let Runner { leftovers, carries } = self;
+        match run_leftovers(rt, alloc, leftovers, clients, workers, hand, gate) {
+            Ok((closed, leftovers)) => keep(closed, leftovers, carries),
+            Err(leftovers) => (Runner { leftovers, carries }, Err(RunFault::Memory)),
         }
     }
 }
 
-/// The yard that is there, or else a new one.
-fn spare_yard(alloc: Global, network: &Counting, spare: Option<Yard>) -> Result<Yard, AllocError>
-    requires { IfSome spare (λ yard. IsIdle network.now yard.lists) }
-    ensures { IfOk result (λ yard. IsIdle network.now yard.lists) }
-{
-    match spare {
-        Some(yard) => Ok(yard),
-        None => yard_for(alloc, network),
-    }
-}
-
-/// Runs an epoch that may be run from these words. Where memory is refused they come back.
-fn run_words<'a, G: Gate + Sync, R: Threads + Wait + Sync>(
+/// Runs an epoch that may be run, on a floor that goes on from these leftovers. If memory is refused, leftovers with the
+/// same words come back.
+fn run_leftovers<'a, G: Gate + Sync, R: Threads + Wait + Sync>(
     rt: &R,
     alloc: Global,
-    words: Words<'a>,
-    spare: Option<Yard>,
+    leftovers: Leftovers<'a>,
     clients: &[Client],
     workers: u32,
     hand: u32,
     gate: &G,
-) -> Result<Remains<'a>, Words<'a>>
-    requires few { clients_of words ≤ MOST_CARRIED }
-    requires allowed { MayRun words.network.table.entries clients.now workers hand }
-    requires idle { IfSome spare (λ yard. IsIdle words.network yard.lists) }
-    ensures run { IfOk result (λ r. IsRunAfter words.entry clients.now r.ended) }
-    ensures began { IfOk result (λ r. r.before ≡ words.entry) }
-    ensures remains { IfOk result AreRemains }
-    ensures back { IfErr result (λ back. back ≡ words.entry) }
+) -> Result<(ClosedFloor<'a>, Leftovers<'a>), Leftovers<'a>>
+    requires few { client_count leftovers ≤ MOST_CARRIED }
+    requires allowed { MayRun leftovers.network.table.entries clients.now workers hand }
+    ensures run { IfOk result (λ r. IsRunAfter leftovers.entry clients.now r.0) }
+    ensures began { IfOk result (λ r. words_before r.0.start ≡ leftovers.entry) }
+    ensures leftovers { IfOk result (λ r. r.1 ≡ leftovers.entry) }
+    ensures back { IfErr result (λ back. back ≡ leftovers.entry) }
 {
-    let Ok(yard) = spare_yard(alloc, words.network(), spare) else {
-        return Err(words);
-    };
-    let (floor, lane) = Floor::begin(alloc, words, clients.len() as u64, yard)?;
+    let (floor, lane) = Floor::open_on(alloc, leftovers, clients.len() as u64)?;
     run_on(rt, alloc, floor, lane, clients, workers, hand, gate)
 }
 
-/// What came of a closed floor.
-fn outcome_of(ended: &Ended<'_>, before: &Words<'_>) -> Result<Outcome, AllocError>
-    requires { before.now ≡ words_before ended.now.start }
-    ensures { IfOk result (IsOutcomeOf ended.now) }
+/// What came of a closed floor, which began with these words.
+fn outcome_of(closed: &ClosedFloor<'_>, before: &Words<'_>) -> Result<Outcome, AllocError>
+    requires { before.now ≡ words_before closed.now.start }
+    ensures { IfOk result (IsOutcomeOf closed.now) }
 {
     Ok(Outcome {
-        counts: ended.counts_since(before)?,
-        holders: ended.holders()?,
+        counts: closed.counts_since(before)?,
+        holders: closed.holders()?,
     })
 }
 
 /// The runner after an epoch, and what came of that.
-fn keep<'a>(remains: Remains<'a>, carries: bool) -> (Runner<'a>, Result<Outcome, RunFault>)
-    requires { AreRemains remains }
-    ensures came { IfOk result.1 (IsOutcomeOf remains.entry.ended) }
+fn keep<'a>(
+    closed: ClosedFloor<'a>,
+    leftovers: Leftovers<'a>,
+    carries: bool,
+) -> (Runner<'a>, Result<Outcome, RunFault>)
+    requires { leftovers ≡ words_before closed.start }
+    ensures came { IfOk result.1 (IsOutcomeOf closed.entry) }
     ensures next { OnOk result.1 (result.0 ≡ record {
-      words = next_words carries remains.entry.before remains.entry.ended;
+      words = next_words carries leftovers.entry closed.entry;
       carries = carries;
     }) }
-    ensures back { OnErr result.1 (result.0 ≡ record { words = remains.entry.before; carries = carries }) }
+    ensures back { OnErr result.1 (result.0
+        ≡ record { words = leftovers.entry; carries = carries }) }
     ensures refused { IfErr result.1 (λ fault. fault ≡ RunFault.Memory) }
 {
-    let Remains {
-        ended,
-        before,
-        yard,
-    } = remains;
-    let yard = Some(yard);
-    match outcome_of(&ended, &before) {
+    match outcome_of(&closed, leftovers.words()) {
         Ok(outcome) => {
-            let words = if carries { ended.into_words() } else { before };
-            (
-                Runner {
-                    words,
-                    carries,
-                    yard,
-                },
-                Ok(outcome),
-            )
+            let leftovers = if carries {
+                leftovers.go_on_from(closed)
+            } else {
+                leftovers
+            };
+            (Runner { leftovers, carries }, Ok(outcome))
         }
-        Err(_memory) => (
-            Runner {
-                words: before,
-                carries,
-                yard,
-            },
-            Err(RunFault::Memory),
-        ),
+        Err(_memory) => (Runner { leftovers, carries }, Err(RunFault::Memory)),
     }
 }

@@ -2,15 +2,13 @@
 
 ghost use Rattle.std.specs.Prelude.{◌≡◌, ◌+◌, ◌<◌, ◌≤◌, All, IfErr, IfOk, OnOk, length};
 ghost use Rattle.cn_spec.specs.declared.limits.TheConstants.{MOST_CARRIED};
-ghost use Rattle.cn_walk.specs.Carried.{clients_of, words_before, zero_words};
-ghost use Rattle.cn_walk.specs.Lane.{IsIdle, new_lane};
-ghost use Rattle.cn_walk.specs.Remains.{AreRemains};
+ghost use Rattle.cn_floor.specs.Carried.{client_count, words_before, zero_words};
+ghost use Rattle.cn_floor.specs.Lane.{IsIdle, empty_lane};
 ghost use Rattle.cn_walk.specs.Runs.{IsRefused, IsRun, IsRunAfter, MayRun};
 
-use crate::floor::{CloseFault, Floor, Lane, Quiet, Remains, Words};
 use crate::forking::{make_lanes, walk_lanes};
-use crate::gate::Gate;
-use cn_core::Client;
+use cn_floor::{CloseFault, ClosedFloor, Floor, Gate, Lane, Leftovers, Quiet, Words};
+use cn_ledger::Client;
 use cn_spec::limits::{MOST_CLIENTS, MOST_HAND, MOST_WORKERS};
 use cn_wiring::Counting;
 use std::alloc::Global;
@@ -39,7 +37,8 @@ pub(crate) fn may_run(
     workers: u32,
     hand: u32,
 ) -> Result<(), RunFault>
-    ensures refused { IfErr result (λ fault. IsRefused network.now.table.entries clients.now workers hand fault) }
+    ensures refused { IfErr result (λ fault.
+        IsRefused network.now.table.entries clients.now workers hand fault) }
     ensures allowed { OnOk result (MayRun network.now.table.entries clients.now workers hand) }
 {
     if workers == 0 || workers > MOST_WORKERS {
@@ -60,8 +59,8 @@ pub(crate) fn may_run(
     Ok(())
 }
 
-/// Runs these clients on a floor that was opened for them, and closes it. Where memory is refused the words with which it
-/// began come back.
+/// Runs these clients on a floor that was opened for them, and closes it. If memory is refused, what is left of it has the
+/// words with which it began, as it has after it is closed.
 pub(crate) fn run_on<'a, G: Gate + Sync, R: Threads + Wait + Sync>(
     rt: &R,
     alloc: Global,
@@ -71,13 +70,14 @@ pub(crate) fn run_on<'a, G: Gate + Sync, R: Threads + Wait + Sync>(
     workers: u32,
     hand: u32,
     gate: &G,
-) -> Result<Remains<'a>, Words<'a>>
-    requires lane { lane ≡ record (new_lane floor (length clients.now)) { yard = lane.yard } }
+) -> Result<(ClosedFloor<'a>, Leftovers<'a>), Leftovers<'a>>
+    requires lane { lane ≡ record (empty_lane floor (length clients.now)) { yard = lane.yard } }
     requires idle { IsIdle floor.start.network lane.yard.lists }
     requires quota { floor.start.quota ≡ length clients.now }
     requires allowed { MayRun floor.start.network.table.entries clients.now workers hand }
-    ensures run { IfOk result (λ r. IsRunAfter (words_before floor.entry.start) clients.now r.ended) }
-    ensures remains { IfOk result AreRemains }
+    ensures run { IfOk result (λ r. IsRunAfter (words_before floor.entry.start) clients.now r.0) }
+    ensures began { IfOk result (λ r. words_before r.0.start ≡ words_before floor.entry.start) }
+    ensures leftovers { IfOk result (λ r. r.1 ≡ words_before floor.entry.start) }
     ensures back { IfErr result (λ back. back ≡ words_before floor.entry.start) }
 {
     let many = clients.len() as u32;
@@ -86,9 +86,9 @@ pub(crate) fn run_on<'a, G: Gate + Sync, R: Threads + Wait + Sync>(
     };
     let lane = walk_lanes(rt, &floor, lanes, clients, hand, gate);
     match floor.close_for(lane) {
-        Ok(remains) => {
-            remains.ended.ended_laws();
-            Ok(remains)
+        Ok((closed, leftovers)) => {
+            closed.closed_laws();
+            Ok((closed, leftovers))
         }
         Err(CloseFault::Memory(floor, _lane)) => Err(floor.give_up()),
         Err(CloseFault::StillWalking(_floor, _lane)) => unreachable!(),
@@ -116,15 +116,16 @@ fn run_whole<'a, G: Gate + Sync, R: Threads + Wait + Sync>(
     hand: u32,
     gate: &G,
 ) -> Result<Quiet<'a>, RunFault>
-    requires lane { lane ≡ new_lane floor (length clients.now) }
+    requires lane { lane ≡ empty_lane floor (length clients.now) }
     requires quota { floor.start.quota ≡ length clients.now }
     requires allowed { MayRun floor.start.network.table.entries clients.now workers hand }
-    ensures run { IfOk result (λ quiet. IsRunAfter (words_before floor.entry.start) clients.now quiet) }
+    ensures run { IfOk result (λ quiet.
+        IsRunAfter (words_before floor.entry.start) clients.now quiet) }
     ensures refused { IfErr result (λ fault. fault ≡ RunFault.Memory) }
 {
     match run_on(rt, alloc, floor, lane, clients, workers, hand, gate) {
-        Ok(remains) => Ok(remains.into_quiet()),
-        Err(_words) => Err(RunFault::Memory),
+        Ok((closed, leftovers)) => Ok(closed.into_quiet(leftovers)),
+        Err(_leftovers) => Err(RunFault::Memory),
     }
 }
 
@@ -149,7 +150,8 @@ pub fn run_epoch<'a, G: Gate + Sync, R: Threads + Wait + Sync>(
 ) -> Result<Quiet<'a>, RunFault>
     ensures run { IfOk result (λ quiet. IsRun network.now clients.now quiet) }
     ensures zero { IfOk result (λ quiet. IsRunAfter (zero_words network.now) clients.now quiet) }
-    ensures refused { IfErr result (λ fault. IsRefused network.now.table.entries clients.now workers hand fault) }
+    ensures refused { IfErr result (λ fault.
+        IsRefused network.now.table.entries clients.now workers hand fault) }
     ensures allowed { OnOk result (MayRun network.now.table.entries clients.now workers hand) }
 {
     may_run(network, clients, workers, hand)?;
@@ -174,9 +176,10 @@ pub fn run_epoch_after<'a, G: Gate + Sync, R: Threads + Wait + Sync>(
     hand: u32,
     gate: &G,
 ) -> Result<Quiet<'a>, RunFault>
-    requires few { clients_of words.now ≤ MOST_CARRIED }
+    requires few { client_count words.now ≤ MOST_CARRIED }
     ensures run { IfOk result (λ quiet. IsRunAfter words.now clients.now quiet) }
-    ensures refused { IfErr result (λ fault. IsRefused words.now.network.table.entries clients.now workers hand fault) }
+    ensures refused { IfErr result (λ fault.
+        IsRefused words.now.network.table.entries clients.now workers hand fault) }
     ensures allowed { OnOk result (MayRun words.now.network.table.entries clients.now workers hand) }
 {
     may_run(words.network(), clients, workers, hand)?;

@@ -4,9 +4,8 @@ ghost use Rattle.std.specs.Prelude.{◌≡◌, ℕ, ◌+◌, ◌<◌, ◌≤◌,
 ghost use Rattle.cn_yard.specs.Lists.{IsLowest, tokens_in};
 ghost use Rattle.cn_walk.specs.Walks.{WalksAll, Walks, inside_by, steps_left};
 
-use crate::floor::{Floor, Lane};
-use crate::gate::{Gate, Moment};
-use cn_core::Client;
+use cn_floor::{Floor, Gate, Lane, Moment, pass_alone};
+use cn_ledger::Client;
 use cn_wiring::End;
 use std::sync::Wait;
 
@@ -53,7 +52,9 @@ fn bring_on<'a, G: Gate, R: Wait>(
     ensures left { steps_left lane.new.view ≤ steps_left lane.old.view }
 {
     if lane.inside() == 1 {
-        floor.pass_alone(rt, lane, lowest, gate, worker)
+        let wire = pass_alone(rt, floor, lane, lowest, gate, worker);
+        lane.lane_laws();
+        wire
     } else {
         lowest
     }

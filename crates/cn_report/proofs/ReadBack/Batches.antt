@@ -9,7 +9,7 @@ use Rattle.std.proofs.lemmas.List.Elements.{All-cons, All-nil, filter_map-append
 use Rattle.std.proofs.lemmas.List.Sums.{sum_by-cons}
 use Rattle.std.proofs.lemmas.Option.{none-some}
 use Rattle.cn_spec.specs.declared.limits.TheConstants.{MOST_RECORDS}
-use Rattle.cn_core.specs.declared.client.Client.{Client}
+use Rattle.cn_ledger.specs.declared.client.Client.{Client}
 use Rattle.cn_report.specs.Reading.Arrival.{arrival_cause, arrival_in, arrivals_in, arriving, entry_by_rule, ruled_arrival, spelled_cause, told_arrival}
 use Rattle.cn_report.specs.Reading.Batch.{IsBatch, arrivals_of, batch_cause, header_cause, record_cause}
 use Rattle.cn_report.specs.Reading.Heading.{heading_in}

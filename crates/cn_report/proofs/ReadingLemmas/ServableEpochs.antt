@@ -8,7 +8,7 @@ use Rattle.std.proofs.lemmas.Bool.{lt-ltb, le-ltb}
 use Rattle.std.proofs.lemmas.List.Sums.{sum_by_push}
 use Rattle.std.proofs.lemmas.Bool.Decides.{nat_tests}
 use Rattle.std.proofs.Math.Dec.{eqb, leb}
-use Rattle.cn_core.specs.declared.client.Client.{Client}
+use Rattle.cn_ledger.specs.declared.client.Client.{Client}
 use Rattle.cn_spec.specs.Sums.{times}
 use Rattle.cn_spec.specs.declared.limits.TheConstants.{MOST_CLIENTS}
 use Rattle.cn_spec.proofs.CallerLemmas.{times-append, times-cons, times-nil}

@@ -6,7 +6,7 @@ use Rattle.std.proofs.lemmas.List.{append-nil, length-map}
 use Rattle.std.proofs.lemmas.List.Elements.{filter-append}
 use Rattle.std.proofs.lemmas.Bool.{ne_eqb}
 use Rattle.std.proofs.Math.Seq.{drop-append_seam}
-use Rattle.cn_core.specs.declared.client.Client.{Client}
+use Rattle.cn_ledger.specs.declared.client.Client.{Client}
 use Rattle.cn_report.specs.declared.reading.arrival.Arrival.{Arrival}
 use Rattle.cn_report.specs.declared.reading.gathering.BatchEpoch.{BatchEpoch}
 use Rattle.cn_report.specs.Reading.Arrival.{of_epoch}

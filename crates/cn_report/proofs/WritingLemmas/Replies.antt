@@ -17,7 +17,7 @@ use Rattle.cn_epoch.specs.declared.answer.Answer.{Answer}
 use Rattle.cn_epoch.specs.declared.answer.Answer.TheVariants.{Replied, Turned, TurnRefused}
 use Rattle.cn_epoch.specs.declared.command.Command.{Command}
 use Rattle.cn_epoch.specs.declared.command.Command.TheVariants.{Enter, Step, Turn}
-use Rattle.cn_epoch.specs.Turns.{MayAnswerAll, MayAnswer, grown, turns_after}
+use Rattle.cn_epoch.specs.Turns.{MayAnswerAll, MayAnswer, history_after, turns_after}
 use Rattle.cn_report.specs.Writing.Replay.{AreAnswers, Fits, IsEnterReply, IsStepReply, IsWhole}
 
 -- ---- a reply by history fits its event
@@ -74,13 +74,13 @@ pub fits_all : (table : Table) (turns : ℕ) (h : List Event) (commands : List C
 fits_all table turns h [] [] may = tt
 fits_all table turns h [] (a ∷ rest) may = may
 fits_all table turns h (c ∷ cs) [] may = may
-fits_all table turns h (c ∷ cs) (a ∷ rest) may = (fits-may table turns h c a may.0, fits_all table (turns_after turns a) (grown h c a) cs rest may.1)
+fits_all table turns h (c ∷ cs) (a ∷ rest) may = (fits-may table turns h c a may.0, fits_all table (turns_after turns a) (history_after h c a) cs rest may.1)
 
 pub whole_all : (table : Table) (turns : ℕ) (h : List Event) (commands : List Command) (answers : List Answer) → MayAnswerAll table turns h commands answers → All (IsWhole table.width) answers
 whole_all table turns h [] [] may = λ k d l. absurd (omega arith)
 whole_all table turns h [] (a ∷ rest) may = absurd may
 whole_all table turns h (c ∷ cs) [] may = absurd may
-whole_all table turns h (c ∷ cs) (a ∷ rest) may = by (whole-may table turns h c a may.0) (whole_all table (turns_after turns a) (grown h c a) cs rest may.1)
+whole_all table turns h (c ∷ cs) (a ∷ rest) may = by (whole-may table turns h c a may.0) (whole_all table (turns_after turns a) (history_after h c a) cs rest may.1)
   where
     by : IsWhole table.width a → All (IsWhole table.width) rest → All (IsWhole table.width) (a ∷ rest)
     by here later zero d l = here

@@ -1,7 +1,7 @@
 -- Which records are a batch, and what is wrong with those that are none.
 use Rattle.std.specs.Prelude.{ℕ, ◌≡◌, ◌<◌, ◌≤◌, ◌⊎◌, ◌∷◌, [], All, List, drop, length, map, Option, Some, None, Result, MatchResult, codes, ⊤}
 use Rattle.std.specs.List.{AllByRecursion, flat_map, sum_by}
-use Rattle.cn_core.specs.declared.client.Client.{Client}
+use Rattle.cn_ledger.specs.declared.client.Client.{Client}
 use Rattle.cn_spec.specs.Sums.{times}
 use Rattle.cn_spec.specs.declared.limits.TheConstants.{MOST_CLIENTS}
 use Rattle.cn_report.specs.Reading.Arrival.{arrival_in, arrivals_in, spelled_cause}

@@ -1,7 +1,7 @@
 -- What was gathered of a batch so far.
 use Rattle.std.specs.Prelude.{ℕ, ◌≡◌, ◌<◌, ◌+◌, ◌++◌, ◌∷◌, [], List, length, map, nat_eq, nat_lt, nat_le, Option, Some, None, if◌then◌else◌}
 use Rattle.std.specs.List.{AllByRecursion, flat_map, list_any}
-use Rattle.cn_core.specs.declared.client.Client.{Client}
+use Rattle.cn_ledger.specs.declared.client.Client.{Client}
 use Rattle.cn_spec.specs.declared.limits.TheConstants.{MOST_CLIENTS, MOST_RECORDS}
 use Rattle.cn_report.specs.Reading.Arrival.{last_epoch}
 use Rattle.cn_report.specs.Reading.Batch.{AreRising, AreServable, MayCome, arrivals_of, clients_of}

@@ -2,8 +2,8 @@
 use Rattle.std.specs.Prelude.{ℕ, List, [], ◌∷◌, ◌++◌, codes, decimal}
 use Rattle.std.specs.List.{AllZip, flat_map, zip}
 use Rattle.cn_core.specs.declared.reply.EnterFault.TheVariants.{NoSuchEntry, AlreadyIn, EpochFull}
-use Rattle.cn_core.specs.declared.reply.Moved.{Moved}
-use Rattle.cn_core.specs.declared.reply.Moved.TheVariants.{On, Out}
+use Rattle.cn_ledger.specs.declared.moved.Moved.{Moved}
+use Rattle.cn_ledger.specs.declared.moved.Moved.TheVariants.{On, Out}
 use Rattle.cn_core.specs.declared.reply.Reply.{Reply}
 use Rattle.cn_core.specs.declared.reply.Reply.TheVariants.{Entered, EnterRefused, Stepped, StepRefused}
 use Rattle.cn_core.specs.declared.reply.StepFault.TheVariants.{Stranger, HasName}

@@ -45,7 +45,8 @@ fn told_arrival(row: &ByteRecord) -> Result<Arrival, BatchCause>
 
 fn arrival_by_rule(epoch: &[u8], client: &[u8], entries: u32) -> Result<Arrival, BatchCause>
     requires { 0 < entries }
-    ensures { result ≡ arriving (number_in epoch.now) (number_in client.now) (entry_by_rule entries (number_in client.now)) }
+    ensures { result
+        ≡ arriving (number_in epoch.now) (number_in client.now) (entry_by_rule entries (number_in client.now)) }
 {
     let epoch = number_of(epoch).ok_or(BatchCause::EpochNumber)?;
     let client = number_of(client).ok_or(BatchCause::ClientNumber)?;

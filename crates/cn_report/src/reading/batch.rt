@@ -33,8 +33,10 @@ fn take_header<R: Read>(rows: &mut Reader<R>, row: &mut ByteRecord) -> Result<He
     requires { IsPlain rows.old }
     ensures plain { OnOk result (IsPlain rows.new) }
     ensures ok { IfOk result (λ heading. (text : List ℕ) → HasRead R.remaining rows.old text []
-        → (fields : Record) × HasRead R.remaining rows.new text (fields ∷ []) × (heading_of fields ≡ Some heading)) }
-    ensures err { IfErr result (λ cause. (entries : ℕ) (text : List ℕ) → HasRead R.remaining rows.old text []
+        → (fields : Record) × HasRead R.remaining rows.new text (fields ∷ [])
+        × (heading_of fields ≡ Some heading)) }
+    ensures err { IfErr result (λ cause. (entries : ℕ) (text : List ℕ)
+        → HasRead R.remaining rows.old text []
         → IsBatchFault entries (records_of text) (record { at = 0; cause = cause })) }
 {
     if !next_row(rows, row)? {
@@ -59,18 +61,27 @@ fn take_arrival<R: Read>(
     requires plain { IsPlain rows.old }
     requires entries { 0 < entries }
     ensures plain { OnOk result (IsPlain rows.new) }
-    ensures found { IfOk result (λ found. (text : List ℕ) (before : List Record) (arrivals : List Arrival) → HasRead R.remaining rows.old text before
+    ensures found { IfOk result (λ found.
+        (text : List ℕ) (before : List Record) (arrivals : List Arrival)
+        → HasRead R.remaining rows.old text before
         → IsGathered gathering.old arrivals → length arrivals + 1 ≡ at
-        → MatchBool found ((fields : Record) × (arrival : Arrival) × HasRead R.remaining rows.new text (before ++ fields ∷ [])
-        × (arrival_in heading entries fields ≡ Ok arrival) × (arrival_cause entries arrivals arrival ≡ None) × IsGathered gathering.new (arrivals ++ arrival ∷ []))
+        → MatchBool found ((fields : Record) × (arrival : Arrival)
+        × HasRead R.remaining rows.new text (before ++ fields ∷ [])
+        × (arrival_in heading entries fields ≡ Ok arrival)
+        × (arrival_cause entries arrivals arrival ≡ None)
+        × IsGathered gathering.new (arrivals ++ arrival ∷ []))
         ((records_of text ≡ before) × IsGathered gathering.new arrivals)) }
-    ensures refused { IfErr result (λ cause. (text : List ℕ) (before : List Record) (arrivals : List Arrival) → HasRead R.remaining rows.old text before
+    ensures refused { IfErr result (λ cause.
+        (text : List ℕ) (before : List Record) (arrivals : List Arrival)
+        → HasRead R.remaining rows.old text before
         → IsGathered gathering.old arrivals → length arrivals + 1 ≡ at
-        → ((fields : Record) × HasRead R.remaining rows.new text (before ++ fields ∷ []) × (spelled_cause entries arrivals (arrival_in heading entries fields) ≡ Some cause))
+        → ((fields : Record) × HasRead R.remaining rows.new text (before ++ fields ∷ [])
+        × (spelled_cause entries arrivals (arrival_in heading entries fields) ≡ Some cause))
         ⊎ (cause ≡ BatchCause.Read) ⊎ (cause ≡ BatchCause.Memory)) }
     ensures few { IfOk result (λ found. found ≡ true → at ≤ MOST_RECORDS) }
     ensures keeps { OnOk result (Keeps entries gathering.old → Keeps entries gathering.new) }
-    ensures more { IfOk result (λ found. MatchBool found (gathered gathering.new ≡ gathered gathering.old + 1)
+    ensures more { IfOk result (λ found.
+        MatchBool found (gathered gathering.new ≡ gathered gathering.old + 1)
         (gathered gathering.new ≡ gathered gathering.old)) }
 {
     if !next_row(rows, row)? {
@@ -137,7 +148,8 @@ pub fn read_batch<R: Read + Drop>(
     state: RandomState,
 ) -> Result<Batch, BatchFault>
     requires { 0 < entries }
-    ensures answer { IfSome (R.remaining reader) (λ text. AnswersBatch entries (records_of text) result) }
+    ensures answer { IfSome (R.remaining reader) (λ text.
+        AnswersBatch entries (records_of text) result) }
     ensures fits { IfOk result (λ batch. AreServable entries batch.epochs.items) }
     ensures few { IfOk result (λ batch. clients_of batch.epochs.items ≤ MOST_RECORDS) }
 {

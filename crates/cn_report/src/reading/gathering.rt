@@ -50,7 +50,8 @@ impl Gathering {
 
     /// Ends the latest epoch, if it has clients, and opens another.
     fn turn(&mut self, alloc: Global, number: u64) -> Result<(), AllocError>
-        ensures { OnOk result ((self.new.over.items ≡ over_after self.old) × (self.new.latest.number ≡ number)
+        ensures { OnOk result ((self.new.over.items ≡ over_after self.old)
+            × (self.new.latest.number ≡ number)
             × (self.new.latest.clients.items ≡ []) × (self.new.standing.keys ≡ [])) }
     {
         let next = BatchEpoch {
@@ -70,8 +71,10 @@ impl Gathering {
     /// Comes to this epoch.
     fn reach(&mut self, alloc: Global, epoch: u64) -> Result<(), AllocError>
         requires { self.old.latest.number ≤ epoch }
-        ensures holds { OnOk result ((self.new.latest.number ≡ epoch) × ((before : List Arrival) → Holds self.old before → Holds self.new before)) }
-        ensures keeps { OnOk result ((entries : ℕ) → Keeps entries self.old → Keeps entries self.new) }
+        ensures holds { OnOk result ((self.new.latest.number ≡ epoch)
+            × ((before : List Arrival) → Holds self.old before → Holds self.new before)) }
+        ensures keeps { OnOk result ((entries : ℕ) → Keeps entries self.old
+            → Keeps entries self.new) }
         ensures same { OnOk result (gathered self.new ≡ gathered self.old) }
     {
         if self.latest.number == epoch {
@@ -84,10 +87,13 @@ impl Gathering {
     /// Takes a client of the latest epoch, which is record `at`, where it has no cause. One look-up finds whether it stands
     /// there and puts it in.
     fn join(&mut self, at: u64, client: Client) -> Result<(), BatchCause>
-        ensures ok { OnOk result ((joining_cause at self.old client ≡ None) × (self.new.over ≡ self.old.over)
-            × (self.new.latest.number ≡ self.old.latest.number) × (self.new.latest.clients.items ≡ self.old.latest.clients.items ++ client ∷ [])
+        ensures ok { OnOk result ((joining_cause at self.old client ≡ None)
+            × (self.new.over ≡ self.old.over)
+            × (self.new.latest.number ≡ self.old.latest.number)
+            × (self.new.latest.clients.items ≡ self.old.latest.clients.items ++ client ∷ [])
             × (self.new.standing.keys ≡ self.old.standing.keys ++ client.id ∷ [])) }
-        ensures err { IfErr result (λ cause. (joining_cause at self.old client ≡ Some cause) ⊎ (cause ≡ BatchCause.Memory)) }
+        ensures err { IfErr result (λ cause.
+            (joining_cause at self.old client ≡ Some cause) ⊎ (cause ≡ BatchCause.Memory)) }
     {
         match self.standing.insert(client.id) {
             Ok(true) => {}
@@ -114,12 +120,15 @@ impl Gathering {
         at: u64,
         arrival: Arrival,
     ) -> Result<(), BatchCause>
-        ensures ok { OnOk result ((before : List Arrival) → IsGathered self.old before → length before + 1 ≡ at
-            → (arrival_cause entries before arrival ≡ None) × IsGathered self.new (before ++ arrival ∷ [])) }
+        ensures ok { OnOk result ((before : List Arrival) → IsGathered self.old before
+            → length before + 1 ≡ at
+            → (arrival_cause entries before arrival ≡ None)
+            × IsGathered self.new (before ++ arrival ∷ [])) }
         ensures few { OnOk result (at ≤ MOST_RECORDS) }
         ensures keeps { OnOk result (Keeps entries self.old → Keeps entries self.new) }
         ensures more { OnOk result (gathered self.new ≡ gathered self.old + 1) }
-        ensures err { IfErr result (λ cause. (before : List Arrival) → IsGathered self.old before → length before + 1 ≡ at
+        ensures err { IfErr result (λ cause. (before : List Arrival) → IsGathered self.old before
+            → length before + 1 ≡ at
             → (arrival_cause entries before arrival ≡ Some cause) ⊎ (cause ≡ BatchCause.Memory)) }
     {
         if arrival.epoch < self.latest.number {
@@ -140,8 +149,10 @@ impl Gathering {
 
     /// The epochs.
     pub(crate) fn finish(self, alloc: Global) -> Result<Vec<BatchEpoch>, AllocError>
-        ensures epochs { IfOk result (λ epochs. (arrivals : List Arrival) → IsGathered self arrivals → AreEpochs epochs.items arrivals) }
-        ensures fits { IfOk result (λ epochs. (entries : ℕ) → Keeps entries self → AreServable entries epochs.items) }
+        ensures epochs { IfOk result (λ epochs. (arrivals : List Arrival) → IsGathered self arrivals
+            → AreEpochs epochs.items arrivals) }
+        ensures fits { IfOk result (λ epochs. (entries : ℕ) → Keeps entries self
+            → AreServable entries epochs.items) }
         ensures all { IfOk result (λ epochs. clients_of epochs.items ≡ gathered self) }
     {
         let mut gathering = self;

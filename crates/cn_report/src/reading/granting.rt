@@ -63,7 +63,8 @@ impl Granting {
 
     /// The first gap of the epochs so far, where the latest is over.
     pub(crate) fn first_gap(&self) -> Option<Gap>
-        ensures gap { (grants : List Granted) → Holds self.now grants → IsGapBelow (self.now.latest + 1) grants result }
+        ensures gap { (grants : List Granted) → Holds self.now grants
+            → IsGapBelow (self.now.latest + 1) grants result }
         ensures none { result ≡ None → self.now.gap ≡ None }
     {
         if let Some(gap) = self.gap {
@@ -80,10 +81,14 @@ impl Granting {
     fn end(&mut self, alloc: Global, width: u32) -> Result<(), AllocError>
         requires width { IsWidth width }
         requires few { self.old.count ≤ MOST_RECORDS }
-        ensures same { OnOk result ((self.new.latest ≡ self.old.latest) × (self.new.count ≡ self.old.count)) }
-        ensures gap { OnOk result ((grants : List Granted) → Holds self.old grants → IsGapBelow (self.old.latest + 1) grants self.new.gap) }
+        ensures same { OnOk result ((self.new.latest ≡ self.old.latest)
+            × (self.new.count ≡ self.old.count)) }
+        ensures gap { OnOk result ((grants : List Granted) → Holds self.old grants
+            → IsGapBelow (self.old.latest + 1) grants self.new.gap) }
         ensures over { OnOk result (self.new.gap ≡ None → (self.old.gap ≡ None)
-            × (map plain_tight self.new.over.items ≡ map plain_tight self.old.over.items ++ latest_told width self.old.latest self.old.count)) }
+            × (map plain_tight self.new.over.items
+            ≡ map plain_tight self.old.over.items
+            ++ latest_told width self.old.latest self.old.count)) }
     {
         self.gap = self.first_gap();
         if self.gap.is_none() && self.count > 0 {
@@ -103,8 +108,10 @@ impl Granting {
         requires few { self.old.count ≤ MOST_RECORDS }
         requires later { self.old.latest ≤ epoch }
         ensures here { OnOk result (self.new.latest ≡ epoch) }
-        ensures holds { OnOk result ((grants : List Granted) → Holds self.old grants → Holds self.new grants) }
-        ensures tells { OnOk result ((grants : List Granted) → Holds self.old grants → Tells width self.old grants → Tells width self.new grants) }
+        ensures holds { OnOk result ((grants : List Granted) → Holds self.old grants
+            → Holds self.new grants) }
+        ensures tells { OnOk result ((grants : List Granted) → Holds self.old grants
+            → Tells width self.old grants → Tells width self.new grants) }
         ensures count { OnOk result (self.new.count ≤ self.old.count) }
     {
         if self.latest == epoch {
@@ -121,10 +128,14 @@ impl Granting {
     /// Takes a grant of the latest epoch, where it has no cause.
     fn join(&mut self, grant: Granted) -> Result<(), GrantCause>
         requires { self.old.count < MOST_RECORDS }
-        ensures ok { OnOk result ((joining_cause self.old grant ≡ None) × (self.new.over ≡ self.old.over) × (self.new.gap ≡ self.old.gap) × (self.new.latest ≡ self.old.latest)
-            × (self.new.count ≡ self.old.count + 1) × ((n : ℕ) → has self.new.clients n ≡ ((n == grant.client) || has self.old.clients n))
+        ensures ok { OnOk result ((joining_cause self.old grant ≡ None)
+            × (self.new.over ≡ self.old.over) × (self.new.gap ≡ self.old.gap)
+            × (self.new.latest ≡ self.old.latest)
+            × (self.new.count ≡ self.old.count + 1)
+            × ((n : ℕ) → has self.new.clients n ≡ ((n == grant.client) || has self.old.clients n))
             × ((n : ℕ) → has self.new.names n ≡ ((n == grant.name) || has self.old.names n))) }
-        ensures err { IfErr result (λ cause. (joining_cause self.old grant ≡ Some cause) ⊎ (cause ≡ GrantCause.Memory)) }
+        ensures err { IfErr result (λ cause.
+            (joining_cause self.old grant ≡ Some cause) ⊎ (cause ≡ GrantCause.Memory)) }
     {
         match self.clients.add(grant.client) {
             Ok(true) => {}
@@ -150,11 +161,14 @@ impl Granting {
     ) -> Result<(), GrantCause>
         requires width { IsWidth width }
         requires count { self.old.count < at }
-        ensures ok { OnOk result ((before : List Granted) → IsChecked width self.old before → length before + 1 ≡ at
-            → (spelled_cause before (Some grant) ≡ None) × IsChecked width self.new (before ++ grant ∷ [])) }
+        ensures ok { OnOk result ((before : List Granted) → IsChecked width self.old before
+            → length before + 1 ≡ at
+            → (spelled_cause before (Some grant) ≡ None)
+            × IsChecked width self.new (before ++ grant ∷ [])) }
         ensures few { OnOk result (at ≤ MOST_RECORDS) }
         ensures count { OnOk result (self.new.count ≤ at) }
-        ensures err { IfErr result (λ cause. (before : List Granted) → IsChecked width self.old before → length before + 1 ≡ at
+        ensures err { IfErr result (λ cause. (before : List Granted)
+            → IsChecked width self.old before → length before + 1 ≡ at
             → (spelled_cause before (Some grant) ≡ Some cause) ⊎ (cause ≡ GrantCause.Memory)) }
     {
         if grant.epoch < self.latest || at > MOST_RECORDS {
@@ -168,9 +182,12 @@ impl Granting {
     pub(crate) fn finish(self, alloc: Global, width: u32) -> Result<Tight, Flaw>
         requires width { IsWidth width }
         requires few { self.count ≤ MOST_RECORDS }
-        ensures answer { (grants : List Granted) → Holds self grants → MatchResult result (λ _. (e n : ℕ) → Lacks grants e n → ⊥) (IsEndFlaw grants) }
-        ensures told { IfOk result (λ tight. (grants : List Granted) → Holds self grants → Tells width self grants
-            → map plain_tight tight.epochs.items ≡ map (shared_epoch width grants) (epoch_numbers grants)) }
+        ensures answer { (grants : List Granted) → Holds self grants
+            → MatchResult result (λ _. (e n : ℕ) → Lacks grants e n → ⊥) (IsEndFlaw grants) }
+        ensures told { IfOk result (λ tight. (grants : List Granted) → Holds self grants
+            → Tells width self grants
+            → map plain_tight tight.epochs.items
+            ≡ map (shared_epoch width grants) (epoch_numbers grants)) }
     {
         let mut granting = self;
         granting.end(alloc, width)?;

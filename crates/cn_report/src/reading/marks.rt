@@ -51,7 +51,8 @@ impl Marks {
     pub(crate) fn add(&mut self, number: u64) -> Result<bool, AllocError>
         requires { number < MOST_RECORDS }
         ensures added { IfOk result (λ added. added ≡ not (is_marked self.old number)) }
-        ensures more { OnOk result ((n : ℕ) → is_marked self.new n ≡ ((n == number) || is_marked self.old n)) }
+        ensures more { OnOk result ((n : ℕ)
+            → is_marked self.new n ≡ ((n == number) || is_marked self.old n)) }
         ensures same { OnErr result ((n : ℕ) → is_marked self.new n ≡ is_marked self.old n) }
     {
         let at = number as usize;

@@ -52,7 +52,8 @@ impl Numbers {
     /// Adds a number, and tells whether it is new.
     pub(crate) fn add(&mut self, number: u64) -> Result<bool, AllocError>
         ensures added { IfOk result (λ added. added ≡ not (has self.old number)) }
-        ensures more { IfOk result (λ _. (n : ℕ) → has self.new n ≡ ((n == number) || has self.old n)) }
+        ensures more { IfOk result (λ _. (n : ℕ)
+            → has self.new n ≡ ((n == number) || has self.old n)) }
     {
         if number < self.run {
             return Ok(false);

@@ -50,8 +50,10 @@ pub(crate) fn next_row<R: Read>(
 ) -> Result<bool, RowFault>
     requires { IsPlain rows.old }
     ensures plain { OnOk result (IsPlain rows.new) }
-    ensures reads { IfOk result (λ found. (text : List ℕ) (before : List Record) → HasRead R.remaining rows.old text before
-        → MatchBool found (HasRead R.remaining rows.new text (before ++ fields_of row.new ∷ [])) (records_of text ≡ before)) }
+    ensures reads { IfOk result (λ found. (text : List ℕ) (before : List Record)
+        → HasRead R.remaining rows.old text before
+        → MatchBool found (HasRead R.remaining rows.new text (before
+        ++ fields_of row.new ∷ [])) (records_of text ≡ before)) }
 {
     match rows.read_byte_record(row) {
         Ok(found) => Ok(found),
@@ -70,7 +72,8 @@ pub(crate) fn field(row: &ByteRecord, place: usize) -> &[u8]
 
 /// Whether the record has these three fields.
 pub(crate) fn is_header(row: &ByteRecord, first: &[u8], second: &[u8], third: &[u8]) -> bool
-    ensures { result ≡ pointwise bytes_eq (fields_of row.now) (first.now ∷ second.now ∷ third.now ∷ []) }
+    ensures { result
+        ≡ pointwise bytes_eq (fields_of row.now) (first.now ∷ second.now ∷ third.now ∷ []) }
 {
     row.len() == 3 && field(row, 0) == first && field(row, 1) == second && field(row, 2) == third
 }

@@ -20,7 +20,8 @@ fn take_header<R: Read>(rows: &mut Reader<R>, row: &mut ByteRecord) -> Result<()
     requires { IsPlain rows.old }
     ensures plain { OnOk result (IsPlain rows.new) }
     ensures ok { IfOk result (λ _. (text : List ℕ) → HasRead R.remaining rows.old text []
-        → (fields : Record) × HasRead R.remaining rows.new text (fields ∷ []) × (header_cause fields ≡ None)) }
+        → (fields : Record) × HasRead R.remaining rows.new text (fields ∷ [])
+        × (header_cause fields ≡ None)) }
     ensures err { IfErr result (λ cause. (text : List ℕ) → HasRead R.remaining rows.old text []
         → IsScheduleFault (records_of text) (record { at = 0; cause = cause })) }
 {
@@ -39,11 +40,15 @@ fn take_command<R: Read>(
 ) -> Result<Option<Command>, ScheduleCause>
     requires { IsPlain rows.old }
     ensures plain { OnOk result (IsPlain rows.new) }
-    ensures found { IfOk result (λ found. (text : List ℕ) (before : List Record) → HasRead R.remaining rows.old text before
-        → MatchOption found (records_of text ≡ before) (λ command. (fields : Record) × HasRead R.remaining rows.new text (before ++ fields ∷ [])
+    ensures found { IfOk result (λ found. (text : List ℕ) (before : List Record)
+        → HasRead R.remaining rows.old text before
+        → MatchOption found (records_of text ≡ before) (λ command. (fields : Record)
+        × HasRead R.remaining rows.new text (before ++ fields ∷ [])
         × (command_cause at (command_in fields) ≡ None) × (command_in fields ≡ Ok command))) }
-    ensures refused { IfErr result (λ cause. (text : List ℕ) (before : List Record) → HasRead R.remaining rows.old text before
-        → ((fields : Record) × HasRead R.remaining rows.new text (before ++ fields ∷ []) × (command_cause at (command_in fields) ≡ Some cause))
+    ensures refused { IfErr result (λ cause. (text : List ℕ) (before : List Record)
+        → HasRead R.remaining rows.old text before
+        → ((fields : Record) × HasRead R.remaining rows.new text (before ++ fields ∷ [])
+        × (command_cause at (command_in fields) ≡ Some cause))
         ⊎ (cause ≡ ScheduleCause.Read) ⊎ (cause ≡ ScheduleCause.Memory)) }
     ensures few { IfOk result (λ found. IfSome found (λ _. at ≤ MOST_RECORDS)) }
 {
@@ -65,7 +70,8 @@ fn take_commands<R: Read>(
 ) -> Result<Vec<Command>, ScheduleFault>
     requires { IsPlain rows.old }
     ensures { (text : List ℕ) → HasRead R.remaining rows.old text []
-        → MatchResult result (λ commands. IsSchedule (records_of text) commands.items) (IsScheduleFault (records_of text)) }
+        → MatchResult result (λ commands.
+        IsSchedule (records_of text) commands.items) (IsScheduleFault (records_of text)) }
 {
     let mut commands = Vec::new(alloc);
     if let Err(cause) = take_header(rows, row) {
@@ -100,7 +106,8 @@ pub fn read_schedule<R: Read + Drop>(
     reader: R,
 ) -> Result<Vec<Command>, ScheduleFault>
     ensures { IfSome (R.remaining reader) (λ text.
-        MatchResult result (λ commands. IsSchedule (records_of text) commands.items) (IsScheduleFault (records_of text))) }
+        MatchResult result (λ commands.
+        IsSchedule (records_of text) commands.items) (IsScheduleFault (records_of text))) }
 {
     let mut rows = open_rows(alloc, reader);
     let mut row = ByteRecord::new(alloc);

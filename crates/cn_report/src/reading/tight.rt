@@ -24,8 +24,10 @@ fn take_header<R: Read>(rows: &mut Reader<R>, row: &mut ByteRecord) -> Result<()
     requires { IsPlain rows.old }
     ensures plain { OnOk result (IsPlain rows.new) }
     ensures ok { IfOk result (λ _. (text : List ℕ) → HasRead R.remaining rows.old text []
-        → (fields : Record) × HasRead R.remaining rows.new text (fields ∷ []) × (header_cause fields ≡ None)) }
-    ensures err { IfErr result (λ cause. (text : List ℕ) → HasRead R.remaining rows.old text [] → IsFirst (records_of text) 0 cause) }
+        → (fields : Record) × HasRead R.remaining rows.new text (fields ∷ [])
+        × (header_cause fields ≡ None)) }
+    ensures err { IfErr result (λ cause. (text : List ℕ) → HasRead R.remaining rows.old text []
+        → IsFirst (records_of text) 0 cause) }
 {
     if next_row(rows, row)? && is_header(row, b"epoch", b"client", b"name") {
         Ok(())
@@ -47,17 +49,25 @@ fn take_grant<R: Read>(
     requires width { IsWidth width }
     requires count { granting.old.count < at }
     ensures plain { OnOk result (IsPlain rows.new) }
-    ensures found { IfOk result (λ found. (text : List ℕ) (before : List Record) (grants : List Granted) → HasRead R.remaining rows.old text before
+    ensures found { IfOk result (λ found.
+        (text : List ℕ) (before : List Record) (grants : List Granted)
+        → HasRead R.remaining rows.old text before
         → IsChecked width granting.old grants → length grants + 1 ≡ at
-        → MatchBool found ((fields : Record) × (grant : Granted) × HasRead R.remaining rows.new text (before ++ fields ∷ [])
-        × (granted_in fields ≡ Some grant) × (spelled_cause grants (Some grant) ≡ None) × IsChecked width granting.new (grants ++ grant ∷ []))
+        → MatchBool found ((fields : Record) × (grant : Granted)
+        × HasRead R.remaining rows.new text (before ++ fields ∷ [])
+        × (granted_in fields ≡ Some grant) × (spelled_cause grants (Some grant) ≡ None)
+        × IsChecked width granting.new (grants ++ grant ∷ []))
         ((records_of text ≡ before) × IsChecked width granting.new grants)) }
-    ensures refused { IfErr result (λ cause. (text : List ℕ) (before : List Record) (grants : List Granted) → HasRead R.remaining rows.old text before
+    ensures refused { IfErr result (λ cause.
+        (text : List ℕ) (before : List Record) (grants : List Granted)
+        → HasRead R.remaining rows.old text before
         → IsChecked width granting.old grants → length grants + 1 ≡ at
-        → ((fields : Record) × HasRead R.remaining rows.new text (before ++ fields ∷ []) × (spelled_cause grants (granted_in fields) ≡ Some cause))
+        → ((fields : Record) × HasRead R.remaining rows.new text (before ++ fields ∷ [])
+        × (spelled_cause grants (granted_in fields) ≡ Some cause))
         ⊎ (cause ≡ GrantCause.Read) ⊎ (cause ≡ GrantCause.Memory)) }
     ensures few { IfOk result (λ found. found ≡ true → at ≤ MOST_RECORDS) }
-    ensures count { IfOk result (λ found. MatchBool found (granting.new.count ≤ at) (granting.new.count < at)) }
+    ensures count { IfOk result (λ found.
+        MatchBool found (granting.new.count ≤ at) (granting.new.count < at)) }
 {
     if !next_row(rows, row)? {
         return Ok(false);
@@ -107,8 +117,10 @@ fn take_grants<R: Read>(
 /// failed read is told at the record that was being read. `Memory` where a growth was refused.
 pub fn check_grants<R: Read + Drop>(alloc: Global, reader: R, width: u32) -> Result<Tight, Flaw>
     requires { IsWidth width }
-    ensures answer { IfSome (R.remaining reader) (λ text. AnswersTight width (records_of text) result) }
-    ensures exact { IfSome (R.remaining reader) (λ text. IfErr result (λ flaw. IsTightList (records_of text) → IsOutside flaw)) }
+    ensures answer { IfSome (R.remaining reader) (λ text.
+        AnswersTight width (records_of text) result) }
+    ensures exact { IfSome (R.remaining reader) (λ text.
+        IfErr result (λ flaw. IsTightList (records_of text) → IsOutside flaw)) }
 {
     let mut rows = open_rows(alloc, reader);
     let mut row = ByteRecord::new(alloc);

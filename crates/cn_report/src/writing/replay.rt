@@ -174,7 +174,8 @@ pub fn render_replay(
     requires fit { AreAnswers commands.now answers.now }
     requires memory { All HadMemory answers.now }
     requires whole { All (IsWhole network.now.table.width) answers.now }
-    ensures { IfOk result (λ text. text.items ≡ replay_text network.now commands.now answers.now number entered inside) }
+    ensures { IfOk result (λ text. text.items
+        ≡ replay_text network.now commands.now answers.now number entered inside) }
 {
     let mut text = String::new(alloc);
     put_heading(&mut text, network)?;

@@ -15,14 +15,16 @@ use std::marker::Model;
 
 #[tactic(auto, unfolding(crate::specs::Writing::Report::epoch_line))]
 fn put_number(text: &mut String, number: u64, clients: u64) -> Result<(), AllocError>
-    ensures { OnOk result (string_bytes text.new ≡ string_bytes text.old ++ epoch_line number clients) }
+    ensures { OnOk result (string_bytes text.new
+        ≡ string_bytes text.old ++ epoch_line number clients) }
 {
     writeln!(text, "epoch {number} clients {clients}")
 }
 
 fn put_epoch(text: &mut String, width: u32, epoch: &EpochRecord) -> Result<(), AllocError>
     requires { IsWholeRecord width epoch.now }
-    ensures { OnOk result (string_bytes text.new ≡ string_bytes text.old ++ epoch_lines width epoch.now) }
+    ensures { OnOk result (string_bytes text.new
+        ≡ string_bytes text.old ++ epoch_lines width epoch.now) }
 {
     put_number(text, epoch.number, epoch.clients)?;
     put_outcome(text, width, epoch)
@@ -30,7 +32,8 @@ fn put_epoch(text: &mut String, width: u32, epoch: &EpochRecord) -> Result<(), A
 
 #[tactic(auto, unfolding(crate::specs::Writing::Report::report_end))]
 fn put_end(text: &mut String, epochs: u64, grants: u128) -> Result<(), AllocError>
-    ensures { OnOk result (string_bytes text.new ≡ string_bytes text.old ++ report_end epochs grants) }
+    ensures { OnOk result (string_bytes text.new
+        ≡ string_bytes text.old ++ report_end epochs grants) }
 {
     writeln!(text, "end epochs {epochs} grants {grants}")
 }
@@ -81,7 +84,8 @@ impl ReportText {
     /// `AllocError` where the text gets no memory.
     pub fn add(self, epoch: &EpochRecord) -> Result<Self, AllocError>
         requires { IsWholeRecord self.width epoch.now }
-        ensures told { (network : Network) (records : List EpochRecord) → self ≡ report_so_far network records
+        ensures told { (network : Network) (records : List EpochRecord)
+            → self ≡ report_so_far network records
             → IfOk result (λ text. text ≡ report_so_far network (records ++ epoch.now ∷ [])) }
         ensures width { IfOk result (λ text. text.width ≡ self.width) }
     {
@@ -107,7 +111,8 @@ impl ReportText {
     /// # Errors
     /// `AllocError` where the text gets no memory.
     pub fn end(self) -> Result<Vec<u8>, AllocError>
-        ensures { (network : Network) (records : List EpochRecord) → self ≡ report_so_far network records
+        ensures { (network : Network) (records : List EpochRecord)
+            → self ≡ report_so_far network records
             → IfOk result (λ bytes. bytes.items ≡ report_text network records) }
     {
         let ReportText {

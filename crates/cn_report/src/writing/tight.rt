@@ -9,7 +9,8 @@ use crate::reading::{Tight, TightEpoch};
 use std::alloc::{AllocError, Global};
 
 fn put_counts(text: &mut String, counts: &[u64]) -> Result<(), AllocError>
-    ensures { OnOk result (string_bytes text.new ≡ string_bytes text.old ++ tight_counts counts.now) }
+    ensures { OnOk result (string_bytes text.new
+        ≡ string_bytes text.old ++ tight_counts counts.now) }
 {
     for count in counts {
         write!(text, " {count}")?;
@@ -19,7 +20,8 @@ fn put_counts(text: &mut String, counts: &[u64]) -> Result<(), AllocError>
 
 #[tactic(auto, unfolding(crate::specs::Writing::Tight::tight_head))]
 fn put_head(text: &mut String, number: u64, clients: u64) -> Result<(), AllocError>
-    ensures { OnOk result (string_bytes text.new ≡ string_bytes text.old ++ tight_head number clients) }
+    ensures { OnOk result (string_bytes text.new
+        ≡ string_bytes text.old ++ tight_head number clients) }
 {
     write!(text, "epoch {number} clients {clients} counts")
 }
@@ -32,7 +34,8 @@ fn end_line(text: &mut String) -> Result<(), AllocError>
 
 #[tactic(auto, using(crate::proofs::WritingLemmas::Words::line_whole))]
 fn put_epoch(text: &mut String, epoch: &TightEpoch) -> Result<(), AllocError>
-    ensures { OnOk result (string_bytes text.new ≡ string_bytes text.old ++ tight_line (plain_tight epoch.now)) }
+    ensures { OnOk result (string_bytes text.new
+        ≡ string_bytes text.old ++ tight_line (plain_tight epoch.now)) }
 {
     put_head(text, epoch.number, epoch.clients)?;
     put_counts(text, &epoch.counts)?;
@@ -40,7 +43,8 @@ fn put_epoch(text: &mut String, epoch: &TightEpoch) -> Result<(), AllocError>
 }
 
 fn put_epochs(text: &mut String, epochs: &[TightEpoch]) -> Result<(), AllocError>
-    ensures { OnOk result (string_bytes text.new ≡ string_bytes text.old ++ flat_map tight_line (map plain_tight epochs.now)) }
+    ensures { OnOk result (string_bytes text.new
+        ≡ string_bytes text.old ++ flat_map tight_line (map plain_tight epochs.now)) }
 {
     for epoch in epochs {
         put_epoch(text, epoch)?;
@@ -61,7 +65,8 @@ fn count_clients(epochs: &[TightEpoch]) -> u128
 
 #[tactic(auto, unfolding(crate::specs::Writing::Tight::tight_end))]
 fn put_end(text: &mut String, epochs: usize, grants: u128) -> Result<(), AllocError>
-    ensures { OnOk result (string_bytes text.new ≡ string_bytes text.old ++ tight_end epochs grants) }
+    ensures { OnOk result (string_bytes text.new
+        ≡ string_bytes text.old ++ tight_end epochs grants) }
 {
     writeln!(text, "tight epochs {epochs} grants {grants}")
 }
@@ -72,7 +77,8 @@ fn put_end(text: &mut String, epochs: usize, grants: u128) -> Result<(), AllocEr
 /// # Errors
 /// `AllocError` where the text gets no memory.
 pub fn render_tight(alloc: Global, tight: &Tight) -> Result<Vec<u8>, AllocError>
-    ensures { IfOk result (λ text. text.items ≡ tight_text (map plain_tight tight.now.epochs.items)) }
+    ensures { IfOk result (λ text. text.items
+        ≡ tight_text (map plain_tight tight.now.epochs.items)) }
 {
     let mut text = String::new(alloc);
     put_epochs(&mut text, &tight.epochs)?;

@@ -3,7 +3,7 @@
 
 ghost use Rattle.std.specs.Prelude.{◌≡◌, IfSome};
 
-use super::{Ground, name_by_two, name_of};
+use super::{Shared, name_by_two, name_of};
 use crate::walks::{close, entered, join, open, split};
 use cn_bitonic::bitonic;
 use cn_walk::{Floor, Lane, Quiet};
@@ -39,7 +39,7 @@ impl Crowd<'_, '_> {
     }
 }
 
-impl<'f, 'a> Ground for Crowd<'f, 'a> {
+impl<'f, 'a> Shared for Crowd<'f, 'a> {
     ghost home = { λ crowd. crowd.floor.now };
 
     /// Names clients that the thread of no other entry makes, until both threads have enough or the quota is spent.

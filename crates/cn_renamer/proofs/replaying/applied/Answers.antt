@@ -3,7 +3,7 @@ use Rattle.std.specs.List.{All}
 use Rattle.cn_wiring.specs.Network.{Network}
 use Rattle.cn_core.specs.declared.event.Event.{Event}
 use Rattle.cn_core.specs.History.{enters_of, inside_of}
-use Rattle.cn_epoch.specs.Turns.{HadMemory, grown_by, turns_by}
+use Rattle.cn_epoch.specs.Turns.{HadMemory, history_by, turns_by}
 use Rattle.cn_report.specs.Writing.Replay.{IsWhole}
 use Rattle.cn_report.proofs.CallerLemmas.{fits_all, whole_all}
 use Rattle.cn_renamer.proofs.replaying.applied.Goals as goal
@@ -27,7 +27,7 @@ returns-clause-text c =
     let answers = c.in_ok-answers.answers.items in
     let network : c.args.epochs.now.core.network ≡ c.args.network.now = ap (λ e. e.core.network) c.requires.begun in
     let same : c.run.new.self.core.network ≡ c.args.network.now = c.in_ok-answers.ensures.network ∙ network in
-    let history : List Event = grown_by [] c.args.commands.now answers in
+    let history : List Event = history_by [] c.args.commands.now answers in
     let number : c.number.result ≡ turns_by 0 answers = c.number.ensures.by_turns (turns_by 0 answers) history None agrees in
     let entered : c.entered.result ≡ enters_of history = c.entered.ensures.by_history (turns_by 0 answers) history None agrees in
     let inside : c.inside.result ≡ inside_of c.args.network.now.table history =

@@ -1,6 +1,6 @@
 use Rattle.std.proofs.Common.{List, refl, subst}
 use Rattle.std.specs.Prelude.{IfOk}
-use Rattle.cn_core.specs.declared.client.Client.{Client}
+use Rattle.cn_ledger.specs.declared.client.Client.{Client}
 use Rattle.cn_walk.specs.Runner.{RunsNext}
 use Rattle.cn_renamer.proofs.Served.{served}
 use Rattle.cn_renamer.proofs.serving.run_next.Goals as goal

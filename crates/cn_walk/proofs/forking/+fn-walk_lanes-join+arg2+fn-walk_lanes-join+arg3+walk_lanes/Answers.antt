@@ -1,8 +1,8 @@
 use Rattle.std.proofs.Common.{◌≡◌, ℕ, ◌-◌, List, length, sym, ap, ◌∙◌, subst}
-use Rattle.cn_core.specs.declared.client.Client.{Client}
+use Rattle.cn_ledger.specs.declared.client.Client.{Client}
 use Rattle.cn_walk.specs.declared.forking.Lanes.{Lanes}
 use Rattle.cn_walk.specs.Halves.{AreReady, IsReady, together, whole}
-use Rattle.cn_walk.specs.Lane.{Home, LaneValue}
+use Rattle.cn_floor.specs.Lane.{FloorValue, LaneValue}
 use Rattle.cn_walk.specs.Walks.{WalksAll}
 use Rattle.cn_walk.proofs.Halves.{both_walked, whole_ready}
 use Rattle.cn_walk.proofs.forking.+fn-walk_lanes-join+arg2+fn-walk_lanes-join+arg3+walk_lanes.Goals as goal
@@ -14,7 +14,7 @@ returns-in-Halves g t c =
     let a : LaneValue = whole c.into_inner-left.result in
     let b : LaneValue = whole c.into_inner-right.result in
     let lanes : whole c.args.lanes ≡ together a b = ap whole c.in-Halves.is ∙ (λ i. together (whole (sym left i)) (whole (sym right i))) in
-    let home : Home = g.F.Ground.home c.args.ground.now in
+    let home : FloorValue = g.F.LaneWalker.home c.args.floor.now in
     let n : ℕ = length c.args.clients.now in
     let at : ℕ = c.in-Halves.at in
     let ready = subst (λ (x : Lanes). AreReady home n x) c.in-Halves.is c.requires.ready in

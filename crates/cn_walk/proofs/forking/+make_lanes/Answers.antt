@@ -1,6 +1,6 @@
 use Rattle.std.proofs.Common.{rules, ◌≡◌, ◌+◌, ◌-◌, ◌/◌, ◌≤◌, arith, ℕ, ap, ◌∙◌, subst}
 use Rattle.cn_walk.specs.declared.forking.Lanes.{Lanes}
-use Rattle.cn_walk.specs.Lane.{LaneValue}
+use Rattle.cn_floor.specs.Lane.{LaneValue}
 use Rattle.cn_walk.specs.Halves.{AreOf, AreReady, IsPair, first_of}
 use Rattle.cn_walk.proofs.Halves.{first_later, left_nothing, pair_ready, reserved_nothing, right_nothing, some_so}
 use Rattle.cn_walk.proofs.forking.+make_lanes.Goals as goal

@@ -1,6 +1,6 @@
 use Rattle.std.proofs.Common.{ap, subst}
 use Rattle.std.specs.Prelude.{IfOk}
-use Rattle.cn_walk.specs.Carried.{WordsValue, words_before}
+use Rattle.cn_floor.specs.Carried.{WordsValue, words_before}
 use Rattle.cn_walk.specs.Runs.{IsRunAfter}
 use Rattle.cn_walk.proofs.running.run_epoch_after.Goals as goal
 

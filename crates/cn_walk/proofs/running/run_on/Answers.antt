@@ -1,6 +1,6 @@
 use Rattle.std.proofs.Common.{rules, ℕ, arith, length, subst}
-use Rattle.cn_walk.specs.declared.floor.CloseFault.{CloseFault}
-use Rattle.cn_walk.specs.Closing.{IsCloseRefused}
+use Rattle.cn_floor.specs.declared.floor.closing.CloseFault.{CloseFault}
+use Rattle.cn_floor.specs.Closing.{IsCloseRefused}
 use Rattle.cn_walk.specs.Halves.{AreReady, whole}
 use Rattle.cn_walk.proofs.Halves.{whole_ready}
 use Rattle.cn_walk.proofs.Runs.{all-first, all-theirs, new_nothing, none-missing, ran}
@@ -28,5 +28,5 @@ returns-in-Ok-clause-run g c =
     let k : ℕ = length c.args.clients.now in
     let ready = subst (λ (n : ℕ). AreReady c.args.floor n c.in-Some.lanes) (all-first k c.args.workers (search rules)) c.in-Some.ensures.ready in
     let none = (whole_ready c.args.floor k c.in-Some.lanes ready).nothing in
-    let quiet = c.in-Ok.ensures.ended in
-    ran c.in-Ok.remains.ended c.args.floor.start (whole c.in-Some.lanes) c.walk_lanes-lane.result c.args.clients.now quiet.0 c.ended_laws.ensures quiet.1 none c.walk_lanes-lane.ensures
+    let quiet = c.in-Ok.ensures.closed in
+    ran c.in-Ok.closed c.args.floor.start (whole c.in-Some.lanes) c.walk_lanes-lane.result c.args.clients.now quiet.0 c.closed_laws.ensures quiet.1 none c.walk_lanes-lane.ensures

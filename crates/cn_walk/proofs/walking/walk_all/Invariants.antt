@@ -1,6 +1,6 @@
 use Rattle.std.proofs.Common.{◌≡◌, ℕ, ◌<◌, ◌≤◌, All, length}
 use Rattle.cn_yard.specs.Lists.{tokens_in}
-use Rattle.cn_walk.specs.Lane.{LaneValue}
+use Rattle.cn_floor.specs.Lane.{LaneValue}
 use Rattle.cn_walk.specs.Walks.{Walks, inside_by}
 use Rattle.cn_walk.proofs.walking.walk_all.Given as goal
 

@@ -1,5 +1,5 @@
 use Rattle.std.proofs.Common.{rules, ◌<◌, ◌∙◌, ap}
-use Rattle.cn_walk.specs.Lane.{Home}
+use Rattle.cn_floor.specs.Lane.{FloorValue}
 use Rattle.cn_walk.proofs.Walks.{IsHeld, comes, comes_next}
 use Rattle.cn_walk.proofs.walking.walk_in.Goals as goal
 
@@ -7,6 +7,6 @@ pub loop-client-preserved : goal.loop-client-preserved
 loop-client-preserved g c =
     let laws = c.lane_laws.ensures in
     let held : IsHeld c.loop-client.lane = record { start = laws.start; tokens = laws.tokens; wires = laws.wires; once = laws.once; there = laws.there } in
-    let home = ap (λ (h : Home). h.start.network.table.entries) (c.loop-client.invariant.home ∙ c.requires.own) in
+    let home = ap (λ (h : FloorValue). h.start.network.table.entries) (c.loop-client.invariant.home ∙ c.requires.own) in
     let some : 0 < c.loop-client.lane.view.quota = search rules in
     comes_next _ _ _ _ (record { id = 0; entry = 0 }) _ c.loop-client-test.true c.loop-client.invariant (comes _ _ _ _ _ held some (search rules) c.in-Ok.ensures.ok)

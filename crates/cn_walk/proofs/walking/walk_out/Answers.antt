@@ -1,8 +1,9 @@
 use Rattle.std.proofs.Common.{rules, ◌≡◌, ℕ, ◌<◌, [], ap, arith, length}
 use Rattle.cn_yard.specs.Lists.{on, tokens_in}
-use Rattle.cn_walk.specs.Lane.{Home}
+use Rattle.cn_floor.specs.Lane.{FloorValue}
 use Rattle.cn_walk.proofs.SweptWalks.{clear-below, sweeps}
-use Rattle.cn_walk.proofs.Walks.{IsHeld, lowest-inside, nobody-there, none_by, walks_on}
+use Rattle.cn_walk.proofs.Walks.{IsHeld, none_by, walks_on}
+use Rattle.cn_floor.proofs.InLane.Yards.{lowest-inside, nobody-there}
 use Rattle.cn_walk.proofs.walking.walk_out.Goals as goal
 
 pub loop-lowest-smaller : goal.loop-lowest-smaller
@@ -27,7 +28,7 @@ loop-lowest-preserved g c =
     record {
       walks = walks_on _ _ _ [] [] (walks_on _ _ _ [] [] c.loop-lowest.invariant.walks brought.walked) swept.0;
       held = record { start = later.start; tokens = later.tokens; wires = later.wires; once = later.once; there = later.there };
-      from = omega (arith, inside, laws.wires, later.wires, ap (λ (h : Home). length h.start.network.table.ends) swept.0.home);
+      from = omega (arith, inside, laws.wires, later.wires, ap (λ (h : FloorValue). length h.start.network.table.ends) swept.0.home);
       clear = clear-below _ _ wire n _ is held some brought.lowest.below;
     }
 

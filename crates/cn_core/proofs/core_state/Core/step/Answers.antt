@@ -8,7 +8,7 @@ use Rattle.cn_core.specs.InsideClients.{positions}
 use Rattle.cn_core.specs.InsideCore.{state_of}
 use Rattle.cn_core.specs.State.{State, position_in, position_past, with_position}
 use Rattle.cn_core.specs.declared.position.Position.TheVariants.{On}
-use Rattle.cn_core.specs.declared.reply.Moved.TheVariants.{On as Passed, Out}
+use Rattle.cn_ledger.specs.declared.moved.Moved.TheVariants.{On as Passed, Out}
 use Rattle.cn_core.proofs.HistoryLemmas.{history-step}
 use Rattle.cn_core.proofs.TightLemmas.{room-past}
 use Rattle.cn_core.proofs.LedgerLemmas.{IsCore-after_step, ledger-step}

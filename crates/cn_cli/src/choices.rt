@@ -1,0 +1,201 @@
+//! What the options of a subcommand name.
+
+ghost use Rattle.std.specs.Prelude.{◌≡◌, ◌≢◌, ◌<◌, ◌^◌, ℕ, IfOk, MatchOption, MatchResult};
+ghost use Rattle.std.specs.Prelude.{decimal, option_map};
+ghost use Rattle.clap.specs.Words.{first_of, found_of, rows_of};
+ghost use Rattle.cn_wiring.specs.declared.kind.Kind.{Kind};
+ghost use Rattle.cn_wiring.specs.Kinds.{kind_word};
+ghost use Rattle.cn_wiring.specs.Widths.{IsWidth};
+ghost use Rattle.cn_cli.specs.Choices.{Flags, GivesNoNumber, GivesNumber, Names, NamesNoNet};
+ghost use Rattle.cn_cli.specs.Choices.{NamesNoRun, NamesNoWidth, NamesRun, NamesWidth, form_word};
+ghost use Rattle.cn_cli.specs.Options.{IsWithin};
+ghost use Rattle.cn_cli.specs.declared.choices.ChoiceFault.TheVariants as choice;
+ghost use Rattle.cn_cli.specs.declared.options.Form.{Form};
+
+use crate::net::{Net, NetFault};
+use crate::options::{Form, OptionFault, Options};
+use clap::ArgMatches;
+use cn_wiring::{Kind, is_width};
+use std::alloc::{AllocError, Global};
+use thiserror::Error;
+
+/// Why options that clap takes ask for no job.
+#[derive(Clone, Copy, Debug, PartialEq, Eq, Error)]
+pub(crate) enum ChoiceFault {
+    /// They are of no subcommand that the program has.
+    #[error("renamer: no such subcommand")]
+    Subcommand,
+    /// They name no kind of network.
+    #[error("renamer: no such network")]
+    Kind,
+    /// They name a kind, but no width of it that is built.
+    #[error("{0}")]
+    Net(NetFault),
+    /// They name numbers outside of their limits.
+    #[error("{0}")]
+    Options(OptionFault),
+    /// They name no form.
+    #[error("renamer: no such form")]
+    Form,
+    /// There is not the memory to read them.
+    #[error("renamer: memory")]
+    Memory,
+}
+
+impl From<NetFault> for ChoiceFault {
+    ghost from_gives = { λ fault given. given ≡ choice.Net fault };
+
+    fn from(fault: NetFault) -> ChoiceFault {
+        ChoiceFault::Net(fault)
+    }
+}
+
+impl From<OptionFault> for ChoiceFault {
+    ghost from_gives = { λ fault given. given ≡ choice.Options fault };
+
+    fn from(fault: OptionFault) -> ChoiceFault {
+        ChoiceFault::Options(fault)
+    }
+}
+
+impl From<AllocError> for ChoiceFault {
+    ghost from_gives = { λ _ given. given ≡ choice.Memory };
+
+    fn from(_error: AllocError) -> ChoiceFault {
+        ChoiceFault::Memory
+    }
+}
+
+/// The kind that a word is for.
+fn kind_named(word: &str) -> Option<Kind>
+    ensures { MatchOption result ((kind : Kind) → word.now ≢ kind_word kind)
+        (λ kind. word.now ≡ kind_word kind) }
+{
+    if word == Kind::Bitonic.word() {
+        Some(Kind::Bitonic)
+    } else if word == Kind::Periodic.word() {
+        Some(Kind::Periodic)
+    } else if word == Kind::Tree.word() {
+        Some(Kind::Tree)
+    } else {
+        None
+    }
+}
+
+/// The form that a word is for.
+fn form_named(word: &str) -> Option<Form>
+    ensures { MatchOption result ((form : Form) → word.now ≢ form_word form)
+        (λ form. word.now ≡ form_word form) }
+{
+    match word {
+        "report" => Some(Form::Report),
+        "grants" => Some(Form::Grants),
+        _ => None,
+    }
+}
+
+/// The number that a word is the decimal digits of.
+fn number_named(alloc: Global, word: &str) -> Result<Option<u32>, AllocError>
+    ensures { IfOk result (λ found. MatchOption found
+        ((number : ℕ) → number < 2 ^ 32 → word.now ≢ decimal number)
+        (λ number. (word.now ≡ decimal number) × (number < 2 ^ 32))) }
+{
+    let Ok(number) = word.parse::<u32>() else {
+        return Ok(None);
+    };
+    let digits = number.to_string(alloc)?;
+    if digits.as_str() == word {
+        Ok(Some(number))
+    } else {
+        Ok(None)
+    }
+}
+
+fn value_of<'a>(options: &ArgMatches<'a>, name: &str) -> Option<&'a str>
+    ensures { option_map (λ value. value.now) result
+        ≡ first_of name.now (rows_of (found_of options.now)) }
+{
+    options.get_str(name)
+}
+
+/// Whether a flag stands among the options.
+fn has_flag(options: &ArgMatches<'_>, name: &str) -> bool
+    ensures { Flags (rows_of (found_of options.now)) name.now result }
+{
+    match value_of(options, name) {
+        Some(value) => value == "true",
+        None => false,
+    }
+}
+
+/// The number that an option has for its value.
+fn chosen_number(
+    alloc: Global,
+    options: &ArgMatches<'_>,
+    name: &str,
+) -> Result<Option<u32>, AllocError>
+    ensures { let given = rows_of (found_of options.now) in
+        IfOk result (λ found. MatchOption found (GivesNoNumber given name.now)
+        (GivesNumber given name.now)) }
+{
+    match value_of(options, name) {
+        Some(word) => number_named(alloc, word),
+        None => Ok(None),
+    }
+}
+
+/// The width that the options name.
+pub(crate) fn chosen_width(alloc: Global, options: &ArgMatches<'_>) -> Result<u32, ChoiceFault>
+    ensures { let given = rows_of (found_of options.now) in
+        MatchResult result (λ width. NamesWidth given width × IsWidth width)
+        (λ fault. fault ≢ choice.Memory → NamesNoWidth given) }
+{
+    let Some(width) = chosen_number(alloc, options, "width")? else {
+        return Err(ChoiceFault::Net(NetFault::Width));
+    };
+    if is_width(width) {
+        Ok(width)
+    } else {
+        Err(ChoiceFault::Net(NetFault::Width))
+    }
+}
+
+/// The network that the options name.
+pub(crate) fn chosen_net(alloc: Global, options: &ArgMatches<'_>) -> Result<Net, ChoiceFault>
+    ensures { let given = rows_of (found_of options.now) in
+        MatchResult result (λ net. Names given net × IsWidth net.width)
+        (λ fault. fault ≢ choice.Memory → NamesNoNet given) }
+{
+    let width = chosen_width(alloc, options)?;
+    match value_of(options, "network").and_then(kind_named) {
+        Some(kind) => Ok(Net::new(kind, width)?),
+        None => Err(ChoiceFault::Kind),
+    }
+}
+
+/// The options of a run.
+pub(crate) fn chosen_options(
+    alloc: Global,
+    options: &ArgMatches<'_>,
+) -> Result<Options, ChoiceFault>
+    ensures { let given = rows_of (found_of options.now) in
+        MatchResult result (λ settings. NamesRun given settings × IsWithin settings)
+        (λ fault. fault ≢ choice.Memory → NamesNoRun given) }
+{
+    let net = chosen_net(alloc, options)?;
+    let Some(workers) = chosen_number(alloc, options, "workers")? else {
+        return Err(ChoiceFault::Options(OptionFault::Workers));
+    };
+    let Some(hand) = chosen_number(alloc, options, "hand")? else {
+        return Err(ChoiceFault::Options(OptionFault::Hand));
+    };
+    let Some(form) = value_of(options, "form").and_then(form_named) else {
+        return Err(ChoiceFault::Form);
+    };
+    let run = Options::new(net, workers, hand, form)?;
+    if has_flag(options, "carry") {
+        Ok(run.carried())
+    } else {
+        Ok(run)
+    }
+}

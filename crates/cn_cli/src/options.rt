@@ -1,0 +1,160 @@
+//! What a run is asked for beside its batch.
+
+ghost use Rattle.std.specs.Prelude.{◌≡◌, ◌↔◌, IfOk, IsErrOf, false, true};
+ghost use Rattle.cn_cli.specs.Options.{HandFits, IsWithin, Settings, WorkersFit};
+
+use crate::net::Net;
+use cn_spec::limits::{MOST_HAND, MOST_WORKERS};
+use std::marker::Model;
+use thiserror::Error;
+
+/// What a run writes.
+#[derive(Clone, Copy, Debug, PartialEq, Eq)]
+pub enum Form {
+    /// The report: of each epoch its counts, and who has which name.
+    Report,
+    /// The grant list.
+    Grants,
+}
+
+/// What a run is asked for beside its batch: a network, how many workers walk each epoch, how many
+/// tokens each of them has in hand at most, what is written, and whether the network's counters are
+/// carried from epoch to epoch. To contracts it is these five, and both numbers are within their
+/// limits.
+#[derive(Clone, Copy, Debug, PartialEq, Eq)]
+pub struct Options {
+    net: Net,
+    workers: u32,
+    hand: u32,
+    form: Form,
+    carry: bool,
+}
+
+impl Model for Options {
+    ghost use Rattle.cn_cli.specs.Options.{IsWithin, Settings};
+
+    ghost Value = { Settings };
+
+    ghost view = { λ options. record {
+      net = options.net;
+      workers = options.workers;
+      hand = options.hand;
+      form = options.form;
+      carry = options.carry;
+    } };
+
+    ghost invariant = { λ options. IsWithin (record {
+      net = options.net;
+      workers = options.workers;
+      hand = options.hand;
+      form = options.form;
+      carry = options.carry;
+    }) };
+
+    ghost inverse = { λ settings. record {
+      net = settings.net;
+      workers = settings.workers;
+      hand = settings.hand;
+      form = settings.form;
+      carry = settings.carry;
+    } };
+}
+
+/// Why no run is asked for so.
+#[derive(Clone, Copy, Debug, PartialEq, Eq, Error)]
+pub enum OptionFault {
+    /// There are no workers, or more than [`MOST_WORKERS`].
+    #[error("renamer: workers out of range")]
+    Workers,
+    /// A worker would have no token in hand, or more than [`MOST_HAND`].
+    #[error("renamer: hand out of range")]
+    Hand,
+}
+
+impl OptionFault {
+    /// The status with which the program ends: 2.
+    pub fn status(&self) -> u8
+        ensures { result ≡ 2 }
+    {
+        2
+    }
+}
+
+impl Options {
+    /// A run on this network, by so many workers with so many tokens in hand each, which writes this
+    /// form. It carries no counters.
+    ///
+    /// # Errors
+    /// `OptionFault::Workers` where `workers` is not from 1 to [`MOST_WORKERS`]; else
+    /// `OptionFault::Hand` where `hand` is not from 1 to [`MOST_HAND`].
+    pub fn new(net: Net, workers: u32, hand: u32, form: Form) -> Result<Options, OptionFault>
+        ensures ok { IfOk result (λ options. options
+            ≡ record { net = net; workers = workers; hand = hand; form = form; carry = false }) }
+        ensures workers { IsErrOf result OptionFault.Workers ↔ (¬ WorkersFit workers) }
+        ensures hand { IsErrOf result OptionFault.Hand ↔ (WorkersFit workers × (¬ HandFits hand)) }
+    {
+        // That the network is built is what its width tells.
+        let _width = net.width();
+        if workers < 1 || workers > MOST_WORKERS {
+            Err(OptionFault::Workers)
+        } else if hand < 1 || hand > MOST_HAND {
+            Err(OptionFault::Hand)
+        } else {
+            Ok(Options {
+                net,
+                workers,
+                hand,
+                form,
+                carry: false,
+            })
+        }
+    }
+
+    /// The network.
+    pub fn net(&self) -> Net
+        ensures net { result ≡ self.now.net }
+        ensures within { IsWithin self.now }
+    {
+        self.net
+    }
+
+    /// How many workers walk each epoch.
+    pub fn workers(&self) -> u32
+        ensures workers { result ≡ self.now.workers }
+        ensures within { IsWithin self.now }
+    {
+        self.workers
+    }
+
+    /// How many tokens each worker has in hand at most.
+    pub fn hand(&self) -> u32
+        ensures hand { result ≡ self.now.hand }
+        ensures within { IsWithin self.now }
+    {
+        self.hand
+    }
+
+    /// What is written.
+    pub fn form(&self) -> Form
+        ensures { result ≡ self.now.form }
+    {
+        self.form
+    }
+
+    /// The same run, which carries the network's counters from epoch to epoch.
+    pub fn carried(self) -> Options
+        ensures { result ≡ record self { carry = true } }
+    {
+        Options {
+            carry: true,
+            ..self
+        }
+    }
+
+    /// Whether the network's counters are carried from epoch to epoch.
+    pub fn carries(&self) -> bool
+        ensures { result ≡ self.now.carry }
+    {
+        self.carry
+    }
+}

@@ -1,0 +1,140 @@
+//! The words of a command line, and the job that they ask for.
+
+ghost use Rattle.std.specs.Prelude.{◌≡◌, ◌≢◌, IfErr, IfOk, MatchResult, map, string_bytes};
+ghost use Rattle.clap.specs.Words.{kind_of, subcommand_rows_of};
+ghost use Rattle.cn_cli.specs.Words.{Asks, AsksNone, IsFaultBy, IsFaultOf, IsJobOf, IsRefusalBy};
+ghost use Rattle.cn_cli.specs.Words.{IsRefusalOf, status_of};
+ghost use Rattle.cn_cli.specs.declared.choices.ChoiceFault.TheVariants as choice;
+ghost use Rattle.cn_cli.specs.declared.words.WordsFault.TheVariants.{Memory};
+
+use crate::choices::{ChoiceFault, chosen_net, chosen_options, chosen_width};
+use crate::command_line::command;
+use crate::help::HelpTexts;
+use crate::net::Net;
+use crate::options::Options;
+use clap::error::ErrorKind;
+use clap::{ArgMatches, Command};
+use std::alloc::{AllocError, Global};
+use thiserror::Error;
+
+/// What the words ask for.
+#[derive(Clone, Copy, Debug, PartialEq, Eq)]
+pub enum Job {
+    /// Read a batch, give each epoch's clients their names, and write what these options ask for.
+    Run(Options),
+    /// Read a schedule, and write what a core of this network answers.
+    Replay(Net),
+    /// Read a grant list, and where it is tight write how many names of each epoch fall to each exit of this width.
+    Check(u32),
+    /// Write where each wire of this network ends.
+    Show(Net),
+}
+
+/// Why the words ask for no job. Each is shown by its text.
+#[derive(Debug, Drop, Error)]
+pub enum WordsFault {
+    /// They ask for help, which is the text.
+    #[error("{0}")]
+    Help(String),
+    /// They are no command line of the program, as the text says.
+    #[error("{0}")]
+    Refused(String),
+    /// There is not the memory to read them.
+    #[error("renamer: memory")]
+    Memory,
+}
+
+impl From<AllocError> for WordsFault {
+    ghost from_gives = { λ _ fault. fault ≡ Memory };
+
+    fn from(_e: AllocError) -> WordsFault {
+        WordsFault::Memory
+    }
+}
+
+impl WordsFault {
+    /// The status with which the program ends: 0 for help, 2 for words that are refused, 3 for
+    /// want of memory.
+    pub fn status(&self) -> u8
+        ensures { result ≡ status_of self.now }
+    {
+        match self {
+            WordsFault::Help(_) => 0,
+            WordsFault::Refused(_) => 2,
+            WordsFault::Memory => 3,
+        }
+    }
+
+    fn of_parse(alloc: Global, error: clap::Error) -> WordsFault
+        ensures { IsFaultBy (kind_of error) result }
+    {
+        let kind = error.kind();
+        match error.to_string(alloc) {
+            Ok(text) if kind == ErrorKind::DisplayHelp => WordsFault::Help(text),
+            Ok(text) if kind != ErrorKind::OutOfMemory => WordsFault::Refused(text),
+            _ => WordsFault::Memory,
+        }
+    }
+
+    fn of_choice(alloc: Global, fault: ChoiceFault) -> WordsFault
+        ensures { IsRefusalBy fault result }
+    {
+        match format!(in alloc; "{fault}\n") {
+            Ok(text) if fault != ChoiceFault::Memory => WordsFault::Refused(text),
+            _ => WordsFault::Memory,
+        }
+    }
+}
+
+/// The job that a subcommand with its options asks for.
+fn chosen_job(alloc: Global, matches: &ArgMatches<'_>) -> Result<Job, ChoiceFault>
+    ensures { let asked = subcommand_rows_of matches.now in
+        MatchResult result (Asks asked) (λ fault. fault ≢ choice.Memory → AsksNone asked) }
+{
+    match matches.subcommand() {
+        Some(("run", options)) => Ok(Job::Run(chosen_options(alloc, options)?)),
+        Some(("replay", options)) => Ok(Job::Replay(chosen_net(alloc, options)?)),
+        Some(("check", options)) => Ok(Job::Check(chosen_width(alloc, options)?)),
+        Some(("show", options)) => Ok(Job::Show(chosen_net(alloc, options)?)),
+        _ => Err(ChoiceFault::Subcommand),
+    }
+}
+
+fn asked_job(alloc: Global, matches: &ArgMatches<'_>) -> Result<Job, WordsFault>
+    ensures { let asked = subcommand_rows_of matches.now in
+        MatchResult result (Asks asked) (IsRefusalOf asked) }
+{
+    match chosen_job(alloc, matches) {
+        Ok(job) => Ok(job),
+        Err(fault) => Err(WordsFault::of_choice(alloc, fault)),
+    }
+}
+
+fn read_words<'a>(
+    alloc: Global,
+    words: &'a [String],
+    help: &'a HelpTexts,
+) -> Result<Job, WordsFault>
+    ensures { let texts = map string_bytes words.entry.now in
+        MatchResult result (IsJobOf texts) (IsFaultOf texts) }
+{
+    let command: Command<'a> = command(alloc, help)?;
+    match command.try_get_matches_from(words) {
+        Ok(matches) => asked_job(alloc, &matches),
+        Err(error) => Err(WordsFault::of_parse(alloc, error)),
+    }
+}
+
+/// The job that the words ask for, by the command line as clap reads it. The first word is the
+/// program's name.
+///
+/// # Errors
+/// `WordsFault::Help` for a request for help; `WordsFault::Refused` for words that clap does not take, or
+/// that name what is not built or is outside its limits; `WordsFault::Memory` where a growth was refused.
+pub fn parse_words(alloc: Global, words: Vec<String>) -> Result<Job, WordsFault>
+    ensures ok { IfOk result (IsJobOf (map string_bytes words.items)) }
+    ensures err { IfErr result (IsFaultOf (map string_bytes words.items)) }
+{
+    let help = HelpTexts::new(alloc)?;
+    read_words(alloc, words.as_slice(), &help)
+}

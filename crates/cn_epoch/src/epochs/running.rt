@@ -1,0 +1,64 @@
+//! One command after another.
+
+ghost use Rattle.std.specs.Prelude.{◌≡◌, ◌+◌, ◌<◌, ◌≤◌, ◌^◌, true, length, IfOk, OnErr};
+ghost use Rattle.cn_spec.specs.declared.limits.TheConstants.{MOST_CARRIED};
+ghost use Rattle.cn_epoch.specs.Calls.{AnswersByHistory, RunsTo, TakesTo, RunsByHistory};
+
+use super::Epochs;
+use crate::answer::Answer;
+use crate::command::Command;
+use std::alloc::AllocError;
+
+impl<'a> Epochs<'a> {
+    /// The answer to one command.
+    fn answer(&mut self, command: Command) -> Answer
+        requires number { self.old.number + 1 < 2 ^ 64 }
+        requires carried { self.old.carries ≡ true
+            → self.old.core.base + length self.old.core.clients ≤ MOST_CARRIED }
+        ensures event { TakesTo self.old command result self.new }
+        ensures history { AnswersByHistory self.old command result self.new }
+        ensures network { self.new.core.network ≡ self.old.core.network }
+        ensures number { self.new.number ≤ self.old.number + 1 }
+        ensures carries { self.new.carries ≡ self.old.carries }
+        ensures came { self.new.core.base + length self.new.core.clients
+            ≤ self.old.core.base + length self.old.core.clients + 1 }
+    {
+        match command {
+            Command::Enter { client, entry } => {
+                Answer::Replied(self.enter(client, entry).into())
+            }
+            Command::Step { client } => Answer::Replied(self.step(client).into()),
+            Command::Turn => self.turn().into(),
+        }
+    }
+
+    /// One command after another, as by [`Epochs::enter`], [`Epochs::step`] and [`Epochs::turn`], and their answers. The
+    /// room for the answers is taken first.
+    ///
+    /// [`Epochs::number`] and the number of commands together are below 2^64. Where turns carry ([`Epochs::carrying`]), the
+    /// carried clients ([`Epochs::base`]), those that entered and the number of commands are together at most
+    /// [`MOST_CARRIED`].
+    ///
+    /// # Errors
+    /// `AllocError` where the answers get no room; then no command has been applied. A command that meets want of memory
+    /// is answered like the others.
+    pub fn run(&mut self, commands: &[Command]) -> Result<Vec<Answer>, AllocError>
+        requires number { self.old.number + length commands.now < 2 ^ 64 }
+        requires carried { self.old.carries ≡ true
+            → self.old.core.base + length self.old.core.clients + length commands.now
+            ≤ MOST_CARRIED }
+        ensures events { IfOk result (λ answers.
+            RunsTo self.old commands.now answers.items self.new) }
+        ensures history { IfOk result (λ answers.
+            RunsByHistory self.old commands.now answers.items self.new) }
+        ensures network { self.new.core.network ≡ self.old.core.network }
+        ensures refused { OnErr result (self.new ≡ self.old) }
+    {
+        let mut answers = Vec::with_capacity(self.alloc, commands.len())?;
+        for command in commands {
+            let answer = self.answer(*command);
+            answers.push_reserved(answer);
+        }
+        Ok(answers)
+    }
+}

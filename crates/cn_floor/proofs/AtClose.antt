@@ -1,0 +1,5 @@
+-- What a closed floor has.
+pub mod Ends
+pub mod Closings
+pub mod Rises
+pub mod Holding

@@ -1,0 +1,112 @@
+-- Where nobody is inside, the names of a floor are tight, and its words can be carried.
+use Rattle.std.proofs.Common.{◌≡◌, ◌≢◌, ℕ, ◌+◌, ◌<◌, ◌≤◌, ◌&&◌, inl, inr, Bool, true, false, eqb, ltb, List, [], length, sym, refl, ap, arith}
+use Rattle.std.proofs.lemmas.Bool.{cases_lt, eq-eqb, eqb-true, lt-ltb, le-ltb, ltb-true, ne_eqb}
+use Rattle.atomic_table.specs.Table.{State}
+use Rattle.cn_spec.specs.Step.{name_of}
+use Rattle.cn_spec.specs.Sums.{when}
+use Rattle.cn_wiring.specs.declared.end.End.{End}
+use Rattle.cn_wiring.specs.declared.end.End.TheVariants.{Balancer, Exit}
+use Rattle.cn_wiring.specs.Table.{Stands, Table, is_end, sum_at}
+use Rattle.cn_ledger.specs.Ledger.{IsSound, IsTight, Ledger, put}
+use Rattle.cn_floor.specs.declared.view.Start.{Start}
+use Rattle.cn_floor.specs.declared.view.View.{View}
+use Rattle.cn_floor.specs.Carried.{AreTight, IsClosed, WordsValue}
+use Rattle.cn_floor.specs.Ends.{NobodyInside}
+use Rattle.cn_floor.specs.Rule.{IsCarried, IsStart, KeepsRule, ledger_of}
+use Rattle.cn_floor.specs.Words.{count_in, word_count}
+use Rattle.cn_spec.proofs.CallerLemmas.{once_in, sum_below-zero, total_where-agree}
+use Rattle.cn_ledger.proofs.CallerLemmas.{tight}
+
+-- ---- the ledger of words alone
+
+both_there : (p q r : Bool) → 1 ≤ when (p && (q && r)) 1 → (p ≡ true) × (q ≡ true) × (r ≡ true)
+both_there true true true h = (refl, refl, refl)
+both_there true true false h = absurd (omega arith)
+both_there true false r h = absurd (omega arith)
+both_there false q r h = absurd (omega arith)
+
+no_more : (p q r : Bool) → when (p && (q && r)) 1 ≤ when q 1
+no_more true true true = omega arith
+no_more true true false = omega arith
+no_more true false r = omega arith
+no_more false true r = omega arith
+no_more false false r = omega arith
+
+not_both : (c d : ℕ) → c ≢ d → (q r s : Bool) → when (eqb 0 c && (q && r)) 1 + when (eqb 0 d && (q && s)) 1 ≤ when q 1
+not_both c d differ q r s = elim (cases_lt 0 c) [
+  | inl l ↦
+      let none : ◌≡◌ {A = ℕ} (when (eqb 0 c && (q && r)) 1) 0 = ap {B = ℕ} (λ b. when (b && (q && r)) 1) (ne_eqb 0 c (λ e. omega arith)) in
+      omega (arith, no_more (eqb 0 d) q s)
+  | inr l ↦
+      let none : ◌≡◌ {A = ℕ} (when (eqb 0 d && (q && s)) 1) 0 = ap {B = ℕ} (λ b. when (b && (q && s)) 1) (ne_eqb 0 d (λ e. differ (omega arith))) in
+      omega (arith, no_more (eqb 0 c) q r)
+]
+
+-- where they balance, they may be carried
+module _ (t : Table) (words : List ℕ) where
+  abbrev alone : Ledger
+  alone = ledger_of t words words []
+
+  pub alone-sound : ((end : End) → Stands t end → alone.count end + sum_at t end alone.on ≡ sum_at t end (put t alone)) → IsSound t alone
+  alone-sound balanced = record {
+    balanced = balanced;
+    clients = λ u. (0, λ k h. sum_below-zero k (λ _. 0) (λ _. refl));
+    numbered = λ end n h. omega arith;
+    named = λ c i v name g.
+        let has = both_there (eqb 0 c) (ltb v (count_in t words (Exit i))) (eqb (name_of t.width i v) name) (omega (arith, g)) in
+        (exit-there i (omega (arith, ltb-true v (count_in t words (Exit i)) has.1)), sym (eqb-true (name_of t.width i v) name has.2));
+    once = λ c i v name. omega (arith, no_more (eqb 0 c) (ltb v (count_in t words (Exit i))) (eqb (name_of t.width i v) name));
+    apart = λ c d i v differ. omega (arith, not_both c d differ (ltb v (count_in t words (Exit i))) (eqb (name_of t.width i v) (name_of t.width i v)) (eqb (name_of t.width i v) (name_of t.width i v)));
+    told = λ i v h g.
+        let below : v < count_in t words (Exit i) = once_in (count_in t words (Exit i)) v (omega (arith, g)) in (
+          0,
+          let one : ◌≡◌ {A = ℕ} (when (eqb 0 0 && (ltb v (count_in t words (Exit i)) && eqb (name_of t.width i v) (name_of t.width i v))) 1) 1 =
+              rw (lt-ltb v (count_in t words (Exit i)) below, eq-eqb (name_of t.width i v) (name_of t.width i v) refl) refl in
+              omega arith,
+        );
+  }
+    where
+      exit-there : (i : ℕ) → 1 ≤ count_in t words (Exit i) → i < t.width
+      exit-there i h = elim (cases_lt i t.width) [
+        | inl l ↦ l
+        | inr l ↦ let none : count_in t words (Exit i) ≡ 0 = rw (le-ltb i t.width l) refl in absurd (omega arith)
+      ]
+
+-- ---- the end of a floor
+
+module _ (start : Start) (began : IsStart start) where
+  abbrev t : Table
+  t = start.network.table
+
+  -- what came before is tight
+  pub tight-before : IsTight t (ledger_of t start.words start.words [])
+  tight-before =
+      let net = began.network in
+      tight t net.formed net.counts (ledger_of t start.words start.words []) began.carried.sound (λ u l. refl)
+
+  module _ (words : List ℕ) (views : List View) (sound : IsSound t (ledger_of t start.words words views)) (nobody : NobodyInside start views) where
+    pub tight-after : IsTight t (ledger_of t start.words words views)
+    tight-after =
+        let net = began.network in
+        tight t net.formed net.counts (ledger_of t start.words words views) sound nobody
+
+    -- another floor may begin with the words
+    pub carried-after : length words ≡ word_count t → IsCarried t words
+    carried-after long = record {
+      words = long;
+      sound = alone-sound t words (λ e h.
+          let now : Ledger = ledger_of t start.words words views in
+          let is = sound.balanced e h in
+          let none = total_where-agree (is_end e) t.ends (Balancer 0) now.on (λ _. 0) (λ u l x. nobody u l) in
+          omega (arith, is, none));
+    }
+
+-- closed words are tight
+pub closed-tight : (w : WordsValue) → IsClosed w → AreTight w
+closed-tight w is =
+    let t = w.network.table in
+    tight t is.network.formed is.network.counts (ledger_of t w.words w.words []) is.carried.sound (λ u l. refl)
+
+pub ended : (start : Start) (s : State (Unit {0}) View) → KeepsRule start s → NobodyInside start s.views
+    → IsTight start.network.table (ledger_of start.network.table start.words s.words s.views)
+ended start s kept nobody = tight-after start kept.began s.words s.views kept.sound nobody

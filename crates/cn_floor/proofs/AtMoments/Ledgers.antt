@@ -1,0 +1,166 @@
+-- Each step of a lane is one event on the floor's ledger.
+use Rattle.std.proofs.Common.{◌≡◌, ℕ, ◌+◌, ◌-◌, ◌%◌, ◌<◌, ◌≤◌, ◌&&◌, Bool, true, false, cond, eqb, List, [], length, get_or, set, sym, refl, ap, ◌∙◌, arith, subst}
+use mathlib.Core.Option.{some}
+use lib.ListN.{get_elem?}
+use Rattle.std.proofs.lemmas.Bool.Decides.{nat_tests}
+use Rattle.std.proofs.lemmas.List.Sums.{sum_by_push}
+use Rattle.cn_spec.specs.Step.{name_of}
+use Rattle.cn_spec.specs.Sums.{when}
+use Rattle.cn_wiring.specs.declared.end.End.{End}
+use Rattle.cn_wiring.specs.declared.end.End.TheVariants.{Balancer, Exit}
+use Rattle.cn_wiring.specs.Table.{Table, Stands, end_of, output_wire}
+use Rattle.cn_ledger.specs.Events.{Enters, Goes, Leaves, Passes, one_at, one_number}
+use Rattle.cn_ledger.specs.Ledger.{Ledger}
+use Rattle.cn_floor.specs.declared.view.Grant.{Grant}
+use Rattle.cn_floor.specs.declared.view.Passage.{Passage}
+use Rattle.cn_floor.specs.declared.view.Start.{Start}
+use Rattle.cn_floor.specs.declared.view.View.{View}
+use Rattle.cn_floor.specs.Rule.{ledger_of}
+use Rattle.cn_floor.specs.Views.{after_enter, after_step, base, given_in, granted_in, on_in, standing_in}
+use Rattle.cn_floor.specs.Words.{count_in, end_word, entry_word, word_count}
+use Rattle.cn_floor.proofs.Lists.{ones, weigh-come, weigh-leave, weigh-pass}
+use Rattle.cn_floor.proofs.AtMoments.Totals.{total_set}
+use Rattle.cn_floor.proofs.AtMoments.Raised.{count-kept, count-raised, entered-kept, entered-raised, raised}
+use Rattle.cn_yard.specs.Lists.{IsThere}
+
+-- ---- one view
+
+-- 1 for a client on a wire
+there_once : (u w c d : ℕ) → when (eqb u w) (cond (eqb c d) 1 0) ≡ when (eqb u w && eqb c d) 1
+there_once u w c d = grind (arith, nat_tests)
+
+there_turned : (u w c d : ℕ) → when (eqb u w) (cond (eqb c d) 1 0) ≡ when (eqb c d) (one_at u w)
+there_turned u w c d = grind (arith, nat_tests)
+
+none_turned : (c d : ℕ) → when (eqb c d) 0 ≡ 0
+none_turned c d = by (eqb c d)
+  where
+    by : (b : Bool) → ◌≡◌ {A = ℕ} (when b 0) 0
+    by true = refl
+    by false = refl
+
+-- 1 for client d
+is_client : ℕ → ℕ × ℕ → ℕ
+is_client d e = cond (eqb e.1 d) 1 0
+
+module _ (token client entry : ℕ) (v : View) (inside : entry < length v.tokens) where
+  pub on-after_enter : (w : ℕ) → on_in w (after_enter token client entry v) ≡ on_in w v + one_at entry w
+  on-after_enter w =
+      let a = weigh-come v.tokens token client entry inside w (λ _. 1) in
+      omega (arith, ones (get_or v.tokens w []), ones (get_or (after_enter token client entry v).tokens w []))
+
+  pub standing-after_enter : (w d : ℕ) → standing_in w d (after_enter token client entry v) ≡ standing_in w d v + when (eqb entry w && eqb client d) 1
+  standing-after_enter w d = omega (arith, weigh-come v.tokens token client entry inside w (λ e. cond (eqb e.1 d) 1 0), there_once entry w client d)
+
+  pub given-after_enter : (end : End) (n : ℕ) → given_in end n (after_enter token client entry v) ≡ given_in end n v
+  given-after_enter (Balancer b) n = refl
+  given-after_enter (Exit i) n = refl
+
+-- on which wire a token is put that goes by an end with number n
+abbrev pub onto : ℕ → View → End → ℕ → ℕ
+onto n v (Balancer b) = one_at (output_wire v.start.network.table b (n % 2))
+onto n v (Exit i) = λ _. 0
+
+-- that wire is there
+abbrev pub Lands : ℕ → View → End → Type 0
+Lands n v (Balancer b) = output_wire v.start.network.table b (n % 2) < length v.tokens
+Lands n v (Exit i) = Unit {0}
+
+module _ (token client wire n : ℕ) (v : View) (is : IsThere v.tokens token client wire) where
+  pub on-after_step : (end : End) → Lands n v end → (w : ℕ) → on_in w (after_step token client end n v) + one_at wire w ≡ on_in w v + onto n v end w
+  on-after_step (Balancer b) lands w =
+      let a = weigh-pass v.tokens token client wire (output_wire v.start.network.table b (n % 2)) is lands w (λ _. 1) in
+      omega (arith, ones (get_or v.tokens w []), ones (get_or (after_step token client (Balancer b) n v).tokens w []))
+  on-after_step (Exit i) lands w =
+      let a = weigh-leave v.tokens token client wire is w (λ _. 1) in
+      omega (arith, ones (get_or v.tokens w []), ones (get_or (after_step token client (Exit i) n v).tokens w []))
+
+  pub standing-after_step : (end : End) → Lands n v end → (w d : ℕ)
+      → standing_in w d (after_step token client end n v) + when (eqb wire w && eqb client d) 1 ≡ standing_in w d v + when (eqb client d) (onto n v end w)
+  standing-after_step (Balancer b) lands w d =
+      let out : ℕ = output_wire v.start.network.table b (n % 2) in
+      omega (arith, weigh-pass v.tokens token client wire out is lands w (λ e. cond (eqb e.1 d) 1 0), there_once wire w client d, there_turned out w client d)
+  standing-after_step (Exit i) lands w d =
+      omega (arith, weigh-leave v.tokens token client wire is w (λ e. cond (eqb e.1 d) 1 0), there_once wire w client d, none_turned client d)
+
+  pub given-after_step : (end other : End) (k : ℕ) → given_in other k (after_step token client end n v) ≡ given_in other k v + one_number end n other k
+  given-after_step (Balancer b) (Balancer c) k = sum_by_push (λ (p : Passage). cond (eqb c p.balancer && eqb p.number k) 1 0) v.passages (record { balancer = b; number = n })
+  given-after_step (Balancer b) (Exit j) k = omega arith
+  given-after_step (Exit i) (Balancer c) k = omega arith
+  given-after_step (Exit i) (Exit j) k =
+      sum_by_push (λ (g : Grant). cond (eqb j g.exit && eqb g.visit k) 1 0) v.grants
+      (record { client = client; exit = i; visit = n; name = name_of v.start.network.table.width i n - base v.start })
+
+-- ---- the ledger
+
+module _ (start : Start) (words : List ℕ) (views : List View) (id : ℕ) (v : View) (long : length words ≡ word_count start.network.table)
+    (here : get_elem? views id ≡ some v) (of : v.start ≡ start) where
+  abbrev t : Table
+  t = start.network.table
+
+  abbrev was : Ledger
+  was = ledger_of t start.words words views
+
+  -- a client comes in
+  pub enters : (token client entry : ℕ) → entry < t.entries → entry < length v.tokens
+      → Enters t was (ledger_of t start.words (raised words (entry_word entry)) (set views id (after_enter token client entry v))) client entry
+  enters token client entry low inside =
+      let w : View = after_enter token client entry v in record {
+        inside = low;
+        entered = entered-raised t words long entry low;
+        count = count-kept t words long entry low;
+        on = λ x. omega (arith, total_set (on_in x) views id v w here, on-after_enter token client entry v inside x);
+        standing = λ x d. omega (arith, total_set (standing_in x d) views id v w here, standing-after_enter token client entry v inside x d);
+        given = λ end k. omega (arith, total_set (given_in end k) views id v w here, given-after_enter token client entry v inside end k);
+        granted = λ d i k name. omega (arith, total_set (granted_in (base start) d i k name) views id v w here);
+      }
+
+  -- a client goes by the end of its wire
+  pub goes : (token client wire : ℕ) (end : End) → IsThere v.tokens token client wire → wire < length t.ends → end_of t wire ≡ end → Stands t end
+      → Lands (count_in t words end) v end
+      → Goes t was (ledger_of t start.words (raised words (end_word t end)) (set views id (after_step token client end (count_in t words end) v))) client wire end (onto (count_in t words end) v end)
+  goes token client wire end is inside ends stands lands =
+      let n : ℕ = count_in t words end in
+      let w : View = after_step token client end n v in record {
+        inside = inside;
+        ends = ends;
+        entered = entered-kept t words long end stands;
+        count = λ other. count-raised t words long end other stands;
+        on = λ x. omega (arith, total_set (on_in x) views id v w here, on-after_step token client wire n v is end lands x);
+        standing = λ x d. omega (arith, total_set (standing_in x d) views id v w here, standing-after_step token client wire n v is end lands x d);
+        given = λ other k. omega (arith, total_set (given_in other k) views id v w here, given-after_step token client wire n v is end other k);
+      }
+
+  -- a client passes a balancer
+  pub passes : (token client wire b : ℕ) → IsThere v.tokens token client wire → wire < length t.ends → end_of t wire ≡ Balancer b → b < t.balancers
+      → output_wire t b (count_in t words (Balancer b) % 2) < length v.tokens
+      → Passes t was (ledger_of t start.words (raised words (end_word t (Balancer b))) (set views id (after_step token client (Balancer b) (count_in t words (Balancer b)) v))) client wire b
+  passes token client wire b is inside ends stands lands =
+      let n : ℕ = count_in t words (Balancer b) in
+      let w : View = after_step token client (Balancer b) n v in
+      let table : v.start.network.table ≡ t = ap (λ (s : Start). s.network.table) of in record {
+        goes =
+            subst (λ (x : Table). Goes t was (ledger_of t start.words (raised words (end_word t (Balancer b))) (set views id w)) client wire (Balancer b) (one_at (output_wire x b (n % 2)))) table
+            (goes token client wire (Balancer b) is inside ends stands (subst (λ (x : Table). output_wire x b (n % 2) < length v.tokens) (sym table) lands));
+        granted = λ d i k name. omega (arith, total_set (granted_in (base start) d i k name) views id v w here);
+      }
+
+  -- a client leaves by an exit
+  pub leaves : (token client wire i : ℕ) → IsThere v.tokens token client wire → wire < length t.ends → end_of t wire ≡ Exit i → i < t.width
+      → base start ≤ name_of t.width i (count_in t words (Exit i))
+      → Leaves t was (ledger_of t start.words (raised words (end_word t (Exit i))) (set views id (after_step token client (Exit i) (count_in t words (Exit i)) v))) client wire i
+  leaves token client wire i is inside ends stands later =
+      let n : ℕ = count_in t words (Exit i) in
+      let w : View = after_step token client (Exit i) n v in
+      let name_there : name_of v.start.network.table.width i n - base v.start + base start ≡ name_of t.width i n =
+      ap (λ (s : Start). name_of s.network.table.width i n - base s + base start) of ∙ omega arith in
+      record {
+        goes = goes token client wire (Exit i) is inside ends stands tt;
+        granted = λ d j k name.
+            let more = sum_by_push (λ (g : Grant). cond (eqb g.client d && (eqb g.exit j && (eqb g.visit k && eqb (g.name + base start) name))) 1 0) v.grants
+            (record { client = client; exit = i; visit = n; name = name_of v.start.network.table.width i n - base v.start }) in
+            let same : ◌≡◌ {A = ℕ} (cond (eqb client d && (eqb i j && (eqb n k && eqb (name_of v.start.network.table.width i n - base v.start + base start) name))) 1 0)
+            (cond (eqb client d && (eqb i j && (eqb n k && eqb (name_of t.width i n) name))) 1 0) =
+            ap {B = ℕ} (λ (x : ℕ). cond (eqb client d && (eqb i j && (eqb n k && eqb x name))) 1 0) name_there in
+            omega (arith, total_set (granted_in (base start) d j k name) views id v w here, more, same);
+      }

@@ -1,0 +1,73 @@
+-- The words of a floor, where one of them rises.
+use Rattle.std.proofs.Common.{◌≡◌, ◌≢◌, ℕ, ◌+◌, ◌<◌, inl, inr, cond, eqb, ltb, List, length, get_or, set, refl, ap, ◌∙◌, arith}
+use Rattle.std.proofs.lemmas.Bool.{cases_eq, cases_lt, ne_eqb, eq-eqb, lt-ltb, le-ltb}
+use Rattle.std.proofs.lemmas.Bool.Decides.{nat_tests}
+use Rattle.cn_spec.specs.Sums.{when}
+use Rattle.cn_wiring.specs.declared.end.End.{End}
+use Rattle.cn_wiring.specs.declared.end.End.TheVariants.{Balancer, Exit}
+use Rattle.cn_wiring.specs.Table.{Table, Stands, is_end}
+use Rattle.cn_ledger.specs.Events.{one_at}
+use Rattle.cn_floor.specs.Words.{count_in, end_word, entered_in, entry_word, word_count}
+use Rattle.cn_spec.proofs.CallerLemmas.{one_more_at}
+
+pub end_there : (t : Table) (end : End) → Stands t end → end_word t end < word_count t
+end_there t (Balancer b) h = omega arith
+end_there t (Exit i) h = omega arith
+
+-- the words, of which that at place i is one more
+abbrev pub raised : List ℕ → ℕ → List ℕ
+raised words i = set words i (get_or words i 0 + 1)
+
+module _ (t : Table) (words : List ℕ) (long : length words ≡ word_count t) where
+  -- a guarded word
+  guarded : (i j : ℕ) (n x y : ℕ) → i < length words → (x < n → j ≡ i → x ≡ y) → (x ≡ y → j ≡ i) → y < n
+      → when (ltb x n) (get_or (raised words i) j 0) ≡ when (ltb x n) (get_or words j 0) + when (eqb x y) 1
+  guarded i j n x y inside apart same low =
+      elim (cases_lt x n) [
+        | inl l ↦
+            elim (cases_eq x y) [
+              | inl e ↦ rw (lt-ltb x n l, eq-eqb x y e) (one_more_at words i j inside ∙ ap (λ b. get_or words j 0 + cond b 1 0) (eq-eqb j i (same e)))
+              | inr d ↦ rw (lt-ltb x n l, ne_eqb x y d) (one_more_at words i j inside ∙ ap (λ b. get_or words j 0 + cond b 1 0) (ne_eqb j i (λ e. d (apart l e))))
+            ]
+        | inr l ↦ rw (le-ltb x n l, ne_eqb x y (λ e. omega arith)) refl
+      ]
+
+  -- a word of others
+  unguarded : (i j n x : ℕ) → i < length words → (x < n → j ≢ i) → when (ltb x n) (get_or (raised words i) j 0) ≡ when (ltb x n) (get_or words j 0)
+  unguarded i j n x inside apart =
+      elim (cases_lt x n) [
+        | inl l ↦ rw (lt-ltb x n l) (one_more_at words i j inside ∙ ap (λ b. get_or words j 0 + cond b 1 0) (ne_eqb j i (apart l)) ∙ omega arith)
+        | inr l ↦ rw (le-ltb x n l) refl
+      ]
+
+  -- an end's word rises
+  pub count-raised : (end other : End) → Stands t end → count_in t (raised words (end_word t end)) other ≡ count_in t words other + when (is_end end other) 1
+  count-raised (Balancer b) (Balancer c) h = guarded (end_word t (Balancer b)) (end_word t (Balancer c)) t.balancers c b (omega (arith, long)) (λ l e. omega arith) (λ e. omega arith) h
+  count-raised (Balancer b) (Exit j) h = unguarded (end_word t (Balancer b)) (end_word t (Exit j)) t.width j (omega (arith, long)) (λ l e. omega arith) ∙ omega arith
+  count-raised (Exit i) (Balancer c) h = unguarded (end_word t (Exit i)) (end_word t (Balancer c)) t.balancers c (omega (arith, long)) (λ l e. omega arith) ∙ omega arith
+  count-raised (Exit i) (Exit j) h = guarded (end_word t (Exit i)) (end_word t (Exit j)) t.width j i (omega (arith, long)) (λ l e. omega arith) (λ e. omega arith) h
+
+  pub entered-kept : (end : End) → Stands t end → (u : ℕ) → entered_in t (raised words (end_word t end)) u ≡ entered_in t words u
+  entered-kept (Balancer b) h u = unguarded (end_word t (Balancer b)) (entry_word u) t.entries u (omega (arith, long)) (λ l e. omega arith)
+  entered-kept (Exit i) h u = unguarded (end_word t (Exit i)) (entry_word u) t.entries u (omega (arith, long)) (λ l e. omega arith)
+
+  -- an entry's word rises
+  pub entered-raised : (entry : ℕ) → entry < t.entries → (u : ℕ) → entered_in t (raised words (entry_word entry)) u ≡ entered_in t words u + one_at entry u
+  entered-raised entry h u =
+      guarded (entry_word entry) (entry_word u) t.entries u entry (omega (arith, long)) (λ l e. omega arith) (λ e. omega arith) h
+      ∙ ap (λ b. entered_in t words u + cond b 1 0) (turn u entry)
+    where
+      turn : (a b : ℕ) → eqb a b ≡ eqb b a
+      turn a b = grind (arith, nat_tests)
+
+  pub count-kept : (entry : ℕ) → entry < t.entries → (other : End) → count_in t (raised words (entry_word entry)) other ≡ count_in t words other
+  count-kept entry h (Balancer b) = unguarded (entry_word entry) (end_word t (Balancer b)) t.balancers b (omega (arith, long)) (λ l e. omega arith)
+  count-kept entry h (Exit i) = unguarded (entry_word entry) (end_word t (Exit i)) t.width i (omega (arith, long)) (λ l e. omega arith)
+
+-- the count of an end is its word
+pub count-word : (t : Table) (words : List ℕ) (end : End) → Stands t end → count_in t words end ≡ get_or words (end_word t end) 0
+count-word t words (Balancer b) h = rw (lt-ltb b t.balancers h) refl
+count-word t words (Exit i) h = rw (lt-ltb i t.width h) refl
+
+pub entered-word : (t : Table) (words : List ℕ) (entry : ℕ) → entry < t.entries → entered_in t words entry ≡ get_or words (entry_word entry) 0
+entered-word t words entry h = rw (lt-ltb entry t.entries h) refl

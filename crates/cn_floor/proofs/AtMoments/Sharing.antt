@@ -1,0 +1,169 @@
+-- The rule is kept where a view is cut in two, and where two become one.
+use Rattle.std.proofs.Common.{◌≡◌, ℕ, ◌+◌, ◌*◌, ◌<◌, ◌≤◌, ◌&&◌, List, [], ◌∷◌, ◌++◌, length, get_or, set, sum_by, cond, eqb, sym, refl, ap, ◌∙◌, subst, ⊎_elim, arith}
+use mathlib.Core.Option.{some}
+use lib.ListN.{get_elem?}
+use Rattle.std.proofs.lemmas.List.{length-append}
+use Rattle.std.proofs.lemmas.List.Elements.{All-append}
+use Rattle.std.proofs.lemmas.List.Sums.{count_by-le-length, sum_by-append, sum_by_push}
+use Rattle.atomic_table.specs.Table.{Allows, Joins, Me, Splits, keeps}
+use Rattle.atomic_table.proofs.Lists.{at_set, at_snoc, set_again, set_else}
+use Rattle.std.proofs.lemmas.List.{set-get_or}
+use Rattle.cn_spec.specs.Sums.{times}
+use Rattle.cn_spec.specs.declared.limits.TheConstants.{MOST_CLIENTS}
+use Rattle.cn_wiring.specs.declared.end.End.{End}
+use Rattle.cn_wiring.specs.declared.end.End.TheVariants.{Balancer, Exit}
+use Rattle.cn_wiring.specs.Network.{Network}
+use Rattle.cn_floor.specs.declared.view.Grant.{Grant}
+use Rattle.cn_floor.specs.declared.view.Passage.{Passage}
+use Rattle.cn_floor.specs.declared.view.Start.{Start}
+use Rattle.cn_floor.specs.declared.view.View.{View}
+use Rattle.cn_floor.specs.Rule.{IsAccounted, IsFresh, KeepsRule, load_bound}
+use Rattle.cn_floor.specs.Views.{after_join, after_split, base, empty_view, given_in, granted_in, inside_in, levels_in, nobody, on_in, split_off, standing_in}
+use Rattle.cn_floor.specs.Words.{clients_in}
+use Rattle.cn_floor.proofs.AtMoments.Bounds.{all_came}
+use Rattle.cn_floor.proofs.AtMoments.Kept.{AddUpAlike, kept_alike}
+use Rattle.cn_floor.proofs.AtMoments.Openings.{accounted-new, on-new, standing-new}
+use Rattle.cn_floor.proofs.AtMoments.Totals.{part_le, total_set}
+use Rattle.cn_spec.proofs.CallerLemmas.{sum_below-zero, times-append, times-nil}
+
+-- ---- split
+
+pub splits : (start : Start) (id q : ℕ) (v : View) → v.start ≡ start → v.loads ≡ [] → q ≤ v.quota → Splits (KeepsRule start) id v (after_split q v) (split_off q v)
+splits start id q v of idle enough s kept at =
+    let left : View = after_split q v in
+    let right : View = split_off q v in
+    let vs : List View = set s.views id left ++ right ∷ [] in
+    let sums : (f : View → ℕ) → f left ≡ f v → f right ≡ 0 → sum_by f s.views ≡ sum_by f vs = λ f e z. omega (arith, total_set f s.views id v left at, sum_by_push f (set s.views id left) right) in
+    let alike : AddUpAlike (base start) s.views vs = record {
+      on = λ u. sums (on_in u) refl (on-new v.start q u);
+      standing = λ u c. sums (standing_in u c) refl (standing-new v.start q u c);
+      given = λ end n. sums (given_in end n) (given-left end n) (given-right end n);
+      granted = λ c i k name. sums (granted_in (base start) c i k name) refl refl;
+      entries = λ u. sums (λ (x : View). times u x.entries) refl (times-nil u);
+      quotas =
+          let f : View → ℕ = λ x. x.quota + length x.entries in
+          omega (arith, total_set f s.views id v left at, sum_by_push f (set s.views id left) right);
+    } in
+    let f = kept.accounted id v at in
+    let g = kept.fresh id v at in
+    let new = subst (λ (n : Start). IsAccounted n.network (empty_view v.start q)) of (accounted-new v.start q) in
+    let all : load_bound start.network.table s.words v.loads ≡ clients_in start.network.table s.words = ap (λ (ls : List ℕ). load_bound start.network.table s.words ls) idle in
+    let accounted-left : IsAccounted start.network left = record { all = f.all; entries = f.entries; walked = f.walked } in
+    let accounted-right : IsAccounted start.network right = record { all = new.all; entries = new.entries; walked = new.walked } in
+    let fresh-left : IsFresh start s.words left = record { low = g.low; own = g.own; seen = g.seen; names = g.names } in
+    let fresh-right : IsFresh start s.words right = record { low = λ u. omega arith; own = omega (arith, all_came start s kept); seen = omega (arith, g.seen); names = λ k d less. absurd (omega arith) } in
+    kept_alike start s vs kept alike
+    (λ j x e. ⊎_elim
+    (λ y. ⊎_elim (λ z. subst (λ (u : View). IsAccounted start.network u) z.1 accounted-left) (λ z. kept.accounted j x z.1) (at_set s.views id j left x y))
+    (λ y. subst (λ (u : View). IsAccounted start.network u) y accounted-right)
+    (at_snoc (set s.views id left) right x j e))
+    (λ j x e. ⊎_elim
+    (λ y. ⊎_elim (λ z. subst (λ (u : View). IsFresh start s.words u) z.1 fresh-left) (λ z. kept.fresh j x z.1) (at_set s.views id j left x y))
+    (λ y. subst (λ (u : View). IsFresh start s.words u) y fresh-right)
+    (at_snoc (set s.views id left) right x j e))
+  where
+    given-left : (end : End) (n : ℕ) → given_in end n (after_split q v) ≡ given_in end n v
+    given-left (Balancer b) n = refl
+    given-left (Exit i) n = refl
+
+    given-right : (end : End) (n : ℕ) → given_in end n (split_off q v) ≡ 0
+    given-right (Balancer b) n = refl
+    given-right (Exit i) n = refl
+
+-- ---- join
+
+-- the lane has no tokens
+abbrev pub Empty : View → Type 0
+Empty w = (u : ℕ) → on_in u w ≡ 0
+
+module _ (v w : View) (out : Empty w) where
+  standing-out : (u c : ℕ) → standing_in u c w ≡ 0
+  standing-out u c = omega (arith, out u, count_by-le-length (λ (e : ℕ × ℕ). eqb e.1 c) (get_or w.tokens u []))
+
+  on-after_join : (u : ℕ) → on_in u (after_join v w) ≡ on_in u v + on_in u w
+  on-after_join u = omega (arith, out u)
+
+  standing-after_join : (u c : ℕ) → standing_in u c (after_join v w) ≡ standing_in u c v + standing_in u c w
+  standing-after_join u c = omega (arith, standing-out u c)
+
+  given-after_join : (end : End) (n : ℕ) → given_in end n (after_join v w) ≡ given_in end n v + given_in end n w
+  given-after_join (Balancer b) n = sum_by-append (λ (p : Passage). cond (eqb b p.balancer && eqb p.number n) 1 0) v.passages w.passages
+  given-after_join (Exit i) n = sum_by-append (λ (g : Grant). cond (eqb i g.exit && eqb g.visit n) 1 0) v.grants w.grants
+
+  granted-after_join : (m c i k name : ℕ) → granted_in m c i k name (after_join v w) ≡ granted_in m c i k name v + granted_in m c i k name w
+  granted-after_join m c i k name = sum_by-append (λ (g : Grant). cond (eqb g.client c && (eqb g.exit i && (eqb g.visit k && eqb (g.name + m) name))) 1 0) v.grants w.grants
+
+  accounted-after_join : (network : Network) → IsAccounted network v → IsAccounted network w → IsAccounted network (after_join v w)
+  accounted-after_join network f g =
+      let inside : inside_in w ≡ 0 = sum_below-zero (length w.tokens) (λ u. on_in u w) out in
+      record {
+        all = omega (arith, f.all, g.all, length-append v.entries w.entries, length-append v.grants w.grants);
+        entries = All-append (λ (u : ℕ). u < network.table.entries) v.entries w.entries f.entries g.entries;
+        walked = λ level is.
+            let none : levels_in level w ≡ 0 = sum_below-zero (length w.tokens) (λ u. level u * on_in u w) (λ u. ap (λ (k : ℕ). level u * k) (out u) ∙ omega arith) in
+            let more : network.depth * length (v.grants ++ w.grants) ≡ network.depth * (length v.grants + length w.grants) = ap (λ (k : ℕ). network.depth * k) (length-append v.grants w.grants) in
+            omega (arith, f.walked level is, g.walked level is, length-append v.passages w.passages);
+      }
+
+given-nobody : (end : End) (n : ℕ) → given_in end n nobody ≡ 0
+given-nobody (Balancer b) n = refl
+given-nobody (Exit i) n = refl
+
+pub joins : (start : Start) (id other : ℕ) (v w : View) → v.loads ≡ [] → w.loads ≡ [] → Empty w → Joins (KeepsRule start) id v other w (after_join v w) nobody
+joins start id other v w idle idle' out s kept at apart at_other =
+    let both : View = after_join v w in
+    let once : List View = set s.views id both in
+    let vs : List View = set once other nobody in
+    let here : get_elem? s.views other ≡ some w = ⊎_elim (λ y. absurd (apart y.0)) (λ y. y.1) (at_set s.views id other both w at_other) in
+    let two : (f : View → ℕ) → sum_by f vs + f v + f w ≡ sum_by f s.views + f both + f nobody = λ f. omega (arith, total_set f s.views id v both at, total_set f once other w nobody at_other) in
+    let sums : (f : View → ℕ) → f both ≡ f v + f w → f nobody ≡ 0 → sum_by f s.views ≡ sum_by f vs = λ f e z. omega (arith, two f) in
+    let alike : AddUpAlike (base start) s.views vs = record {
+      on = λ u. sums (on_in u) (on-after_join v w out u) refl;
+      standing = λ u c. sums (standing_in u c) (standing-after_join v w out u c) refl;
+      given = λ end n. sums (given_in end n) (given-after_join v w out end n) (given-nobody end n);
+      granted = λ c i k name. sums (granted_in (base start) c i k name) (granted-after_join v w out (base start) c i k name) refl;
+      entries = λ u. sums (λ (x : View). times u x.entries) (times-append u v.entries w.entries) (times-nil u);
+      quotas = sums (λ (x : View). x.quota + length x.entries) (omega (arith, length-append v.entries w.entries)) refl;
+    } in
+    let t = start.network.table in
+    let g = kept.fresh id v at in
+    let h = kept.fresh other w here in
+    let all : load_bound t s.words v.loads ≡ clients_in t s.words = ap (λ (ls : List ℕ). load_bound t s.words ls) idle in
+    let all' : load_bound t s.words w.loads ≡ clients_in t s.words = ap (λ (ls : List ℕ). load_bound t s.words ls) idle' in
+    let entries : length v.entries + length w.entries ≤ sum_by (λ (x : View). length x.entries) s.views =
+    let part = part_le (λ (x : View). length x.entries) (set s.views id nobody) other w (set_else s.views id other nobody apart ∙ here) in
+    omega (arith, total_set (λ (x : View). length x.entries) s.views id v nobody at) in
+    let came = all_came start s kept in
+    let fresh-both : IsFresh start s.words both = record {
+      low = g.low;
+      own = omega (arith, length-append v.entries w.entries);
+      seen = omega (arith, g.seen, h.seen);
+      names = All-append (λ (x : Grant). base start + x.name < load_bound t s.words v.loads) v.grants w.grants g.names (λ k d less. let n = h.names k d less in omega (arith, n));
+    } in
+    let fresh-spent : IsFresh start s.words nobody = record { low = λ u. omega arith; own = omega arith; seen = omega arith; names = λ k d less. absurd (omega arith) } in
+    let accounted-spent : IsAccounted start.network nobody = record {
+      all = omega (arith, sum_below-zero 0 (λ _. 0) (λ _. refl));
+      entries = λ k d less. absurd (omega arith);
+      walked = λ level is. omega (arith, sum_below-zero (length nobody.tokens) (λ u. level u * on_in u nobody) (λ u. omega arith));
+    } in
+    kept_alike start s vs kept alike
+    (λ j x e. ⊎_elim
+    (λ y. subst (λ (u : View). IsAccounted start.network u) y.1 accounted-spent)
+    (λ y. ⊎_elim (λ z. subst (λ (u : View). IsAccounted start.network u) z.1 (accounted-after_join v w out start.network (kept.accounted id v at) (kept.accounted other w here))) (λ z. kept.accounted j x z.1) (at_set s.views id j both x y.1))
+    (at_set once other j nobody x e))
+    (λ j x e. ⊎_elim
+    (λ y. subst (λ (u : View). IsFresh start s.words u) y.1 fresh-spent)
+    (λ y. ⊎_elim (λ z. subst (λ (u : View). IsFresh start s.words u) z.1 fresh-both) (λ z. kept.fresh j x z.1) (at_set s.views id j both x y.1))
+    (at_set once other j nobody x e))
+
+-- a look changes nothing, and tells that quota and tokens are few
+pub looks : (start : Start) (slots id i : ℕ) (me : Me (Unit {0}) View) → Allows (KeepsRule start) slots id me i (λ n. n) (λ n new. (new ≡ me) × (inside_in me.0 + me.0.quota ≤ MOST_CLIENTS))
+looks start slots id i me s kept homes at fits =
+    let v : View = me.0 in
+    let words : s.words ≡ set s.words i (get_or s.words i 0) = sym (set-get_or s.words i 0) in
+    let views : s.views ≡ set s.views id v = sym (set_again s.views id v at) in
+    let after : KeepsRule start record { words = set s.words i (get_or s.words i 0); homes = s.homes; views = set s.views id v } =
+    subst (λ (x : List ℕ × List View). KeepsRule start record { words = x.0; homes = s.homes; views = x.1 }) (λ j. (words j, views j)) kept in
+    let f = kept.accounted id v at in
+    let quota = part_le (λ (x : View). x.quota + length x.entries) s.views id v at in
+    (v, keeps, tt, after, (refl, omega (arith, f.all, kept.quotas, kept.began.quota)))

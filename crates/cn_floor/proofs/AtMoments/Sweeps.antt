@@ -1,0 +1,302 @@
+-- The rule is kept by a sweep: by as many events in a row as tokens go.
+use Rattle.std.proofs.Common.{◌≡◌, ◌≢◌, ℕ, zero, suc, ◌+◌, ◌*◌, ◌%◌, ◌^◌, ◌<◌, ◌≤◌, inl, inr, cond, List, [], ◌∷◌, ◌++◌, length, get_or, set, sum_by, sym, refl, ap, ◌∙◌, arith, subst, append-nil, ⊎_elim}
+use mathlib.Core.Option.{some, some-injective, some-ne-none}
+use lib.ListN.{get_elem?}
+use Rattle.std.proofs.lemmas.Bool.{cases_lt, ne_eqb}
+use Rattle.std.proofs.lemmas.List.{get_or_past, set-get_or, set-set, get_or-set_same}
+use Rattle.std.proofs.lemmas.List.FromFn.{length-map-range_with_len}
+use Rattle.atomic_table.specs.Table.{Allows, Me, State, keeps}
+use Rattle.atomic_table.proofs.Lists.{at_set}
+use Rattle.cn_spec.specs.Step.{name_of}
+use Rattle.cn_spec.specs.Sums.{times}
+use Rattle.cn_wiring.specs.declared.end.End.{End}
+use Rattle.cn_wiring.specs.declared.end.End.TheVariants.{Balancer, Exit}
+use Rattle.cn_wiring.specs.Table.{IsWellFormed, LeadsOn, Stands, Table, end_of, output_wire}
+use Rattle.std.proofs.lemmas.Nat.{mod_below}
+use Rattle.cn_ledger.specs.Ledger.{Ledger}
+use Rattle.cn_yard.specs.Lists.{IsThere, last_on, on, times_in, without}
+use Rattle.cn_yard.proofs.CallerLemmas.{first-there, once-gone, once-moved, rest-on}
+use Rattle.cn_floor.specs.declared.view.Start.{Start}
+use Rattle.cn_floor.specs.declared.view.View.{View}
+use Rattle.cn_floor.specs.Rule.{IsAccounted, IsFresh, KeepsRule, ledger_of}
+use Rattle.cn_floor.specs.Sweeps.{AllGoOn, GoInRow, GoesFrom, Sweeping, after_steps, after_sweep}
+use Rattle.cn_floor.specs.Views.{after_step, base, given_in, granted_in, lists_after, on_in, standing_in}
+use Rattle.cn_floor.specs.Words.{clients_in, count_in, end_word}
+use Rattle.cn_floor.proofs.AtMoments.Bounds.{count_few, few_came, name_later}
+use Rattle.cn_floor.proofs.AtMoments.Kept.{AddUpAlike, kept_alike, ledger-alike}
+use Rattle.cn_floor.proofs.Lists.{made_at, made_beyond}
+use Rattle.cn_floor.proofs.AtMoments.Raised.{count-raised, count-word, end_there, raised}
+use Rattle.cn_floor.proofs.AtMoments.Sole.{sole}
+use Rattle.cn_floor.proofs.AtMoments.Steps.{end-self, kept-after_step, went}
+use Rattle.cn_floor.proofs.AtMoments.Totals.{total_set}
+
+-- ---- one place of a list
+
+set-here : {X : Type 0} (xs : List X) (i : ℕ) (x : X) → get_elem? xs i ≡ some x → set xs i x ≡ xs
+set-here [] i x e = absurd (some-ne-none x (sym e))
+set-here (y ∷ xs) zero x e = ap (λ z. z ∷ xs) (sym (some-injective y x e))
+set-here (y ∷ xs) (suc i) x e = ap (λ zs. y ∷ zs) (set-here xs i x e)
+
+get-here : {X : Type 0} (xs : List X) (i : ℕ) (x y : X) → get_elem? xs i ≡ some x → get_elem? (set xs i y) i ≡ some y
+get-here [] i x y e = absurd (some-ne-none x (sym e))
+get-here (z ∷ xs) zero x y e = refl
+get-here (z ∷ xs) (suc i) x y e = get-here xs i x y e
+
+get-there : {X : Type 0} (xs : List X) (i j : ℕ) (x y : X) → j ≢ i → get_elem? xs j ≡ some x → get_elem? (set xs i y) j ≡ some x
+get-there [] i j x y other e = e
+get-there (z ∷ xs) zero zero x y other e = absurd (other refl)
+get-there (z ∷ xs) zero (suc j) x y other e = e
+get-there (z ∷ xs) (suc i) zero x y other e = e
+get-there (z ∷ xs) (suc i) (suc j) x y other e = get-there xs i j x y (λ same. other (ap suc same)) e
+
+-- ---- the tokens of a wire, one after the other
+
+-- what stands on a wire of lists that are made anew
+pub lists_after-on : (lists : List (List (ℕ × ℕ))) (token : ℕ) (more : ℕ → List (ℕ × ℕ)) → ((u : ℕ) → length lists ≤ u → more u ≡ [])
+    → (u : ℕ) → on (lists_after token more lists) u ≡ without token (on lists u) ++ more u
+lists_after-on lists token more beyond u =
+    let make : ℕ → List (ℕ × ℕ) = λ x. without token (on lists x) ++ more x in
+    elim (cases_lt u (length lists)) [
+      | inl l ↦ made_at lists make u l
+      | inr l ↦ made_beyond lists make u l ∙ sym ((λ i. without token (get_or_past lists u [] l i) ++ beyond u l i))
+    ]
+
+module _ (start : Start) (wire : ℕ) (end : End) (formed : IsWellFormed start.network.table) (low : wire < length start.network.table.ends)
+    (ends : end_of start.network.table wire ≡ end) (stands : Stands start.network.table end) where
+  abbrev t : Table
+  t = start.network.table
+
+  -- these tokens stand on the wire and may go
+  pub record MayGo (v : View) (tokens : List (ℕ × ℕ)) : Type 0 where
+    pub on_wire : on v.tokens wire ≡ tokens
+    pub once : (k : ℕ) → times_in v.tokens k ≤ 1
+    pub wires : length v.tokens ≡ length t.ends
+    pub of : v.start ≡ start
+
+  pub goes-there : (v : View) (token client : ℕ) (rest : List (ℕ × ℕ)) → MayGo v ((token, client) ∷ rest) → IsThere v.tokens token client wire
+  goes-there v token client rest may = first-there v.tokens token client wire rest may.once (omega (arith, low, may.wires)) may.on_wire
+
+  -- once the first has gone
+  gone-on : (b n : ℕ) → end ≡ Balancer b → (v : View) (token client : ℕ) (rest : List (ℕ × ℕ)) → MayGo v ((token, client) ∷ rest) → MayGo (after_step token client (Balancer b) n v) rest
+  gone-on b n is v token client rest may =
+      let to : ℕ = output_wire v.start.network.table b (n % 2) in
+      let same : to ≡ output_wire t b (n % 2) = ap (λ (s : Start). output_wire s.network.table b (n % 2)) may.of in
+      let two = mod_below n 2 (omega arith) in
+      let forward : wire < t.entries + 2 * b = subst (LeadsOn t wire) (ends ∙ is) (formed.forward wire low) in
+      let there : b < t.balancers = subst (Stands t) is stands in
+      let inside : wire < length v.tokens = omega (arith, low, may.wires) in
+      let lands : to < length v.tokens = omega (arith, same, there, formed.wires, may.wires) in
+      let lists = lists_after-on v.tokens token (last_on token client to) (λ u past. rw (ne_eqb to u (λ e. omega (arith, e, past, lands))) refl) in
+      let long = length-map-range_with_len (λ u. without token (on v.tokens u) ++ last_on token client to u) 0 (length v.tokens) in
+      let none : last_on token client to wire ≡ [] = rw (ne_eqb to wire (λ e. omega (arith, e, same, forward))) refl in
+      record {
+        on_wire = lists wire ∙ (λ i. rest-on v.tokens token client wire rest may.once inside may.on_wire i ++ none i) ∙ append-nil rest;
+        once = λ k. once-moved v.tokens token client wire rest may.once inside may.on_wire (after_step token client (Balancer b) n v).tokens long k to lands lists;
+        wires = long ∙ may.wires;
+        of = may.of;
+      }
+
+  gone-out : (i n : ℕ) (v : View) (token client : ℕ) (rest : List (ℕ × ℕ)) → MayGo v ((token, client) ∷ rest) → MayGo (after_step token client (Exit i) n v) rest
+  gone-out i n v token client rest may =
+      let inside : wire < length v.tokens = omega (arith, low, may.wires) in
+      let lists : (u : ℕ) → on (lists_after token (λ _. []) v.tokens) u ≡ without token (on v.tokens u) =
+      λ u. lists_after-on v.tokens token (λ _. []) (λ _ _. refl) u ∙ append-nil (without token (on v.tokens u)) in
+      let long = length-map-range_with_len (λ u. without token (on v.tokens u) ++ []) 0 (length v.tokens) in
+      record {
+        on_wire = lists wire ∙ rest-on v.tokens token client wire rest may.once inside may.on_wire;
+        once = λ k. once-gone v.tokens token client wire rest may.once inside may.on_wire (after_step token client (Exit i) n v).tokens long k lists;
+        wires = long ∙ may.wires;
+        of = may.of;
+      }
+
+  pub rest-may : (n : ℕ) (v : View) (token client : ℕ) (rest : List (ℕ × ℕ)) → MayGo v ((token, client) ∷ rest) → MayGo (after_step token client end n v) rest
+  rest-may n v token client rest may = by end refl
+    where
+      by : (e : End) → end ≡ e → MayGo (after_step token client e n v) rest
+      by (Balancer b) is = gone-on b n is v token client rest may
+      by (Exit i) is = gone-out i n v token client rest may
+
+  -- a view that loads nothing goes on to load nothing
+  still-idle : (n token client : ℕ) (v : View) → v.loads ≡ [] → (after_step token client end n v).loads ≡ []
+  still-idle n token client v idle = by end
+    where
+      by : (e : End) → (after_step token client e n v).loads ≡ []
+      by (Balancer b) = idle
+      by (Exit i) = idle
+
+  module _ (id : ℕ) where
+    abbrev word : ℕ
+    word = end_word t end
+
+    abbrev ledger : State (Unit {0}) View → Ledger
+    ledger s = ledger_of t start.words s.words s.views
+
+    -- what the floor is once these tokens have gone by one after the other
+    pub record Gone (s : State (Unit {0}) View) (v : View) (n : ℕ) (tokens : List (ℕ × ℕ)) : Type 0 where
+      pub words : List ℕ
+      pub words_are : words ≡ set s.words word (get_or s.words word 0 + length tokens)
+      pub kept : KeepsRule start (record { words = words; homes = s.homes; views = set s.views id (after_steps end n tokens v) })
+      pub row : GoInRow t wire end n tokens (ledger s) (ledger_of t start.words words (set s.views id (after_steps end n tokens v)))
+
+    abbrev with_view : State (Unit {0}) View → View → State (Unit {0}) View
+    with_view s v = record { words = s.words; homes = s.homes; views = set s.views id v }
+
+    all-after_steps : (tokens : List (ℕ × ℕ)) (s : State (Unit {0}) View) (v : View) (n : ℕ) → KeepsRule start s → get_elem? s.views id ≡ some v → MayGo v tokens → v.loads ≡ [] → count_in t s.words end ≡ n
+        → Gone s v n tokens
+    unfolding after_steps GoInRow
+    all-after_steps [] s v n kept here may idle count =
+        let same : set s.views id v ≡ s.views = set-here s.views id v here in
+        record {
+          words = s.words;
+          words_are = sym (ap (set s.words word) (plus-zero (get_or s.words word 0)) ∙ set-get_or s.words word 0);
+          kept = subst (λ (vs : List View). KeepsRule start (record { words = s.words; homes = s.homes; views = vs })) (sym same) kept;
+          row = ap (ledger_of t start.words s.words) (sym same);
+        }
+      where
+        plus-zero : (k : ℕ) → k + 0 ≡ k
+        plus-zero k = omega arith
+    all-after_steps ((token, client) ∷ rest) s v n kept here may idle count =
+        let is = goes-there v token client rest may in
+        let m : ℕ = count_in t s.words end in
+        let raise : List ℕ = raised s.words word in
+        let then : View = after_step token client end n v in
+        let kept_m = kept-after_step start id token client wire end v s kept here may.of is may.wires ends stands idle in
+        let went_m = went start id token client wire end v s kept here may.of is may.wires ends stands in
+        let kept_n : KeepsRule start (record { words = raise; homes = s.homes; views = set s.views id then }) =
+        subst (λ (k : ℕ). KeepsRule start (record { words = raise; homes = s.homes; views = set s.views id (after_step token client end k v) })) count kept_m in
+        let went_n : GoesFrom t (ledger s) (ledger_of t start.words raise (set s.views id then)) client wire end =
+        subst (λ (k : ℕ). GoesFrom t (ledger s) (ledger_of t start.words raise (set s.views id (after_step token client end k v))) client wire end) count went_m in
+        let more : count_in t raise end ≡ n + 1 =
+        count-raised t s.words kept.words end end stands ∙ ap (λ b. m + cond b 1 0) (end-self end) ∙ ap (λ (k : ℕ). k + 1) count in
+        let later = all-after_steps rest (record { words = raise; homes = s.homes; views = set s.views id then }) then (n + 1) kept_n (get-here s.views id v then here) (rest-may n v token client rest may) (still-idle n token client v idle) more in
+        let views : set (set s.views id then) id (after_steps end (n + 1) rest then) ≡ set s.views id (after_steps end (n + 1) rest then) = set-set s.views id then (after_steps end (n + 1) rest then) in
+        let inside : word < length s.words = omega (arith, kept.words, end_there t end stands) in
+        let raise_at : get_or raise word 0 ≡ get_or s.words word 0 + 1 = get_or-set_same s.words word (get_or s.words word 0 + 1) 0 inside in
+        record {
+          words = later.words;
+          words_are = later.words_are ∙ set-set s.words word (get_or s.words word 0 + 1) (get_or raise word 0 + length rest)
+              ∙ ap (set s.words word) (one-more (get_or raise word 0) (get_or s.words word 0) (length rest) raise_at);
+          kept = subst (λ (vs : List View). KeepsRule start (record { words = later.words; homes = s.homes; views = vs })) views later.kept;
+          row = (
+            ledger_of t start.words raise (set s.views id then),
+            went_n,
+            count,
+            subst (λ (vs : List View). GoInRow t wire end (n + 1) rest (ledger_of t start.words raise (set s.views id then)) (ledger_of t start.words later.words vs)) views later.row,
+          );
+        }
+      where
+        one-more : (x y k : ℕ) → x ≡ y + 1 → x + k ≡ y + suc k
+        one-more x y k e = omega (arith, e)
+
+    -- how many steps a view counts is nothing to the rule
+    module _ (s : State (Unit {0}) View) (v g : View) (words : List ℕ) (here : get_elem? s.views id ≡ some v) (k : ℕ)
+        (kept : KeepsRule start (record { words = words; homes = s.homes; views = set s.views id g })) where
+      abbrev w : View
+      w = record g { steps = k }
+
+      sums : (f : View → ℕ) → f g ≡ f w → sum_by f (set s.views id g) ≡ sum_by f (set s.views id w)
+      sums f same = omega (arith, total_set f s.views id v g here, total_set f s.views id v w here, same)
+
+      given-alike : (other : End) (m : ℕ) → given_in other m g ≡ given_in other m w
+      given-alike (Balancer b) m = refl
+      given-alike (Exit i) m = refl
+
+      pub alike : (m : ℕ) → AddUpAlike m (set s.views id g) (set s.views id w)
+      alike m = record {
+        on = λ u. sums (on_in u) refl;
+        standing = λ u c. sums (standing_in u c) refl;
+        given = λ other n. sums (given_in other n) (given-alike other n);
+        granted = λ c i n name. sums (granted_in m c i n name) refl;
+        entries = λ u. sums (λ x. times u x.entries) refl;
+        quotas = sums (λ x. x.quota + length x.entries) refl;
+      }
+
+      accounted-alike : IsAccounted start.network g → IsAccounted start.network w
+      accounted-alike a = record { all = a.all; entries = a.entries; walked = a.walked }
+
+      fresh-alike : IsFresh start words g → IsFresh start words w
+      fresh-alike f = record { low = f.low; own = f.own; seen = f.seen; names = f.names }
+
+      pub kept-counted : KeepsRule start (record { words = words; homes = s.homes; views = set s.views id w })
+      kept-counted =
+          kept_alike start (record { words = words; homes = s.homes; views = set s.views id g }) (set s.views id w) kept (alike (base start))
+          (λ i x e. ⊎_elim
+          (λ y. subst (IsAccounted start.network) y.1 (accounted-alike (kept.accounted id g (get-here s.views id v g here))))
+          (λ y. kept.accounted i x (get-there s.views id i x g y.0 y.1))
+          (at_set s.views id i w x e))
+          (λ i x e. ⊎_elim
+          (λ y. subst (IsFresh start words) y.1 (fresh-alike (kept.fresh id g (get-here s.views id v g here))))
+          (λ y. kept.fresh i x (get-there s.views id i x g y.0 y.1))
+          (at_set s.views id i w x e))
+
+-- the tokens of a wire may go on
+all_may : (start : Start) (slots id : ℕ) (me : Me (Unit {0}) View) (wire : ℕ) (end : End) → me.1 ≡ [] → me.0.loads ≡ [] → me.0.start ≡ start
+    → ((k : ℕ) → times_in me.0.tokens k ≤ 1) → length me.0.tokens ≡ length start.network.table.ends → wire < length start.network.table.ends
+    → end_of start.network.table wire ≡ end → Stands start.network.table end
+    → Allows (KeepsRule start) slots id me (end_word start.network.table end) (λ n. (n + length (on me.0.tokens wire)) % 2 ^ 64)
+    (λ n new. (new.1 ≡ []) × AllGoOn (record { start = start; wire = wire; end = end }) me.0 n new.0)
+all_may start slots id me wire end no_slot idle of once wires low ends stands s kept homes here fits =
+    let t : Table = start.network.table in
+    let v : View = me.0 in
+    let tokens : List (ℕ × ℕ) = on v.tokens wire in
+    let at : ℕ = end_word t end in
+    let n : ℕ = get_or s.words at 0 in
+    let formed = kept.began.network.formed in
+    let count : count_in t s.words end ≡ n = count-word t s.words end stands in
+    let may : MayGo start wire end formed low ends stands v tokens = record { on_wire = refl; once = once; wires = wires; of = of } in
+    let gone_all = all-after_steps start wire end formed low ends stands id tokens s v n kept here may idle count in
+    let g : View = after_steps end n tokens v in
+    let w : View = after_sweep wire end n v in
+    let words : List ℕ = gone_all.words in
+    let kept_w = kept-counted start wire end formed low ends stands id s v g words here (v.steps + 1) gone_all.kept in
+    let after : State (Unit {0}) View = record { words = words; homes = s.homes; views = set s.views id w } in
+    let inside : at < length s.words = omega (arith, kept.words, end_there t end stands) in
+    let now : count_in t words end ≡ n + length tokens =
+    count-word t words end stands ∙ ap (λ (ws : List ℕ). get_or ws at 0) gone_all.words_are ∙ get_or-set_same s.words at (n + length tokens) 0 inside in
+    let few : n + length tokens ≤ base start + start.quota = omega (arith, now, count_few start after kept_w end stands, few_came start after kept_w) in
+    let bound = kept.began.quota in
+    let carried = kept.began.few in
+    let no_wrap : n + length tokens ≡ (n + length tokens) % 18446744073709551616 = omega arith in
+    let words_now : words ≡ set s.words at ((n + length tokens) % 18446744073709551616) = gone_all.words_are ∙ ap (set s.words at) no_wrap in
+    let same = ledger-alike t start.words words (set s.views id g) (set s.views id w) (alike start wire end formed low ends stands id s v g words here (v.steps + 1) gone_all.kept (clients_in t start.words)) in (
+      w,
+      keeps,
+      tt,
+      subst (λ (ws : List ℕ). KeepsRule start (record { words = ws; homes = s.homes; views = set s.views id w })) words_now kept_w,
+      (
+        no_slot,
+        (
+          refl,
+          record {
+            step = record {
+              old = s;
+              new = after;
+              id = id;
+              here = here;
+              views = refl;
+              kept_before = kept;
+              kept_after = kept_w;
+              happened = subst (GoInRow t wire end n tokens (ledger_of t start.words s.words s.views)) same gone_all.row;
+            };
+            few = few;
+            late = λ i is.
+                let low_exit : i < t.width = subst (Stands t) is stands in
+                let counted : count_in t s.words (Exit i) ≡ n = ap (count_in t s.words) (sym is) ∙ count in
+                subst (λ (k : ℕ). base start ≤ name_of t.width i k) counted (name_later start s kept i low_exit);
+            sole = λ whole. sym count ∙ sole start s kept id v here whole end stands;
+          },
+        ),
+      ),
+    )
+
+-- the same, where the word and the number of tokens are told apart
+pub all_go_on : (start : Start) (slots id : ℕ) (me : Me (Unit {0}) View) (is : Sweeping) (wire : ℕ) (end : End) (count word : ℕ)
+    → is ≡ record { start = start; wire = wire; end = end } → me.1 ≡ [] → me.0.loads ≡ [] → me.0.start ≡ start
+    → ((k : ℕ) → times_in me.0.tokens k ≤ 1) → length me.0.tokens ≡ length start.network.table.ends → wire < length start.network.table.ends
+    → length (on me.0.tokens wire) ≡ count → end_of start.network.table wire ≡ end → Stands start.network.table end → end_word start.network.table end ≡ word
+    → Allows (KeepsRule start) slots id me word (λ n. (n + count) % 2 ^ 64) (λ n new. (new.1 ≡ []) × AllGoOn is me.0 n new.0)
+all_go_on start slots id me is wire end count word same no_slot idle of once wires low many ends stands at =
+    subst (λ (x : Sweeping). Allows (KeepsRule start) slots id me word (λ n. (n + count) % 2 ^ 64) (λ n new. (new.1 ≡ []) × AllGoOn x me.0 n new.0)) (sym same)
+    (subst (λ (k : ℕ). Allows (KeepsRule start) slots id me word (λ n. (n + k) % 2 ^ 64) (λ n new. (new.1 ≡ []) × AllGoOn (record { start = start; wire = wire; end = end }) me.0 n new.0)) many
+    (subst (λ (k : ℕ). Allows (KeepsRule start) slots id me k (λ n. (n + length (on me.0.tokens wire)) % 2 ^ 64) (λ n new. (new.1 ≡ []) × AllGoOn (record { start = start; wire = wire; end = end }) me.0 n new.0)) at
+    (all_may start slots id me wire end no_slot idle of once wires low ends stands)))

@@ -1,0 +1,6 @@
+-- What a lane has: its yard, its tokens and its grants.
+pub mod Yards
+pub mod Outs
+pub mod Swept
+pub mod Lanes
+pub mod Lone

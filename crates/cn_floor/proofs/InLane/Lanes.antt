@@ -1,0 +1,111 @@
+-- What a lane holds is what its view tells, also after a step.
+use Rattle.std.proofs.Common.{◌≡◌, ℕ, ◌+◌, ◌-◌, ◌%◌, ◌<◌, ◌≤◌, List, [], ◌∷◌, ◌++◌, length, get_or, Some, sym, ap, ◌∙◌, subst, arith, append-nil}
+use Rattle.std.specs.Prelude.{vec_capacity}
+use Rattle.std.proofs.lemmas.List.{length_push}
+use Rattle.cn_spec.specs.Step.{name_of}
+use Rattle.cn_wiring.specs.declared.end.End.TheVariants.{Balancer, Exit}
+use Rattle.cn_wiring.specs.declared.end.End.{End}
+use Rattle.cn_wiring.specs.Table.{end_of, output_wire}
+use Rattle.cn_yard.specs.Lists.{Admits, Moves, Releases, last_on, on, standing, tokens_in, without}
+use Rattle.cn_ledger.specs.Moves.{IsMoveOf}
+use Rattle.cn_ledger.specs.declared.moved.Moved.{Moved}
+use Rattle.cn_floor.specs.declared.floor.lane.Lane.TheInside.{Inside}
+use Rattle.cn_floor.specs.declared.view.View.{View}
+use Rattle.cn_floor.specs.declared.view.Start.{Start}
+use Rattle.cn_floor.specs.InsideLane.{IsLane}
+use Rattle.cn_floor.specs.Lane.{LaneValue, PutsOn, StepsOn}
+use Rattle.cn_floor.specs.Plays.{IsLetBy}
+use Rattle.cn_floor.specs.Steps.{IsAtomicStep, answer_at}
+use Rattle.cn_floor.specs.Views.{after_enter, after_step, base}
+use Rattle.cn_floor.proofs.Lists.{made}
+
+module _ (old new : Inside) (token client : ℕ) (kept : IsLane old) (no_slot : new.seat.me.1 ≡ []) where
+  abbrev v : View
+  v = old.seat.me.0
+
+  -- the lists on each wire, as the view has them
+  same_on : (u : ℕ) → get_or v.tokens u [] ≡ on old.yard.lists u
+  same_on u = ap (λ (ls : List (List (ℕ × ℕ))). get_or ls u []) (sym kept.tokens)
+
+  long : length v.tokens ≡ length old.yard.lists
+  long = ap length (sym kept.tokens)
+
+  -- a client came in
+  pub lane-in : (entry : ℕ) → new.seat.me.0 ≡ after_enter token client entry v → Admits old.yard new.yard token client entry
+      → new.grants ≡ old.grants → new.quota ≡ old.quota - 1 → 0 < old.quota → new.room ≡ old.room - 1
+      → length old.grants.items + tokens_in old.yard.lists + 1 ≤ vec_capacity old.grants → IsLane new
+  lane-in entry view yard grants quota some room fit = record {
+    no_slot = no_slot;
+    idle = ap (λ (w : View). w.loads) view ∙ kept.idle;
+    tokens =
+        made v.tokens (λ u. get_or v.tokens u [] ++ last_on token client entry u) new.yard.lists (yard.wires ∙ sym long)
+        (λ u. yard.lists u ∙ ap (λ (es : List (ℕ × ℕ)). es ++ last_on token client entry u) (sym (same_on u)))
+        ∙ ap (λ (w : View). w.tokens) (sym view);
+    wires = yard.wires ∙ kept.wires ∙ ap (λ (w : View). length w.start.network.table.ends) (sym view);
+    grants = ap (λ g. g.items) grants ∙ kept.grants ∙ ap (λ (w : View). w.grants) (sym view);
+    quota = quota ∙ ap (λ (k : ℕ). k - 1) kept.quota ∙ ap (λ (w : View). w.quota) (sym view);
+    few = omega (arith, kept.few, yard.tokens);
+    room = rw grants (omega (arith, kept.room, yard.tokens));
+    spare = omega (arith, kept.spare, yard.spare);
+  }
+
+  -- a token passed a balancer
+  pub lane-on : (b n to : ℕ) → to ≡ output_wire v.start.network.table b (n % 2) → new.seat.me.0 ≡ after_step token client (Balancer b) n v → Moves old.yard new.yard token client to
+      → new.grants ≡ old.grants → new.quota ≡ old.quota → new.room ≡ old.room → IsLane new
+  lane-on b n to at view yard grants quota room = record {
+    no_slot = no_slot;
+    idle = ap (λ (w : View). w.loads) view ∙ kept.idle;
+    tokens =
+        made v.tokens (λ u. without token (get_or v.tokens u []) ++ last_on token client (output_wire v.start.network.table b (n % 2)) u) new.yard.lists (yard.wires ∙ sym long)
+        (λ u. yard.lists u ∙ (λ i. without token (sym (same_on u) i) ++ last_on token client (at i) u))
+        ∙ ap (λ (w : View). w.tokens) (sym view);
+    wires = yard.wires ∙ kept.wires ∙ ap (λ (w : View). length w.start.network.table.ends) (sym view);
+    grants = ap (λ g. g.items) grants ∙ kept.grants ∙ ap (λ (w : View). w.grants) (sym view);
+    quota = quota ∙ kept.quota ∙ ap (λ (w : View). w.quota) (sym view);
+    few = omega (arith, kept.few, yard.tokens);
+    room = rw grants (omega (arith, kept.room, yard.tokens));
+    spare = omega (arith, kept.spare, yard.spare);
+  }
+
+  -- a token left
+  pub lane-out : (i n name : ℕ) → name ≡ name_of v.start.network.table.width i n - base v.start → new.seat.me.0 ≡ after_step token client (Exit i) n v → Releases old.yard new.yard token
+      → new.grants.items ≡ old.grants.items ++ record { client = client; exit = i; visit = n; name = name } ∷ [] → vec_capacity new.grants ≡ vec_capacity old.grants
+      → new.quota ≡ old.quota → new.room ≡ old.room → IsLane new
+  lane-out i n name named view yard grants capacity quota room = record {
+    no_slot = no_slot;
+    idle = ap (λ (w : View). w.loads) view ∙ kept.idle;
+    tokens =
+        made v.tokens (λ u. without token (get_or v.tokens u []) ++ []) new.yard.lists (yard.wires ∙ sym long)
+        (λ u. yard.lists u ∙ ap (λ (es : List (ℕ × ℕ)). without token es) (sym (same_on u)) ∙ sym (append-nil (without token (get_or v.tokens u []))))
+        ∙ ap (λ (w : View). w.tokens) (sym view);
+    wires = yard.wires ∙ kept.wires ∙ ap (λ (w : View). length w.start.network.table.ends) (sym view);
+    grants = grants ∙ (λ x. kept.grants x ++ record { client = client; exit = i; visit = n; name = named x } ∷ []) ∙ ap (λ (w : View). w.grants) (sym view);
+    quota = quota ∙ kept.quota ∙ ap (λ (w : View). w.quota) (sym view);
+    few = omega (arith, kept.few, yard.tokens);
+    room = omega (arith, kept.room, yard.tokens, ap (λ gs. length gs) grants, length_push old.grants.items (record { client = client; exit = i; visit = n; name = name }));
+    spare = omega (arith, kept.spare, yard.spare);
+  }
+
+-- ---- what a step tells
+
+module _ (old new : LaneValue) (token client wire n : ℕ) (answer : Moved) where
+  abbrev start : Start
+  start = old.home.start
+
+  pub steps-on : (end : End) → end_of start.network.table wire ≡ end → standing old.yard.lists token ≡ Some (wire, client) → new.home ≡ old.home
+      → new.view ≡ after_step token client end n old.view → PutsOn start end n old.yard new.yard token client → new.room ≡ old.room
+      → answer ≡ answer_at start end n → IsLetBy start old.view new.view client end n → StepsOn old new token client wire n answer
+  steps-on end at stood home view yard room answered let_by =
+      let by : IsLetBy start old.view new.view client (end_of start.network.table wire) n = subst (λ (e : End). IsLetBy start old.view new.view client e n) (sym at) let_by in
+      let says : answer ≡ answer_at start (end_of start.network.table wire) n = answered ∙ ap (λ (e : End). answer_at start e n) (sym at) in
+      record {
+        stood = stood;
+        home = home;
+        view = view ∙ ap (λ (e : End). after_step token client e n old.view) (sym at);
+        yard = subst (λ (e : End). PutsOn start e n old.yard new.yard token client) (sym at) yard;
+        room = room;
+        answered = says;
+        step = subst (λ (a : Moved). IsAtomicStep start old.view new.view (λ l m. IsMoveOf start.network.table (base start) l m client a)) (sym says) by.step;
+        few = by.few;
+        sole = by.sole;
+      }

@@ -1,0 +1,204 @@
+-- What a lane holds is what its view tells, also after a sweep.
+use Rattle.std.proofs.Common.{◌≡◌, ℕ, zero, suc, ◌+◌, ◌-◌, ◌*◌, ◌%◌, ◌<◌, List, [], ◌∷◌, ◌++◌, length, get_or, refl, sym, ap, ◌∙◌, subst, arith, append-nil, length-append, inl, inr}
+use Rattle.std.specs.Prelude.{vec_capacity}
+use Rattle.std.proofs.lemmas.Bool.{cases_lt}
+use Rattle.std.proofs.lemmas.List.{append_assoc, get_or_past}
+use Rattle.cn_spec.specs.Step.{name_of}
+use Rattle.cn_wiring.specs.declared.end.End.{End}
+use Rattle.cn_wiring.specs.declared.end.End.TheVariants.{Balancer, Exit}
+use Rattle.cn_wiring.specs.Table.{end_of, output_wire}
+use Rattle.cn_yard.specs.Deals.{Deals, Frees, IsDealt, out_of}
+use Rattle.cn_yard.specs.Lists.{Lists, Moves, Releases, Yard, last_on, on, tokens_in, without}
+use Rattle.cn_floor.specs.declared.floor.lane.Lane.TheInside.{Inside}
+use Rattle.cn_floor.specs.declared.view.Grant.{Grant}
+use Rattle.cn_floor.specs.declared.view.Start.{Start}
+use Rattle.cn_floor.specs.declared.view.Sweep.{Sweep}
+use Rattle.cn_floor.specs.declared.view.View.{View}
+use Rattle.cn_floor.specs.InsideLane.{IsLane}
+use Rattle.cn_floor.specs.Lane.{LaneValue}
+use Rattle.cn_floor.specs.Sweeps.{AreLetBy, PutsAll, SweepsOn, after_steps, after_sweep, grants_out, sweep_at}
+use Rattle.cn_floor.specs.Views.{after_step, base}
+use Rattle.cn_floor.proofs.Lists.{made}
+use Rattle.cn_floor.proofs.InLane.Outs.{grants-many}
+
+-- ---- what tokens that go by leave as it was
+
+pub record IsKin (v w : View) : Type 0 where
+  pub start : w.start ≡ v.start
+  pub quota : w.quota ≡ v.quota
+  pub entries : w.entries ≡ v.entries
+  pub seen : w.seen ≡ v.seen
+  pub loads : w.loads ≡ v.loads
+
+kin : (end : End) (n token client : ℕ) (v : View) → IsKin v (after_step token client end n v)
+kin (Balancer b) n token client v = record { start = refl; quota = refl; entries = refl; seen = refl; loads = refl }
+kin (Exit i) n token client v = record { start = refl; quota = refl; entries = refl; seen = refl; loads = refl }
+
+pub kin-by : (end : End) (n : ℕ) (tokens : List (ℕ × ℕ)) (v : View) → IsKin v (after_steps end n tokens v)
+unfolding after_steps
+kin-by end n [] v = record { start = refl; quota = refl; entries = refl; seen = refl; loads = refl }
+kin-by end n (e ∷ rest) v =
+    let one = kin end n e.0 e.1 v in
+    let more = kin-by end (n + 1) rest (after_step e.0 e.1 end n v) in
+    record {
+      start = more.start ∙ one.start;
+      quota = more.quota ∙ one.quota;
+      entries = more.entries ∙ one.entries;
+      seen = more.seen ∙ one.seen;
+      loads = more.loads ∙ one.loads;
+    }
+
+-- ---- grants
+
+pub grants-kept : (b n : ℕ) (tokens : List (ℕ × ℕ)) (v : View) → (after_steps (Balancer b) n tokens v).grants ≡ v.grants
+unfolding after_steps
+grants-kept b n [] v = refl
+grants-kept b n (e ∷ rest) v = grants-kept b (n + 1) rest (after_step e.0 e.1 (Balancer b) n v)
+
+pub grants-left : (i n : ℕ) (tokens : List (ℕ × ℕ)) (v : View)
+    → (after_steps (Exit i) n tokens v).grants ≡ v.grants ++ grants_out v.start.network.table.width (base v.start) i n tokens
+unfolding after_steps grants_out
+grants-left i n [] v = sym (append-nil v.grants)
+grants-left i n (e ∷ rest) v =
+    let grant : Grant = record { client = e.1; exit = i; visit = n; name = name_of v.start.network.table.width i n - base v.start } in
+    grants-left i (n + 1) rest (after_step e.0 e.1 (Exit i) n v)
+    ∙ append_assoc v.grants (grant ∷ []) (grants_out v.start.network.table.width (base v.start) i (n + 1) rest)
+
+-- ---- tokens
+
+-- one goes to a wire, or out
+moved-lists : (y z : Yard) (v : View) (token client b n to : ℕ) → y.lists ≡ v.tokens → to ≡ output_wire v.start.network.table b (n % 2) → Moves y z token client to
+    → z.lists ≡ (after_step token client (Balancer b) n v).tokens
+moved-lists y z v token client b n to same at moves =
+    made v.tokens (λ u. without token (get_or v.tokens u []) ++ last_on token client (output_wire v.start.network.table b (n % 2)) u) z.lists (moves.wires ∙ ap length same)
+    (λ u. moves.lists u ∙ (λ i. without token (get_or (same i) u []) ++ last_on token client (at i) u))
+
+freed-lists : (y z : Yard) (v : View) (token client i n : ℕ) → y.lists ≡ v.tokens → Releases y z token → z.lists ≡ (after_step token client (Exit i) n v).tokens
+freed-lists y z v token client i n same released =
+    made v.tokens (λ u. without token (get_or v.tokens u []) ++ []) z.lists (released.wires ∙ ap length same)
+    (λ u. released.lists u ∙ ap (λ (ls : List (List (ℕ × ℕ))). without token (get_or ls u [])) same ∙ sym (append-nil (without token (get_or v.tokens u []))))
+
+pub dealt-tokens : (outs : ℕ → ℕ) (b n p : ℕ) (tokens : List (ℕ × ℕ)) (y z : Yard) (v : View) → y.lists ≡ v.tokens
+    → ((q : ℕ) → outs (q % 2) ≡ output_wire v.start.network.table b (q % 2)) → p % 2 ≡ n % 2 → Deals outs p tokens y z
+    → z.lists ≡ (after_steps (Balancer b) n tokens v).tokens
+unfolding after_steps Deals
+dealt-tokens outs b n p [] y z v same at turn deals = ap (λ (x : Yard). x.lists) deals ∙ same
+dealt-tokens outs b n p (e ∷ rest) y z v same at turn (between, moves, later) =
+    let to : outs (p % 2) ≡ output_wire v.start.network.table b (n % 2) = at p ∙ ap (output_wire v.start.network.table b) turn in
+    dealt-tokens outs b (n + 1) (p + 1) rest between z (after_step e.0 e.1 (Balancer b) n v) (moved-lists y between v e.0 e.1 b n (outs (p % 2)) same to moves) at (next p n turn) later
+  where
+    next : (p n : ℕ) → p % 2 ≡ n % 2 → (p + 1) % 2 ≡ (n + 1) % 2
+    next p n e = omega (arith, e)
+
+pub freed-tokens : (i n : ℕ) (tokens : List (ℕ × ℕ)) (y z : Yard) (v : View) → y.lists ≡ v.tokens → Frees tokens y z → z.lists ≡ (after_steps (Exit i) n tokens v).tokens
+unfolding after_steps Frees
+freed-tokens i n [] y z v same frees = ap (λ (x : Yard). x.lists) frees ∙ same
+freed-tokens i n (e ∷ rest) y z v same (between, released, later) =
+    freed-tokens i (n + 1) rest between z (after_step e.0 e.1 (Exit i) n v) (freed-lists y between v e.0 e.1 i n same released) later
+
+-- so many fewer stand in a yard, and so many more of its records are free
+pub record IsFreed (y z : Yard) (many : ℕ) : Type 0 where
+  pub wires : length z.lists ≡ length y.lists
+  pub tokens : tokens_in z.lists + many ≡ tokens_in y.lists
+  pub spare : z.spare ≡ y.spare + many
+
+pub freed-all : (tokens : List (ℕ × ℕ)) (y z : Yard) → Frees tokens y z → IsFreed y z (length tokens)
+unfolding Frees
+freed-all [] y z same = record {
+  wires = ap (λ (x : Yard). length x.lists) same;
+  tokens = omega (arith, ap (λ (x : Yard). tokens_in x.lists) same);
+  spare = omega (arith, ap (λ (x : Yard). x.spare) same);
+}
+freed-all (e ∷ rest) y z (between, released, later) =
+    let more = freed-all rest between z later in
+    record {
+      wires = more.wires ∙ released.wires;
+      tokens = omega (arith, more.tokens, released.tokens);
+      spare = omega (arith, more.spare, released.spare);
+    }
+
+-- a wire with a token is one of the yard's
+pub some-inside : (y : Lists) (wire : ℕ) → 0 < length (on y wire) → wire < length y
+some-inside y wire some = elim (cases_lt wire (length y)) [
+  | inl l ↦ l
+  | inr l ↦ absurd (omega (arith, some, ap (λ (es : List (ℕ × ℕ)). length es) (get_or_past y wire [] l)))
+]
+
+-- the two outputs of a balancer, as a lane deals to them
+pub outs-are : (entries b out q : ℕ) → out ≡ entries + 2 * b → out_of out (out + 1) (q % 2) ≡ entries + 2 * b + q % 2
+outs-are entries b out q is = by (q % 2) (omega arith)
+  where
+    by : (p : ℕ) → p < 2 → out_of out (out + 1) p ≡ entries + 2 * b + p
+    by zero low = omega (arith, is)
+    by (suc zero) low = omega (arith, is)
+    by (suc (suc p)) low = absurd (omega arith)
+
+-- ---- the lane
+
+module _ (old new : Inside) (wire n : ℕ) (kept : IsLane old) (no_slot : new.seat.me.1 ≡ []) where
+  abbrev v : View
+  v = old.seat.me.0
+
+  abbrev tokens : List (ℕ × ℕ)
+  tokens = on v.tokens wire
+
+  there : on old.yard.lists wire ≡ tokens
+  there = ap (λ (ls : List (List (ℕ × ℕ))). on ls wire) kept.tokens
+
+  -- its tokens were dealt
+  pub lane-dealt : (outs : ℕ → ℕ) (b p out0 out1 : ℕ) → new.seat.me.0 ≡ after_sweep wire (Balancer b) n v → Deals outs p (on old.yard.lists wire) old.yard new.yard
+      → IsDealt wire p out0 out1 old.yard new.yard → ((q : ℕ) → outs (q % 2) ≡ output_wire v.start.network.table b (q % 2)) → p % 2 ≡ n % 2
+      → new.grants ≡ old.grants → new.quota ≡ old.quota → new.room ≡ old.room → IsLane new
+  lane-dealt outs b p out0 out1 view deals dealt at turn grants quota room =
+      let like = kin-by (Balancer b) n tokens v in
+      record {
+        no_slot = no_slot;
+        idle = ap (λ (w : View). w.loads) view ∙ like.loads ∙ kept.idle;
+        tokens = dealt-tokens outs b n p tokens old.yard new.yard v kept.tokens at turn (subst (λ (es : List (ℕ × ℕ)). Deals outs p es old.yard new.yard) there deals)
+            ∙ ap (λ (w : View). w.tokens) (sym view);
+        wires = dealt.wires ∙ kept.wires ∙ ap (λ (s : Start). length s.network.table.ends) (sym like.start) ∙ ap (λ (w : View). length w.start.network.table.ends) (sym view);
+        grants = ap (λ g. g.items) grants ∙ kept.grants ∙ sym (grants-kept b n tokens v) ∙ ap (λ (w : View). w.grants) (sym view);
+        quota = quota ∙ kept.quota ∙ sym like.quota ∙ ap (λ (w : View). w.quota) (sym view);
+        few = omega (arith, kept.few, dealt.tokens);
+        room = rw grants (omega (arith, kept.room, dealt.tokens));
+        spare = omega (arith, kept.spare, dealt.spare);
+      }
+
+  -- its tokens left
+  pub lane-left : (i width less : ℕ) → width ≡ v.start.network.table.width → less ≡ base v.start → new.seat.me.0 ≡ after_sweep wire (Exit i) n v → Frees (on old.yard.lists wire) old.yard new.yard
+      → new.grants.items ≡ old.grants.items ++ grants_out width less i n (on old.yard.lists wire) → vec_capacity new.grants ≡ vec_capacity old.grants
+      → new.quota ≡ old.quota → new.room ≡ old.room → IsLane new
+  lane-left i width less wide came view frees grants capacity quota room =
+      let like = kin-by (Exit i) n tokens v in
+      let all = freed-all (on old.yard.lists wire) old.yard new.yard frees in
+      let many = ap length grants ∙ length-append old.grants.items (grants_out width less i n (on old.yard.lists wire)) in
+      record {
+        no_slot = no_slot;
+        idle = ap (λ (w : View). w.loads) view ∙ like.loads ∙ kept.idle;
+        tokens = freed-tokens i n tokens old.yard new.yard v kept.tokens (subst (λ (es : List (ℕ × ℕ)). Frees es old.yard new.yard) there frees)
+            ∙ ap (λ (w : View). w.tokens) (sym view);
+        wires = all.wires ∙ kept.wires ∙ ap (λ (s : Start). length s.network.table.ends) (sym like.start) ∙ ap (λ (w : View). length w.start.network.table.ends) (sym view);
+        grants = grants ∙ (λ x. kept.grants x ++ grants_out (wide x) (came x) i n (there x)) ∙ sym (grants-left i n tokens v) ∙ ap (λ (w : View). w.grants) (sym view);
+        quota = quota ∙ kept.quota ∙ sym like.quota ∙ ap (λ (w : View). w.quota) (sym view);
+        few = omega (arith, kept.few, all.tokens);
+        room = omega (arith, kept.room, all.tokens, many, capacity, room, grants-many width less i n (on old.yard.lists wire));
+        spare = omega (arith, kept.spare, all.spare, room);
+      }
+
+-- ---- what a sweep tells
+
+module _ (old new : LaneValue) (wire n : ℕ) (answer : Sweep) where
+  abbrev start : Start
+  start = old.home.start
+
+  pub sweeps-on : (end : End) → end_of start.network.table wire ≡ end → new.home ≡ old.home → new.view ≡ after_sweep wire end n old.view
+      → PutsAll start wire end n old.yard new.yard → new.room ≡ old.room → answer ≡ sweep_at end n (length (on old.yard.lists wire))
+      → AreLetBy start old.view new.view wire end n → SweepsOn old new wire n answer
+  sweeps-on end at home view yard room answered by = record {
+    home = home;
+    view = view ∙ ap (λ (e : End). after_sweep wire e n old.view) (sym at);
+    yard = subst (λ (e : End). PutsAll start wire e n old.yard new.yard) (sym at) yard;
+    room = room;
+    answered = answered ∙ ap (λ (e : End). sweep_at e n (length (on old.yard.lists wire))) (sym at);
+    by = subst (λ (e : End). AreLetBy start old.view new.view wire e n) (sym at) by;
+  }

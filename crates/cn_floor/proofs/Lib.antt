@@ -1,0 +1,4 @@
+pub mod Lists
+pub mod AtMoments
+pub mod InLane
+pub mod AtClose

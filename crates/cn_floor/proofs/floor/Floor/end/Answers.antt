@@ -1,0 +1,95 @@
+use Rattle.std.proofs.Common.{◌≡◌, ℕ, ◌+◌, ◌-◌, List, [], length, replicate, rules, sym, ap, ◌∙◌, subst, arith}
+use Rattle.cn_wiring.specs.Network.{Network}
+use Rattle.cn_yard.specs.Lists.{tokens_in}
+use Rattle.cn_floor.specs.declared.view.Start.{Start}
+use Rattle.cn_floor.specs.declared.view.View.{View}
+use Rattle.cn_floor.specs.Carried.{IsClosed, WordsValue, words_before}
+use Rattle.cn_floor.specs.Closing.{IsMissing}
+use Rattle.cn_floor.specs.Ends.{IsClosedFloor}
+use Rattle.cn_floor.specs.Lane.{FloorValue, LaneValue}
+use Rattle.cn_floor.specs.Views.{base, inside_in}
+use Rattle.cn_floor.specs.Words.{clients_in}
+use Rattle.cn_floor.proofs.AtClose.Closings.{inside-yard}
+use Rattle.cn_floor.proofs.AtClose.Rises.{all-empty}
+use Rattle.cn_floor.proofs.floor.Floor.end.Goals as goal
+
+pub invariant_of-closed : goal.invariant_of-closed
+invariant_of-closed c =
+    let start : Start = c.self.inside.counters.start in
+    let v : View = c.lane.inside.seat.me.0 in
+    let ws : List ℕ = c.close-words.result.items in
+    let e = c.close-words.ensures in
+    let network : c.self.inside.network.now ≡ start.network = sym c.self.invariant.network in
+    let lane : c.of-told.result.value ≡ c.args.lane = c.of-told.ensures in
+    let view : v ≡ c.of-told.result.value.view = ap (λ (l : LaneValue). l.view) (c.lane.view_is ∙ sym lane) in
+    let about : start ≡ c.of-told.result.value.home.start = ap (λ (h : FloorValue). h.start) (c.self.view_is ∙ sym c.requires.own ∙ ap (λ (l : LaneValue). l.home) (sym lane)) in
+    let nobody : tokens_in c.lane.inside.yard.lists ≡ 0 = search rules in
+    let out : inside_in v ≡ 0 = inside-yard c.lane.inside.yard v c.lane.invariant.tokens ∙ nobody in
+    let clients : c.clients_of-clients.result ≡ clients_in start.network.table ws = c.clients_of-clients.ensures ∙ (λ i. clients_in (network i).table (c.as_slice.ensures.value i)) in
+    let granted : c.len-granted.result ≡ length v.grants = search rules in
+    let came : clients_in start.network.table ws ≡ base start + length v.grants = omega (arith, e.granted, c.self.invariant.base, c.if-entered-granted.false) in
+    let quiet : IsClosedFloor start v ws = e.quiet out came in
+    let after : c.closed.result.words ≡ ws = ap (λ (w : WordsValue). w.words) c.closed.ensures in
+    record {
+      quiet = subst (λ (z : Start × View × List ℕ). IsClosedFloor z.0 z.1 z.2) (λ i. (about i, view i, sym after i)) quiet;
+      network = ap (λ (w : WordsValue). w.network) c.closed.ensures ∙ network ∙ ap (λ (s : Start). s.network) about;
+      grants = c.lane.invariant.grants ∙ ap (λ (x : View). x.grants) view;
+    }
+
+pub closed-requires-clause-closed : goal.closed-requires-clause-closed
+closed-requires-clause-closed c =
+    let start : Start = c.self.inside.counters.start in
+    let v : View = c.lane.inside.seat.me.0 in
+    let ws : List ℕ = c.close-words.result.items in
+    let e = c.close-words.ensures in
+    let began = c.self.invariant.began in
+    let network : c.self.inside.network.now ≡ start.network = sym c.self.invariant.network in
+    let nobody : tokens_in c.lane.inside.yard.lists ≡ 0 = search rules in
+    let out : inside_in v ≡ 0 = inside-yard c.lane.inside.yard v c.lane.invariant.tokens ∙ nobody in
+    let clients : c.clients_of-clients.result ≡ clients_in start.network.table ws = c.clients_of-clients.ensures ∙ (λ i. clients_in (network i).table (c.as_slice.ensures.value i)) in
+    let granted : c.len-granted.result ≡ length v.grants = search rules in
+    let came : clients_in start.network.table ws ≡ base start + length v.grants = omega (arith, e.granted, c.self.invariant.base, c.if-entered-granted.false) in
+    let quiet : IsClosedFloor start v ws = e.quiet out came in
+    let closed : IsClosed (record { network = start.network; words = ws }) = record {
+      network = began.network;
+      carried = quiet.closed;
+      few = omega (arith, e.few, began.few, began.quota);
+    } in
+    subst IsClosed (λ i. record { network = sym network i; words = ws }) closed
+
+pub closed-requires-clause-clients : goal.closed-requires-clause-clients
+closed-requires-clause-clients c =
+    let ws : List ℕ = c.close-words.result.items in
+    c.clients_of-clients.ensures ∙ (λ i. clients_in c.self.inside.network.now.table (c.as_slice.ensures.value i))
+
+pub invariant_of-leftovers : goal.invariant_of-leftovers
+invariant_of-leftovers c =
+    let nobody : tokens_in c.lane.inside.yard.lists ≡ 0 = search rules in
+    let start : Start = c.self.inside.counters.start in
+    let about : c.lane.inside.seat.me.0.start ≡ start = ap (λ (l : LaneValue). l.home.start) c.lane.view_is ∙ ap (λ (h : FloorValue). h.start) (c.requires.own ∙ sym c.self.view_is) in
+    let before : c.self.inside.before.network ≡ start.network = ap (λ (w : WordsValue). w.network) c.self.invariant.before in
+    let wires : length c.lane.inside.yard.lists ≡ length c.self.inside.before.network.table.ends = c.lane.invariant.wires ∙ ap (λ (s : Start). length s.network.table.ends) about ∙ ap (λ (x : Network). length x.table.ends) (sym before) in
+    all-empty c.lane.inside.yard.lists nobody ∙ (λ x. replicate (wires x) [])
+
+pub returns-clause-leftovers : goal.returns-clause-leftovers
+returns-clause-leftovers c = c.self.invariant.before ∙ ap (λ (h : FloorValue). words_before h.start) c.self.view_is
+
+pub returns-then-entered-granted-clause-refused : goal.returns-then-entered-granted-clause-refused
+returns-then-entered-granted-clause-refused c =
+    let start : Start = c.self.inside.counters.start in
+    let v : View = c.lane.inside.seat.me.0 in
+    let ws : List ℕ = c.close-words.result.items in
+    let e = c.close-words.ensures in
+    let entered : ℕ = c.clients_of-clients.result - c.self.inside.base in
+    let network : c.self.inside.network.now ≡ start.network = sym c.self.invariant.network in
+    let clients : c.clients_of-clients.result ≡ clients_in start.network.table ws = c.clients_of-clients.ensures ∙ (λ i. clients_in (network i).table (c.as_slice.ensures.value i)) in
+    let granted : c.len-granted.result ≡ length v.grants = search rules in
+    let missing : IsMissing start v entered = record {
+      words = ws;
+      moment = e.moment;
+      came = omega (arith, clients, e.granted, c.self.invariant.base);
+      more = omega (arith, clients, granted, e.granted, c.self.invariant.base, c.if-entered-granted.true);
+    } in
+    let about : start ≡ c.args.self.start = ap (λ (h : FloorValue). h.start) c.self.view_is in
+    let view : v ≡ c.args.lane.view = ap (λ (l : LaneValue). l.view) c.lane.view_is in
+    (search rules, search rules, search rules, subst (λ (z : Start × View). IsMissing z.0 z.1 entered) (λ i. (about i, view i)) missing)

@@ -1,0 +1,110 @@
+use Rattle.std.proofs.Common.{◌≡◌, ℕ, ◌+◌, ◌*◌, ◌-◌, ◌%◌, List, Some, refl, arith, sym, ap, ◌∙◌, subst}
+use Rattle.cn_spec.specs.Step.{name_of}
+use Rattle.cn_wiring.specs.declared.end.End.{End}
+use Rattle.cn_wiring.specs.Network.{Network}
+use Rattle.cn_wiring.specs.declared.end.End.TheVariants.{Balancer, Exit}
+use Rattle.cn_wiring.specs.Table.{end_of, output_wire}
+use Rattle.cn_ledger.specs.declared.moved.Moved.TheVariants.{On, Out}
+use Rattle.cn_floor.specs.declared.view.View.{View}
+use Rattle.cn_floor.specs.Plays.{IsLetBy}
+use Rattle.cn_floor.specs.declared.view.Start.{Start}
+use Rattle.cn_floor.specs.Lane.{FloorValue, LaneValue}
+use Rattle.cn_floor.specs.InsideLane.{lane_of}
+use Rattle.cn_floor.specs.Views.{after_step, base}
+use Rattle.cn_floor.proofs.InLane.Lanes.{lane-on, lane-out, steps-on}
+use Rattle.cn_yard.proofs.CallerLemmas.{there-alike}
+use Rattle.cn_floor.proofs.floor.Floor.step.Goals as goal
+use Rattle.cn_yard.specs.Lists.{IsThere, Moves, standing}
+
+pub step-number-requires-clause-there : goal.step-number-requires-clause-there
+step-number-requires-clause-there c =
+    let wire : ℕ = c.wire_of-wire.result in
+    let same = there-alike c.lane.inside.yard.lists c.args.token _ c.client_of-client.result wire _ c.wire_of-wire.ensures.1 c.client_of-client.ensures.1 in
+    subst (λ (ls : List (List (ℕ × ℕ))). IsThere ls c.args.token c.client_of-client.result wire) c.lane.invariant.tokens
+    (subst (λ (k : ℕ). IsThere c.lane.inside.yard.lists c.args.token k wire) same.0 c.wire_of-wire.ensures.1)
+
+pub invariant_of-lane : goal.invariant_of-lane
+invariant_of-lane c =
+    let v = c.lane.inside.seat.me.0 in
+    let b : ℕ = c.in-Balancer.balancer in
+    let n : ℕ = c.step-number.result in
+    let begun : v.start ≡ c.self.inside.counters.start = ap (λ (l : LaneValue). l.home.start) c.lane.view_is ∙ ap (λ (h : FloorValue). h.start) c.requires.own ∙ sym (ap (λ (h : FloorValue). h.start) c.self.view_is) in
+    let network : v.start.network ≡ c.self.inside.network.now = ap (λ (s : Start). s.network) begun ∙ c.self.invariant.network in
+    let entries : c.entries.result ≡ v.start.network.table.entries = c.entries.ensures.value ∙ sym (ap (λ (x : Network). x.table.entries) network) in
+    lane-on c.lane.inside _ c.args.token c.client_of-client.result c.lane.invariant c.step-number.ensures.seat.1 b n (c.entries.result + 2 * b + c.output_of.result)
+    (omega (arith, c.output_of.ensures))
+    (c.step-number.ensures.went.0 ∙ ap (λ (e : End). after_step c.args.token c.client_of-client.result e n v) c.in-Balancer.is)
+    (c.move_to.ensures _ c.client_of-client.result c.client_of-client.ensures.1.found)
+    refl refl refl
+
+pub invariant_of-lane-in-Exit : goal.invariant_of-lane-in-Exit
+invariant_of-lane-in-Exit c =
+    let v = c.lane.inside.seat.me.0 in
+    let i : ℕ = c.in-Exit.exit in
+    let n : ℕ = c.step-number.result in
+    let begun : v.start ≡ c.self.inside.counters.start = ap (λ (l : LaneValue). l.home.start) c.lane.view_is ∙ ap (λ (h : FloorValue). h.start) c.requires.own ∙ sym (ap (λ (h : FloorValue). h.start) c.self.view_is) in
+    let network : v.start.network ≡ c.self.inside.network.now = ap (λ (s : Start). s.network) begun ∙ c.self.invariant.network in
+    let width : c.width.result ≡ v.start.network.table.width = c.width.ensures.value ∙ sym (ap (λ (x : Network). x.table.width) network) in
+    let base_is : c.self.inside.base ≡ base v.start = c.self.invariant.base ∙ sym (ap (λ (s : Start). base s) begun) in
+    let name : c.name_of.result - c.self.inside.base ≡ name_of v.start.network.table.width i n - base v.start =
+    (λ x. c.name_of.ensures x - base_is x) ∙ ap (λ (w : ℕ). name_of w i n - base v.start) width in
+    lane-out c.lane.inside _ c.args.token c.client_of-client.result c.lane.invariant c.step-number.ensures.seat.1 i n (c.name_of.result - c.self.inside.base) name
+    (c.step-number.ensures.went.0 ∙ ap (λ (e : End). after_step c.args.token c.client_of-client.result e n v) c.in-Exit.is)
+    c.release.ensures.released c.push_reserved.ensures.items c.push_reserved.ensures.capacity refl refl
+
+pub returns-in-Exit : goal.returns-in-Exit
+returns-in-Exit c =
+    let v : View = c.lane.inside.seat.me.0 in
+    let w : View = c.step-number.new.seat.me.0 in
+    let token = c.args.token in
+    let client : ℕ = c.client_of-client.result in
+    let wire : ℕ = c.wire_of-wire.result in
+    let i : ℕ = c.in-Exit.exit in
+    let n : ℕ = c.step-number.result in
+    let begun : v.start ≡ c.self.inside.counters.start = ap (λ (l : LaneValue). l.home.start) c.lane.view_is ∙ ap (λ (h : FloorValue). h.start) c.requires.own ∙ sym (ap (λ (h : FloorValue). h.start) c.self.view_is) in
+    let started : c.self.inside.counters.start ≡ v.start = sym begun in
+    let network : v.start.network ≡ c.self.inside.network.now = ap (λ (s : Start). s.network) begun ∙ c.self.invariant.network in
+    let at : end_of v.start.network.table wire ≡ c.end-end.result = ap (λ (x : Network). end_of x.table wire) network ∙ c.end-end.ensures.at in
+    let out : end_of v.start.network.table wire ≡ Exit i = at ∙ c.in-Exit.is in
+    let width : c.width.result ≡ v.start.network.table.width = c.width.ensures.value ∙ sym (ap (λ (x : Network). x.table.width) network) in
+    let base_is : c.self.inside.base ≡ base v.start = c.self.invariant.base ∙ sym (ap (λ (s : Start). base s) begun) in
+    let name : c.name_of.result - c.self.inside.base ≡ name_of v.start.network.table.width i n - base v.start =
+    (λ x. c.name_of.ensures x - base_is x) ∙ ap (λ (k : ℕ). name_of k i n - base v.start) width in
+    let went : w ≡ after_step token client (Exit i) n v = c.step-number.ensures.went.0 ∙ ap (λ (e : End). after_step token client e n v) c.in-Exit.is in
+    let same = there-alike c.lane.inside.yard.lists token client _ _ wire c.client_of-client.ensures.1 c.wire_of-wire.ensures.1 in
+    let stands = subst (λ (u : ℕ). standing c.lane.inside.yard.lists token ≡ Some (u, client)) same.1 c.client_of-client.ensures.1.found in
+    rw (← c.lane.view_is) (
+      client,
+      wire,
+      n,
+      steps-on (lane_of c.lane.inside) _ token client wire n _ (Exit i) out stands (λ x. record { table = c.step-number.ensures.seat.0 x; start = (went x).start }) went c.release.ensures.released refl
+          (ap (λ (k : ℕ). Out i n k) name)
+          (subst (λ (e : End). IsLetBy v.start v w client e n) c.in-Exit.is (subst (λ (s : Start). IsLetBy s v w client c.end-end.result n) started c.step-number.ensures.went.1)),
+    )
+
+pub returns-in-Balancer : goal.returns-in-Balancer
+returns-in-Balancer c =
+    let v : View = c.lane.inside.seat.me.0 in
+    let w : View = c.step-number.new.seat.me.0 in
+    let token = c.args.token in
+    let client : ℕ = c.client_of-client.result in
+    let wire : ℕ = c.wire_of-wire.result in
+    let b : ℕ = c.in-Balancer.balancer in
+    let n : ℕ = c.step-number.result in
+    let begun : v.start ≡ c.self.inside.counters.start = ap (λ (l : LaneValue). l.home.start) c.lane.view_is ∙ ap (λ (h : FloorValue). h.start) c.requires.own ∙ sym (ap (λ (h : FloorValue). h.start) c.self.view_is) in
+    let network : v.start.network ≡ c.self.inside.network.now = ap (λ (s : Start). s.network) begun ∙ c.self.invariant.network in
+    let on : end_of v.start.network.table wire ≡ Balancer b = ap (λ (x : Network). end_of x.table wire) network ∙ c.end-end.ensures.at ∙ c.in-Balancer.is in
+    let entries : c.entries.result ≡ v.start.network.table.entries = c.entries.ensures.value ∙ sym (ap (λ (x : Network). x.table.entries) network) in
+    let to : c.entries.result + 2 * b + c.output_of.result ≡ output_wire v.start.network.table b (n % 2) = omega (arith, c.output_of.ensures) in
+    let went : w ≡ after_step token client (Balancer b) n v = c.step-number.ensures.went.0 ∙ ap (λ (e : End). after_step token client e n v) c.in-Balancer.is in
+    let same = there-alike c.lane.inside.yard.lists token client _ _ wire c.client_of-client.ensures.1 c.wire_of-wire.ensures.1 in
+    let stands = subst (λ (u : ℕ). standing c.lane.inside.yard.lists token ≡ Some (u, client)) same.1 c.client_of-client.ensures.1.found in
+    rw (← c.lane.view_is) (
+      client,
+      wire,
+      n,
+      steps-on (lane_of c.lane.inside) _ token client wire n _ (Balancer b) on stands (λ x. record { table = c.step-number.ensures.seat.0 x; start = (went x).start }) went
+          (subst (λ (u : ℕ). Moves c.lane.inside.yard c.move_to.new.self token client u) to (c.move_to.ensures _ client c.client_of-client.ensures.1.found)) refl
+          (ap (λ (u : ℕ). On b n u) to)
+          (subst (λ (e : End). IsLetBy v.start v w client e n) c.in-Balancer.is (subst (λ (s : Start). IsLetBy s v w client c.end-end.result n) (sym begun) c.step-number.ensures.went.1)),
+    )

@@ -1,0 +1,95 @@
+use Rattle.std.proofs.Common.{◌≡◌, ℕ, ◌+◌, ◌*◌, ◌%◌, ◌<◌, length, refl, arith, sym, ap, ◌∙◌, subst}
+use Rattle.cn_spec.proofs.CallerLemmas.{sum_below-part}
+use Rattle.cn_wiring.specs.declared.end.End.{End}
+use Rattle.cn_wiring.specs.declared.end.End.TheVariants.{Balancer, Exit}
+use Rattle.cn_wiring.specs.Network.{Network}
+use Rattle.cn_wiring.specs.Table.{end_of, output_wire}
+use Rattle.cn_yard.specs.Deals.{IsDealt, out_of}
+use Rattle.cn_yard.specs.Lists.{on}
+use Rattle.cn_floor.specs.declared.view.Start.{Start}
+use Rattle.cn_floor.specs.declared.view.Sweep.TheVariants.{On, Out}
+use Rattle.cn_floor.specs.declared.view.View.{View}
+use Rattle.cn_floor.specs.InsideLane.{lane_of}
+use Rattle.cn_floor.specs.Lane.{FloorValue, LaneValue}
+use Rattle.cn_floor.specs.Sweeps.{AreLetBy, after_sweep}
+use Rattle.cn_floor.specs.Views.{base}
+use Rattle.cn_floor.proofs.InLane.Swept.{kin-by, lane-dealt, lane-left, outs-are, some-inside, sweeps-on}
+use Rattle.cn_floor.proofs.floor.Floor.sweep.Goals as goal
+
+pub leave_all-requires-clause-room : goal.leave_all-requires-clause-room
+leave_all-requires-clause-room c =
+    let lists = c.lane.inside.yard.lists in
+    let inside : c.args.wire < length lists = some-inside lists c.args.wire (rw (← c.lane.view_is) at c.requires.some) in
+    omega (arith, c.lane.invariant.room, sum_below-part (length lists) c.args.wire (λ u. length (on lists u)) inside)
+
+pub invariant_of-lane : goal.invariant_of-lane
+invariant_of-lane c =
+    let v : View = c.lane.inside.seat.me.0 in
+    let n : ℕ = c.sweep-first.result in
+    let begun : v.start ≡ c.self.inside.counters.start = ap (λ (l : LaneValue). l.home.start) c.lane.view_is ∙ ap (λ (h : FloorValue). h.start) c.requires.own ∙ sym (ap (λ (h : FloorValue). h.start) c.self.view_is) in
+    let network : v.start.network ≡ c.self.inside.network.now = ap (λ (s : Start). s.network) begun ∙ c.self.invariant.network in
+    let b : ℕ = c.in-Balancer.balancer in
+    let out : ℕ = c.entries.result + 2 * b in
+    let entries : c.entries.result ≡ v.start.network.table.entries = c.entries.ensures.value ∙ sym (ap (λ (x : Network). x.table.entries) network) in
+    let went : c.sweep-first.new.seat.me.0 ≡ after_sweep c.args.wire (Balancer b) n v = c.sweep-first.ensures.went.0 ∙ ap (λ (e : End). after_sweep c.args.wire e n v) c.in-Balancer.is in
+    lane-dealt c.lane.inside _ c.args.wire n c.lane.invariant c.sweep-first.ensures.seat.1 (out_of out (out + 1)) b c.output_of.result out (out + 1) went
+    c.deal.ensures.moves c.deal.ensures.dealt (λ q. outs-are v.start.network.table.entries b out q (omega (arith, entries))) (omega (arith, c.output_of.ensures)) refl refl refl
+
+pub invariant_of-lane-in-Exit : goal.invariant_of-lane-in-Exit
+invariant_of-lane-in-Exit c =
+    let v : View = c.lane.inside.seat.me.0 in
+    let n : ℕ = c.sweep-first.result in
+    let begun : v.start ≡ c.self.inside.counters.start = ap (λ (l : LaneValue). l.home.start) c.lane.view_is ∙ ap (λ (h : FloorValue). h.start) c.requires.own ∙ sym (ap (λ (h : FloorValue). h.start) c.self.view_is) in
+    let network : v.start.network ≡ c.self.inside.network.now = ap (λ (s : Start). s.network) begun ∙ c.self.invariant.network in
+    let i : ℕ = c.in-Exit.exit in
+    let width : c.width-width.result ≡ v.start.network.table.width = c.width-width.ensures.value ∙ sym (ap (λ (x : Network). x.table.width) network) in
+    let base_is : c.self.inside.base ≡ base v.start = c.self.invariant.base ∙ sym (ap (λ (s : Start). base s) begun) in
+    let went : c.sweep-first.new.seat.me.0 ≡ after_sweep c.args.wire (Exit i) n v = c.sweep-first.ensures.went.0 ∙ ap (λ (e : End). after_sweep c.args.wire e n v) c.in-Exit.is in
+    lane-left c.lane.inside _ c.args.wire n c.lane.invariant c.sweep-first.ensures.seat.1 i c.width-width.result c.self.inside.base width base_is went
+    c.leave_all.ensures.freed c.leave_all.ensures.granted c.leave_all.ensures.capacity refl refl
+
+pub returns-in-Balancer : goal.returns-in-Balancer
+returns-in-Balancer c =
+    let v : View = c.lane.inside.seat.me.0 in
+    let n : ℕ = c.sweep-first.result in
+    let begun : v.start ≡ c.self.inside.counters.start = ap (λ (l : LaneValue). l.home.start) c.lane.view_is ∙ ap (λ (h : FloorValue). h.start) c.requires.own ∙ sym (ap (λ (h : FloorValue). h.start) c.self.view_is) in
+    let network : v.start.network ≡ c.self.inside.network.now = ap (λ (s : Start). s.network) begun ∙ c.self.invariant.network in
+    let b : ℕ = c.in-Balancer.balancer in
+    let out : ℕ = c.entries.result + 2 * b in
+    let entries : c.entries.result ≡ v.start.network.table.entries = c.entries.ensures.value ∙ sym (ap (λ (x : Network). x.table.entries) network) in
+    let went : c.sweep-first.new.seat.me.0 ≡ after_sweep c.args.wire (Balancer b) n v = c.sweep-first.ensures.went.0 ∙ ap (λ (e : End). after_sweep c.args.wire e n v) c.in-Balancer.is in
+    let at : end_of v.start.network.table c.args.wire ≡ Balancer b = ap (λ (x : Network). end_of x.table c.args.wire) network ∙ c.end-end.ensures.at ∙ c.in-Balancer.is in
+    let same : c.sweep-first.new.seat.me.0.start ≡ v.start = ap (λ (w : View). w.start) went ∙ (kin-by (Balancer b) n (on v.tokens c.args.wire) v).start in
+    let first : out ≡ output_wire v.start.network.table b 0 = omega (arith, entries) in
+    let second : out + 1 ≡ output_wire v.start.network.table b 1 = omega (arith, entries) in
+    let dealt : IsDealt c.args.wire (n % 2) (output_wire v.start.network.table b 0) (output_wire v.start.network.table b 1) c.lane.inside.yard c.deal.new.self =
+    rw (← first, ← second, ← c.output_of.ensures) c.deal.ensures.dealt in
+    let many : c.from-tokens.result ≡ length (on c.lane.inside.yard.lists c.args.wire) = c.from-tokens.ensures ∙ c.count.ensures in
+    rw (← c.lane.view_is) (
+      n,
+      sweeps-on (lane_of c.lane.inside) _ c.args.wire n _ (Balancer b) at (λ x. record { table = c.sweep-first.ensures.seat.0 x; start = same x }) went dealt refl
+          (ap (λ (k : ℕ). On b n k) many)
+          (subst (λ (e : End). AreLetBy v.start v c.sweep-first.new.seat.me.0 c.args.wire e n) c.in-Balancer.is
+          (subst (λ (s : Start). AreLetBy s v c.sweep-first.new.seat.me.0 c.args.wire c.end-end.result n) (sym begun) c.sweep-first.ensures.went.1)),
+    )
+
+pub returns-in-Exit : goal.returns-in-Exit
+returns-in-Exit c =
+    let v : View = c.lane.inside.seat.me.0 in
+    let n : ℕ = c.sweep-first.result in
+    let begun : v.start ≡ c.self.inside.counters.start = ap (λ (l : LaneValue). l.home.start) c.lane.view_is ∙ ap (λ (h : FloorValue). h.start) c.requires.own ∙ sym (ap (λ (h : FloorValue). h.start) c.self.view_is) in
+    let network : v.start.network ≡ c.self.inside.network.now = ap (λ (s : Start). s.network) begun ∙ c.self.invariant.network in
+    let i : ℕ = c.in-Exit.exit in
+    let width : c.width-width.result ≡ v.start.network.table.width = c.width-width.ensures.value ∙ sym (ap (λ (x : Network). x.table.width) network) in
+    let base_is : c.self.inside.base ≡ base v.start = c.self.invariant.base ∙ sym (ap (λ (s : Start). base s) begun) in
+    let went : c.sweep-first.new.seat.me.0 ≡ after_sweep c.args.wire (Exit i) n v = c.sweep-first.ensures.went.0 ∙ ap (λ (e : End). after_sweep c.args.wire e n v) c.in-Exit.is in
+    let at : end_of v.start.network.table c.args.wire ≡ Exit i = ap (λ (x : Network). end_of x.table c.args.wire) network ∙ c.end-end.ensures.at ∙ c.in-Exit.is in
+    let same : c.sweep-first.new.seat.me.0.start ≡ v.start = ap (λ (w : View). w.start) went ∙ (kin-by (Exit i) n (on v.tokens c.args.wire) v).start in
+    let many : c.from-tokens.result ≡ length (on c.lane.inside.yard.lists c.args.wire) = c.from-tokens.ensures ∙ c.count.ensures in
+    rw (← c.lane.view_is) (
+      n,
+      sweeps-on (lane_of c.lane.inside) _ c.args.wire n _ (Exit i) at (λ x. record { table = c.sweep-first.ensures.seat.0 x; start = same x }) went c.leave_all.ensures.freed refl
+          (ap (λ (k : ℕ). Out i n k) many)
+          (subst (λ (e : End). AreLetBy v.start v c.sweep-first.new.seat.me.0 c.args.wire e n) c.in-Exit.is
+          (subst (λ (s : Start). AreLetBy s v c.sweep-first.new.seat.me.0 c.args.wire c.end-end.result n) (sym begun) c.sweep-first.ensures.went.1)),
+    )

@@ -1,0 +1,19 @@
+use Rattle.std.proofs.Common.{◌≡◌, ◌+◌, ◌-◌, arith, ap, ◌∙◌, take, drop}
+use Rattle.cn_wiring.specs.Network.{Network}
+use Rattle.cn_wiring.specs.Table.{Table}
+use Rattle.cn_floor.specs.Carried.{WordsValue}
+use Rattle.cn_floor.specs.Ends.{QuietValue}
+use Rattle.cn_floor.proofs.AtClose.Rises.{counts-part}
+use Rattle.cn_floor.proofs.floor.quiet.Quiet.counts.Goals as goal
+
+pub returns : goal.returns
+returns c =
+    let t : Table = c.args.self.now.start.network.table in
+    let network : c.network-network.result.now ≡ c.args.self.now.start.network =
+    c.network-network.ensures ∙ ap (λ (w : WordsValue). w.network) c.words.ensures ∙ ap (λ (q : QuietValue). q.start.network) c.self.view_is in
+    let entries : c.entries.result ≡ t.entries = c.entries.ensures.value ∙ ap (λ (n : Network). n.table.entries) network in
+    let balancers : c.balancers.result ≡ t.balancers = c.balancers.ensures.value ∙ ap (λ (n : Network). n.table.balancers) network in
+    let width : c.width.result ≡ t.width = c.width.ensures.value ∙ ap (λ (n : Network). n.table.width) network in
+    let first : 1 + c.entries.result + c.balancers.result ≡ 1 + t.entries + t.balancers = omega (arith, entries, balancers) in
+    let count : 1 + c.entries.result + c.balancers.result + c.width.result - (1 + c.entries.result + c.balancers.result) ≡ t.width = omega (arith, width) in
+    (λ x. take (count x) (drop (first x) c.risen.result.now)) ∙ counts-part c.args.self.now.start c.args.self.now.words c.risen.result.now c.risen.ensures

@@ -1,0 +1,13 @@
+-- What a closed floor keeps.
+use Rattle.std.specs.Prelude.{◌≡◌}
+use Rattle.cn_floor.specs.declared.floor.closed_floor.ClosedFloor.TheInside.{Inside}
+use Rattle.cn_floor.specs.Ends.{IsClosedFloor, QuietValue}
+
+abbrev pub closed_of : Inside → QuietValue
+closed_of e = record { start = e.lane.value.home.start; did = e.lane.value.view; words = e.words.words }
+
+-- its grants are those of the lane, and its words those of the floor
+pub record KeepsClosedFloor (e : Inside) : Type 0 where
+  pub quiet : IsClosedFloor e.lane.value.home.start e.lane.value.view e.words.words
+  pub network : e.words.network ≡ e.lane.value.home.start.network
+  pub grants : e.grants.items ≡ e.lane.value.view.grants

@@ -1,0 +1,71 @@
+//! A floor: a counting network on atomic words, which lanes share.
+
+mod closed_floor;
+mod closing;
+mod counters;
+mod lane;
+mod leftovers;
+mod lone;
+mod opening;
+mod plays;
+mod quiet;
+mod reading;
+mod sharing;
+mod stepping;
+mod sweeping;
+mod words;
+
+ghost use Rattle.std.specs.Prelude.{◌≡◌};
+ghost use Rattle.cn_wiring.specs.Network.{IsNetwork};
+
+pub use closed_floor::ClosedFloor;
+pub use closing::CloseFault;
+use cn_wiring::Counting;
+use counters::Counters;
+pub use lane::Lane;
+pub use leftovers::Leftovers;
+pub use lone::pass_alone;
+use opening::{yard_for, zeros};
+pub use quiet::Quiet;
+use std::alloc::Global;
+use std::marker::Model;
+pub use words::Words;
+
+/// A counting network on atomic words, which lanes share: one word for each entry, each balancer and each exit. A client
+/// comes in, passes a balancer and leaves by one atomic add each, without a lock.
+///
+/// A lane belongs to the floor that made it, and each call has the condition that its lanes are its own. Only
+/// [`Floor::open`], [`Floor::open_after`], [`Floor::open_on`], [`Floor::split`], [`Floor::join`], [`Floor::close`],
+/// [`Floor::close_for`] and an [`Floor::enter`] without room take memory. Lanes can be sent to threads, and a floor can be
+/// shared by them.
+#[derive(Drop)]
+pub struct Floor<'a> {
+    alloc: Global,
+    network: &'a Counting,
+    /// How many clients came before it began.
+    base: u64,
+    /// The words as they then were.
+    before: Words<'a>,
+    counters: Counters,
+}
+
+impl<'a> Model for Floor<'a> {
+    ghost use Rattle.cn_floor.specs.InsideFloor.{IsFloor};
+    ghost use Rattle.cn_floor.specs.Lane.{FloorValue};
+
+    ghost Value = { FloorValue };
+
+    ghost view = { λ f. f.counters };
+
+    ghost invariant = { IsFloor };
+}
+
+impl<'a> Floor<'a> {
+    /// The network that it was opened over.
+    pub fn network(&self) -> &'a Counting
+        ensures value { result.now ≡ self.now.start.network }
+        ensures network { IsNetwork self.now.start.network }
+    {
+        self.network
+    }
+}

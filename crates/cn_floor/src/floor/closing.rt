@@ -1,0 +1,135 @@
+//! How a floor ends.
+
+ghost use Rattle.std.specs.Prelude.{◌≡◌, ◌-◌, ◌≤◌, [], vec_capacity, IfErr, IfOk};
+ghost use Rattle.cn_yard.specs.Lists.{tokens_in};
+ghost use Rattle.cn_floor.specs.Carried.{words_before};
+ghost use Rattle.cn_floor.specs.Closing.{IsCloseRefused};
+ghost use Rattle.cn_floor.specs.Words.{word_count};
+
+use super::Floor;
+use super::closed_floor::ClosedFloor;
+use super::lane::Lane;
+use super::leftovers::Leftovers;
+use super::quiet::Quiet;
+use super::reading::clients_of;
+use super::words::Words;
+use crate::view::Grant;
+use std::snapshot::Snapshot;
+
+/// Why a floor is not closed.
+#[derive(Drop)]
+pub enum CloseFault<'a> {
+    /// The lane has tokens.
+    StillWalking(Floor<'a>, Lane),
+    /// A growth was refused.
+    Memory(Floor<'a>, Lane),
+    /// Other lanes have what came in. The floor is spent.
+    LanesMissing {
+        /// How many clients came in, by all lanes.
+        entered: u64,
+        /// How many grants the lane has.
+        granted: u64,
+        /// The lane's grants.
+        grants: Vec<Grant>,
+    },
+}
+
+impl<'a> Floor<'a> {
+    /// Ends the floor. Its lane is to have all that came in.
+    ///
+    /// # Errors
+    /// The first that stands: `StillWalking` (the lane has tokens) and `Memory` give floor and lane back; `LanesMissing`
+    /// where the lane's grants are fewer than those that came in. Then the floor is spent.
+    pub fn close(self, lane: Lane) -> Result<Quiet<'a>, CloseFault<'a>>
+        requires own { lane.home ≡ self }
+        ensures quiet { IfOk result (λ q. (q.start ≡ self.entry.start) × (q.did ≡ lane.view)) }
+        ensures out { IfOk result (λ q. tokens_in lane.yard.lists ≡ 0) }
+        ensures refused { IfErr result (λ f. IsCloseRefused self.entry lane f) }
+    {
+        let (closed, leftovers) = self.close_for(lane)?;
+        Ok(closed.into_quiet(leftovers))
+    }
+
+    /// Gives up the floor, for the words with which it began.
+    pub fn give_up(self) -> Leftovers<'a>
+        ensures { result ≡ words_before self.entry.start }
+    {
+        Leftovers {
+            words: self.before,
+            yard: None,
+        }
+    }
+
+    /// Ends the floor as [`Floor::close`] does, and leaves what the next one may take: the words with which it began, and the
+    /// yard of its lane.
+    ///
+    /// # Errors
+    /// As those of [`Floor::close`].
+    pub fn close_for(self, lane: Lane) -> Result<(ClosedFloor<'a>, Leftovers<'a>), CloseFault<'a>>
+        requires own { lane.home ≡ self }
+        ensures closed { IfOk result (λ r. (r.0.start ≡ self.entry.start) × (r.0.did ≡ lane.view)) }
+        ensures leftovers { IfOk result (λ r. r.1 ≡ words_before self.entry.start) }
+        ensures out { IfOk result (λ r. tokens_in lane.yard.lists ≡ 0) }
+        ensures refused { IfErr result (λ f. IsCloseRefused self.entry lane f) }
+    {
+        if !lane.yard.is_empty() {
+            return Err(CloseFault::StillWalking(self, lane));
+        }
+        match Vec::with_capacity(self.alloc, self.counters.len()) {
+            Ok(room) => self.end(lane, room),
+            Err(_) => Err(CloseFault::Memory(self, lane)),
+        }
+    }
+
+    /// Ends the floor by a lane with no token, with room for its words.
+    fn end(
+        self,
+        lane: Lane,
+        room: Vec<u64>,
+    ) -> Result<(ClosedFloor<'a>, Leftovers<'a>), CloseFault<'a>>
+        requires own { lane.home ≡ self }
+        requires out { tokens_in lane.yard.lists ≡ 0 }
+        requires room { (room.items ≡ [])
+            × (word_count self.start.network.table ≤ vec_capacity room) }
+        ensures closed { IfOk result (λ r. (r.0.start ≡ self.entry.start) × (r.0.did ≡ lane.view)) }
+        ensures leftovers { IfOk result (λ r. r.1 ≡ words_before self.entry.start) }
+        ensures refused { IfErr result (λ f. IsCloseRefused self.entry lane f) }
+    {
+        let told = Snapshot::of(&lane);
+        let Floor {
+            alloc,
+            network,
+            base,
+            before,
+            counters,
+        } = self;
+        let Lane {
+            seat,
+            yard,
+            grants,
+            ..
+        } = lane;
+        let words = counters.close(seat, room);
+        let clients = clients_of(network, words.as_slice());
+        let entered = clients - base;
+        let granted = grants.len() as u64;
+        if entered != granted {
+            return Err(CloseFault::LanesMissing {
+                entered,
+                granted,
+                grants,
+            });
+        }
+        let closed = ClosedFloor {
+            alloc,
+            lane: told,
+            words: Words::closed(network, words, clients),
+            grants,
+        };
+        let leftovers = Leftovers {
+            words: before,
+            yard: Some(yard),
+        };
+        Ok((closed, leftovers))
+    }
+}

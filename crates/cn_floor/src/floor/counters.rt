@@ -1,0 +1,260 @@
+//! The shared words of a floor, and the atomic steps on them. No other module reaches the table: each step of a lane on the
+//! word of an entry, a balancer or an exit is a call of a function of this file, and the lane's view counts it.
+
+ghost use Rattle.std.specs.Prelude.{◌≡◌, ◌+◌, ◌<◌, ◌≤◌, ℕ, [], length, vec_capacity, IfOk};
+ghost use Rattle.std.specs.Mem.Slots.{slots_items, slots_len, IsFull};
+ghost use Rattle.cn_spec.specs.declared.limits.TheConstants.{MOST_CLIENTS};
+ghost use Rattle.cn_wiring.specs.Table.{Stands, end_of};
+ghost use Rattle.cn_yard.specs.Lists.{IsThere, on, times_in};
+ghost use Rattle.cn_floor.specs.Closing.{IsEnding};
+ghost use Rattle.cn_floor.specs.Plays.{ComesIn, GoesOn, Loads};
+ghost use Rattle.cn_floor.specs.Rule.{IsStart};
+ghost use Rattle.cn_floor.specs.Sweeps.{AllGoOn};
+ghost use Rattle.cn_floor.specs.Views.{after_join, after_split, empty_view, inside_in, on_in, split_off};
+ghost use Rattle.cn_floor.specs.Words.{end_word, word_count};
+
+use super::plays::{
+    BoundPlay, EnterOf, EnterPlay, FloorRule, JoinSeats, LoadOf, LoadPlay, Portion, SplitSeat,
+    StepOf, StepPlay, SweepOf, SweepPlay,
+};
+use crate::view::{Opening, View};
+use atomic_table::{Closed, Seat, Table};
+use cn_spec::limits::MOST_CLIENTS;
+use cn_wiring::{Counting, End};
+use cn_yard::Token;
+use std::alloc::{AllocError, Global};
+use std::marker::Model;
+use std::snapshot::Snapshot;
+
+/// One word for the lanes, and then one for each entry, each balancer and each exit.
+#[derive(Drop)]
+pub(super) struct Counters {
+    entries: u32,
+    balancers: u32,
+    table: Table<(), View, Opening, FloorRule, Global>,
+}
+
+impl Model for Counters {
+    ghost use Rattle.cn_floor.specs.InsideCounters.{IsCounters, floor_of};
+    ghost use Rattle.cn_floor.specs.Lane.{FloorValue};
+
+    ghost Value = { FloorValue };
+
+    ghost view = { floor_of };
+
+    ghost invariant = { IsCounters };
+}
+
+/// Reads all words of a closed table.
+fn read(closed: &Closed<(), Global>, words: &mut Vec<u64>, count: usize)
+    requires full { IsFull closed.now.words × (slots_len closed.now.words ≡ count) }
+    requires room { (words.old.items ≡ []) × (count ≤ vec_capacity words.old) }
+    ensures { words.new.items ≡ slots_items closed.now.words }
+{
+    for i in 0..count {
+        words.push_reserved(closed.word(i));
+    }
+}
+
+impl Counters {
+    /// The words as they are given, and the seat of the one lane, which has the whole quota.
+    ///
+    /// # Errors
+    /// `AllocError` where the table gets no memory.
+    pub(super) fn new(
+        alloc: Global,
+        network: &Counting,
+        quota: u64,
+        words: &Vec<u64>,
+    ) -> Result<(Counters, Seat<(), View>), AllocError>
+        requires { IsStart (record { network = network.now; quota = quota; words = words.now.items }) }
+        ensures start { IfOk result (λ r. r.0.start
+            ≡ record { network = network.now; quota = quota; words = words.now.items }) }
+        ensures seat { IfOk result (λ r. (r.1.table_id ≡ r.0.table)
+            × (r.1.me ≡ (empty_view r.0.start quota, []))) }
+    {
+        let about = Opening {
+            network: Snapshot::of(network),
+            quota,
+            words: Snapshot::of(words),
+        };
+        let (table, seat) = Table::of_words(alloc, words.as_slice(), &about)?;
+        let counters = Counters {
+            entries: network.entries(),
+            balancers: network.balancers(),
+            table,
+        };
+        Ok((counters, seat))
+    }
+
+    /// How many words there are.
+    pub(super) fn len(&self) -> usize
+        ensures { result ≡ word_count self.now.start.network.table }
+    {
+        self.table.word_count()
+    }
+
+    /// The word of an end.
+    fn word_of(&self, end: End) -> usize
+        requires { Stands self.now.start.network.table end }
+        ensures { result ≡ end_word self.now.start.network.table end }
+    {
+        let entries = self.entries as usize;
+        match end {
+            End::Balancer(balancer) => 1 + entries + balancer as usize,
+            End::Exit(exit) => 1 + entries + self.balancers as usize + exit as usize,
+        }
+    }
+
+    /// The client comes in by the entry, in one atomic step: an add on the entry's word. The token and the client are
+    /// for the proof alone.
+    pub(super) fn enter<T: EnterOf>(
+        &self,
+        seat: &mut Seat<(), View>,
+        _token: Token,
+        _client: u64,
+        entry: u32,
+    )
+        requires own { (seat.old.table_id ≡ self.now.table)
+            × (seat.old.me.0.start ≡ self.now.start) }
+        requires coming { T.coming
+            ≡ record { start = self.now.start; token = _token; client = _client; entry = entry } }
+        requires slots { (seat.old.me.1 ≡ []) × (seat.old.me.0.loads ≡ []) }
+        requires entry { (entry < self.now.start.network.table.entries)
+            × (entry < length seat.old.me.0.tokens) }
+        requires quota { 0 < seat.old.me.0.quota }
+        ensures seat { (seat.new.table_id ≡ seat.old.table_id) × (seat.new.me.1 ≡ []) }
+        ensures came { ComesIn T.coming seat.old.me.0 seat.new.me.0 }
+    {
+        self.table
+            .shared
+            .fetch_add::<EnterPlay<T>>(seat, 1 + entry as usize, 1);
+    }
+
+    /// The token goes by the end of its wire, in one atomic step: an add on the end's word, which gives its number. The
+    /// token, the client and the wire are for the proof alone.
+    pub(super) fn step<T: StepOf>(
+        &self,
+        seat: &mut Seat<(), View>,
+        _token: Token,
+        _client: u64,
+        _wire: u32,
+        end: End,
+    ) -> u64
+        requires own { (seat.old.table_id ≡ self.now.table)
+            × (seat.old.me.0.start ≡ self.now.start) }
+        requires going { T.going
+            ≡ record { start = self.now.start; token = _token; client = _client; wire = _wire; end = end } }
+        requires slots { (seat.old.me.1 ≡ []) × (seat.old.me.0.loads ≡ []) }
+        requires there { IsThere seat.old.me.0.tokens _token _client _wire }
+        requires wires { length seat.old.me.0.tokens ≡ length self.now.start.network.table.ends }
+        requires ends { end_of self.now.start.network.table _wire ≡ end }
+        requires stands { Stands self.now.start.network.table end }
+        ensures seat { (seat.new.table_id ≡ seat.old.table_id) × (seat.new.me.1 ≡ []) }
+        ensures went { GoesOn T.going seat.old.me.0 result seat.new.me.0 }
+    {
+        let word = self.word_of(end);
+        self.table.shared.fetch_add::<StepPlay<T>>(seat, word, 1)
+    }
+
+    /// The tokens of a wire go by its end, in one atomic step: an add of their number on the end's word, which gives the
+    /// number of the first. The wire is for the proof alone.
+    pub(super) fn sweep<T: SweepOf>(
+        &self,
+        seat: &mut Seat<(), View>,
+        _wire: u32,
+        end: End,
+        tokens: u64,
+    ) -> u64
+        requires own { (seat.old.table_id ≡ self.now.table)
+            × (seat.old.me.0.start ≡ self.now.start) }
+        requires sweeping { T.sweeping
+            ≡ record { start = self.now.start; wire = _wire; end = end } }
+        requires slots { (seat.old.me.1 ≡ []) × (seat.old.me.0.loads ≡ []) }
+        requires once { (token : ℕ) → times_in seat.old.me.0.tokens token ≤ 1 }
+        requires tokens { length (on seat.old.me.0.tokens _wire) ≡ tokens }
+        requires wires { length seat.old.me.0.tokens ≡ length self.now.start.network.table.ends }
+        requires wire { _wire < length self.now.start.network.table.ends }
+        requires ends { end_of self.now.start.network.table _wire ≡ end }
+        requires stands { Stands self.now.start.network.table end }
+        ensures seat { (seat.new.table_id ≡ seat.old.table_id) × (seat.new.me.1 ≡ []) }
+        ensures went { AllGoOn T.sweeping seat.old.me.0 result seat.new.me.0 }
+    {
+        let word = self.word_of(end);
+        self.table
+            .shared
+            .fetch_add::<SweepPlay<T>>(seat, word, tokens)
+    }
+
+    /// Loads the next entry's word, in one atomic step.
+    pub(super) fn load_next<T: LoadOf>(&self, seat: &mut Seat<(), View>, entry: u32) -> u64
+        requires own { seat.old.table_id ≡ self.now.table }
+        requires hears { T.start ≡ self.now.start }
+        requires slots { seat.old.me.1 ≡ [] }
+        requires next { length seat.old.me.0.loads ≡ entry }
+        requires entry { entry < self.now.start.network.table.entries }
+        ensures seat { (seat.new.table_id ≡ seat.old.table_id) × (seat.new.me.1 ≡ []) }
+        ensures loads { Loads T.start seat.old.me.0 result seat.new.me.0 }
+    {
+        self.table
+            .shared
+            .load::<LoadPlay<T>>(seat, 1 + entry as usize)
+    }
+
+    /// The seat's view is cut in two. The quota is for the proof alone.
+    pub(super) fn split<T: Portion>(&self, seat: &mut Seat<(), View>, _quota: u64) -> Seat<(), View>
+        requires own { (seat.old.table_id ≡ self.now.table)
+            × (seat.old.me.0.start ≡ self.now.start) }
+        requires slots { (seat.old.me.1 ≡ []) × (seat.old.me.0.loads ≡ []) }
+        requires quota { (T.quota ≡ _quota) × (_quota ≤ seat.old.me.0.quota) }
+        ensures left { (seat.new.table_id ≡ seat.old.table_id)
+            × (seat.new.me ≡ (after_split _quota seat.old.me.0, [])) }
+        ensures right { (result.table_id ≡ seat.old.table_id)
+            × (result.me ≡ (split_off _quota seat.old.me.0, [])) }
+    {
+        self.table.shared.split_seat::<SplitSeat<T>>(seat)
+    }
+
+    /// The second seat's view is taken into the first's. Gives the sum of the quotas. Quotas and tokens of a floor are
+    /// few, as a look at the table would tell: the branch that looks is never taken.
+    pub(super) fn join(
+        &self,
+        seat: &mut Seat<(), View>,
+        other: Seat<(), View>,
+        inside: u32,
+        quota: u64,
+        more: u64,
+    ) -> u64
+        requires own { (seat.old.table_id ≡ self.now.table) × (other.table_id ≡ self.now.table) }
+        requires slots { (seat.old.me.1 ≡ []) × (seat.old.me.0.loads ≡ []) × (other.me.1 ≡ [])
+            × (other.me.0.loads ≡ []) }
+        requires out { (wire : ℕ) → on_in wire other.me.0 ≡ 0 }
+        requires quotas { (seat.old.me.0.quota ≡ quota) × (other.me.0.quota ≡ more)
+            × (inside_in seat.old.me.0 ≡ inside) }
+        ensures seat { (seat.new.table_id ≡ seat.old.table_id)
+            × (seat.new.me ≡ (after_join seat.old.me.0 other.me.0, [])) }
+        ensures sum { (result ≡ quota + more) × (inside + result ≤ MOST_CLIENTS) }
+    {
+        self.table.shared.join_seat::<JoinSeats>(seat, other);
+        let sum = quota.saturating_add(more);
+        if u64::from(inside).saturating_add(sum) > MOST_CLIENTS {
+            self.table.shared.load::<BoundPlay>(seat, 1);
+            unreachable!();
+        }
+        sum
+    }
+
+    /// The words at the end, as the view of the last seat tells of them. They are put into a list that has room for them.
+    pub(super) fn close(self, seat: Seat<(), View>, mut words: Vec<u64>) -> Vec<u64>
+        requires own { seat.table_id ≡ self.table }
+        requires room { (words.items ≡ [])
+            × (word_count self.start.network.table ≤ vec_capacity words) }
+        ensures { IsEnding self.start seat.me.0 result.items }
+    {
+        let count = self.table.word_count();
+        let closed = self.table.close_with(seat);
+        read(&closed, &mut words, count);
+        closed.free();
+        words
+    }
+}

@@ -1,0 +1,170 @@
+//! A lane: a worker's own part of a floor.
+
+ghost use Rattle.std.specs.Prelude.{◌≡◌, ℕ, ◌+◌, ◌<◌, ◌≤◌, ◌↔◌, None, Some, [], max, length, IfSome, IsSome, IsTrue, OnErr, OnOk};
+ghost use Rattle.cn_spec.specs.declared.limits.TheConstants.{MOST_CLIENTS, MOST_ROOM};
+ghost use Rattle.cn_yard.specs.Lists.{IsLowest, IsThere, after, first_of, on, standing, times_in, tokens_in};
+
+use crate::view::{Grant, View};
+use atomic_table::Seat;
+use cn_spec::limits::MOST_ROOM;
+use cn_yard::{Token, Yard};
+use std::alloc::AllocError;
+use std::marker::Model;
+
+/// A worker's own part of a floor: its tokens, its grants, its quota and its room. A token is the number of a record of
+/// its lane: which lane it came from is not kept.
+///
+/// Only [`Lane::reserve`] takes memory.
+#[derive(Drop)]
+pub struct Lane {
+    pub(super) seat: Seat<(), View>,
+    pub(super) yard: Yard,
+    pub(super) grants: Vec<Grant>,
+    pub(super) quota: u64,
+    pub(super) room: u64,
+}
+
+impl Model for Lane {
+    ghost use Rattle.cn_floor.specs.InsideLane.{IsLane, lane_of};
+    ghost use Rattle.cn_floor.specs.Lane.{LaneValue};
+
+    ghost Value = { LaneValue };
+
+    ghost view = { lane_of };
+
+    ghost invariant = { IsLane };
+}
+
+impl Lane {
+    ghost use Rattle.cn_floor.specs.Lane.{with_room};
+
+    /// What holds of each lane: its yard has the tokens of its view, wire by wire, and it has a wire for each of the
+    /// network; those inside and its quota are at most [`MOST_CLIENTS`] together; no token stands there twice, and one that
+    /// does stands on one wire, for one client.
+    ///
+    /// It does nothing: its contract is the law.
+    pub fn lane_laws(&self)
+        ensures start { self.now.view.start ≡ self.now.home.start }
+        ensures tokens { self.now.yard.lists ≡ self.now.view.tokens }
+        ensures wires { length self.now.yard.lists ≡ length self.now.home.start.network.table.ends }
+        ensures few { tokens_in self.now.yard.lists + self.now.view.quota ≤ MOST_CLIENTS }
+        ensures once { (token : ℕ) → times_in self.now.yard.lists token ≤ 1 }
+        ensures there { (token client wire : ℕ)
+            → standing self.now.yard.lists token ≡ Some (wire, client)
+            → IsThere self.now.yard.lists token client wire }
+    {
+        self.yard.yard_laws();
+    }
+
+    /// Makes room for so many clients, at most [`MOST_ROOM`]: as many can come in, and get their grants, with no further
+    /// memory.
+    ///
+    /// # Errors
+    /// `AllocError` where there is less room and the rest gets no memory. Then nothing has changed.
+    pub fn reserve(&mut self, clients: u64) -> Result<(), AllocError>
+        requires { clients ≤ MOST_ROOM }
+        ensures ok { OnOk result (self.new ≡ with_room clients self.old) }
+        ensures err { OnErr result (self.new ≡ self.old) }
+    {
+        let inside = self.yard.len() as usize;
+        self.grants.reserve(inside + clients as usize)?;
+        self.yard.reserve(clients as u32)?;
+        self.room = self.room.max(clients);
+        Ok(())
+    }
+
+    /// For how many clients it has room: as many can come in, and get their grants, with no further memory.
+    pub fn room(&self) -> u64
+        ensures { result ≡ self.now.room }
+    {
+        self.room
+    }
+
+    /// How many clients it may still let in.
+    pub fn quota(&self) -> u64
+        ensures { result ≡ self.now.view.quota }
+    {
+        self.quota
+    }
+
+    /// How many of its tokens are inside.
+    pub fn inside(&self) -> u64
+        ensures { result ≡ tokens_in self.now.yard.lists }
+    {
+        u64::from(self.yard.len())
+    }
+
+    /// Its grants, first to last.
+    pub fn grants(&self) -> &[Grant]
+        ensures { result.now ≡ self.now.view.grants }
+    {
+        self.grants.as_slice()
+    }
+
+    /// The first of its tokens on a wire of the network, if one stands there.
+    pub fn first(&self, wire: u32) -> Option<Token>
+        requires { wire < length self.now.yard.lists }
+        ensures { result ≡ first_of (on self.now.yard.lists wire) }
+    {
+        self.yard.first(wire)
+    }
+
+    /// The token after a live one ([`Lane::is_live`]) on its wire, if it is not the last there.
+    pub fn next(&self, token: Token) -> Option<Token>
+        requires { IsSome (standing self.now.yard.lists token) }
+        ensures { (wire client : ℕ) → standing self.now.yard.lists token ≡ Some (wire, client)
+            → result ≡ after token (on self.now.yard.lists wire) }
+    {
+        self.yard.next(token)
+    }
+
+    /// The least wire on which one of its tokens stands, if one does.
+    pub fn lowest(&self) -> Option<u32>
+        ensures some { IfSome result (λ wire. IsLowest self.now.yard.lists wire) }
+        ensures none { result ≡ None → (wire : ℕ) → length (on self.now.yard.lists wire) ≡ 0 }
+    {
+        self.yard.lowest()
+    }
+
+    /// The least wire on which one of its tokens stands, if one does, where none stands below `from`, which is at most the
+    /// number of wires of the network.
+    pub fn lowest_from(&self, from: u32) -> Option<u32>
+        requires from { from ≤ length self.now.yard.lists }
+        requires none { (wire : ℕ) → wire < from → on self.now.yard.lists wire ≡ [] }
+        ensures some { IfSome result (λ wire. IsLowest self.now.yard.lists wire) }
+        ensures none { result ≡ None → (wire : ℕ) → length (on self.now.yard.lists wire) ≡ 0 }
+    {
+        self.yard.lowest_from(from)
+    }
+
+    /// How many of its tokens stand on a wire of the network.
+    pub fn count(&self, wire: u32) -> u32
+        requires { wire < length self.now.yard.lists }
+        ensures { result ≡ length (on self.now.yard.lists wire) }
+    {
+        self.yard.count(wire)
+    }
+
+    /// The wire of a live token ([`Lane::is_live`]).
+    pub fn wire_of(&self, token: Token) -> u32
+        requires { IsSome (standing self.now.yard.lists token) }
+        ensures { (client : ℕ) × IsThere self.now.yard.lists token client result }
+    {
+        self.yard.wire_of(token)
+    }
+
+    /// The client of a live token ([`Lane::is_live`]).
+    pub fn client_of(&self, token: Token) -> u64
+        requires { IsSome (standing self.now.yard.lists token) }
+        ensures { (wire : ℕ) × IsThere self.now.yard.lists token result wire }
+    {
+        self.yard.client_of(token)
+    }
+
+    /// Whether a token with this number stands in the lane.
+    pub fn is_live(&self, token: Token) -> bool
+        ensures { IsTrue result ↔ IsSome (standing self.now.yard.lists token) }
+    {
+        self.yard.is_live(token)
+    }
+}

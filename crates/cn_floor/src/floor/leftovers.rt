@@ -1,0 +1,67 @@
+//! What one floor leaves for the next.
+
+ghost use Rattle.std.specs.Prelude.{◌≡◌, IfOk};
+ghost use Rattle.cn_floor.specs.Carried.{client_count, zero_words};
+ghost use Rattle.cn_floor.specs.Ends.{words_after};
+
+use super::closed_floor::ClosedFloor;
+use super::words::Words;
+use super::yard_for;
+use cn_wiring::Counting;
+use cn_yard::Yard;
+use std::alloc::{AllocError, Global};
+use std::marker::Model;
+
+/// What a floor leaves for the next one over its network ([`super::Floor::open_on`]): the words with which that begins, and
+/// the yard of a lane, in which nobody is.
+#[derive(Drop)]
+pub struct Leftovers<'a> {
+    pub(super) words: Words<'a>,
+    /// None if it was lost with a floor that was not closed.
+    pub(super) yard: Option<Yard>,
+}
+
+impl<'a> Model for Leftovers<'a> {
+    ghost use Rattle.cn_floor.specs.Carried.{WordsValue};
+    ghost use Rattle.cn_floor.specs.InsideLeftovers.{KeepsLeftovers};
+
+    ghost Value = { WordsValue };
+
+    ghost view = { λ l. l.words };
+
+    ghost invariant = { KeepsLeftovers };
+}
+
+impl<'a> Leftovers<'a> {
+    /// What a first floor begins with: words that are all 0, and a yard.
+    ///
+    /// # Errors
+    /// `AllocError` if they get no memory.
+    pub fn new(alloc: Global, network: &'a Counting) -> Result<Leftovers<'a>, AllocError>
+        ensures zero { IfOk result (λ leftovers. leftovers ≡ zero_words network.now) }
+        ensures nobody { IfOk result (λ leftovers. client_count leftovers ≡ 0) }
+    {
+        Ok(Leftovers {
+            words: Words::zero(alloc, network)?,
+            yard: Some(yard_for(alloc, network)?),
+        })
+    }
+
+    /// The words with which the next floor begins.
+    pub fn words(&self) -> &Words<'a>
+        ensures { result.now ≡ self.now }
+    {
+        &self.words
+    }
+
+    /// The same yard, with the words of a closed floor over the same network.
+    pub fn go_on_from(self, closed: ClosedFloor<'a>) -> Leftovers<'a>
+        requires { closed.start.network ≡ self.network }
+        ensures { result ≡ words_after closed.entry }
+    {
+        Leftovers {
+            words: closed.into_words(),
+            yard: self.yard,
+        }
+    }
+}

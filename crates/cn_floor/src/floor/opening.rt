@@ -1,0 +1,201 @@
+//! How a floor begins.
+
+ghost use Rattle.std.specs.Prelude.{◌≡◌, ◌+◌, ◌<◌, ◌≤◌, ◌↔◌, length, replicate, IfErr, IfOk, IfSome, IsErrOf};
+ghost use Rattle.cn_spec.specs.declared.limits.TheConstants.{MOST_CARRIED, MOST_CLIENTS};
+ghost use Rattle.cn_wiring.specs.Network.{IsNetwork};
+ghost use Rattle.cn_yard.specs.Lists.{empty, tokens_in};
+ghost use Rattle.cn_floor.specs.Carried.{client_count, start_after};
+ghost use Rattle.cn_floor.specs.Lane.{IsIdle, empty_lane};
+ghost use Rattle.cn_floor.specs.Rule.{IsCarried};
+ghost use Rattle.cn_floor.specs.Views.{base};
+ghost use Rattle.cn_floor.specs.Words.{clients_in, word_count};
+
+use super::Floor;
+use super::counters::Counters;
+use super::lane::Lane;
+use super::leftovers::Leftovers;
+use super::words::Words;
+use crate::fault::OpenFault;
+use cn_spec::limits::MOST_CLIENTS;
+use cn_wiring::Counting;
+use cn_yard::Yard;
+use std::alloc::{AllocError, Global};
+
+/// A word of 0 for the lanes, and one for each entry, balancer and exit.
+///
+/// # Errors
+/// `AllocError` where they get no memory.
+pub(super) fn zeros(alloc: Global, network: &Counting) -> Result<Vec<u64>, AllocError>
+    ensures network { IsNetwork network.now }
+    ensures words { IfOk result (λ words. words.items
+        ≡ replicate (word_count network.now.table) 0) }
+    ensures carried { IfOk result (λ words. IsCarried network.now.table words.items) }
+    ensures nobody { IfOk result (λ words. clients_in network.now.table words.items ≡ 0) }
+{
+    let entries = network.entries() as usize;
+    let ends = network.balancers() as usize + network.width() as usize;
+    let words = Vec::from_elem(alloc, 0u64, 1 + entries + ends)?;
+    Ok(words)
+}
+
+/// A yard with a wire for each of the network.
+///
+/// # Errors
+/// `AllocError` where it gets no memory.
+pub(super) fn yard_for(alloc: Global, network: &Counting) -> Result<Yard, AllocError>
+    ensures empty { IfOk result (λ yard. yard ≡ empty (length network.now.table.ends)) }
+    ensures idle { IfOk result (λ yard. IsIdle network.now yard.lists) }
+    ensures nobody { IfOk result (λ yard. tokens_in yard.lists ≡ 0) }
+{
+    Yard::new(alloc, network.entries() + 2 * network.balancers())
+}
+
+/// The yard that is there, or else a new one.
+fn spare_yard(alloc: Global, network: &Counting, spare: Option<Yard>) -> Result<Yard, AllocError>
+    requires { IfSome spare (λ yard. IsIdle network.now yard.lists) }
+    ensures { IfOk result (λ yard. IsIdle network.now yard.lists) }
+{
+    match spare {
+        Some(yard) => Ok(yard),
+        None => yard_for(alloc, network),
+    }
+}
+
+impl<'a> Floor<'a> {
+    /// A floor over the network, with one lane that has the whole quota: as many clients may come in. It is
+    /// [`Floor::open_after`] of words that are all 0.
+    ///
+    /// # Errors
+    /// The first that stands: `Quota` (more than [`MOST_CLIENTS`]), `Memory`.
+    pub fn open(
+        alloc: Global,
+        network: &'a Counting,
+        quota: u64,
+    ) -> Result<(Floor<'a>, Lane), OpenFault>
+        ensures floor { IfOk result (λ r. (r.0.start.network ≡ network.now)
+            × (r.0.start.quota ≡ quota)) }
+        ensures zero { IfOk result (λ r. r.0.start.words
+            ≡ replicate (word_count network.now.table) 0) }
+        ensures base { IfOk result (λ r. base r.0.start ≡ 0) }
+        ensures lane { IfOk result (λ r. r.1 ≡ empty_lane r.0 quota) }
+        ensures quota { IsErrOf result OpenFault.Quota ↔ (MOST_CLIENTS < quota) }
+    {
+        if quota > MOST_CLIENTS {
+            return Err(OpenFault::Quota);
+        }
+        match Words::zero(alloc, network) {
+            Ok(words) => Floor::open_words(alloc, words, quota),
+            Err(_memory) => Err(OpenFault::Memory),
+        }
+    }
+
+    /// A floor over the network of these words, which goes on from them: its numbers and visits begin with theirs, and its
+    /// names are those of its own clients. It has one lane with the whole quota. Over words that are all 0 it is that of
+    /// [`Floor::open`]. They tell of at most [`cn_spec::limits::MOST_CARRIED`] clients.
+    ///
+    /// # Errors
+    /// The first that stands: `Quota` (more than [`MOST_CLIENTS`]), `Memory`.
+    pub fn open_after(
+        alloc: Global,
+        words: &Words<'a>,
+        quota: u64,
+    ) -> Result<(Floor<'a>, Lane), OpenFault>
+        requires few { client_count words.now ≤ MOST_CARRIED }
+        ensures floor { IfOk result (λ r. r.0.start ≡ start_after words.now quota) }
+        ensures lane { IfOk result (λ r. r.1 ≡ empty_lane r.0 quota) }
+        ensures quota { IsErrOf result OpenFault.Quota ↔ (MOST_CLIENTS < quota) }
+    {
+        if quota > MOST_CLIENTS {
+            return Err(OpenFault::Quota);
+        }
+        match words.copy(alloc) {
+            Ok(copy) => Floor::open_words(alloc, copy, quota),
+            Err(_memory) => Err(OpenFault::Memory),
+        }
+    }
+
+    /// A floor that goes on from what another left, and takes the words and the yard of that. Over leftovers of nobody
+    /// ([`Leftovers::new`]) it is that of [`Floor::open`], over those of a closed floor that of [`Floor::open_after`], and its
+    /// lane may have spare records. They tell of at most [`cn_spec::limits::MOST_CARRIED`] clients, and the quota is at most
+    /// [`MOST_CLIENTS`].
+    ///
+    /// # Errors
+    /// The leftovers, if a growth was refused. Their words are as they were.
+    pub fn open_on(
+        alloc: Global,
+        leftovers: Leftovers<'a>,
+        quota: u64,
+    ) -> Result<(Floor<'a>, Lane), Leftovers<'a>>
+        requires few { (client_count leftovers ≤ MOST_CARRIED) × (quota ≤ MOST_CLIENTS) }
+        ensures floor { IfOk result (λ r. r.0.start ≡ start_after leftovers.entry quota) }
+        ensures lane { IfOk result (λ r. r.1 ≡ record (empty_lane r.0 quota) { yard = r.1.yard }) }
+        ensures idle { IfOk result (λ r. IsIdle leftovers.entry.network r.1.yard.lists) }
+        ensures back { IfErr result (λ back. back ≡ leftovers.entry) }
+    {
+        let Leftovers { words, yard } = leftovers;
+        let Ok(yard) = spare_yard(alloc, words.network, yard) else {
+            return Err(Leftovers { words, yard: None });
+        };
+        match Floor::begin(alloc, words, quota, yard) {
+            Ok(opened) => Ok(opened),
+            Err(words) => Err(Leftovers { words, yard: None }),
+        }
+    }
+
+    /// A floor that goes on from these words.
+    ///
+    /// # Errors
+    /// `Memory`.
+    fn open_words(
+        alloc: Global,
+        words: Words<'a>,
+        quota: u64,
+    ) -> Result<(Floor<'a>, Lane), OpenFault>
+        requires few { (client_count words ≤ MOST_CARRIED) × (quota ≤ MOST_CLIENTS) }
+        ensures floor { IfOk result (λ r. r.0.start ≡ start_after words.entry quota) }
+        ensures lane { IfOk result (λ r. r.1 ≡ empty_lane r.0 quota) }
+        ensures memory { IfErr result (λ fault. fault ≡ OpenFault.Memory) }
+    {
+        let Ok(yard) = yard_for(alloc, words.network) else {
+            return Err(OpenFault::Memory);
+        };
+        match Floor::begin(alloc, words, quota, yard) {
+            Ok(opened) => Ok(opened),
+            Err(_words) => Err(OpenFault::Memory),
+        }
+    }
+
+    /// A floor that goes on from these words, with this yard for its lane. Where it gets no memory the words come back.
+    fn begin(
+        alloc: Global,
+        words: Words<'a>,
+        quota: u64,
+        yard: Yard,
+    ) -> Result<(Floor<'a>, Lane), Words<'a>>
+        requires few { (client_count words ≤ MOST_CARRIED) × (quota ≤ MOST_CLIENTS) }
+        requires idle { IsIdle words.network yard.lists }
+        ensures floor { IfOk result (λ r. r.0.start ≡ start_after words.entry quota) }
+        ensures lane { IfOk result (λ r. r.1 ≡ record (empty_lane r.0 quota) { yard = yard }) }
+        ensures back { IfErr result (λ back. back ≡ words.entry) }
+    {
+        let made = Counters::new(alloc, words.network, quota, &words.words);
+        let Ok((counters, seat)) = made else {
+            return Err(words);
+        };
+        let lane = Lane {
+            seat,
+            yard,
+            grants: Vec::new(alloc),
+            quota,
+            room: 0,
+        };
+        let floor = Floor {
+            alloc,
+            network: words.network,
+            base: words.clients,
+            before: words,
+            counters,
+        };
+        Ok((floor, lane))
+    }
+}

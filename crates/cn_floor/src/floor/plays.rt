@@ -1,0 +1,163 @@
+//! The rule of a floor, and the kinds of atomic steps that lanes make.
+
+use crate::view::{Opening, View};
+use atomic_table::{Join, Play, Split, TableRule};
+use std::marker::{Brand, PhantomData};
+
+/// The rule of a floor.
+pub struct FloorRule;
+
+impl TableRule<(), View, Opening> for FloorRule {
+    ghost use Rattle.cn_floor.specs.Rule.{KeepsRule, start_of};
+    ghost use Rattle.cn_floor.specs.Views.{empty_view};
+
+    ghost holds = { λ key s. KeepsRule (start_of key) s };
+
+    ghost first = { λ key. empty_view (start_of key) key.quota };
+}
+
+/// Who comes in.
+pub trait EnterOf {
+    ghost use Rattle.cn_floor.specs.Plays.{Coming};
+
+    ghost coming: { Coming };
+}
+
+impl EnterOf for Brand {
+    ghost use Rattle.cn_floor.specs.Plays.{nobody_comes};
+
+    ghost coming = { nobody_comes };
+}
+
+/// A step by which a client comes in.
+pub struct EnterPlay<T> {
+    of: PhantomData<T>,
+}
+
+impl<T: EnterOf> Play<(), View> for EnterPlay<T> {
+    ghost use Rattle.std.specs.Prelude.{◌≡◌, []};
+    ghost use Rattle.cn_floor.specs.Plays.{ComesIn};
+
+    ghost then = { λ _ me n new. (new.1 ≡ []) × ComesIn T.coming me.0 new.0 };
+}
+
+/// Who goes on.
+pub trait StepOf {
+    ghost use Rattle.cn_floor.specs.Plays.{Going};
+
+    ghost going: { Going };
+}
+
+impl StepOf for Brand {
+    ghost use Rattle.cn_floor.specs.Plays.{nobody_goes};
+
+    ghost going = { nobody_goes };
+}
+
+/// A step by which a token goes by the end of its wire.
+pub struct StepPlay<T> {
+    of: PhantomData<T>,
+}
+
+impl<T: StepOf> Play<(), View> for StepPlay<T> {
+    ghost use Rattle.std.specs.Prelude.{◌≡◌, []};
+    ghost use Rattle.cn_floor.specs.Plays.{GoesOn};
+
+    ghost then = { λ _ me n new. (new.1 ≡ []) × GoesOn T.going me.0 n new.0 };
+}
+
+/// Which wire's tokens go on.
+pub trait SweepOf {
+    ghost use Rattle.cn_floor.specs.Sweeps.{Sweeping};
+
+    ghost sweeping: { Sweeping };
+}
+
+impl SweepOf for Brand {
+    ghost use Rattle.cn_floor.specs.Sweeps.{nobody_sweeps};
+
+    ghost sweeping = { nobody_sweeps };
+}
+
+/// A step by which all tokens of a wire go by its end.
+pub struct SweepPlay<T> {
+    of: PhantomData<T>,
+}
+
+impl<T: SweepOf> Play<(), View> for SweepPlay<T> {
+    ghost use Rattle.std.specs.Prelude.{◌≡◌, []};
+    ghost use Rattle.cn_floor.specs.Sweeps.{AllGoOn};
+
+    ghost then = { λ _ me n new. (new.1 ≡ []) × AllGoOn T.sweeping me.0 n new.0 };
+}
+
+/// Of which floor a load is.
+pub trait LoadOf {
+    ghost use Rattle.cn_floor.specs.declared.view.Start.{Start};
+
+    ghost start: { Start };
+}
+
+impl LoadOf for Brand {
+    ghost use Rattle.cn_floor.specs.Views.{no_start};
+
+    ghost start = { no_start };
+}
+
+/// A load of the next entry's word.
+pub struct LoadPlay<T> {
+    of: PhantomData<T>,
+}
+
+impl<T: LoadOf> Play<(), View> for LoadPlay<T> {
+    ghost use Rattle.std.specs.Prelude.{◌≡◌, []};
+    ghost use Rattle.cn_floor.specs.Plays.{Loads};
+
+    ghost then = { λ _ me n new. (new.1 ≡ []) × Loads T.start me.0 n new.0 };
+}
+
+/// How much quota is split off.
+pub trait Portion {
+    ghost use Rattle.std.specs.Prelude.{ℕ};
+
+    ghost quota: { ℕ };
+}
+
+impl Portion for Brand {
+    ghost quota = { 0 };
+}
+
+/// A view is cut in two.
+pub struct SplitSeat<T> {
+    of: PhantomData<T>,
+}
+
+impl<T: Portion> Split<View> for SplitSeat<T> {
+    ghost use Rattle.cn_floor.specs.Views.{after_split, split_off};
+
+    ghost left = { λ v. after_split T.quota v };
+
+    ghost right = { λ v. split_off T.quota v };
+}
+
+/// Two views become one.
+pub struct JoinSeats;
+
+impl Join<View> for JoinSeats {
+    ghost use Rattle.cn_floor.specs.Views.{after_join, nobody};
+
+    ghost both = { after_join };
+
+    ghost spent = { nobody };
+}
+
+/// A look that changes nothing, and tells that quota and tokens are few.
+pub struct BoundPlay;
+
+impl Play<(), View> for BoundPlay {
+    ghost use Rattle.std.specs.Prelude.{◌≡◌, ◌+◌, ◌≤◌};
+    ghost use Rattle.cn_spec.specs.declared.limits.TheConstants.{MOST_CLIENTS};
+    ghost use Rattle.cn_floor.specs.Views.{inside_in};
+
+    ghost then = { λ _ me n new. (new ≡ me) × (inside_in me.0 + me.0.quota ≤ MOST_CLIENTS) };
+}

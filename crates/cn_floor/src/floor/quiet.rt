@@ -1,0 +1,102 @@
+//! What a closed floor leaves.
+
+ghost use Rattle.std.specs.Prelude.{◌≡◌, IfOk};
+ghost use Rattle.cn_floor.specs.Ends.{HasRisen, IsClosedFloor, ListsHolders, counts_of, passes_of};
+
+use super::closed_floor::ClosedFloor;
+use super::words::Words;
+use crate::view::Grant;
+use std::alloc::AllocError;
+use std::marker::Model;
+
+/// What a closed floor leaves: its counts, and the grants of its one lane. Only the close of a floor
+/// makes it.
+#[derive(Drop)]
+pub struct Quiet<'a> {
+    pub(super) closed: ClosedFloor<'a>,
+    /// How much each word has risen since the floor began; without one, as much as it counts.
+    pub(super) risen: Option<Vec<u64>>,
+}
+
+impl<'a> Model for Quiet<'a> {
+    ghost use Rattle.cn_floor.specs.Ends.{QuietValue};
+    ghost use Rattle.cn_floor.specs.InsideQuiet.{KeepsQuiet};
+
+    ghost Value = { QuietValue };
+
+    ghost view = { λ q. q.closed };
+
+    ghost invariant = { KeepsQuiet };
+}
+
+impl<'a> Quiet<'a> {
+    /// What holds of each closed floor: nobody is inside, the counts are the shares of all that came in, and the names are
+    /// those below their number, each once.
+    ///
+    /// It does nothing: its contract is the law.
+    pub fn quiet_laws(&self)
+        ensures { IsClosedFloor self.now.start self.now.did self.now.words }
+    {
+        self.closed.closed_laws();
+    }
+
+    /// The lane's grants, in its order.
+    pub fn grants(&self) -> &[Grant]
+        ensures { result.now ≡ self.now.did.grants }
+    {
+        self.closed.grants()
+    }
+
+    /// How much each word has risen since the floor began.
+    fn risen(&self) -> &[u64]
+        ensures { HasRisen self.now.start self.now.words result.now }
+    {
+        self.closed.closed_laws();
+        match &self.risen {
+            Some(risen) => risen.as_slice(),
+            None => self.closed.words.words.as_slice(),
+        }
+    }
+
+    /// How many left by each exit since the floor began: each exit's share.
+    pub fn counts(&self) -> &[u64]
+        ensures { result.now ≡ counts_of self.now.start self.now.words }
+    {
+        let network = self.closed.words().network();
+        let first = 1 + network.entries() as usize + network.balancers() as usize;
+        &self.risen()[first..first + network.width() as usize]
+    }
+
+    /// How many passed each balancer since the floor began.
+    pub fn passes(&self) -> &[u64]
+        ensures { result.now ≡ passes_of self.now.start self.now.words }
+    {
+        let network = self.closed.words().network();
+        let first = 1 + network.entries() as usize;
+        &self.risen()[first..first + network.balancers() as usize]
+    }
+
+    /// The words of the floor, with which another may begin.
+    pub fn words(&self) -> &Words<'a>
+        ensures { result.now ≡ record { network = self.now.start.network; words = self.now.words } }
+    {
+        self.closed.words()
+    }
+
+    /// The same words, without the floor's grants.
+    pub fn into_words(self) -> Words<'a>
+        ensures { result ≡ record { network = self.entry.start.network; words = self.entry.words } }
+    {
+        self.closed.into_words()
+    }
+
+    /// The clients by rising name: `holders[n]` is the client with name n.
+    ///
+    /// # Errors
+    /// `AllocError` where the list gets no memory.
+    pub fn holders(&self) -> Result<Vec<u64>, AllocError>
+        ensures { IfOk result (λ holders. ListsHolders self.now.did.grants holders.items) }
+    {
+        self.closed.holders()
+    }
+}

@@ -1,0 +1,103 @@
+//! Lanes of one floor are split and joined.
+
+ghost use Rattle.std.specs.Prelude.{◌≡◌, ◌+◌, ◌-◌, ◌<◌, ◌≤◌, ◌↔◌, ◌++◌, length, vec_capacity, vec_len, IfErr, IfOk};
+ghost use Rattle.cn_yard.specs.Lists.{tokens_in};
+ghost use Rattle.cn_floor.specs.Lane.{empty_lane};
+ghost use Rattle.cn_floor.specs.Views.{after_join, after_split, split_off};
+
+use super::lane::Lane;
+use super::{Floor, yard_for};
+use crate::fault::{JoinFault, SplitFault};
+use crate::view::Grant;
+use std::marker::Brand;
+
+/// Adds grants at the end of a list that has room for them.
+fn append(to: &mut Vec<Grant>, from: &[Grant])
+    requires { vec_len to.old + length from.now ≤ vec_capacity to.old }
+    ensures items { to.new.items ≡ to.old.items ++ from.now }
+    ensures capacity { vec_capacity to.new ≡ vec_capacity to.old }
+{
+    for grant in from {
+        to.push_reserved(*grant);
+    }
+}
+
+impl<'a> Floor<'a> {
+    /// Splits off a lane with some of the quota. The first keeps all else.
+    ///
+    /// # Errors
+    /// The first that stands, with the lane: `QuotaTooSmall`, `Memory`.
+    pub fn split(&self, mut lane: Lane, quota: u64) -> Result<(Lane, Lane), (SplitFault, Lane)>
+        requires own { lane.home ≡ self.now }
+        ensures first { IfOk result (λ r. r.0
+            ≡ record lane { view = after_split quota lane.view }) }
+        ensures second { IfOk result (λ r.
+            r.1 ≡ record (empty_lane lane.home quota) { view = split_off quota lane.view }) }
+        ensures own { IfOk result (λ r. (r.0.home ≡ self.now) × (r.1.home ≡ self.now)) }
+        ensures enough { IfOk result (λ r. quota ≤ lane.view.quota) }
+        ensures err { IfErr result (λ r. r.1 ≡ lane) }
+        ensures small { IfErr result (λ r. (r.0 ≡ SplitFault.QuotaTooSmall)
+            ↔ (lane.view.quota < quota)) }
+    {
+        if quota > lane.quota {
+            return Err((SplitFault::QuotaTooSmall, lane));
+        }
+        let Ok(yard) = yard_for(self.alloc, self.network) else {
+            return Err((SplitFault::Memory, lane));
+        };
+        let seat = self.counters.split::<Brand>(&mut lane.seat, quota);
+        lane.quota -= quota;
+        let other = Lane {
+            seat,
+            yard,
+            grants: Vec::new(self.alloc),
+            quota,
+            room: 0,
+        };
+        Ok((lane, other))
+    }
+
+    /// Takes the second lane into the first: its grants come after the first's. Where the first has room for them it takes
+    /// no memory, and so much less is its room.
+    ///
+    /// # Errors
+    /// The first that stands, with both lanes: `StillWalking` (the second has tokens), `Memory` (the first has no room for
+    /// the second's grants, and gets no memory).
+    pub fn join(&self, mut lane: Lane, other: Lane) -> Result<Lane, (JoinFault, Lane, Lane)>
+        requires own { (lane.home ≡ self.now) × (other.home ≡ self.now) }
+        ensures ok { IfOk result (λ r. r ≡ record lane {
+          view = after_join lane.view other.view;
+          room = lane.room - length other.view.grants;
+        }) }
+        ensures out { IfOk result (λ r. tokens_in other.yard.lists ≡ 0) }
+        ensures err { IfErr result (λ r. (r.1 ≡ lane) × (r.2 ≡ other)) }
+        ensures walking { IfErr result (λ r. (r.0 ≡ JoinFault.StillWalking)
+            ↔ (0 < tokens_in other.yard.lists)) }
+        ensures room { IfErr result (λ r. (r.0 ≡ JoinFault.Memory)
+            → lane.room < length other.view.grants) }
+    {
+        if !other.yard.is_empty() {
+            return Err((JoinFault::StillWalking, lane, other));
+        }
+        let more = other.grants.len();
+        let inside = lane.yard.len();
+        if lane.room < more as u64 {
+            if lane.grants.reserve(more + inside as usize).is_err() {
+                return Err((JoinFault::Memory, lane, other));
+            }
+        }
+        let Lane {
+            seat,
+            yard: _yard,
+            grants,
+            quota,
+            room: _room,
+        } = other;
+        lane.quota = self
+            .counters
+            .join(&mut lane.seat, seat, inside, lane.quota, quota);
+        lane.room = lane.room.saturating_sub(more as u64);
+        append(&mut lane.grants, grants.as_slice());
+        Ok(lane)
+    }
+}

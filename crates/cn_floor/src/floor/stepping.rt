@@ -1,0 +1,129 @@
+//! The atomic steps of a lane on a floor, one at a time.
+
+ghost use Rattle.std.specs.Prelude.{◌≡◌, ℕ, ◌+◌, ◌-◌, ◌<◌, ◌≤◌, ◌↔◌, [], IfOk, IsErrOf, IsSome, OnErr};
+ghost use Rattle.cn_yard.specs.Lists.{standing};
+ghost use Rattle.cn_floor.specs.Lane.{LetsIn, StepsOn};
+ghost use Rattle.cn_floor.specs.Steps.{IsAnswer};
+ghost use Rattle.cn_floor.specs.Views.{after_entered};
+
+use super::Floor;
+use super::lane::Lane;
+use crate::fault::LaneFault;
+use crate::view::{Grant, View};
+use atomic_table::Seat;
+use cn_balancer::output_of;
+use cn_exit::name_of;
+use cn_ledger::Moved;
+use cn_wiring::End;
+use cn_yard::Token;
+use std::marker::Brand;
+
+impl<'a> Floor<'a> {
+    /// Lets a client in by an entry, in one atomic step; a refusal takes none. Its token stands last on the entry's wire.
+    /// It lowers the lane's quota by one, and its room where there is some. Identities are not compared.
+    ///
+    /// # Errors
+    /// The first that stands: `NoSuchEntry`, `QuotaSpent`, `Memory` (where the lane has no room, and gets no memory). Then
+    /// nothing has changed.
+    pub fn enter(&self, lane: &mut Lane, client: u64, entry: u64) -> Result<Token, LaneFault>
+        requires own { lane.old.home ≡ self.now }
+        ensures ok { IfOk result (λ token. LetsIn lane.old lane.new token client entry) }
+        ensures err { OnErr result (lane.new ≡ lane.old) }
+        ensures entry { IsErrOf result LaneFault.NoSuchEntry
+            ↔ (self.now.start.network.table.entries ≤ entry) }
+        ensures quota { IsErrOf result LaneFault.QuotaSpent
+            ↔ ((entry < self.now.start.network.table.entries) × (lane.old.view.quota ≡ 0)) }
+        ensures room { 0 < lane.old.room → ¬ (IsErrOf result LaneFault.Memory) }
+    {
+        if entry >= u64::from(self.network.entries()) {
+            return Err(LaneFault::NoSuchEntry);
+        }
+        if lane.quota == 0 {
+            return Err(LaneFault::QuotaSpent);
+        }
+        let entry = entry as u32;
+        if lane.room == 0 {
+            let inside = lane.yard.len() as usize;
+            if lane.grants.reserve(inside + 1).is_err() {
+                return Err(LaneFault::Memory);
+            }
+        }
+        let Ok(token) = lane.yard.admit(client, entry) else {
+            return Err(LaneFault::Memory);
+        };
+        self.counters
+            .enter::<Brand>(&mut lane.seat, token, client, entry);
+        lane.quota -= 1;
+        lane.room = lane.room.saturating_sub(1);
+        Ok(token)
+    }
+
+    /// Lets a live token of the lane ([`Lane::is_live`]) go by the end of its wire, in one atomic step: it stands last on
+    /// the balancer's next output, or leaves with a name. It takes no memory, and refuses nothing.
+    pub fn step(&self, lane: &mut Lane, token: Token) -> Moved
+        requires own { lane.old.home ≡ self.now }
+        requires live { IsSome (standing lane.old.yard.lists token) }
+        ensures { (client wire n : ℕ) × StepsOn lane.old lane.new token client wire n result }
+    {
+        let client = lane.yard.client_of(token);
+        let wire = lane.yard.wire_of(token);
+        let end = self.network.end(wire);
+        let number = self
+            .counters
+            .step::<Brand>(&mut lane.seat, token, client, wire, end);
+        match end {
+            End::Balancer(balancer) => {
+                let wire = self.network.entries() + 2 * balancer + output_of(number);
+                lane.yard.move_to(token, wire);
+                Moved::On {
+                    balancer,
+                    number,
+                    wire,
+                }
+            }
+            End::Exit(exit) => {
+                let name = name_of(self.network.width(), exit, number) - self.base;
+                lane.yard.release(token);
+                lane.grants.push_reserved(Grant {
+                    client,
+                    exit,
+                    visit: number,
+                    name,
+                });
+                Moved::Out {
+                    exit,
+                    visit: number,
+                    name,
+                }
+            }
+        }
+    }
+
+    /// Loads the word of each entry once, in order.
+    fn load_all(&self, seat: &mut Seat<(), View>) -> u64
+        requires own { seat.old.table_id ≡ self.now.table }
+        requires slots { (seat.old.me.1 ≡ []) × (seat.old.me.0.loads ≡ []) }
+        ensures seat { (seat.new.table_id ≡ seat.old.table_id) × (seat.new.me.1 ≡ []) }
+        ensures told { seat.new.me.0 ≡ after_entered self.now.start result seat.old.me.0 }
+        ensures answer { IsAnswer self.now.start seat.old.me.0 result }
+    {
+        let mut total = 0;
+        for entry in 0..self.network.entries() {
+            total += self.counters.load_next::<Brand>(seat, entry);
+        }
+        total - self.base
+    }
+
+    /// How many clients came in since the floor began, by all lanes, as far as one lane can tell: it loads the word of
+    /// each entry once, in order, and adds. It takes no memory.
+    ///
+    /// The answer is no less than the lane let in and than it was told before, and more than each name that it holds.
+    pub fn entered(&self, lane: &mut Lane) -> u64
+        requires own { lane.old.home ≡ self.now }
+        ensures answer { IsAnswer self.now.start lane.old.view result }
+        ensures lane { lane.new
+            ≡ record lane.old { view = after_entered self.now.start result lane.old.view } }
+    {
+        self.load_all(&mut lane.seat)
+    }
+}

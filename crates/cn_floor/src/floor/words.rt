@@ -1,0 +1,146 @@
+//! The words of closed floors.
+
+ghost use Rattle.std.specs.Prelude.{◌≡◌, ◌<◌, None, length, IfOk, IfSome};
+ghost use Rattle.cn_wiring.specs.declared.end.End.TheVariants.{Balancer, Exit};
+ghost use Rattle.cn_floor.specs.Carried.{AreTight, IsClosed, client_count, zero_words};
+ghost use Rattle.cn_floor.specs.Words.{IsDifference, NoneWent, count_in, entered_in};
+
+use super::reading::rise;
+use super::zeros;
+use cn_wiring::Counting;
+use std::alloc::{AllocError, Global};
+use std::marker::Model;
+
+/// The words of closed floors over a network: how many clients came in by each entry, passed each balancer and left by each
+/// exit since each word was 0. Another floor may go on from them ([`super::Floor::open_after`]).
+///
+/// [`Words::zero`] and the close of a floor alone make them. No reader takes memory.
+#[derive(Drop)]
+pub struct Words<'a> {
+    pub(super) network: &'a Counting,
+    pub(super) words: Vec<u64>,
+    pub(super) clients: u64,
+}
+
+impl<'a> Model for Words<'a> {
+    ghost use Rattle.cn_floor.specs.Carried.{WordsValue};
+    ghost use Rattle.cn_floor.specs.InsideWords.{KeepsWords, words_of};
+
+    ghost Value = { WordsValue };
+
+    ghost view = { words_of };
+
+    ghost invariant = { KeepsWords };
+}
+
+impl<'a> Words<'a> {
+    /// Words of which each is 0: nobody came.
+    ///
+    /// # Errors
+    /// `AllocError` where they get no memory.
+    pub fn zero(alloc: Global, network: &'a Counting) -> Result<Words<'a>, AllocError>
+        ensures zero { IfOk result (λ words. words ≡ zero_words network.now) }
+        ensures nobody { IfOk result (λ words. client_count words ≡ 0) }
+    {
+        Ok(Words {
+            network,
+            words: zeros(alloc, network)?,
+            clients: 0,
+        })
+    }
+
+    /// Those of a floor that is closed, with the number of all their clients.
+    pub(super) fn closed(network: &'a Counting, words: Vec<u64>, clients: u64) -> Words<'a>
+        requires closed { IsClosed (record { network = network.now; words = words.items }) }
+        requires clients { clients
+            ≡ client_count (record { network = network.now; words = words.items }) }
+        ensures { result ≡ record { network = network.now; words = words.items } }
+    {
+        Words {
+            network,
+            words,
+            clients,
+        }
+    }
+
+    /// The same words once more.
+    ///
+    /// # Errors
+    /// `AllocError` where they get no memory.
+    pub(super) fn copy(&self, alloc: Global) -> Result<Words<'a>, AllocError>
+        ensures { IfOk result (λ words. words ≡ self.now) }
+    {
+        Ok(Words {
+            network: self.network,
+            words: Vec::from_slice(alloc, self.words.as_slice())?,
+            clients: self.clients,
+        })
+    }
+
+    /// How much each word has risen from these to later ones. Where these tell of nobody it is not told: nobody went by an
+    /// end then, and what an end's word counts is what it has risen.
+    pub(super) fn risen_to(self, later: &[u64]) -> Option<Vec<u64>>
+        requires { length self.words ≡ length later.now }
+        ensures some { IfSome result (λ risen.
+            IsDifference self.entry.words later.now risen.items) }
+        ensures none { result ≡ None → NoneWent self.entry.network.table self.entry.words }
+    {
+        if self.clients == 0 {
+            return None;
+        }
+        let mut list = self.words;
+        rise(&mut list, later);
+        Some(list)
+    }
+
+    /// What holds of all closed words: they are those of a sound ledger with nobody inside. So each exit has let out its
+    /// share of their clients, and the first visit on an exit of a floor that goes on from them is this share.
+    ///
+    /// It does nothing: its contract is the law.
+    pub fn words_laws(&self)
+        ensures closed { IsClosed self.now }
+        ensures tight { AreTight self.now }
+    {
+        // Opens what all closed words keep.
+        let _ = &self.words;
+    }
+
+    /// The network that they are of.
+    pub fn network(&self) -> &'a Counting
+        ensures { result.now ≡ self.now.network }
+    {
+        self.network
+    }
+
+    /// How many clients came.
+    pub fn clients(&self) -> u64
+        ensures { result ≡ client_count self.now }
+    {
+        self.clients
+    }
+
+    /// How many came in by an entry of the network.
+    pub fn entry_count(&self, entry: u32) -> u64
+        requires { entry < self.now.network.table.entries }
+        ensures { result ≡ entered_in self.now.network.table self.now.words entry }
+    {
+        self.words[1 + entry as usize]
+    }
+
+    /// How many passed a balancer of the network.
+    pub fn pass_count(&self, balancer: u32) -> u64
+        requires { balancer < self.now.network.table.balancers }
+        ensures { result ≡ count_in self.now.network.table self.now.words (Balancer balancer) }
+    {
+        self.words[1 + self.network.entries() as usize + balancer as usize]
+    }
+
+    /// How many left by an exit of the network.
+    pub fn exit_count(&self, exit: u32) -> u64
+        requires { exit < self.now.network.table.width }
+        ensures { result ≡ count_in self.now.network.table self.now.words (Exit exit) }
+    {
+        let first = 1 + self.network.entries() as usize + self.network.balancers() as usize;
+        self.words[first + exit as usize]
+    }
+}

@@ -1,0 +1,57 @@
+//! The laws of floors. Each function does nothing: its contract is the law, and a caller opens it by a call. They speak of
+//! each state that keeps the rule, and each step of a lane is from such a state to such a state.
+
+ghost use Rattle.std.specs.Prelude.{◌+◌, ◌≤◌};
+ghost use Rattle.cn_spec.specs.declared.limits.TheConstants.{MOST_CARRIED, MOST_CLIENTS};
+ghost use Rattle.cn_ledger.specs.Laws.{GrantsOnce, NamesDiffer};
+ghost use Rattle.cn_ledger.specs.Ledger.{IsBounded, IsTight};
+ghost use Rattle.cn_floor.specs.Ends.{NobodyInside};
+ghost use Rattle.cn_floor.specs.Laws.{AtEachMoment, HasFewWords, HasWalked, HoldsLowNames, InEachView, NumbersDiffer, TakesItsSteps, VisitsGoOn, entered_at, ledger_at};
+ghost use Rattle.cn_floor.specs.Views.{base};
+
+/// No name is granted twice, by any lanes: two grants of one name are of one client, by one exit, with one visit, and no
+/// grant is made twice. Each name is below the number that came in. Where the floor went on from others, its names, which
+/// are so much less as came before, are below the number that came in since.
+pub fn names_differ_and_are_low()
+    ensures differ { AtEachMoment (λ start s. NamesDiffer (ledger_at start s)) }
+    ensures once { AtEachMoment (λ start s. GrantsOnce (ledger_at start s)) }
+    ensures low { AtEachMoment (λ start s. IsBounded start.network.table (ledger_at start s)) }
+    ensures late { InEachView HoldsLowNames }
+{}
+
+/// No two passages of any lanes have one balancer and number, and no two grants one exit and visit.
+pub fn numbers_differ()
+    ensures { AtEachMoment NumbersDiffer }
+{}
+
+/// The visits on an exit go on from its share of the clients that came before the floor began.
+pub fn visits_go_on()
+    ensures { AtEachMoment VisitsGoOn }
+{}
+
+/// No count wraps: each is at most the number that ever came, and that is at most those before and the quota, which are
+/// few.
+pub fn words_are_few()
+    ensures counts { AtEachMoment HasFewWords }
+    ensures came { AtEachMoment (λ start s. entered_at start s ≤ base start + start.quota) }
+    ensures few { AtEachMoment (λ start s. base start + start.quota ≤ MOST_CARRIED + MOST_CLIENTS) }
+{}
+
+/// In each view, also that of a lane that was dropped, the passages are as many as the network is deep for each grant, and
+/// as each token inside is deep. So each token takes part in as many atomic steps as the network is deep, and two.
+pub fn tokens_take_their_steps()
+    ensures walked { InEachView (λ start s v. HasWalked start v) }
+    ensures steps { InEachView (λ start s v. TakesItsSteps start v) }
+{}
+
+/// No answer that a lane was given is more than the number that came in.
+pub fn answers_stay_true()
+    ensures { InEachView (λ start s v. base start + v.seen ≤ entered_at start s) }
+{}
+
+/// Where nobody is inside, the ledger of all that ever came is tight: each exit has let out its share, and the names are
+/// those below the number that came in, each granted once.
+pub fn floors_end_tight()
+    ensures { AtEachMoment (λ start s. NobodyInside start s.views
+        → IsTight start.network.table (ledger_at start s)) }
+{}

@@ -1,0 +1,13 @@
+//! A counting network on atomic words, which lanes share: the floor of a walk.
+#![tactic(auto)]
+
+mod fault;
+mod floor;
+mod gate;
+pub mod laws;
+mod view;
+
+pub use fault::{JoinFault, LaneFault, OpenFault, SplitFault};
+pub use floor::{CloseFault, ClosedFloor, Floor, Lane, Leftovers, Quiet, Words, pass_alone};
+pub use gate::{Gate, Moment, OpenGate};
+pub use view::{Grant, Opening, Passage, Start, Sweep, View};

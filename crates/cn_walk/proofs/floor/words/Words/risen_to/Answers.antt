@@ -1,8 +1,0 @@
-use Rattle.std.proofs.Common.{sym, ap, ◌∙◌, subst}
-use Rattle.cn_walk.specs.Carried.{IsClosed, clients_of}
-use Rattle.cn_walk.proofs.Rises.{none-went}
-use Rattle.cn_walk.proofs.floor.words.Words.risen_to.Goals as goal
-
-pub returns-then-self-eq0-clause-none : goal.returns-then-self-eq0-clause-none
-returns-then-self-eq0-clause-none c x =
-    none-went c.args.self (subst IsClosed c.self.view_is c.self.invariant.closed) (ap clients_of (sym c.self.view_is) ∙ sym c.self.invariant.clients ∙ c.if-self-eq0.true)

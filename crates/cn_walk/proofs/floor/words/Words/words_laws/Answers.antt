@@ -1,7 +1,0 @@
-use Rattle.std.proofs.Common.{subst}
-use Rattle.cn_walk.specs.Carried.{IsClosed}
-use Rattle.cn_walk.proofs.Ends.{closed-tight}
-use Rattle.cn_walk.proofs.floor.words.Words.words_laws.Goals as goal
-
-pub returns-clause-tight : goal.returns-clause-tight
-returns-clause-tight c = closed-tight c.args.self.now (subst IsClosed c.self.view_is c.self.invariant.closed)

@@ -1,9 +1,0 @@
--- What a closed floor keeps.
-use Rattle.std.specs.Prelude.{◌≡◌, None, IfSome}
-use Rattle.cn_walk.specs.declared.floor.quiet.Quiet.TheInside.{Inside}
-use Rattle.cn_walk.specs.Words.{IsDifference, NoneWent}
-
--- it has what the words have risen, or nobody went before
-pub record KeepsQuiet (q : Inside) : Type 0 where
-  pub risen : IfSome q.risen (λ list. IsDifference q.ended.start.carried q.ended.words list.items)
-  pub none : q.risen ≡ None → NoneWent q.ended.start.network.table q.ended.start.carried

@@ -1,5 +1,0 @@
-use Rattle.std.proofs.Common.{rules}
-use Rattle.cn_words.proofs.options.OptionFault.status.Goals as goal
-
-pub returns : goal.returns
-returns c = search rules

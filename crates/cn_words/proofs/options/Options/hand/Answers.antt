@@ -1,5 +1,0 @@
-use Rattle.std.proofs.Common.{rules}
-use Rattle.cn_words.proofs.options.Options.hand.Goals as goal
-
-pub returns-clause-hand : goal.returns-clause-hand
-returns-clause-hand c = search rules

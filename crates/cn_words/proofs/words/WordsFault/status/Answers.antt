@@ -1,5 +1,0 @@
-use Rattle.std.proofs.Common.{rules}
-use Rattle.cn_words.proofs.words.WordsFault.status.Goals as goal
-
-pub returns-in-Help : goal.returns-in-Help
-returns-in-Help c = search rules
