@@ -57,6 +57,9 @@ def build(built, folder, name, words, uses=()):
     if is_current(built, folder):
         return
     with as_a_crate(folder, name, uses) as crate:
-        subprocess.run(["rt", *words], cwd=crate, stdout=subprocess.DEVNULL, stdin=subprocess.DEVNULL, check=True)
+        # What the program or a test ends with says nothing of the build: that is judged when it is run.
+        subprocess.run(["rt", *words], cwd=crate, stdout=subprocess.DEVNULL, stdin=subprocess.DEVNULL)
+        if not (crate / "out" / built.name).exists():
+            raise SystemExit(f"{name} is not built")
         built.parent.mkdir(exist_ok=True)
         shutil.copy(crate / "out" / built.name, built)
