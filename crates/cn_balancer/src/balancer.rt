@@ -98,7 +98,7 @@ impl Balancer {
         departures(self.passages, output)
     }
 
-    /// How many tokens have come and not passed yet. Where it is 0, the balancer is quiescent.
+    /// How many tokens have come and not passed yet. If it is 0, the balancer is quiescent.
     pub fn waiting(&self) -> u64
         ensures { result + self.now.passages ≡ all_arrivals self.now }
     {

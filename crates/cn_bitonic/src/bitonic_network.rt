@@ -30,7 +30,7 @@ use std::alloc::{AllocError, Global};
 /// [`cn_wiring::laws::tables_are_unique`].
 ///
 /// # Errors
-/// [`BuildFault::Width`] where networks of this width are not built, and [`BuildFault::Memory`] where the network gets no
+/// [`BuildFault::Width`] if networks of this width are not built, and [`BuildFault::Memory`] if the network gets no
 /// memory.
 pub fn bitonic(alloc: Global, width: u32) -> Result<Counting, BuildFault>
     ensures width { IsErrOf result BuildFault.Width ↔ (¬ IsWidth width) }
@@ -59,7 +59,7 @@ pub fn bitonic(alloc: Global, width: u32) -> Result<Counting, BuildFault>
 /// list, and their merger. The list's length is a power of two.
 ///
 /// # Errors
-/// `AllocError` where a list gets no memory. The draft may have some of the balancers.
+/// `AllocError` if a list gets no memory. The draft may have some of the balancers.
 fn bitonic_over(alloc: Global, draft: &mut Draft, wires: &[u32]) -> Result<Vec<u32>, AllocError>
     requires row { (level : ℕ) × IsRow level wires.now
         × (draft.old.balancers + bitonic_balancers level ≤ MOST_BALANCERS) }

@@ -10,7 +10,7 @@ use cn_spec::limits::MOST_BALANCERS;
 use cn_wiring::Draft;
 use std::alloc::{AllocError, Global};
 
-/// Adds the merger of two lists of wires to a draft, and gives its outputs: where the flows of both lists have the step
+/// Adds the merger of two lists of wires to a draft, and gives its outputs. If the flows of both lists have the step
 /// property, so have the flows of the outputs (Aspnes, Herlihy, Shavit 1994, section 3).
 ///
 /// The lists have one length, which is a power of two and may be 1, and their wires are loose and all different. A merger
@@ -19,8 +19,7 @@ use std::alloc::{AllocError, Global};
 /// and the odd ones of `x2`, that of the other wires, and the last layer.
 ///
 /// # Errors
-/// `AllocError` where a list gets no memory. The draft may have some of the balancers then, and is only good to be
-/// dropped.
+/// `AllocError` if a list gets no memory. The draft may have some of the balancers then, and should be dropped.
 pub fn merger(
     alloc: Global,
     draft: &mut Draft,
@@ -50,7 +49,7 @@ pub fn merger(
 /// The even subsequence: the wires at places 0, 2, 4 and so on, one for each pair.
 ///
 /// # Errors
-/// `AllocError` where the list gets no memory.
+/// `AllocError` if the list gets no memory.
 fn evens(alloc: Global, wires: &[u32]) -> Result<Vec<u32>, AllocError>
     ensures { IfOk result (λ part. part.items ≡ evens wires.now) }
 {
@@ -60,7 +59,7 @@ fn evens(alloc: Global, wires: &[u32]) -> Result<Vec<u32>, AllocError>
 /// The odd subsequence: the wires at places 1, 3, 5 and so on.
 ///
 /// # Errors
-/// `AllocError` where the list gets no memory.
+/// `AllocError` if the list gets no memory.
 fn odds(alloc: Global, wires: &[u32]) -> Result<Vec<u32>, AllocError>
     ensures { IfOk result (λ part. part.items ≡ odds wires.now) }
 {

@@ -1,4 +1,4 @@
--- The command line, as clap is told of it.
+-- The command line, as clap is given it.
 use Rattle.std.specs.Prelude.{true, codes, Some, [], ◌∷◌}
 use Rattle.clap.specs.declared.builder.action.ArgAction.TheVariants.{SetTrue}
 use Rattle.clap.specs.Words.{App, Rule, Text, new_app, new_rule, with_rule, with_subcommand}
@@ -7,7 +7,7 @@ use Rattle.clap.specs.Words.{App, Rule, Text, new_app, new_rule, with_rule, with
 abbrev pub required_option : Text → Rule
 required_option name = record (new_rule name) { long = Some name; value_names = 1; required = true }
 
--- an option with one value, which is this one where none is given
+-- an option with one value, which is this one if none is given
 abbrev pub option_with : Text → Text → Rule
 option_with default name =
     record (new_rule name) { long = Some name; value_names = 1; defaults = default ∷ [] }
@@ -46,7 +46,7 @@ check_words = with_rule (new_app (codes "check")) (required_option (codes "width
 abbrev pub show_words : App
 show_words = network_words (codes "show")
 
--- a command of which a subcommand has to be given, and which helps where no word is given
+-- a command of which a subcommand has to be given, and which shows its help if no word is given
 abbrev pub with_need : App → App
 with_need app = record app { top = record app.top { subcommand_required = true; arg_required_else_help = true } }
 

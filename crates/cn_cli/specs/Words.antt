@@ -37,7 +37,7 @@ Asks (Some (name, options)) (Show net) =
 abbrev pub AsksNone : Option (Text × List Row) → Type 0
 AsksNone chosen = (job : Job) → ¬ Asks chosen job
 
--- what clap has against the words, which is nothing where it takes them
+-- what clap has against the words, which is nothing if it takes them
 abbrev pub faults_in : List Text → Kinds
 faults_in words = fault_of command_line words
 
@@ -45,8 +45,7 @@ faults_in words = fault_of command_line words
 abbrev pub IsJobOf : List Text → Job → Type 0
 IsJobOf words job = (faults_in words ≡ []) × Asks (subcommand_of command_line words) job
 
--- help only where help may be clap's answer, and a refusal only where it need not be, and the words
--- ask for no job
+-- help only if help may be clap's answer, a refusal only if help need not be its answer; and the words ask for no job
 abbrev pub IsFaultOf : List Text → WordsFault → Type 0
 IsFaultOf words (Help text) = IsAmong DisplayHelp (faults_in words)
 IsFaultOf words (Refused text) =

@@ -1,4 +1,4 @@
-//! The command line as clap is told of it.
+//! The command line as clap is given it.
 
 ghost use Rattle.std.specs.Prelude.{◌≡◌, false, true, codes, IfOk, IsOkAnd};
 ghost use Rattle.clap.specs.Words.{app_of, rule_of, with_rule, with_subcommand};
@@ -162,7 +162,7 @@ fn with_subcommand<'a>(
     command.subcommand(subcommand)
 }
 
-/// The same, where the subcommand got its memory.
+/// The same, if the subcommand got its memory.
 fn with<'a>(
     command: Command<'a>,
     subcommand: Result<Command<'a>, AllocError>,

@@ -1,4 +1,4 @@
-//! What the help tells of the formats of each subcommand, its limits and its statuses.
+//! What the help says of the formats of each subcommand, its limits and its statuses.
 
 use cn_spec::limits::{MOST_CLIENTS, MOST_HAND, MOST_LEVEL, MOST_RECORDS, MOST_WORKERS};
 use cn_wiring::width_of;

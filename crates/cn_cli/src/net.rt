@@ -53,7 +53,7 @@ impl Net {
     /// The network of this kind and width.
     ///
     /// # Errors
-    /// `NetFault::Width` where [`is_width`] is false.
+    /// `NetFault::Width` if [`is_width`] is false.
     pub fn new(kind: Kind, width: u32) -> Result<Net, NetFault>
         ensures ok { IfOk result (λ net. (net.kind ≡ kind) × (net.width ≡ width)) }
         ensures width { IsErrOf result NetFault.Width ↔ (¬ IsWidth width) }
@@ -84,7 +84,7 @@ impl Net {
     /// The network itself.
     ///
     /// # Errors
-    /// `BuildFault::Memory` where it gets no memory.
+    /// `BuildFault::Memory` if it gets no memory.
     pub fn build(&self, alloc: Global) -> Result<Counting, BuildFault>
         ensures ok { IfOk result (IsNetworkOf self.now) }
         ensures memory { IfErr result (λ fault. fault ≡ BuildFault.Memory) }

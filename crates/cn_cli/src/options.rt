@@ -85,15 +85,15 @@ impl Options {
     /// form. It carries no counters.
     ///
     /// # Errors
-    /// `OptionFault::Workers` where `workers` is not from 1 to [`MOST_WORKERS`]; else
-    /// `OptionFault::Hand` where `hand` is not from 1 to [`MOST_HAND`].
+    /// `OptionFault::Workers` if `workers` is not from 1 to [`MOST_WORKERS`]; else `OptionFault::Hand` if `hand` is not
+    /// from 1 to [`MOST_HAND`].
     pub fn new(net: Net, workers: u32, hand: u32, form: Form) -> Result<Options, OptionFault>
         ensures ok { IfOk result (λ options. options
             ≡ record { net = net; workers = workers; hand = hand; form = form; carry = false }) }
         ensures workers { IsErrOf result OptionFault.Workers ↔ (¬ WorkersFit workers) }
         ensures hand { IsErrOf result OptionFault.Hand ↔ (WorkersFit workers × (¬ HandFits hand)) }
     {
-        // That the network is built is what its width tells.
+        // Its width shows that the network is built.
         let _width = net.width();
         if workers < 1 || workers > MOST_WORKERS {
             Err(OptionFault::Workers)

@@ -24,7 +24,7 @@ pub enum Job {
     Run(Options),
     /// Read a schedule, and write what a core of this network answers.
     Replay(Net),
-    /// Read a grant list, and where it is tight write how many names of each epoch fall to each exit of this width.
+    /// Read a grant list, and if it is tight write how many names of each epoch fall to each exit of this width.
     Check(u32),
     /// Write where each wire of this network ends.
     Show(Net),
@@ -130,7 +130,7 @@ fn read_words<'a>(
 ///
 /// # Errors
 /// `WordsFault::Help` for a request for help; `WordsFault::Refused` for words that clap does not take, or
-/// that name what is not built or is outside its limits; `WordsFault::Memory` where a growth was refused.
+/// that name what is not built or is outside its limits; `WordsFault::Memory` if a growth was refused.
 pub fn parse_words(alloc: Global, words: Vec<String>) -> Result<Job, WordsFault>
     ensures ok { IfOk result (IsJobOf (map string_bytes words.items)) }
     ensures err { IfErr result (IsFaultOf (map string_bytes words.items)) }

@@ -96,7 +96,7 @@ MovesLedger old client moved new =
     ByHistories old (λ history carried.
     IsMoveOf old.network.table old.base (ledger_of old history carried) (ledger_of new (Step client ∷ history) carried) client moved)
 
--- where the event is accepted, it is one event on the ledger
+-- if the event is accepted, it is one event on the ledger
 abbrev pub IsLedgerEvent : State → Event → Reply → State → Type 0
 IsLedgerEvent old (Enter client entry) Entered new = EntersLedger old client entry new
 IsLedgerEvent old (Step client) (Stepped moved) new = MovesLedger old client moved new

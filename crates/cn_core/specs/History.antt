@@ -1,4 +1,4 @@
--- The answers of a core that carries nothing, by its history: the same, where no epoch came before.
+-- The answers of a core that carries nothing, by its history: those of SinceCleared.antt if no epoch came before.
 use Rattle.std.specs.Prelude.{ℕ, List, Option}
 use Rattle.cn_wiring.specs.Table.{Table}
 use Rattle.cn_core.specs.declared.position.Position.{Position}

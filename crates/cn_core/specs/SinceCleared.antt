@@ -1,7 +1,7 @@
 -- The answers of a core, by the events that it accepted since it was cleared: the history of the epoch that stands open, and
 -- those of the earlier epochs whose counts it carries. The newest event stands first, and so does the newest epoch. They are
--- one sequential execution of the network (Aspnes, Herlihy, Shavit, JACM 1994, section 2.1); this way to tell it is this
--- project's own.
+-- one sequential execution of the network (Aspnes, Herlihy, Shavit, JACM 1994, section 2.1); this way to state it is
+-- this project's own.
 use Rattle.std.specs.Prelude.{◌≡◌, ℕ, ◌+◌, ◌-◌, ◌%◌, ◌==◌, nat_le, Bool, true, false, List, ◌∷◌, [], Option, None, Some, is_some, slice_index, if◌then◌else◌, ◌⊎◌, length, count_by}
 use Rattle.std.specs.Map.{values_of}
 use Rattle.std.specs.Option.{option_map}
@@ -46,7 +46,7 @@ nothing = record { enters = 0; entered = λ _. 0; steps = λ _. 0 }
 
 abbrev mutual
   -- the position of a client: its enter puts it on the entry's wire, and each of its steps takes it past the end of its
-  -- wire; names are less the enters of the earlier epochs
+  -- wire; a name is that of its exit and visit minus the enters of the earlier epochs
   pub position_after : Table → List Event → Carried → ℕ → Option Position
   position_after table [] carried client = None
   position_after table (Enter c entry ∷ history) carried client =
@@ -92,7 +92,8 @@ leaves_of table (Step c ∷ history) carried =
 abbrev pub inside_of : Table → List Event → Carried → ℕ
 inside_of table history carried = enters_of history - leaves_of table history carried
 
--- what the n-th step, from 0, answers that is made from a wire with this end, where names are told less the base
+-- the answer to the n-th step, from 0, that is made from a wire with this end; a name is that of its exit and visit
+-- minus the base
 abbrev pub moved_past : Table → ℕ → End → ℕ → Moved
 moved_past table base (Balancer b) n = Passed b n (output_wire table b (n % 2))
 moved_past table base (Exit i) n = Out i n (name_of table.width i n - base)

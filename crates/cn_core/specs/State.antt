@@ -32,7 +32,7 @@ position_in clients client = lookup (nat_eq client) clients
 abbrev pub with_position : List (ℕ × Position) → ℕ → Position → List (ℕ × Position)
 with_position clients client position = set_value (nat_eq client) clients position
 
--- where the n-th token, from 0, comes to that goes past an end; names are less the base
+-- where the n-th token, from 0, comes to that goes past an end; a name is that of its exit and visit minus the base
 abbrev pub position_past : Table → ℕ → End → ℕ → Position
 position_past table base (Balancer b) n = On (output_wire table b (n % 2))
 position_past table base (Exit i) n = Holds (name_of table.width i n - base)

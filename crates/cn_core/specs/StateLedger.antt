@@ -1,5 +1,5 @@
 -- The ledger of a state: of all that came since the counts were zero. Of the clients that came in earlier epochs the state
--- tells the number alone: in the ledger client 0 stands for each of them.
+-- keeps only the number: in the ledger client 0 stands for each of them.
 use Rattle.std.specs.Prelude.{ℕ, ◌+◌, ◌==◌, ◌&&◌, Bool, false, nat_eq, nat_lt, List, slice_index, count_by}
 use Rattle.std.specs.Map.{values_of}
 use Rattle.cn_spec.specs.Step.{name_of, share}
@@ -19,7 +19,7 @@ abbrev pub is_on : ℕ → Position → Bool
 is_on u (On wire) = wire == u
 is_on u (Holds name) = false
 
--- does the client hold this name, which is told less the base?
+-- does the client hold this name of the ledger? Its position has the name minus the base.
 abbrev pub holds : ℕ → ℕ → Position → Bool
 holds base name (On wire) = false
 holds base name (Holds other) = other + base == name

@@ -24,7 +24,7 @@ pub(crate) enum Found {
     Named(u64),
 }
 
-/// The clients of an epoch: their tokens stand in a yard, and a table tells each client's token or name.
+/// The clients of an epoch: their tokens stand in a yard, and a table has each client's token or name.
 #[derive(Drop)]
 pub(crate) struct Clients {
     yard: Yard,
@@ -84,7 +84,7 @@ impl Clients {
         }
     }
 
-    /// A client that has not entered comes in on a wire, where its token stands last.
+    /// A client that has not entered comes in on a wire, on which its token stands last.
     pub(crate) fn add(&mut self, client: u64, wire: u32) -> Result<(), AllocError>
         requires new { position_in (positions self.old) client ≡ None }
         requires wire { wire < length self.old.yard.lists }
@@ -102,7 +102,7 @@ impl Clients {
         Ok(())
     }
 
-    /// A client's token goes to another wire, where it stands last.
+    /// A client's token goes to another wire, on which it stands last.
     pub(crate) fn walk(&mut self, token: Token, wire: u32)
         requires walking { (client : ℕ)
             × (standing_in self.old.names client ≡ Some (Walking token)) }

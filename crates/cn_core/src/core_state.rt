@@ -78,7 +78,7 @@ impl<'a> Core<'a> {
     /// A network that nobody has entered. The table of its clients hashes by `state`.
     ///
     /// # Errors
-    /// `AllocError` where the counts or the wires get no memory.
+    /// `AllocError` if the counts or the wires get no memory.
     pub fn new(alloc: Global, network: &'a Counting, state: RandomState) -> Result<Self, AllocError>
         ensures start { IfOk result (λ core. core ≡ start network.now) }
         ensures history { IfOk result (λ core. Agrees core [] []) }
@@ -103,7 +103,7 @@ impl<'a> Core<'a> {
     }
 
     /// How many clients entered in the earlier epochs whose counts are carried ([`Core::carry`]): at most [`MOST_CARRIED`].
-    /// The names of the epoch are told less this. It takes no memory.
+    /// Each name that the epoch gives is that of its exit and visit minus this number. It takes no memory.
     pub fn base(&self) -> u64
         ensures value { result ≡ self.now.base }
         ensures by_history { ByHistories self.now (λ history carried. result ≡ carried.enters) }
@@ -187,11 +187,11 @@ impl<'a> Core<'a> {
         }
     }
 
-    /// Where nobody is inside ([`Core::is_quiet`]), the clients that entered, by rising name: `holders[n]` is the client with
-    /// name n.
+    /// If nobody is inside ([`Core::is_quiet`]), the clients that entered, by rising name: `holders[n]` is the client
+    /// with name n.
     ///
     /// # Errors
-    /// `AllocError` where the list gets no memory.
+    /// `AllocError` if the list gets no memory.
     pub fn holders(&self) -> Result<Vec<u64>, AllocError>
         requires { inside_in self.now ≡ 0 }
         ensures { IfOk result (λ holders. ListsHolders self.now holders.items) }
@@ -199,7 +199,7 @@ impl<'a> Core<'a> {
         self.clients.by_name()
     }
 
-    /// Where nobody is inside ([`Core::is_quiet`]), forgets all clients and counts: the core is as a new one. It takes no
+    /// If nobody is inside ([`Core::is_quiet`]), forgets all clients and counts: the core is as a new one. It takes no
     /// memory.
     pub fn clear(&mut self)
         requires { inside_in self.old ≡ 0 }
@@ -213,9 +213,9 @@ impl<'a> Core<'a> {
         self.clients.clear();
     }
 
-    /// Where nobody is inside ([`Core::is_quiet`]), forgets all clients and keeps the counts: the next epoch goes on from
-    /// them, and each exit's first visit in it is its share of the clients that are carried ([`Core::base`]). It takes no
-    /// memory.
+    /// If nobody is inside ([`Core::is_quiet`]), forgets all clients and keeps the counts: the next epoch goes on from
+    /// them, and each exit's first visit in it is its share of the clients that are carried ([`Core::base`]). It takes
+    /// no memory.
     ///
     /// The carried clients and those that entered are together at most [`MOST_CARRIED`].
     pub fn carry(&mut self)
@@ -262,7 +262,7 @@ impl<'a> Core<'a> {
     /// accepted step is one event on the ledger; a refused one changes nothing.
     ///
     /// # Errors
-    /// `Stranger` where the client did not enter, `HasName` with the name that it holds.
+    /// `Stranger` if the client did not enter, `HasName` with the name that it holds.
     pub fn step(&mut self, client: u64) -> Result<Moved, StepFault>
         ensures event { StepsTo self.old client (stepped_reply result) self.new }
         ensures history { AnswersByHistory self.old (Step client) (stepped_reply result) self.new }

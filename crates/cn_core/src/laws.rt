@@ -14,7 +14,7 @@ ghost use Rattle.cn_ledger.specs.declared.moved.Moved.TheVariants.{On as Passed,
 ghost use Rattle.cn_core.specs.declared.reply.Reply.TheVariants.{Entered, EnterRefused, StepRefused, Stepped};
 ghost use Rattle.cn_core.specs.declared.reply.StepFault.TheVariants.{HasName, Stranger};
 
-/// After any history, where no epoch came before, two clients that hold one name are one client.
+/// If no epoch came before, after any history two clients that hold one name are one client.
 pub fn a_name_has_one_holder()
     ensures { (network : Network) (history : List Event)
         → IsNetwork network → HasOneHolder network.table history }
@@ -30,10 +30,10 @@ pub fn a_name_has_one_holder_after_earlier_epochs()
         → since.HasOneHolder network.table history (carried_by network.table earlier) }
 {}
 
-/// Worked answers: two clients on a balancer, where the second overtakes the first; every refusal but those of a full epoch
-/// and of want of memory; three clients on a counting tree, where the last comes out first; and a client that comes again
-/// after an epoch whose counts are carried. A list of events of which one is refused is no history, and an epoch does not end
-/// with a client inside.
+/// Worked answers: two clients on a balancer, of which the second overtakes the first; every refusal but those of a
+/// full epoch and of want of memory; three clients on a counting tree, of which the last comes out first; and a client
+/// that comes again after an epoch whose counts are carried. A list of events of which one is refused is no history,
+/// and an epoch does not end with a client inside.
 pub fn worked_answers()
     ensures two_clients { answers_to two_wide []
         (Enter 7 0 ∷ Enter 9 1 ∷ Step 9 ∷ Step 7 ∷ Step 9 ∷ Step 7 ∷ [])

@@ -5,7 +5,7 @@ ghost use Rattle.cn_core.specs.Calls.{entered_reply, stepped_reply};
 
 use cn_ledger::Moved;
 
-/// Why an enter is refused; the first cause that stands is told.
+/// Why an enter is refused; of several causes the first in this order is given.
 #[derive(Clone, Copy, Debug, PartialEq, Eq)]
 pub enum EnterFault {
     /// The network has no entry with this number.

@@ -22,8 +22,8 @@ abbrev pub turned_answer : Result EpochRecord TurnFault → Answer
 turned_answer (Ok r) = Turned r
 turned_answer (Err fault) = TurnRefused fault
 
--- a record tells the epoch that stands open: how many ended before it, how many clients entered it, how many left by
--- each exit beyond those that are carried, and its clients by name
+-- a record describes the epoch that stands open: how many ended before it, how many clients entered it, how many left
+-- by each exit beyond those that are carried, and its clients by name
 pub record TellsEpoch (epochs : Epochs) (r : EpochRecord) : Type 0 where
   pub number : r.number ≡ epochs.number
   pub clients : r.clients ≡ length epochs.core.clients
@@ -42,7 +42,8 @@ TurnsTo old (TurnRefused (NotQuiet s)) new = (1 ≤ s) × (s ≡ inside_in old.c
 TurnsTo old (TurnRefused Memory) new = (inside_in old.core ≡ 0) × (new ≡ old)
 TurnsTo old (Replied reply) new = ⊥
 
--- an event with this answer does so, and is one event on the ledger where it is accepted; no epoch ends
+-- an event with this answer takes the old epochs to the new ones, and is one event on the ledger if it is accepted; no
+-- epoch ends
 abbrev pub RepliesTo : Epochs → Event → Answer → Epochs → Type 0
 RepliesTo old event (Replied reply) new =
     core.TakesTo old.core event reply new.core × IsLedgerEvent old.core event reply new.core

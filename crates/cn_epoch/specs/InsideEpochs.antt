@@ -9,7 +9,7 @@ use Rattle.cn_epoch.specs.SinceCleared.{Epochs}
 abbrev pub epochs_of : Inside → Epochs
 epochs_of e = record { number = e.number; carries = e.carries; core = e.core }
 
--- the epochs are those of their network, and where turns clear no epoch came before
+-- the epochs are those of their network, and if turns clear, no epoch came before
 pub record IsEpochs (e : Inside) : Type 0 where
   pub network : e.core.network ≡ e.network.now
   pub cleared : e.carries ≡ false → (history : List Event) × core.Agrees e.core history []

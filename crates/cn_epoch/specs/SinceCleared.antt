@@ -29,7 +29,7 @@ abbrev pub next : Bool → State → State
 next false core = start core.network
 next true core = after_carry core
 
--- the earlier epochs since the counts were zero: none where turns clear
+-- the earlier epochs since the counts were zero: none if turns clear
 abbrev pub earlier_in : Option (List (List Event)) → List (List Event)
 earlier_in None = []
 earlier_in (Some earlier) = earlier
@@ -38,7 +38,7 @@ earlier_in (Some earlier) = earlier
 abbrev pub carried_in : Table → Option (List (List Event)) → Carried
 carried_in table kept = carried_by table (earlier_in kept)
 
--- epochs agree with a number of turns done, the history since the last of them and, where turns carry, the earlier epochs
+-- epochs agree with a number of turns done, the history since the last of them and, if turns carry, the earlier epochs
 pub record Agrees (epochs : Epochs) (turns : ℕ) (history : List Event) (kept : Option (List (List Event))) : Type 0 where
   pub number : epochs.number ≡ turns
   pub carries : epochs.carries ≡ is_some kept
@@ -61,8 +61,8 @@ pub record IsRecordOf (table : Table) (turns : ℕ) (history : List Event) (carr
   pub holders : (name : ℕ) → name < enters_of history
       → position_after table history carried (slice_index r.holders.items name) ≡ Some (Holds name)
 
--- the answers that a turn may have: its record where nobody is inside, or want of memory in place of that; otherwise how
--- many are inside
+-- the answers that a turn may have: if nobody is inside, its record or want of memory in its place; otherwise how many
+-- are inside
 abbrev pub MayTurn : Table → ℕ → List Event → Carried → Answer → Type 0
 MayTurn table turns history carried (Turned r) =
     (inside_of table history carried ≡ 0) × IsRecordOf table turns history carried r
@@ -94,7 +94,7 @@ replied_to history event (Replied reply) = core.history_after history event repl
 replied_to history event (Turned r) = history
 replied_to history event (TurnRefused fault) = history
 
--- and to a turn, which cuts it where it is done
+-- and to a turn, which cuts it if it is done
 abbrev pub cut_by : List Event → Answer → List Event
 cut_by history (Turned r) = []
 cut_by history (Replied reply) = history
@@ -106,13 +106,13 @@ history_after history (Enter client entry) answer = replied_to history (EnterEve
 history_after history (Step client) answer = replied_to history (StepEvent client) answer
 history_after history Turn answer = cut_by history answer
 
--- the earlier epochs after an answer, where turns carry: a turn that is done adds the history
+-- the earlier epochs after an answer, if turns carry: a turn that is done adds the history
 abbrev pub earlier_after : List (List Event) → List Event → Answer → List (List Event)
 earlier_after earlier history (Turned r) = history ∷ earlier
 earlier_after earlier history (Replied reply) = earlier
 earlier_after earlier history (TurnRefused fault) = earlier
 
--- the same, where turns may clear: then no earlier epochs are kept
+-- the same, if turns may clear: then no earlier epochs are kept
 abbrev pub kept_after : Option (List (List Event)) → List Event → Answer → Option (List (List Event))
 kept_after kept history answer = option_map (λ earlier. earlier_after earlier history answer) kept
 
@@ -136,13 +136,13 @@ history_by history [] answers = history
 history_by history (command ∷ commands) [] = history
 history_by history (command ∷ commands) (answer ∷ answers) = history_by (history_after history command answer) commands answers
 
--- the earlier epochs then, where turns carry
+-- the earlier epochs then, if turns carry
 abbrev pub earlier_by : List (List Event) → List Event → List Command → List Answer → List (List Event)
 earlier_by earlier history [] answers = earlier
 earlier_by earlier history (command ∷ commands) [] = earlier
 earlier_by earlier history (command ∷ commands) (answer ∷ answers) =
     earlier_by (earlier_after earlier history answer) (history_after history command answer) commands answers
 
--- the same, where turns may clear
+-- the same, if turns may clear
 abbrev pub kept_by : Option (List (List Event)) → List Event → List Command → List Answer → Option (List (List Event))
 kept_by kept history commands answers = option_map (λ earlier. earlier_by earlier history commands answers) kept

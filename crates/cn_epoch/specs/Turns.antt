@@ -1,5 +1,5 @@
 -- The answers of epochs whose turns clear the counts, by the number of turns done and the history since the last of them; and
--- what records and answers tell.
+-- what records and answers say.
 use Rattle.std.specs.Prelude.{All, ◌≡◌, ◌≢◌, ℕ, ◌+◌, ◌<◌, List, None, length, slice_index}
 use Rattle.std.specs.List.{AllZip}
 use Rattle.cn_spec.specs.Step.{share}
@@ -30,21 +30,21 @@ pub record IsTightRecord (width base : ℕ) (r : EpochRecord) : Type 0 where
   pub distinct : (m n : ℕ) → m < n → n < r.clients
       → slice_index r.holders.items m ≢ slice_index r.holders.items n
 
--- two records tell the same
+-- two records have the same contents
 pub record IsSameRecord (r s : EpochRecord) : Type 0 where
   pub number : r.number ≡ s.number
   pub clients : r.clients ≡ s.clients
   pub counts : r.counts.items ≡ s.counts.items
   pub holders : r.holders.items ≡ s.holders.items
 
--- two answers tell the same
+-- two answers have the same contents
 abbrev pub IsSameAnswer : Answer → Answer → Type 0
 IsSameAnswer (Replied reply) (Replied other) = reply ≡ other
 IsSameAnswer (Turned r) (Turned s) = IsSameRecord r s
 IsSameAnswer (TurnRefused fault) (TurnRefused other) = fault ≡ other
 IsSameAnswer answer other = ⊥
 
--- the records of a history tell the same
+-- the records of a history have the same contents
 abbrev pub HasOneRecord : Table → ℕ → List Event → Type 0
 HasOneRecord table turns history =
     (r s : EpochRecord) → IsRecordOf table turns history r → IsRecordOf table turns history s
@@ -64,7 +64,7 @@ MayAnswer table turns history = since.MayAnswer table turns history nothing
 abbrev pub MayAnswerAll : Table → ℕ → List Event → List Command → List Answer → Type 0
 MayAnswerAll table turns history = since.MayAnswerAll table turns history None
 
--- want of memory apart, the answers that these commands may have tell the same
+-- apart from want of memory, the answers that these commands may have are the same
 abbrev pub HaveOneAnswer : Table → ℕ → List Event → List Command → Type 0
 HaveOneAnswer table turns history commands =
     (answers others : List Answer) → All HadMemory answers → All HadMemory others

@@ -92,7 +92,7 @@ impl<'a> Epochs<'a> {
     /// `state`.
     ///
     /// # Errors
-    /// `AllocError` where the counts or the wires get no memory.
+    /// `AllocError` if the counts or the wires get no memory.
     pub fn new(alloc: Global, network: &'a Counting, state: RandomState) -> Result<Self, AllocError>
         ensures start { IfOk result (λ epochs.
             epochs ≡ record { number = 0; carries = false; core = start network.now }) }
@@ -218,15 +218,15 @@ impl<'a> Epochs<'a> {
         self.number += 1;
     }
 
-    /// Ends the epoch that stands open, where nobody is inside, and tells what it gave out: how many left by each exit, which
-    /// is its share of the clients, or what its share of all has grown by where the counts are carried; and the clients by
-    /// name, each once. The next epoch begins with nobody.
+    /// Ends the epoch that stands open, if nobody is inside, and returns its record: how many left by each exit, and
+    /// the clients by name, each once. An exit's count is its share of the clients; if the counts are carried, it is
+    /// what the share of all has grown by. The next epoch begins with nobody.
     ///
-    /// Fewer than 2^64 - 1 epochs have ended before ([`Epochs::number`]). Where turns carry ([`Epochs::carrying`]), the carried
-    /// clients ([`Epochs::base`]) and those that entered are together at most [`MOST_CARRIED`].
+    /// Fewer than 2^64 - 1 epochs have ended before ([`Epochs::number`]). If turns carry ([`Epochs::carrying`]), the
+    /// carried clients ([`Epochs::base`]) and those that entered are together at most [`MOST_CARRIED`].
     ///
     /// # Errors
-    /// `NotQuiet` with the number of clients inside where there are any, else `Memory` where the record gets none. Then
+    /// `NotQuiet` with the number of clients inside, if there are any; else `Memory` if the record gets none. Then
     /// nothing has changed.
     pub fn turn(&mut self) -> Result<EpochRecord, TurnFault>
         requires number { self.old.number + 1 < 2 ^ 64 }

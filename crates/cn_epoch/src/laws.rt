@@ -12,7 +12,7 @@ pub fn a_history_has_one_record()
         → HasOneRecord network.table turns history }
 {}
 
-/// Want of memory apart, commands have one list of answers.
+/// Apart from want of memory, commands have one list of answers.
 pub fn commands_have_one_list_of_answers()
     ensures { (network : Network) (turns : ℕ) (history : List Event) (commands : List Command)
         → IsNetwork network → HaveOneAnswer network.table turns history commands }

@@ -41,7 +41,7 @@ impl Exits {
     /// `width` exits, from 1 to [`MOST_ENDS`], by which nobody has left.
     ///
     /// # Errors
-    /// `AllocError` where the counts get no memory.
+    /// `AllocError` if the counts get no memory.
     pub fn new(alloc: Global, width: u32) -> Result<Self, AllocError>
         requires some { 1 ≤ width }
         requires few { width ≤ MOST_ENDS }

@@ -28,8 +28,8 @@ fn never_rises(counts: &[u64]) -> bool
     counts.is_sorted_by(|earlier, later| later <= earlier)
 }
 
-/// Whether the counts, from exit 0 up, have the step property: each is at least any later one, and at most one more. No
-/// counts have it, and so has one alone. It looks at each count at most a fixed number of times.
+/// Whether the counts, from exit 0 up, have the step property: each is at least any later one, and at most one more. An
+/// empty row has it, and so has a row of one count. It looks at each count at most a fixed number of times.
 ///
 /// Aspnes, Herlihy, Shavit 1994, section 2.
 pub fn is_step(counts: &[u64]) -> bool

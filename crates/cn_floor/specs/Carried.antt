@@ -12,7 +12,7 @@ pub record WordsValue : Type 0 where
   pub network : Network
   pub words : List ℕ
 
--- how many clients they tell of
+-- how many clients they count
 abbrev pub client_count : WordsValue → ℕ
 client_count w = clients_in w.network.table w.words
 
@@ -20,11 +20,12 @@ client_count w = clients_in w.network.table w.words
 abbrev pub zero_words : Network → WordsValue
 zero_words network = record { network = network; words = replicate (word_count network.table) 0 }
 
--- the ledger that they tell: that of clients who all are out
+-- the ledger that they record: that of clients who all are out
 abbrev pub words_ledger : WordsValue → Ledger
 words_ledger w = ledger_of w.network.table w.words w.words []
 
--- words of a sound ledger with nobody inside, which tell of no more clients than an epoch makes of those that it may carry
+-- words of a sound ledger with nobody inside; they count no more clients than a floor may carry and let in
+-- together
 pub record IsClosed (w : WordsValue) : Type 0 where
   pub network : IsNetwork w.network
   pub carried : IsCarried w.network.table w.words

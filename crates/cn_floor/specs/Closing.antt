@@ -1,4 +1,4 @@
--- What the close of a lane tells, and why a floor is not closed.
+-- What the close of a floor returns, and why a floor is not closed.
 use Rattle.std.specs.Prelude.{◌≡◌, ℕ, ◌+◌, ◌<◌, ◌≤◌, List, length}
 use mathlib.Core.Option.{some}
 use lib.ListN.{get_elem?}
@@ -22,7 +22,7 @@ pub record IsMoment (start : Start) (v : View) (words : List ℕ) : Type 0 where
   pub kept : KeepsRule start state
   pub same : state.words ≡ words
 
--- what the words at the end are, where the last seat has the view v
+-- what the words at the end are, if the last seat has the view v
 pub record IsEnding (start : Start) (v : View) (words : List ℕ) : Type 0 where
   pub moment : IsMoment start v words
   pub count : length words ≡ word_count start.network.table
@@ -31,7 +31,7 @@ pub record IsEnding (start : Start) (v : View) (words : List ℕ) : Type 0 where
   pub quiet : inside_in v ≡ 0 → clients_in start.network.table words ≡ base start + length v.grants
       → IsClosedFloor start v words
 
--- more came in than the lane has grants: so many, by the words of some state that keeps the rule
+-- more came in than the lane has grants: this number, by the words of some state that keeps the rule
 pub record IsMissing (start : Start) (v : View) (entered : ℕ) : Type 0 where
   pub words : List ℕ
   pub moment : IsMoment start v words

@@ -1,4 +1,4 @@
--- A floor where nobody is inside, and what it leaves when it is closed.
+-- A floor with nobody inside, and what it leaves when it is closed.
 use Rattle.std.specs.Prelude.{◌≡◌, ℕ, ◌+◌, ◌-◌, ◌<◌, ◌≤◌, All, List, [], ◌∷◌, IsPermutation, length, map, slice_index, sum_by}
 use Rattle.std.specs.List.{range_with_len}
 use Rattle.cn_spec.specs.Step.{IsEachBelow, name_of, share, shares_after}
@@ -19,7 +19,7 @@ use Rattle.cn_floor.specs.Words.{clients_in, count_in, end_word, entered_in, wor
 abbrev pub NobodyInside : Start → List View → Type 0
 NobodyInside start views = (u : ℕ) → u < length start.network.table.ends → sum_by (on_in u) views ≡ 0
 
--- how many left by each exit since the floor began: the words less the carried ones
+-- how many left by each exit since the floor began: the words minus the carried ones
 abbrev pub counts_of : Start → List ℕ → List ℕ
 counts_of start words =
     let t = start.network.table in
@@ -33,7 +33,7 @@ passes_of start words =
     let first = 1 + t.entries in
     map (λ b. slice_index words (first + b) - slice_index start.words (first + b)) (range_with_len 0 t.balancers)
 
--- a list that tells, at the place of each end's word, how many went by the end since the floor began
+-- a list that has, at the place of each end's word, how many went by the end since the floor began
 pub record HasRisen (start : Start) (words risen : List ℕ) : Type 0 where
   pub count : length risen ≡ word_count start.network.table
   pub each : (end : End) → Stands start.network.table end
@@ -69,7 +69,7 @@ pub record IsClosedFloor (start : Start) (v : View) (words : List ℕ) : Type 0 
   -- the ledger of all that ever came is tight: each exit has let out its share, each balancer has passed what the full
   -- flow brings there, and each name is granted once
   pub tight : IsTight start.network.table (ledger_of start.network.table start.words words (v ∷ []))
-  -- each exit's count is its share of all that ever came, less its share of those that came before
+  -- each exit's count is its share of all that ever came minus its share of those that came before
   pub shares : counts_of start words ≡ shares_after (base start) (length v.grants) start.network.table.width
   -- every answer that the lane was given is at most their number
   pub seen : v.seen ≤ length v.grants

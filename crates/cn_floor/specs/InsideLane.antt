@@ -13,7 +13,7 @@ lane_of l = record {
   room = l.room;
 }
 
--- what a lane holds is what its view tells
+-- what a lane holds is what its view records
 pub record IsLane (l : Inside) : Type 0 where
   pub no_slot : l.seat.me.1 ≡ []
   pub idle : l.seat.me.0.loads ≡ []

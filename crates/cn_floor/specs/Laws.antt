@@ -20,11 +20,11 @@ use Rattle.cn_floor.specs.Words.{clients_in, count_in}
 abbrev pub FloorState : Type 0
 FloorState = State (Unit {0}) View
 
--- each state that keeps the rule is such
+-- each state that keeps the rule has this property
 abbrev pub AtEachMoment : (Start → FloorState → Type 0) → Type 0
 AtEachMoment P = (start : Start) (s : FloorState) → KeepsRule start s → P start s
 
--- each view in each state that keeps the rule is such
+-- each view in each state that keeps the rule has this property
 abbrev pub InEachView : (Start → FloorState → View → Type 0) → Type 0
 InEachView P = AtEachMoment (λ start s. (id : ℕ) (v : View) → get_elem? s.views id ≡ some v → P start s v)
 
@@ -32,7 +32,7 @@ InEachView P = AtEachMoment (λ start s. (id : ℕ) (v : View) → get_elem? s.v
 abbrev pub ledger_at : Start → FloorState → Ledger
 ledger_at start s = ledger_of start.network.table start.words s.words s.views
 
--- how many ever came, as the words tell
+-- how many ever came, by the words
 abbrev pub entered_at : Start → FloorState → ℕ
 entered_at start s = clients_in start.network.table s.words
 
@@ -64,7 +64,7 @@ HasWalked start v =
     (level : ℕ → ℕ) → IsLevel start.network.table start.network.depth level
     → length v.passages ≡ start.network.depth * length v.grants + levels_in level v
 
--- where nobody is inside, each client came in, passed as many balancers as the network is deep, and left
+-- if nobody is inside, each client came in, passed as many balancers as the network is deep, and left
 abbrev pub TakesItsSteps : Start → View → Type 0
 TakesItsSteps start v =
     inside_in v ≡ 0

@@ -1,4 +1,4 @@
--- What the kinds of atomic steps tell of the lane's view before and after.
+-- What each kind of atomic step says of the lane's view before and after.
 use Rattle.std.specs.Prelude.{◌≡◌, ℕ, ◌+◌, ◌-◌, ◌≤◌, ◌++◌, ◌∷◌, [], length, sum}
 use Rattle.cn_wiring.specs.declared.end.End.{End}
 use Rattle.cn_wiring.specs.declared.end.End.TheVariants.{Exit}
@@ -37,7 +37,7 @@ pub record Going : Type 0 where
 abbrev pub nobody_goes : Going
 nobody_goes = record { start = no_start; token = 0; client = 0; wire = 0; end = Exit 0 }
 
--- a client goes by an end, where it finds the number n
+-- a client goes by an end, and gets the number n
 pub record IsLetBy (start : Start) (v w : View) (client : ℕ) (end : End) (n : ℕ) : Type 0 where
   -- it is one event
   pub step : IsAtomicStep start v w (λ old new. IsMoveOf start.network.table (base start) old new client (answer_at start end n))
@@ -49,7 +49,7 @@ pub record IsLetBy (start : Start) (v w : View) (client : ℕ) (end : End) (n : 
 abbrev pub GoesOn : Going → View → ℕ → View → Type 0
 GoesOn g v n w = (w ≡ after_step g.token g.client g.end n v) × IsLetBy g.start v w g.client g.end n
 
--- what a load tells
+-- what a load says
 pub record IsLoad (start : Start) (v : View) (n : ℕ) : Type 0 where
   pub few : sum (v.loads ++ n ∷ []) ≤ base start + start.quota
   pub last : length v.loads + 1 ≡ start.network.table.entries

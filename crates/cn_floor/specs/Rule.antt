@@ -17,8 +17,8 @@ use Rattle.cn_floor.specs.declared.view.View.{View}
 use Rattle.cn_floor.specs.Views.{base, given_in, granted_in, inside_in, levels_in, on_in, standing_in}
 use Rattle.cn_floor.specs.Words.{clients_in, count_in, entered_in, word_count}
 
--- The ledger of all that came, went and was given since the words were zero: what the carried words tell, and what
--- the views tell. The carried clients are not known any more, and 0 stands for each.
+-- The ledger of all that came, went and was given since the words were zero: what the carried words record, and what
+-- the views record. Who the carried clients were is not kept: 0 stands for each.
 abbrev pub ledger_of : Table → List ℕ → List ℕ → List View → Ledger
 ledger_of t carried words views = record {
   entered = entered_in t words;
@@ -56,7 +56,8 @@ pub record IsAccounted (network : Network) (v : View) : Type 0 where
 abbrev pub load_bound : Table → List ℕ → List ℕ → ℕ
 load_bound t words loads = sum_below t.entries (λ u. slice_index_or loads u (entered_in t words u))
 
--- what a lane will be told is no less than what it let in and what it was told before, and more than each name that it holds
+-- a lane's next answer of how many came in is no less than what it let in and than its earlier answers, and more than
+-- each of its names
 pub record IsFresh (start : Start) (words : List ℕ) (v : View) : Type 0 where
   pub low : (u : ℕ) → slice_index v.loads u ≤ entered_in start.network.table words u
   pub own : base start + length v.entries ≤ load_bound start.network.table words v.loads
@@ -75,9 +76,9 @@ pub record KeepsRule (start : Start) (s : State (Unit {0}) View) : Type 0 where
       ≡ entered_in start.network.table start.words u + sum_by (λ v. times u v.entries) s.views
   pub accounted : (id : ℕ) (v : View) → get_elem? s.views id ≡ some v → IsAccounted start.network v
   pub fresh : (id : ℕ) (v : View) → get_elem? s.views id ≡ some v → IsFresh start s.words v
-  -- the quota is spent on entries alone
+  -- the quota is spent only on entries
   pub quotas : sum_by (λ v. v.quota + length v.entries) s.views ≡ start.quota
 
--- what the words are told once
+-- what a floor begins with, by what its words are opened with
 abbrev pub start_of : Opening → Start
 start_of key = record { network = key.network.value; quota = key.quota; words = key.words.value.items }

@@ -33,7 +33,7 @@ abbrev pub answer_at : Start → End → ℕ → Moved
 answer_at start (Balancer b) n = On b n (output_wire start.network.table b (n % 2))
 answer_at start (Exit i) n = Out i n (name_of start.network.table.width i n - base start)
 
--- an answer of how many came in: no less than the lane let in and than it was told before, more than each name that it
+-- an answer of how many came in: no less than the lane let in and than its earlier answers, more than each name that it
 -- holds, and no more than the floor may let in
 pub record IsAnswer (start : Start) (v : View) (answer : ℕ) : Type 0 where
   pub own : length v.entries ≤ answer

@@ -47,7 +47,7 @@ pub record Sweeping : Type 0 where
 abbrev pub nobody_sweeps : Sweeping
 nobody_sweeps = record { start = no_start; wire = 0; end = Exit 0 }
 
--- the tokens of a wire go by its end, where the first finds the number n
+-- the tokens of a wire go by its end, and the first gets the number n
 pub record AreLetBy (start : Start) (v w : View) (wire : ℕ) (end : End) (n : ℕ) : Type 0 where
   -- it is one step, and as many events in a row as tokens
   pub step : IsAtomicStep start v w (GoInRow start.network.table wire end n (on v.tokens wire))
@@ -61,7 +61,7 @@ pub record AreLetBy (start : Start) (v w : View) (wire : ℕ) (end : End) (n : �
 abbrev pub AllGoOn : Sweeping → View → ℕ → View → Type 0
 AllGoOn s v n w = (w ≡ after_sweep s.wire s.end n v) × AreLetBy s.start v w s.wire s.end n
 
--- the grants of tokens that leave by an exit of so many, with the visits from n on; so much less are their names
+-- the grants of tokens that leave by exit i, with the visits from n on; `less` is taken from each name
 unfoldable pub grants_out : ℕ → ℕ → ℕ → ℕ → List (ℕ × ℕ) → List Grant
 grants_out width less i n [] = []
 grants_out width less i n (e ∷ rest) =
@@ -69,7 +69,7 @@ grants_out width less i n (e ∷ rest) =
 
 -- ---- what a lane is answered
 
--- of so many tokens the first found number n at an end
+-- of this many tokens the first got number n at an end
 abbrev pub sweep_at : End → ℕ → ℕ → Sweep
 sweep_at (Balancer b) n tokens = On b n tokens
 sweep_at (Exit i) n tokens = Out i n tokens

@@ -1,4 +1,4 @@
--- What the view of a lane tells, and what the lane's steps make of it.
+-- What the view of a lane records, and what the lane's steps make of it.
 use Rattle.std.specs.Prelude.{ℕ, ◌+◌, ◌-◌, ◌*◌, ◌%◌, ◌&&◌, ◌==◌, nat_eq, Bool, true, false, List, [], ◌∷◌, ◌++◌, length, map, count_by, max, sum, replicate}
 use Rattle.std.specs.List.{range_with_len}
 use Rattle.cn_spec.specs.Step.{name_of}
@@ -12,7 +12,7 @@ use Rattle.cn_floor.specs.declared.view.Start.{Start}
 use Rattle.cn_floor.specs.declared.view.View.{View}
 use Rattle.cn_floor.specs.Words.{clients_in}
 
--- how many clients came before the floor began: so much less are the names than those of the whole ledger
+-- how many clients came before the floor began: each name is this much less than in the ledger of all clients
 abbrev pub base : Start → ℕ
 base start = clients_in start.network.table start.words
 
@@ -30,7 +30,7 @@ empty_view start quota = record {
   steps = 0;
 }
 
--- ---- what a view tells
+-- ---- what a view records
 
 -- how many tokens stand on wire u
 abbrev pub on_in : ℕ → View → ℕ
@@ -45,7 +45,7 @@ abbrev pub given_in : End → ℕ → View → ℕ
 given_in (Balancer b) n v = count_by (λ p. (b == p.balancer) && (p.number == n)) v.passages
 given_in (Exit i) n v = count_by (λ g. (i == g.exit) && (g.visit == n)) v.grants
 
--- how often it has this grant, whose name is told as the whole ledger's, m more than the lane's
+-- how often it has this grant; its name here is that of the ledger of all clients, m more than the lane's
 abbrev pub granted_in : ℕ → ℕ → ℕ → ℕ → ℕ → View → ℕ
 granted_in m c i v name view = count_by (λ g. (g.client == c) && ((g.exit == i) && ((g.visit == v) && (g.name + m == name)))) view.grants
 
@@ -77,7 +77,7 @@ after_enter token client entry v = record v {
 abbrev pub lists_after : ℕ → (ℕ → List (ℕ × ℕ)) → Lists → Lists
 lists_after token more lists = map (λ u. without token (on lists u) ++ more u) (range_with_len 0 (length lists))
 
--- a token of a client goes by an end, where it finds the number n, in one step: it stands last on the next output, or is
+-- a token of a client goes by an end, and gets the number n, in one step: it stands last on the next output, or is
 -- gone with a grant
 abbrev pub after_step : ℕ → ℕ → End → ℕ → View → View
 after_step token client (Balancer b) n v = record v {
@@ -99,7 +99,7 @@ after_load_by false start ls v = record v { loads = ls; steps = v.steps + 1 }
 abbrev pub after_load : Start → ℕ → View → View
 after_load start n v = after_load_by (nat_eq (length v.loads + 1) start.network.table.entries) start (v.loads ++ n ∷ []) v
 
--- a lane was told an answer, for which it loaded the word of each entry once
+-- a lane got an answer, for which it loaded the word of each entry once
 abbrev pub after_entered : Start → ℕ → View → View
 after_entered start answer v = record v { seen = answer; steps = v.steps + start.network.table.entries }
 
@@ -111,7 +111,7 @@ after_split q v = record v { quota = v.quota - q }
 abbrev pub split_off : ℕ → View → View
 split_off q v = record (empty_view v.start q) { seen = v.seen }
 
--- two views made one, where the second has no tokens
+-- two views made one; the second has no tokens
 abbrev pub after_join : View → View → View
 after_join v w = record v {
   quota = v.quota + w.quota;
@@ -122,7 +122,7 @@ after_join v w = record v {
   steps = v.steps + w.steps;
 }
 
--- a view that is no lane's any more
+-- a view that no lane has now
 abbrev pub no_start : Start
 no_start = record { network = record { table = record { entries = 0; width = 0; balancers = 0; ends = [] }; kind = Tree; depth = 0 }; quota = 0; words = [] }
 

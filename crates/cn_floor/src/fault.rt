@@ -9,7 +9,7 @@ pub enum OpenFault {
     Memory,
 }
 
-/// Why a client is not let in; the first cause that stands is told.
+/// Why a client is not let in; of several causes the first in this order is given.
 #[derive(Clone, Copy, Debug, PartialEq, Eq)]
 pub enum LaneFault {
     /// The network has no entry with this number.

@@ -10,8 +10,8 @@ ghost use Rattle.cn_floor.specs.Laws.{AtEachMoment, HasFewWords, HasWalked, Hold
 ghost use Rattle.cn_floor.specs.Views.{base};
 
 /// No name is granted twice, by any lanes: two grants of one name are of one client, by one exit, with one visit, and no
-/// grant is made twice. Each name is below the number that came in. Where the floor went on from others, its names, which
-/// are so much less as came before, are below the number that came in since.
+/// grant is made twice. Each name is below the number that came in. If the floor went on from others, each name is that
+/// of the ledger minus the number that came before, and is below the number that came in since.
 pub fn names_differ_and_are_low()
     ensures differ { AtEachMoment (λ start s. NamesDiffer (ledger_at start s)) }
     ensures once { AtEachMoment (λ start s. GrantsOnce (ledger_at start s)) }
@@ -49,7 +49,7 @@ pub fn answers_stay_true()
     ensures { InEachView (λ start s v. base start + v.seen ≤ entered_at start s) }
 {}
 
-/// Where nobody is inside, the ledger of all that ever came is tight: each exit has let out its share, and the names are
+/// If nobody is inside, the ledger of all that ever came is tight: each exit has let out its share, and the names are
 /// those below the number that came in, each granted once.
 pub fn floors_end_tight()
     ensures { AtEachMoment (λ start s. NobodyInside start s.views

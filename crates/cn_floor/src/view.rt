@@ -73,7 +73,7 @@ pub struct View {
     pub passages: LinkedList<Passage>,
     /// The names that it granted.
     pub grants: LinkedList<Grant>,
-    /// The greatest number of clients that it was told of.
+    /// The greatest answer that it got to how many came in.
     pub seen: u64,
     /// What it has loaded so far.
     pub loads: LinkedList<u64>,
@@ -81,7 +81,7 @@ pub struct View {
     pub steps: u64,
 }
 
-/// What the words of a floor are told once.
+/// What the words of a floor are opened with.
 #[derive(Drop)]
 pub struct Opening {
     /// Their network.

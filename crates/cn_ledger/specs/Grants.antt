@@ -2,14 +2,14 @@
 use Rattle.std.specs.Prelude.{◌≡◌, ℕ, ◌+◌, ◌==◌, ◌&&◌, Bool, List, count_by}
 use Rattle.cn_ledger.specs.Ledger.{Ledger}
 
--- a client left by an exit with a visit, and was told a name
+-- a client left by an exit with a visit, and got a name
 pub record Grant : Type 0 where
   pub client : ℕ
   pub exit : ℕ
   pub visit : ℕ
   pub name : ℕ
 
--- is it this grant, where the name that was told is the ledger's less the base?
+-- is it this grant? `name` is the ledger's: the grant has it minus the base.
 abbrev pub is_grant : ℕ → ℕ → ℕ → ℕ → ℕ → Grant → Bool
 is_grant base c i v name g = (g.client == c) && ((g.exit == i) && ((g.visit == v) && (g.name + base == name)))
 

@@ -7,7 +7,7 @@ use Rattle.cn_wiring.specs.Network.{Network, IsNetwork}
 use Rattle.cn_wiring.specs.Table.{Stands, Table, end_of}
 use Rattle.cn_ledger.specs.Ledger.{Ledger, IsSound, all_entered}
 
--- each sound ledger of a counting network is such
+-- each sound ledger of a counting network has this property
 abbrev pub AllSound : (Table → Ledger → Type 0) → Type 0
 AllSound P =
     (network : Network) (ledger : Ledger) → IsNetwork network → IsSound network.table ledger

@@ -88,7 +88,7 @@ pub record IsTight (t : Table) (l : Ledger) : Type 0 where
   -- each of these names is granted to one client, once, and to no other
   pub held : (name : ℕ) → name < all_entered t l
       → (c : ℕ) × ((d : ℕ) → l.granted d (name % t.width) (name / t.width) name ≡ when (c == d) 1)
-  -- each grant is of one of these names, by the exit and with the visit that the name tells
+  -- each grant is of one of these names, by the exit and with the visit that the name determines
   pub only : (c i v name : ℕ) → 1 ≤ l.granted c i v name
       → (name < all_entered t l) × (name % t.width ≡ i) × (name / t.width ≡ v)
   -- each balancer has passed what the full flow of what entered brings there

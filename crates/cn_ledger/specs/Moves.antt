@@ -8,8 +8,8 @@ use Rattle.cn_ledger.specs.declared.moved.Moved.TheVariants.{On as Passed, Out}
 use Rattle.cn_ledger.specs.Ledger.{Ledger}
 use Rattle.cn_ledger.specs.Events.{Passes, Leaves}
 
--- a step that moved a client so is one event on the ledger: a passage, or a leave. The name that is told is that of the
--- visit less the base, the number of those that came in before the epoch.
+-- a step that moved a client so is one event on the ledger: a passage, or a leave. The name that is given is that of
+-- the visit minus the base, the number of those that came in before the epoch.
 abbrev pub IsMoveOf : Table → ℕ → Ledger → Ledger → ℕ → Moved → Type 0
 IsMoveOf table base old new client (Passed balancer number wire) =
     (from : ℕ) × Passes table old new client from balancer

@@ -32,15 +32,15 @@ pub fn names_differ()
     ensures once { AllSound (λ table ledger. GrantsOnce ledger) }
 {}
 
-/// In a sound ledger where nobody is inside, the counts are the shares of what entered, and the names are the numbers
-/// below that, each granted once.
+/// In a sound ledger with nobody inside, the counts are the shares of what entered, and the names are the numbers below
+/// that, each granted once.
 pub fn quiet_ledgers_are_tight()
     ensures { AllSound (λ table ledger. IsQuiescent table ledger → IsTight table ledger) }
 {}
 
 /// From one tight ledger to a later one, a list of the grants made between has the names from 0 to one less than the
-/// number of those that entered between, each once, where a name is told less the number that had entered before.
-/// A client may be in the list more than once.
+/// number of those that entered between, each once. A grant has the ledger's name minus the number that had entered
+/// before. A client may be in the list more than once.
 pub fn listed_grants_are_tight()
     ensures { (network : Network) (old new : Ledger) (grants : List Grant) (more : ℕ)
         → IsNetwork network → IsTight network.table old → IsTight network.table new
@@ -86,7 +86,7 @@ pub fn events_can_happen()
         → (new : Ledger) × Leaves table old new client wire exit) }
 {}
 
-/// Where nobody has come, the ledger is sound.
+/// If nobody has come, the ledger is sound.
 pub fn empty_ledgers_are_sound()
     ensures { (table : Table) → IsSound table empty_ledger }
 {}

@@ -54,7 +54,7 @@ impl Names {
     /// Nobody has a standing. The table hashes by `state`.
     ///
     /// # Errors
-    /// `AllocError` where the table gets no memory. Today it asks for none before the first client.
+    /// `AllocError` if the table gets no memory. Today it asks for none before the first client.
     pub fn new(alloc: Global, state: RandomState) -> Result<Self, AllocError>
         ensures { IfOk result (λ names. names ≡ []) }
     {
@@ -88,7 +88,7 @@ impl Names {
     /// A client comes in with its token.
     ///
     /// # Errors
-    /// `Held` where the client has a standing, `Memory` where the map could not grow. Then nothing has changed.
+    /// `Held` if the client has a standing, `Memory` if the map could not grow. Then nothing has changed.
     pub fn admit(&mut self, client: u64, token: Token) -> Result<(), NamesFault>
         ensures ok { OnOk result (self.new ≡ self.old ++ (client, Standing.Walking token) ∷ []) }
         ensures held { (result ≡ Err NamesFault.Held) ↔ IsSome (standing_in self.old client) }
@@ -116,11 +116,11 @@ impl Names {
         *self.map.get_mut(&client).unwrap() = Standing::Holds(name);
     }
 
-    /// The clients by rising name; where two hold one name, by rising number.
+    /// The clients by rising name; if two hold one name, by rising number.
     ///
     /// # Errors
-    /// `StillWalking` where the token of some client is on its way, told before any memory is asked for; else `Memory`
-    /// where the list got none.
+    /// `StillWalking` if the token of some client is on its way, before any memory is asked for; else `Memory` if the
+    /// list got none.
     pub fn by_name(&self) -> Result<Vec<u64>, ByNameFault>
         ensures listed { IfOk result (λ clients. ListsByName self.now clients.items) }
         ensures everyone { IfOk result (λ clients. length clients.items ≡ length self.now) }
@@ -172,8 +172,8 @@ impl Names {
         Ok(grants)
     }
 
-    /// Nobody has a standing any more. The memory is kept. It takes the time of the clients that go, and not that of the
-    /// whole table, as the map's own `clear` does.
+    /// Takes away every client's standing, and keeps the memory. It takes the time of the clients that go, and not that
+    /// of the whole table, as the map's own `clear` does.
     pub fn clear(&mut self)
         ensures { self.new ≡ [] }
     {

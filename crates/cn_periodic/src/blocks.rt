@@ -11,9 +11,9 @@ use cn_spec::limits::MOST_BALANCERS;
 use cn_wiring::Draft;
 use std::alloc::{AllocError, Global};
 
-/// Adds the block over a list of wires to a draft, and gives its outputs. Where chains of one level have the step property
-/// in the flows of the wires, those of the level below have it in the flows of the outputs (Aspnes, Herlihy, Shavit 1994,
-/// section 4).
+/// Adds the block over a list of wires to a draft, and gives its outputs. If chains of one level have the step property
+/// in the flows of the wires, those of the level below have it in the flows of the outputs (Aspnes, Herlihy, Shavit
+/// 1994, section 4).
 ///
 /// The list's length is a power of two from 2 upward, and its wires are loose and all different. A block over `n` wires
 /// has `log2 n` layers of `n / 2` balancers, and the draft has at most [`MOST_BALANCERS`] balancers afterwards. Balancers
@@ -21,8 +21,7 @@ use std::alloc::{AllocError, Global};
 /// layer.
 ///
 /// # Errors
-/// `AllocError` where a list gets no memory. The draft may have some of the balancers then, and is only good to be
-/// dropped.
+/// `AllocError` if a list gets no memory. The draft may have some of the balancers then, and should be dropped.
 pub fn block(alloc: Global, draft: &mut Draft, wires: &[u32]) -> Result<Vec<u32>, AllocError>
     requires row { (level : ℕ) × (1 ≤ level) × IsRow level wires.now
         × (draft.old.balancers + block_balancers level ≤ MOST_BALANCERS) }
@@ -45,7 +44,7 @@ pub fn block(alloc: Global, draft: &mut Draft, wires: &[u32]) -> Result<Vec<u32>
 /// The A-cochain: the wires at places 0, 3, 4, 7 and so on, whose two low bits are equal.
 ///
 /// # Errors
-/// `AllocError` where the list gets no memory.
+/// `AllocError` if the list gets no memory.
 fn a_cochain(alloc: Global, wires: &[u32]) -> Result<Vec<u32>, AllocError>
     ensures { IfOk result (λ part. part.items ≡ a_cochain wires.now) }
 {
@@ -57,7 +56,7 @@ fn a_cochain(alloc: Global, wires: &[u32]) -> Result<Vec<u32>, AllocError>
 /// The B-cochain: the wires at places 1, 2, 5, 6 and so on, whose two low bits differ.
 ///
 /// # Errors
-/// `AllocError` where the list gets no memory.
+/// `AllocError` if the list gets no memory.
 fn b_cochain(alloc: Global, wires: &[u32]) -> Result<Vec<u32>, AllocError>
     ensures { IfOk result (λ part. part.items ≡ b_cochain wires.now) }
 {

@@ -28,7 +28,7 @@ use std::alloc::{AllocError, Global};
 /// one periodic network, by [`cn_wiring::laws::tables_are_unique`].
 ///
 /// # Errors
-/// [`BuildFault::Width`] where networks of this width are not built, and [`BuildFault::Memory`] where the network gets no
+/// [`BuildFault::Width`] if networks of this width are not built, and [`BuildFault::Memory`] if the network gets no
 /// memory.
 pub fn periodic(alloc: Global, width: u32) -> Result<Counting, BuildFault>
     ensures width { IsErrOf result BuildFault.Width ↔ (¬ IsWidth width) }
@@ -57,7 +57,7 @@ pub fn periodic(alloc: Global, width: u32) -> Result<Counting, BuildFault>
 /// the outputs of the one before.
 ///
 /// # Errors
-/// `AllocError` where a list gets no memory. The draft may have some of the balancers.
+/// `AllocError` if a list gets no memory. The draft may have some of the balancers.
 fn blocks_in_series(
     alloc: Global,
     draft: &mut Draft,

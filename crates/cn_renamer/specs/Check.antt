@@ -1,4 +1,4 @@
--- The text of a list of grants that is tight, and what is told where it is not written.
+-- The text of a list of grants that is tight, and which fault is given if it is not written.
 use Rattle.std.specs.Prelude.{ℕ, ◌≡◌, ◌≢◌, IfSome, List, Option, map}
 use Rattle.cn_report.specs.Reading.Grants.{IsFlaw, IsOutside, IsTightList}
 use Rattle.cn_report.specs.Reading.Records.{records_of}
@@ -13,17 +13,17 @@ use Rattle.cn_renamer.specs.declared.checking.CheckFault.TheVariants as fault
 use Rattle.cn_renamer.specs.declared.output_fault.OutputFault.{OutputFault}
 use Rattle.cn_renamer.specs.declared.output_fault.OutputFault.TheVariants as output
 
--- this is the text that tells these epochs
+-- this is the text of these epochs
 abbrev pub IsTightTextOf : List TightEpoch → List ℕ → Type 0
 IsTightTextOf epochs text = text ≡ tight_text (map plain_tight epochs)
 
--- the bytes that were read are a tight list of grants, and this is the text that tells its epochs, with the names of each
+-- the bytes that were read are a tight list of grants, and this is the text of its epochs, with the names of each
 -- counted by their remainders
 pub record IsCheckOf (width : ℕ) (bytes text : List ℕ) : Type 0 where
   pub tight : IsTightList (records_of bytes)
   pub told : text ≡ tight_text (told_epochs width (records_of bytes))
 
--- this text is that of a check of the bytes that a reader has left, where they are known
+-- this text is that of a check of the bytes that a reader has left, if they are known
 abbrev pub IsCheckOfKnown : ℕ → Option (List ℕ) → List ℕ → Type 0
 IsCheckOfKnown width known text = IfSome known (λ bytes. IsCheckOf width bytes text)
 
@@ -33,7 +33,7 @@ until_check (fault.Flaw why) = Nothing
 until_check fault.Memory = Nothing
 until_check (fault.Write written) = First written
 
--- a flaw is that of the bytes, and never want of memory; a tight list is refused only where a read failed
+-- a flaw is that of the bytes, and never want of memory; a tight list is refused only if a read failed
 abbrev pub IsCheckFault : Option (List ℕ) → CheckFault → Type 0
 IsCheckFault known (fault.Flaw why) =
     (why ≢ flaw.Memory)
@@ -41,7 +41,7 @@ IsCheckFault known (fault.Flaw why) =
 IsCheckFault known fault.Memory = Unit {0}
 IsCheckFault known (fault.Write written) = Unit {0}
 
--- what a check tells of a flaw: want of memory apart
+-- the fault of a check by its flaw; want of memory is a fault of its own
 abbrev pub fault_of_flaw : Flaw → CheckFault
 fault_of_flaw flaw.Memory = fault.Memory
 fault_of_flaw (flaw.Read at) = fault.Flaw (flaw.Read at)

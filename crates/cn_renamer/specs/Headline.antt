@@ -1,8 +1,8 @@
 -- The headline: for every accepted batch, each of the three networks, every number of workers and every interleaving of
 -- their steps, what a run writes gives, for each epoch of k clients, exit i the count ceiling((k - i) / w) and its clients
--- the names 0 to k-1, each once. Where counters are carried: for each epoch of k clients after m, exit i its share of m + k
--- clients less its share of m. Without carry m is 0, and both are one. (At every moment before that the rule of the floor
--- holds: `cn_walk`'s `KeepsRule`.)
+-- the names 0 to k-1, each once. If counters are carried: for each epoch of k clients after m, exit i has its share of
+-- m+k clients minus its share of m. Without carry m is 0, and both are one. (At every moment before that the rule of
+-- the floor holds: `cn_walk`'s `KeepsRule`.)
 use Rattle.std.specs.Prelude.{ℕ, ◌≡◌, ◌+◌, ◌≤◌, [], ◌∷◌, Bool, IfSome, List, Option, length, map, ⊤}
 use Rattle.std.specs.List.Sorted.{IsPermutation}
 use Rattle.cn_spec.specs.Step.{shares, shares_after}
@@ -18,8 +18,8 @@ use Rattle.cn_cli.specs.Net.{Description, IsNetworkOf, entries_of}
 use Rattle.cn_cli.specs.declared.options.Form.{Form}
 use Rattle.cn_cli.specs.declared.options.Form.TheVariants.{Report, Grants}
 
--- of an epoch of k clients after m each exit i of w has its share of m + k less its share of m, where the share of k is
--- ceiling((k - i) / w); and the clients, each once, are the holders of the names 0 to k-1, in the order of these names
+-- of an epoch of k clients after m each exit i of w has its share of m + k minus its share of m, where the share of k
+-- is ceiling((k - i) / w); and the clients, each once, are the holders of the names 0 to k-1, in this order
 pub record IsServed (w m : ℕ) (epoch : BatchEpoch) (r : EpochRecord) : Type 0 where
   pub number : r.number ≡ epoch.number
   pub clients : r.clients ≡ length epoch.clients.items
@@ -31,7 +31,7 @@ pub record IsServed (w m : ℕ) (epoch : BatchEpoch) (r : EpochRecord) : Type 0 
 abbrev pub after : Bool → ℕ → ℕ → ℕ
 after carry m k = when carry (m + k)
 
--- the epochs were served one after another, where m clients come before the first
+-- the epochs were served one after another; m clients come before the first
 unfoldable pub AreServed : Bool → ℕ → ℕ → List BatchEpoch → List EpochRecord → Type 0
 AreServed carry w m [] [] = ⊤
 AreServed carry w m [] (r ∷ records) = ⊥
@@ -39,7 +39,7 @@ AreServed carry w m (e ∷ epochs) [] = ⊥
 AreServed carry w m (e ∷ epochs) (r ∷ records) =
     IsServed w m e r × AreServed carry w (after carry m (length e.clients.items)) epochs records
 
--- what is told of epochs in the asked form
+-- the text of epochs in the asked form
 abbrev pub text_in : Form → Network → List EpochRecord → List ℕ
 text_in Report network records = report_text network records
 text_in Grants network records = grants_text records
@@ -54,11 +54,11 @@ pub record IsRunOf (net : Description) (form : Form) (carry : Bool) (bytes text 
   pub served : AreServed carry network.table.width 0 epochs records
   pub written : text ≡ text_in form network records
 
--- this text is that of a run of the bytes that a reader has left, where they are known
+-- this text is that of a run of the bytes that a reader has left, if they are known
 abbrev pub IsRunOfKnown : Description → Form → Bool → Option (List ℕ) → List ℕ → Type 0
 IsRunOfKnown net form carry known text = IfSome known (λ bytes. IsRunOf net form carry bytes text)
 
--- what a check of the grant list tells of an epoch of a run: its number, its k clients, and for each exit how many of its
--- names n have `n % w` equal to the exit, which is the exit's share, with carry too
+-- what a check of the grant list says of an epoch of a run: its number, its k clients, and for each exit how many of
+-- its names n have `n % w` equal to the exit, which is the exit's share, with carry too
 abbrev pub served_epoch : ℕ → BatchEpoch → ℕ × ℕ × List ℕ
 served_epoch w epoch = (epoch.number, length epoch.clients.items, shares (length epoch.clients.items) w)

@@ -23,7 +23,7 @@ abbrev pub IsBuiltFor : Job → Type 0
 IsBuiltFor (job.Check width) = IsWidth width
 IsBuiltFor other = Unit {0}
 
--- the text of a job, by the bytes that its reader has left, where they are known
+-- the text of a job, by the bytes that its reader has left, if they are known
 abbrev pub IsTextOf : Job → Option (List ℕ) → List ℕ → Type 0
 IsTextOf (job.Run options) known text = IsRunOfKnown options.net options.form options.carry known text
 IsTextOf (job.Replay net) known text = IsReplayOfKnown net known text
@@ -45,7 +45,7 @@ IsOfRuntime (Runtime fault) = Unit {0}
 IsOfRuntime (Output fault) = fault ≡ output.Memory
 IsOfRuntime other = ⊥
 
--- the faults that a job may end with: its own, and where it asks for random words that of their source
+-- the faults that a job may end with: its own, and if it asks for random words, that of their source
 abbrev pub MayEnd : Job → Option (List ℕ) → Fault → Type 0
 MayEnd (job.Run options) known (Serve fault) = IsServeFault options.net known fault
 MayEnd (job.Run options) known other = IsOfRuntime other
@@ -70,7 +70,7 @@ MayEndAsked (Err (words.Help help)) known fault = (why : _) × (fault ≡ Output
 MayEndAsked (Err (words.Refused why)) known fault = fault ≡ Refused why
 MayEndAsked (Err words.Memory) known fault = fault ≡ Output output.Memory
 
--- the words were read, and what they ask for was done, or is told in its fault
+-- the words were read, and what they ask for was done, or its fault says why not
 pub record HasRun {U W : Type 0} (texts : List Text) (known : Option (List ℕ)) (contents : W → Option (List ℕ)) (old new : W) (answer : Result U Fault) : Type 0 where
   pub asked : Result Job WordsFault
   pub read : MatchResult asked (IsJobOf texts) (IsFaultOf texts)
@@ -87,7 +87,7 @@ status_of (Replay fault) = status_of_replay fault
 status_of (Check fault) = status_of_check fault
 status_of (Output fault) = 3
 
--- the status of the program by its answer: 0 where all is done
+-- the status of the program by its answer: 0 if all is done
 abbrev pub status_by : {U : Type 0} → Result U Fault → ℕ
 status_by (Ok done) = 0
 status_by (Err fault) = status_of fault

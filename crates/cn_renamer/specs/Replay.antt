@@ -1,4 +1,4 @@
--- The text of a replay, and what is told where it is not written.
+-- The text of a replay, and which fault is given if it is not written.
 use Rattle.std.specs.Prelude.{ℕ, ◌≡◌, ◌≢◌, All, IfSome, List, [], Option}
 use Rattle.cn_wiring.specs.Network.{Network}
 use Rattle.cn_core.specs.History.{enters_of, inside_of}
@@ -24,7 +24,7 @@ pub record IsReplayText (network : Network) (commands : List Command) (text : Li
   pub answers : List Answer
   pub by_history : MayAnswerAll network.table 0 [] commands answers
   pub memory : All HadMemory answers
-  -- the end line tells the epochs that ended, and the enters of the open one and who is inside
+  -- the end line gives the number of epochs that ended, and how many entered the open one and are inside
   pub replayed : text ≡ replay_text network commands answers (turns_by 0 answers) (enters_of (history_by [] commands answers)) (inside_of network.table (history_by [] commands answers))
 
 -- this text is that of a replay of the commands on a network of this kind and width
@@ -39,7 +39,7 @@ pub record IsReplayOf (net : Description) (bytes text : List ℕ) : Type 0 where
   pub schedule : IsSchedule (records_of bytes) commands
   pub replayed : IsReplayOfCommands net commands text
 
--- this text is that of a replay of the bytes that a reader has left, where they are known
+-- this text is that of a replay of the bytes that a reader has left, if they are known
 abbrev pub IsReplayOfKnown : Description → Option (List ℕ) → List ℕ → Type 0
 IsReplayOfKnown net known text = IfSome known (λ bytes. IsReplayOf net bytes text)
 
@@ -49,14 +49,14 @@ until_replay (Schedule fault) = Nothing
 until_replay Memory = Nothing
 until_replay (Write written) = First written
 
--- a schedule that is refused is told by its own fault, which is never want of memory
+-- a schedule that is refused has its own fault, which is never want of memory
 abbrev pub IsReplayFault : Option (List ℕ) → ReplayFault → Type 0
 IsReplayFault known (Schedule fault) =
     (fault.cause ≢ cause.Memory) × IfSome known (λ bytes. IsScheduleFault (records_of bytes) fault)
 IsReplayFault known Memory = Unit {0}
 IsReplayFault known (Write written) = Unit {0}
 
--- what a replay tells of a fault of the schedule: want of memory apart
+-- the fault of a replay by that of the schedule; want of memory is a fault of its own
 abbrev pub fault_of_cause : ScheduleFault → ScheduleCause → ReplayFault
 fault_of_cause fault cause.Memory = Memory
 fault_of_cause fault cause.Read = Schedule fault

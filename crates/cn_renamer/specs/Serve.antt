@@ -1,4 +1,4 @@
--- What is told of a run that does not write its text whole.
+-- The faults of a run that does not write its text whole.
 use Rattle.std.specs.Prelude.{ℕ, ◌≢◌, IfSome, List, Option}
 use Rattle.cn_report.specs.Reading.Batch.{IsBatchFault}
 use Rattle.cn_report.specs.Reading.Records.{records_of}
@@ -18,7 +18,7 @@ until_serve (Batch fault) = Nothing
 until_serve Memory = Nothing
 until_serve (Write written) = First written
 
--- a batch that is refused is told by its own fault, which is never want of memory
+-- a batch that is refused has its own fault, which is never want of memory
 abbrev pub IsServeFault : Description → Option (List ℕ) → ServeFault → Type 0
 IsServeFault net known (Batch fault) =
     (fault.cause ≢ cause.Memory)
@@ -26,7 +26,7 @@ IsServeFault net known (Batch fault) =
 IsServeFault net known Memory = Unit {0}
 IsServeFault net known (Write written) = Unit {0}
 
--- what a run tells of a fault of the batch: want of memory apart
+-- the fault of a run by that of the batch; want of memory is a fault of its own
 abbrev pub fault_of_cause : BatchFault → BatchCause → ServeFault
 fault_of_cause fault cause.Memory = Memory
 fault_of_cause fault cause.Read = Batch fault

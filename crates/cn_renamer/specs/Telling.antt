@@ -17,7 +17,7 @@ abbrev pub Tells : Form → Network → List EpochRecord → EpochsText → Type
 Tells asked network records (Report text) = (asked ≡ form.Report) × (text ≡ report_so_far network records)
 Tells asked network records (Grants text) = (asked ≡ form.Grants) × (text ≡ grants_text records)
 
--- the record has what the text's form tells of an epoch
+-- the record has what the text's form says of an epoch
 abbrev pub CanTell : EpochsText → EpochRecord → Type 0
 CanTell (Report text) r = IsWholeRecord text.width r
 CanTell (Grants text) r = HasHolders r

@@ -90,7 +90,7 @@ impl From<OutputFault> for CheckFault {
     }
 }
 
-/// Writes the text that tells the epochs of a tight list.
+/// Writes the text of the epochs of a tight list.
 fn write_tight<W: Write>(alloc: Global, writer: &mut W, tight: &Tight) -> Result<(), OutputFault>
     ensures { HasWritten W.contents (IsTightTextOf tight.now.epochs.items) (written_by until_output result) writer.old writer.new }
 {
@@ -98,15 +98,15 @@ fn write_tight<W: Write>(alloc: Global, writer: &mut W, tight: &Tight) -> Result
     write_text(writer, &text)
 }
 
-/// Reads a list of grants, and writes what it tells where it is tight: each epoch's number and its number of clients, how
+/// Reads a list of grants, and if it is tight writes what it has: each epoch's number and its number of clients, how
 /// many of its names are `i` modulo the width, for each `i` below it, and how many epochs and grants there are.
 ///
 /// The width is one of the widths of networks ([`cn_wiring::is_width`]). Nothing is written before the whole list is judged.
 ///
 /// # Errors
-/// `Flaw` with the first record that has a flaw, or the first gap; `Memory` where any growth was refused; `Write` where a
-/// write failed or the flush at the end, with the number of bytes that were written: they are the first of the text. On any
-/// other fault nothing was written.
+/// `Flaw` with the first record that has a flaw, or the first gap; `Memory` if any growth was refused; `Write` if a
+/// write or the flush at the end failed, with the number of bytes that were written: they are the first of the text. On
+/// any other fault nothing was written.
 pub fn check<R: Read + Drop, W: Write>(
     alloc: Global,
     reader: R,

@@ -30,7 +30,7 @@ pub enum Fault {
     /// The schedule was refused, or the replay was not written whole.
     #[error(transparent)]
     Replay(ReplayFault),
-    /// The grant list is not tight, or what it tells was not written whole.
+    /// The grant list is not tight, or the text of the check was not written whole.
     #[error(transparent)]
     Check(CheckFault),
     /// The wiring or the help was not written whole, or there was not the memory to read the words.
@@ -96,7 +96,7 @@ impl From<AllocError> for Fault {
     }
 }
 
-/// What the runtime answers where it is asked for arguments or random words.
+/// What the runtime answers when it is asked for arguments or random words.
 impl From<io::Error> for Fault {
     ghost from_gives = { λ _ told. IsOfRuntime told };
 
@@ -117,7 +117,7 @@ fn tell<E: Write>(errors: &mut E, fault: &Fault) -> io::Result<()> {
 }
 
 /// Ends the program: writes what is printed of its fault, if it met one, to standard error, and answers its status, which
-/// is 0 exactly where all is done. A write to standard error that fails leaves the status as it is.
+/// is 0 exactly if all is done. A write to standard error that fails leaves the status as it is.
 pub fn end<E: Write>(done: &Result<(), Fault>, errors: &mut E) -> u8
     ensures status { result ≡ status_by done.now }
     ensures zero { (result ≡ 0) ↔ (is_ok done.now ≡ true) }

@@ -18,8 +18,8 @@ ghost use Rattle.cn_renamer.specs.Show.{IsWiringOf};
 
 use cn_spec::laws::first_shares_are_shares;
 
-/// On one network commands have one text; so have commands, and the bytes of a schedule, on a network told by its kind and
-/// width.
+/// On one network commands have one text; so have commands, and the bytes of a schedule, on a network given by its kind
+/// and width.
 pub fn a_replay_has_one_text()
     ensures on_a_network { (network : Network) (commands : List Command) (text other : List ℕ)
         → IsNetwork network
@@ -31,7 +31,7 @@ pub fn a_replay_has_one_text()
         → IsReplayOf net bytes text → IsReplayOf net bytes other → text ≡ other }
 {}
 
-/// A network told by its kind and width has one text of its wiring.
+/// A network given by its kind and width has one text of its wiring.
 pub fn a_wiring_has_one_text()
     ensures { (net : Description) (text other : List ℕ) → IsWiringOf net text → IsWiringOf net other
         → text ≡ other }
@@ -46,9 +46,9 @@ pub fn counts_are_shares()
 }
 
 /// What a run writes in the grants form, with carry or without, is a list that a check takes for tight; and a check by any
-/// width tells the epochs of the batch, with as many names `n` of `n mod w = i` as the share of exit i. Of the k names of an
-/// epoch that comes after m clients as many have `(m + n) mod w = i` as the share of exit i in m + k clients less that in m:
-/// with carry this is the exit's count.
+/// width w reports the epochs of the batch, with as many names `n` of `n mod w = i` as the share of exit i. Of the k
+/// names of an epoch that comes after m clients as many have `(m + n) mod w = i` as the share of exit i in m + k
+/// clients minus that in m: with carry this is the exit's count.
 pub fn written_grants_are_accepted()
     ensures tight { (net : Description) (carry : Bool) (bytes text : List ℕ)
         → IsRunOf net Grants carry bytes text

@@ -41,7 +41,7 @@ impl From<AllocError> for OutputFault {
     }
 }
 
-/// A network that is built fails to be built for want of memory alone.
+/// A network that is built fails to be built only for want of memory.
 impl From<BuildFault> for OutputFault {
     ghost from_gives = { λ _ fault. fault ≡ Memory };
 

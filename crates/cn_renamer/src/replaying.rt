@@ -155,8 +155,8 @@ fn replay_commands<W: Write>(
 /// The random state is for the table of clients. Nothing is written before every command has its answer.
 ///
 /// # Errors
-/// `Schedule` with the first record that has a cause, and its first cause; `Memory` where any growth was refused; `Write`
-/// where a write failed or the flush at the end, with the number of bytes that were written: they are the first of the
+/// `Schedule` with the first record that has a cause, and its first cause; `Memory` if any growth was refused; `Write`
+/// if a write or the flush at the end failed, with the number of bytes that were written: they are the first of the
 /// text. On any other fault nothing was written.
 pub fn replay<R: Read + Drop, W: Write>(
     alloc: Global,

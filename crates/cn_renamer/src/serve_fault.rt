@@ -51,7 +51,7 @@ impl From<BatchFault> for ServeFault {
     }
 }
 
-/// A network that is built fails to be built for want of memory alone.
+/// A network that is built fails to be built only for want of memory.
 impl From<BuildFault> for ServeFault {
     ghost from_gives = { λ _ fault. fault ≡ Memory };
 

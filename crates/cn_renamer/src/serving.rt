@@ -63,7 +63,7 @@ fn run_next<'n, G: Gate + Sync, R: Threads + Wait + Sync>(
     match ended {
         Ok(outcome) => Ok((record_of(epoch, outcome), runner)),
         Err(fault) => {
-            // An epoch of a batch is refused for want of memory alone.
+            // An epoch of a batch is refused only for want of memory.
             prove!(matches!(fault, RunFault::Memory));
             Err(AllocError)
         }
@@ -71,7 +71,7 @@ fn run_next<'n, G: Gate + Sync, R: Threads + Wait + Sync>(
 }
 
 /// Runs the epochs of a batch, one after another: the text of their records, in the options' form. Each begins with counters
-/// of 0, or where the options have it, with those of the one before. No record is kept.
+/// of 0 or, if the options carry, with those of the one before. No record is kept.
 fn run_all<G: Gate + Sync, R: Threads + Wait + Sync>(
     rt: &R,
     alloc: Global,
@@ -94,7 +94,7 @@ fn run_all<G: Gate + Sync, R: Threads + Wait + Sync>(
     Ok(text)
 }
 
-/// Reads a batch, and runs its epochs on a network: the text that tells of them.
+/// Reads a batch, and runs its epochs on a network. Gives their text.
 fn text_of<I: Read + Drop, G: Gate + Sync, R: Threads + Wait + Sync>(
     rt: &R,
     alloc: Global,
@@ -115,27 +115,27 @@ fn text_of<I: Read + Drop, G: Gate + Sync, R: Threads + Wait + Sync>(
 }
 
 /// Reads a batch, runs its epochs one after another, and writes what came of them in the options' form: the report, which
-/// tells the network, each epoch's number and its number of clients, how many left by each exit, who holds which name, and
-/// how many epochs and grants there are; or the grant list, which `check` takes
-/// ([`crate::laws::written_grants_are_accepted`]). Each epoch has as many workers as the options have, each with so many
-/// clients in hand ([`Runner::run`], which does what [`cn_walk::run_epoch`] does for each).
+/// has the network, each epoch's number and its number of clients, how many left by each exit, who holds which name,
+/// and how many epochs and grants there are; or the grant list, which `check` takes
+/// ([`crate::laws::written_grants_are_accepted`]). Each epoch has as many workers as the options have, each with so
+/// many clients in hand ([`Runner::run`], which does what [`cn_walk::run_epoch`] does for each).
 ///
 /// **The headline.** Of each epoch of k clients exit i of w has the count ceiling((k - i) / w), and the clients have the
 /// names 0 to k-1, each once (Aspnes, Herlihy, Shavit, *Counting Networks*, JACM 1994, section 2; renaming by Attiya,
 /// Bar-Noy, Dolev, Peleg, Reischuk, JACM 1990). It holds of every interleaving of the workers' steps; which client holds
 /// which name is theirs to settle.
 ///
-/// Where the options carry counters, no word is cleared between epochs: of each epoch of k clients after m exit i has the
-/// count of its share of m + k clients less its share of m, and the names are 0 to k-1 still, each below the number of
+/// If the options carry counters, no word is cleared between epochs. Then in each epoch of k clients after m the count
+/// of exit i is its share of m + k clients minus its share of m. The names are still 0 to k-1, each below the number of
 /// clients that entered in the epoch.
 ///
 /// The gate is asked before each step, and `serve` returns only if it lets each worker on. The random state is for the
 /// clients of a batch's epoch as they are read. Nothing is written before every epoch has ended.
 ///
 /// # Errors
-/// `Batch` with the first record that has a cause, and its first cause; `Memory` where any growth was refused; `Write`
-/// where a write failed or the flush at the end, with the number of bytes that were written: they are the first of the
-/// text. On any other fault nothing was written.
+/// `Batch` with the first record that has a cause, and its first cause; `Memory` if any growth was refused; `Write` if
+/// a write or the flush at the end failed, with the number of bytes that were written: they are the first of the text.
+/// On any other fault nothing was written.
 pub fn serve<I: Read + Drop, W: Write, G: Gate + Sync, R: Threads + Wait + Sync>(
     rt: &R,
     alloc: Global,

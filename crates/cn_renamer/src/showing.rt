@@ -17,8 +17,8 @@ pub type ShowFault = OutputFault;
 /// Writes the wiring of a network: its heading, where each wire ends, and how many wires there are.
 ///
 /// # Errors
-/// `Memory` where any growth was refused, and then nothing was written; `Write` where a write failed or the flush at the
-/// end, with the number of bytes that were written: they are the first of the text.
+/// `Memory` if any growth was refused, and then nothing was written; `Write` if a write or the flush at the end failed,
+/// with the number of bytes that were written: they are the first of the text.
 pub fn show<W: Write>(alloc: Global, writer: &mut W, net: &Net) -> Result<(), ShowFault>
     ensures { HasWritten W.contents (IsWiringOf net.now) (written_by until_output result) writer.old writer.new }
 {

@@ -11,7 +11,7 @@ use std::io::Write;
 /// Writes a text whole.
 ///
 /// # Errors
-/// `Write` where a write failed or the flush at the end: the bytes that were written are the first of the text.
+/// `Write` if a write or the flush at the end failed: the bytes that were written are the first of the text.
 pub(crate) fn write_text<W: Write>(writer: &mut W, text: &[u8]) -> Result<(), OutputFault>
     ensures { HasWritten W.contents (λ written. written
         ≡ text.now) (written_by until_output result) writer.old writer.new }

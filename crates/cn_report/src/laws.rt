@@ -10,7 +10,7 @@ ghost use Rattle.cn_report.specs.Reading.Records.{Record, records_of};
 ghost use Rattle.cn_report.specs.Reading.Told.{told_epochs};
 ghost use Rattle.cn_report.specs.Writing.Grants.{AreTight, checked_epoch, grants_text};
 
-/// The records of a text tell its batch: two batches that they are have the same epochs.
+/// The records of a text determine its batch: two batches that they are have the same epochs.
 pub fn batch_is_one()
     ensures { (entries : ℕ) (rows : List Record) (one other : List BatchEpoch)
         → IsBatch entries rows one → IsBatch entries rows other
@@ -18,8 +18,8 @@ pub fn batch_is_one()
 {}
 
 /// The grant list of tight epochs, read again, is a tight list: [`crate::check_grants`] finds no flaw in what
-/// [`crate::render_grants`] wrote of them. Where each epoch has some client, a check tells of each its number, its number
-/// of clients, and as many names for each exit as its share: how many are `i` modulo the width.
+/// [`crate::render_grants`] wrote of them. If each epoch has some client, a check reports of each its number, its
+/// number of clients, and as many names for each exit as its share: how many are `i` modulo the width.
 pub fn written_grants_are_tight()
     ensures tight { (records : List EpochRecord) → AreTight records
         → IsTightList (records_of (grants_text records)) }

@@ -54,7 +54,7 @@ fn fault_of<I: io::Read + Drop>(
 }
 
 /// Batches and their arrivals: one of five clients, only a header, entries by rule, the records that csv reads, and the
-/// identities that a field can tell.
+/// identities that a field can give.
 const READ: [(&[u8], &[Arrival]); 13] = [
     (
         FIVE_ON_ONE_ENTRY,
@@ -205,13 +205,13 @@ fn batch_refusals(rt: HostRuntime) -> Result<(), Fail> {
     Ok(())
 }
 
-/// Whether a read that fails after this text is told at this record.
+/// Whether a read that fails after this text is reported at this record.
 fn is_broken(alloc: Global, state: RandomState, left: &[u8], at: u64) -> bool {
     let cause = BatchCause::Read;
     fault_of(alloc, state, Broken { left }) == Some(BatchFault { at, cause })
 }
 
-/// The first number of bytes after which a read that fails is told otherwise, and how many lines were read before it.
+/// The first number of bytes after which a failed read has another fault, and how many lines were read before it.
 fn wrong_read(alloc: Global, state: RandomState) -> (Option<usize>, u64) {
     let mut lines = 0u64;
     for end in 0..=FIVE_ON_ONE_ENTRY.len() {

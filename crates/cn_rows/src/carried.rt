@@ -72,7 +72,7 @@ struct Parts {
     rest: Vec<u8>,
 }
 
-/// Parts a report: the fourth word of a line that begins with `n`, where it is the last, is a client's number.
+/// Parts a report: the fourth word of a line that begins with `n`, if it is the last, is a client's number.
 fn parted(alloc: Global, text: &[u8]) -> Option<Parts> {
     let mut clients = Vec::new(alloc);
     let mut rest = Vec::new(alloc);
@@ -116,7 +116,7 @@ fn have_names(clients: &[u64]) -> bool {
     are_five && are_three
 }
 
-/// Whether what so many workers write of the batch is that of one, but for the clients' numbers, and whether these are
+/// Whether this many workers write of the batch what one writes, apart from the clients' numbers, and whether these are
 /// those of the batch.
 fn is_alike<R: Threads + Wait + Sync>(
     rt: &R,

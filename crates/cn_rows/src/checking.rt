@@ -1,4 +1,4 @@
-//! Grant lists, and what a check tells of them.
+//! Grant lists, and what a check says of them.
 
 pub(crate) const TWO_EPOCHS: &[u8] = b"epoch,client,name\n\
       1,11,1\n\

@@ -18,7 +18,7 @@ use std::random::RandomSource;
 use std::sync::Wait;
 use std::thread::Threads;
 
-/// After how many bytes a write failed, where that is what a job ended with.
+/// After how many bytes a write failed, if that is what a job ended with.
 fn cut_at(done: &Result<(), Fault>) -> Option<u64> {
     let Err(fault) = done else {
         return None;
@@ -47,8 +47,8 @@ fn is_cut<R: RandomSource + Threads + Wait + Sync>(
     cut_at(&done) == Some(wanted.len() as u64) && writer.taken.as_slice() == wanted
 }
 
-/// The first room of a writer at which a job that writes this text to it ends otherwise: where the writer then fails,
-/// or takes nothing more; or, with room for all, where its flush fails.
+/// The first room of a writer at which a job that writes this text to it ends otherwise: if the writer then fails, or
+/// takes nothing more; or, with room for all, if its flush fails.
 fn wrong_room<R: RandomSource + Threads + Wait + Sync>(
     rt: &R,
     alloc: Global,
@@ -165,7 +165,7 @@ fn write_cut_anywhere(rt: HostRuntime) {
     assert_eq!(rt; (wrong, is_wiring_cut(&rt, alloc)), ([None; 4], true));
 }
 
-/// At which record a read failed, where that is what a job ended with.
+/// At which record a read failed, if that is what a job ended with.
 fn read_at(done: &Result<(), Fault>) -> Option<u64> {
     let Err(fault) = done else {
         return None;

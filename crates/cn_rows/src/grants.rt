@@ -137,7 +137,7 @@ fn grant_list_verdicts(rt: HostRuntime) {
     assert_eq!(rt; wrong_flaw(rt.alloc()), None);
 }
 
-/// The first number of bytes after which a read that fails is told otherwise, and how many lines were read before it.
+/// The first number of bytes after which a failed read has another fault, and how many lines were read before it.
 fn wrong_read(alloc: Global) -> (Option<usize>, u64) {
     let mut lines = 0u64;
     for end in 0..=TWO_EPOCHS.len() {

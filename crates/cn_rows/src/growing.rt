@@ -9,7 +9,7 @@ use cn_report::{GrantsText, ReportText, render_grants};
 use cn_wiring::Counting;
 use std::alloc::Global;
 
-/// The report with one epoch more, where its record is whole.
+/// The report with one epoch more, if its record is whole.
 fn with_epoch(text: ReportText, width: u32, epoch: &EpochRecord) -> Option<ReportText>
     requires { text.width ≡ width }
     ensures { IfSome result (λ grown. grown.width ≡ width) }
@@ -38,7 +38,7 @@ fn grown_report(
     text.end().ok()
 }
 
-/// The grant list with one epoch more, where it has a holder for each of its clients.
+/// The grant list with one epoch more, if it has a holder for each of its clients.
 fn with_grants(text: GrantsText, epoch: &EpochRecord) -> Option<GrantsText> {
     if epoch.holders.len() as u64 != epoch.clients {
         return None;
@@ -92,7 +92,7 @@ fn texts_of_two_epochs_grow(rt: HostRuntime) {
     assert_eq!(rt; are_grown(rt.alloc()), Some([true, true]));
 }
 
-/// Whether the grant list of the second alone is this.
+/// Whether this is the grant list of only the second.
 fn is_listed(alloc: Global) -> Option<bool> {
     let second = record(alloc, 9, &[1, 1], &[5, 17])?;
     Some(listed(alloc, second)?.as_slice() == SECOND)

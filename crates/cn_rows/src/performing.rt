@@ -295,7 +295,7 @@ fn ends_with(alloc: Global, done: &Result<(), Fault>, line: &[u8], status: u8) -
     end(done, &mut errors) == status && errors.taken.as_slice() == line
 }
 
-/// Whether a job is done as its row tells.
+/// Whether a job is done as its row says.
 fn is_done<R: Threads + Wait + Sync>(rt: &R, alloc: Global, job: Job, row: &Row) -> bool
     requires { IsBuiltFor job }
 {
@@ -405,7 +405,7 @@ fn words_are_done(rt: HostRuntime) {
     assert_eq!(rt; wrong_line(&rt, rt.alloc()), None);
 }
 
-/// Whether a fault is printed with this line, and ends with this status, also where nothing can be printed.
+/// Whether a fault is printed with this line, and ends with this status, even if nothing can be printed.
 fn is_told(alloc: Global, fault: Fault, line: &[u8], status: u8) -> bool {
     let done = Err(fault);
     let mut full = Narrow::new(alloc, 0, Then::Fails(io::ErrorKind::BrokenPipe));

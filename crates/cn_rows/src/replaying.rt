@@ -44,7 +44,7 @@ const REFUSALS_REPLAYED: &[u8] = b"network bitonic width 2 balancers 1 depth 1\n
       refused step 7 HasName 0\n\
       refused enter 7 AlreadyIn\n";
 
-/// A turn after client 7 alone.
+/// A turn after only client 7.
 const ALONE_TURNED: &[u8] = b"turn epoch 0 clients 1\n\
       exit 0 count 1\n\
       exit 1 count 0\n\
@@ -156,7 +156,7 @@ const PERIODIC_FOUR_REPLAYED: &[u8] = b"network periodic width 4 balancers 8 dep
       leave 9 exit 1 visit 0 name 1\n\
       end epoch 0 entered 2 inside 0\n";
 
-/// What a replay writes, where it is done.
+/// What a replay writes, if it is done.
 fn replayed(
     alloc: Global,
     state: RandomState,

@@ -242,7 +242,7 @@ fn schedule_refusals(rt: HostRuntime) {
     assert_eq!(rt; wrong_refusal(rt.alloc()), None);
 }
 
-/// The first number of bytes after which a read that fails is told otherwise, and how many lines were read before it.
+/// The first number of bytes after which a failed read has another fault, and how many lines were read before it.
 fn wrong_read(alloc: Global) -> (Option<usize>, u64) {
     let mut lines = 0u64;
     for end in 0..=TWO_CLIENTS.len() {

@@ -123,7 +123,7 @@ pub(crate) fn options_of(asked: Asked, form: Form) -> Option<Options> {
     Options::new(net, workers, hand, form).ok()
 }
 
-/// The report that serving a batch writes, where it ends well and the writer is flushed once.
+/// The report that serving a batch writes, if it ends well and the writer is flushed once.
 pub(crate) fn served<G: Gate + Sync, R: Threads + Wait + Sync>(
     rt: &R,
     alloc: Global,

@@ -3,8 +3,8 @@
 use std::sync::atomic::{AtomicU64, Ordering};
 use std::thread;
 
-/// Whether a count comes to a number within 100,000,000 turns. In each turn other threads may run, so on a busy machine
-/// too it does, but where the worker that counts does not run beside the one that waits.
+/// Whether a count comes to a number within 100,000,000 turns. In each turn other threads may run. So it comes to it on
+/// a busy machine too, unless the worker that counts does not run beside the one that waits.
 pub(crate) fn comes_to(count: &AtomicU64, number: u64) -> bool {
     for _ in 0..100_000_000u64 {
         if count.load(Ordering::SeqCst) >= number {

@@ -29,7 +29,7 @@ fn want_of_memory_has_its_line(rt: HostRuntime) {
     assert_eq!(rt; told, (true, 3));
 }
 
-/// The status where there is not even the program's name.
+/// The status if there is not even the program's name.
 fn status_of_no_words(alloc: Global) -> Option<u8> {
     Some(parse_words(alloc, Vec::new(alloc)).err()?.status())
 }

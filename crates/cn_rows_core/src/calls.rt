@@ -84,7 +84,7 @@ fn single_answers(
     Some(answers)
 }
 
-/// The answers of epochs to commands, where these are not too many.
+/// The answers of epochs to commands, if these are not too many.
 pub(crate) fn answers_to(
     epochs: &mut Epochs<'_>,
     alloc: Global,

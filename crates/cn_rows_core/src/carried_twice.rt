@@ -32,7 +32,7 @@ const COMMANDS: [Command; 8] = [
 ];
 
 /// An answer in numbers: the wire and number of a passage, the exit, visit and name of a leave, the number and the two counts
-/// of a record of client 7 alone.
+/// of a record with only client 7.
 #[derive(Clone, Copy, Debug, PartialEq, Eq)]
 enum Told {
     Entered,
@@ -72,7 +72,7 @@ fn told_of(answer: &Answer) -> Told {
     }
 }
 
-/// What each answer of each epoch tells, and how many epochs ended and how many clients are carried then.
+/// Each answer of each epoch in numbers, and how many epochs ended and how many clients are carried then.
 type Outcome = ([[Told; 4]; 2], [u64; 2]);
 
 fn all_told(answers: &[Answer]) -> [[Told; 4]; 2] {
@@ -154,7 +154,7 @@ fn carried_twice_and_cleared_twice(rt: HostRuntime) -> Result<(), Fail> {
     Ok(())
 }
 
-/// The most clients that may be carried are. No test has so many: that this is accepted is proved.
+/// The greatest number of clients that may be carried is accepted. No test has so many clients: this is proved.
 fn carry_the_most(core: &mut Core<'_>)
     requires quiet { inside_in core.old ≡ 0 }
     requires most { core.old.base + length core.old.clients ≡ 2147483648 }
@@ -175,7 +175,7 @@ fn counts_of(core: &Core<'_>, network: &Counting) -> Option<[u64; 3]>
     }
 }
 
-/// Carries on, where nobody is inside and few came.
+/// Carries on, if nobody is inside and few came.
 fn carry(core: &mut Core<'_>) -> Option<()>
     ensures { core.new.network ≡ core.old.network }
 {

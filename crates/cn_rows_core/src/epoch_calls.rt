@@ -53,7 +53,7 @@ fn outcome_of(
 enum Wanted {
     Replied(Reply),
     TurnRefused(TurnFault),
-    /// The record of an epoch in which client 7 was alone.
+    /// The record of an epoch with only client 7.
     Alone,
 }
 

@@ -1,4 +1,5 @@
-//! The core and epochs on the counting tree of width 4, where a client overtakes two others; and a core that is full.
+//! The core and epochs on the counting tree of width 4, on which a client overtakes two others; and a core that is
+//! full.
 
 use crate::calls::{Calls, answers_to, replies_to};
 use crate::two_wide::has_holders;
@@ -95,7 +96,7 @@ fn told_by(core: &Core<'_>) -> Told {
     ([core.entered(), core.inside()], names)
 }
 
-/// Whether a new core replies so, what it tells then, and whether the holders are 30, 20 and 10.
+/// Whether a new core replies so, what it answers then, and whether the holders are 30, 20 and 10.
 type Outcome = (bool, Told, bool);
 
 fn outcome_of(core: &mut Core<'_>, alloc: Global, calls: Calls) -> Option<Outcome> {
@@ -265,7 +266,7 @@ fn is_filled(core: &mut Core<'_>) -> bool {
     true
 }
 
-/// Whether a core is full, and what is told to another client at an entry and at none, and to one that has entered.
+/// Whether a core is full, and how it refuses another client at an entry and at none, and one that has entered.
 type Full = (bool, [Option<EnterFault>; 3]);
 
 fn full(core: &mut Core<'_>) -> Full {

@@ -25,8 +25,8 @@ fn counts_of(core: &Core<'_>, network: &Counting) -> Option<(u64, u64, u64)>
     }
 }
 
-/// What a core on one balancer tells: how many entered, how many are inside and whether that is nobody; the counts of the
-/// balancer and of the exits; and the names of clients 7 and 9.
+/// What a core on one balancer answers: how many entered, how many are inside and whether that is nobody; the counts of
+/// the balancer and of the exits; and the names of clients 7 and 9.
 type Told = (
     (u64, u64, bool),
     Option<(u64, u64, u64)>,
@@ -43,7 +43,7 @@ fn told_by(core: &Core<'_>, network: &Counting) -> Told
     )
 }
 
-/// The replies of a core to events, and what it tells then.
+/// The replies of a core to events, and what it answers then.
 type Outcome = (Vec<Reply>, Told);
 
 fn outcome_by(
@@ -167,7 +167,7 @@ const REFUSALS_REPLIES: [Reply; 8] = [
     Reply::EnterRefused(EnterFault::AlreadyIn),
 ];
 
-/// Events by one kind of calls, the replies to them, and what the core tells then.
+/// Events by one kind of calls, the replies to them, and what the core answers then.
 type Row = (Calls, &'static [Event], &'static [Reply], Told);
 
 const ROWS: [Row; 4] = [
@@ -197,7 +197,7 @@ const ROWS: [Row; 4] = [
     ),
 ];
 
-/// Whether a new core replies so, and tells this then.
+/// Whether a new core replies so, and answers this then.
 fn has_outcome(alloc: Global, state: RandomState, row: &Row) -> bool {
     let (calls, events, wanted, wanted_told) = *row;
     match outcome_of(alloc, state, events, calls) {
@@ -223,7 +223,7 @@ fn two_clients_and_refusals_without_turn(rt: HostRuntime) -> Result<(), Fail> {
     Ok(())
 }
 
-/// What a new core tells after events.
+/// What a new core answers after events.
 fn told_after(alloc: Global, state: RandomState, events: &[Event]) -> Option<Told> {
     let (_, told) = outcome_of(alloc, state, events, Calls::Run)?;
     Some(told)
@@ -246,7 +246,7 @@ fn are(replies: Result<Vec<Reply>, AllocError>, wanted: &[Reply]) -> bool {
     }
 }
 
-/// Forgets the clients, where nobody is inside.
+/// Forgets the clients, if nobody is inside.
 pub(crate) fn clear(core: &mut Core<'_>) -> Option<()>
     ensures { core.new.network ≡ core.old.network }
 {
@@ -257,7 +257,7 @@ pub(crate) fn clear(core: &mut Core<'_>) -> Option<()>
     Some(())
 }
 
-/// The holders, where nobody is inside.
+/// The holders, if nobody is inside.
 fn holders_of(core: &Core<'_>) -> Option<Vec<u64>> {
     if core.inside() > 0 {
         return None;
@@ -268,7 +268,7 @@ fn holders_of(core: &Core<'_>) -> Option<Vec<u64>> {
     }
 }
 
-/// Whether these are the holders, where nobody is inside.
+/// Whether these are the holders, if nobody is inside.
 pub(crate) fn has_holders(core: &Core<'_>, wanted: &[u64]) -> bool {
     match holders_of(core) {
         Some(holders) => holders.as_slice() == wanted,
@@ -276,8 +276,8 @@ pub(crate) fn has_holders(core: &Core<'_>, wanted: &[u64]) -> bool {
     }
 }
 
-/// Whether the two clients hold names, what a core tells once it is cleared, and whether it replies to the same events as
-/// before.
+/// Whether the two clients hold names, what a core answers once it is cleared, and whether it replies to the same
+/// events as before.
 type Anew = (bool, Told, bool);
 
 fn anew_by(core: &mut Core<'_>, network: &Counting) -> Option<Anew>

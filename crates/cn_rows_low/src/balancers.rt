@@ -3,14 +3,14 @@
 use cn_balancer::{Balancer, Pass, departures, output_of};
 use cn_spec::limits::MOST_ARRIVALS;
 
-/// A token comes by an input, where it may.
+/// A token comes by an input, if it may.
 fn arrive(balancer: &mut Balancer, input: u32) {
     if input < 2 && !balancer.is_full() {
         balancer.arrive(input);
     }
 }
 
-/// A token passes, where one waits.
+/// A token passes, if one waits.
 fn pass(balancer: &mut Balancer) -> Option<Pass> {
     if 0 < balancer.waiting() {
         Some(balancer.pass())
@@ -52,7 +52,7 @@ fn outputs_alternate(rt: HostRuntime) {
     );
 }
 
-/// Both departures of so many tokens, where so many can come.
+/// Both departures of so many tokens, if so many can come.
 fn halves(count: u64) -> Option<(u64, u64)> {
     if count <= MOST_ARRIVALS {
         Some((departures(count, 0), departures(count, 1)))

@@ -33,7 +33,7 @@ fn joined_wires_are_not_loose(rt: HostRuntime) {
 /// The two outputs of an addition to three wires, and which wires are loose after it.
 type Added = (Option<[u32; 2]>, [bool; 6]);
 
-/// Two wires, where there are two.
+/// Two wires, if there are two.
 fn pair(wires: &[u32]) -> Option<[u32; 2]> {
     match wires {
         [first, second] => Some([*first, *second]),
@@ -125,7 +125,7 @@ fn told_by(wiring: &Wiring) -> Told {
     )
 }
 
-/// What both wirings tell.
+/// The sizes and ends of both wirings.
 fn both_told(alloc: Global) -> Result<[Told; 2], AllocError> {
     let joined = told_by(&two_wide(alloc)?);
     Ok([joined, told_by(&forked(alloc)?)])

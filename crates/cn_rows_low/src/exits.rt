@@ -3,7 +3,7 @@
 use cn_exit::{Exits, Leave, Place, exit_of, expected, is_step, name_of};
 use std::alloc::{AllocError, Global};
 
-/// The share of an exit, where the numbers are not too large.
+/// The share of an exit, if the numbers are not too large.
 fn share(width: u32, clients: u64, exit: u32) -> Option<u64> {
     if width <= 64 && exit < width && clients <= 65_536 {
         Some(expected(width, clients, exit))
@@ -90,7 +90,7 @@ fn exits_and_names(rt: HostRuntime) {
     assert_eq!(rt; (exit_of(4, 6), name_of(4, 2, 1)), (place, 6));
 }
 
-/// The width, and the counts where there are two exits.
+/// The width, and the counts if there are two exits.
 fn told_by(exits: &Exits) -> (u32, Option<[u64; 2]>) {
     if exits.width() == 2 {
         (2, Some([exits.count(0), exits.count(1)]))
@@ -99,7 +99,7 @@ fn told_by(exits: &Exits) -> (u32, Option<[u64; 2]>) {
     }
 }
 
-/// A leave, what is told then, and both again after the exits are cleared.
+/// A leave, the width and counts then, and both again after the exits are cleared.
 type Cleared = ([Leave; 2], [(u32, Option<[u64; 2]>); 2]);
 
 fn cleared(alloc: Global) -> Result<Cleared, AllocError> {

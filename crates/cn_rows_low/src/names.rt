@@ -22,7 +22,7 @@ fn standing_of(names: &Names, client: u64) -> Stands {
     }
 }
 
-/// What a map tells: how many clients it has and whether that is nobody, and how clients 5, 7 and 9 stand.
+/// What a map answers: how many clients it has and whether that is nobody, and how clients 5, 7 and 9 stand.
 type Told = ((usize, bool), [Stands; 3]);
 
 fn told_by(names: &Names) -> Told {
@@ -61,7 +61,7 @@ const EMPTY: Told = (
     [Stands::Nowhere, Stands::Nowhere, Stands::Nowhere],
 );
 
-/// What a new map tells, and how many clients it lists.
+/// What a new map answers, and how many clients it lists.
 fn nobody(alloc: Global, state: RandomState) -> Option<(Told, usize)> {
     let names = Names::new(alloc, state).ok()?;
     let clients = listed(&names).ok()?;
@@ -75,7 +75,7 @@ fn nobody_has_a_name(rt: HostRuntime) -> Result<(), Fail> {
     Ok(())
 }
 
-/// Two clients, where there are two.
+/// Two clients, if there are two.
 fn pair(clients: &[u64]) -> Option<[u64; 2]> {
     match clients {
         [first, second] => Some([*first, *second]),
@@ -83,7 +83,7 @@ fn pair(clients: &[u64]) -> Option<[u64; 2]> {
     }
 }
 
-/// What was told while clients 7 and 9 came in, got names 1 and 0, and were forgotten.
+/// What a map answered while clients 7 and 9 came in, got names 1 and 0, and were forgotten.
 #[derive(Clone, Copy, Debug, PartialEq, Eq)]
 struct Outcome {
     admitted: [Result<(), NamesFault>; 3],
@@ -93,7 +93,7 @@ struct Outcome {
     cleared: Told,
 }
 
-/// Both clients come in, and get names 1 and 0: what was admitted, and what was told while client 7 walked.
+/// Both clients come in, and get names 1 and 0: what was admitted, and what the map answered while client 7 walked.
 fn come(
     names: &mut Names,
     tokens: [Token; 2],

@@ -30,7 +30,7 @@ fn leads_back(sizes: Sizes, ends: &[End]) -> Option<u32> {
     u32::try_from(wire).ok()
 }
 
-/// The first fault of a list, in the order in which faults are told.
+/// The first fault of a list, in the order in which faults are reported.
 fn first_fault(sizes: Sizes, ends: &[End]) -> Option<WiringFault> {
     let [entries, width, balancers] = sizes;
     if ends.len() as u64 != u64::from(entries) + 2 * u64::from(balancers) {
@@ -70,7 +70,7 @@ fn list(alloc: Global, wires: u32, number: u64) -> Result<Vec<End>, AllocError> 
     Ok(ends)
 }
 
-/// Whether the list with a number is told its first fault.
+/// Whether the list with a number is answered with its first fault.
 fn is_list_told(alloc: Global, sizes: Sizes, wires: u32, number: u64) -> bool {
     match list(alloc, wires, number) {
         Ok(ends) => is_told(alloc, sizes, &ends, first_fault(sizes, &ends)),
@@ -78,7 +78,7 @@ fn is_list_told(alloc: Global, sizes: Sizes, wires: u32, number: u64) -> bool {
     }
 }
 
-/// The first list, by its number, that is not told its first fault.
+/// The first list, by its number, that is not answered with its first fault.
 fn mistold(alloc: Global, sizes: Sizes, wires: u32) -> Option<u64> {
     for number in 0..6_u64.saturating_pow(wires) {
         if !is_list_told(alloc, sizes, wires, number) {
@@ -101,7 +101,7 @@ const SMALL: [(Sizes, u32); 9] = [
     ([2, 2, 2], 5),
 ];
 
-/// The first sizes, and the first list of them by its number, that is not told its first fault.
+/// The first sizes, and the first list of them by its number, that is not answered with its first fault.
 fn first_mistold(alloc: Global) -> Option<(Sizes, u64)> {
     for (sizes, wires) in &SMALL {
         if let Some(number) = mistold(alloc, *sizes, *wires) {

@@ -45,7 +45,7 @@ pub(crate) fn is_told(
     }
 }
 
-/// Whether there is a list of ends, and it is told so.
+/// Whether there is a list of ends, and it is answered so.
 fn is_told_all(
     alloc: Global,
     ends: Option<Vec<End>>,
@@ -96,7 +96,7 @@ const REFUSALS: [(Sizes, &[End], Option<WiringFault>); 9] = [
     ([2, 2, 0], &[Exit(1), Exit(0)], None),
 ];
 
-/// The first list of the row that is not told so.
+/// The first list of the row that is not answered so.
 fn wrong_refusal(alloc: Global) -> Option<&'static [End]> {
     for (sizes, ends, wanted) in &REFUSALS {
         if !is_told(alloc, *sizes, ends, *wanted) {
@@ -120,7 +120,7 @@ const HOSTILE: [Sizes; 6] = [
     [u32::MAX, u32::MAX, u32::MAX],
 ];
 
-/// The first sizes at which no ends are not told to be of another length.
+/// The first sizes at which an empty list of ends is not refused for its length.
 fn wrong_hostile(alloc: Global) -> Option<Sizes> {
     for sizes in &HOSTILE {
         if !is_told(alloc, *sizes, &[], Some(Length)) {
@@ -157,7 +157,7 @@ const LIMITS: [(Sizes, Option<WiringFault>); 9] = [
     ([1, 1, 65_537], Some(Length)),
 ];
 
-/// The first sizes at which such a list is not told so.
+/// The first sizes at which such a list is not answered so.
 fn wrong_limit(alloc: Global) -> Option<Sizes> {
     for (sizes, wanted) in &LIMITS {
         if !is_told_all(alloc, all_to_exit_zero(alloc, *sizes), *sizes, *wanted) {
@@ -167,7 +167,7 @@ fn wrong_limit(alloc: Global) -> Option<Sizes> {
     None
 }
 
-/// Each limit of length at its last good value, where the next fault stands, and at its first bad one.
+/// Each limit of length at its last good value, at which the next fault stands, and at its first bad one.
 #[test]
 fn limits_of_length(rt: HostRuntime) {
     assert_eq!(rt; wrong_limit(rt.alloc()), None);
@@ -191,7 +191,7 @@ const GIVEN_BACK: [(Kind, Sizes); 4] = [
     (Tree, [1, 64, 63]),
 ];
 
-/// The first network whose table is not told to be a wiring.
+/// The first network whose table is not taken for a wiring.
 fn wrong_table(alloc: Global) -> Option<(Kind, Sizes)> {
     for (kind, sizes) in &GIVEN_BACK {
         if !is_told_all(alloc, table(alloc, *kind, sizes[1]), *sizes, None) {
@@ -213,8 +213,8 @@ fn changed(alloc: Global, kind: Kind, end: End) -> Option<Vec<End>> {
     Some(ends)
 }
 
-/// The last wire ends at the last exit. Another end of it, and the fault that is told: another exit, no exit, and the
-/// balancer of which it is an output.
+/// The last wire ends at the last exit. Another end of it, and the fault that is reported: another exit, no exit, and
+/// the balancer of which it is an output.
 const LAST_WIRES: [(Kind, Sizes, End, WiringFault); 9] = [
     (Bitonic, [64, 64, 672], Exit(62), ExitCount(62)),
     (Bitonic, [64, 64, 672], Exit(64), NoSuchEnd(1_407)),
@@ -227,7 +227,7 @@ const LAST_WIRES: [(Kind, Sizes, End, WiringFault); 9] = [
     (Tree, [1, 64, 63], Balancer(62), Backward(126)),
 ];
 
-/// The first network and end of its last wire of which another fault is told.
+/// The first network and end of its last wire for which another fault is reported.
 fn wrong_last_end(alloc: Global) -> Option<(Kind, End)> {
     for (kind, sizes, end, wanted) in &LAST_WIRES {
         if !is_told_all(alloc, changed(alloc, *kind, *end), *sizes, Some(*wanted)) {
@@ -237,7 +237,7 @@ fn wrong_last_end(alloc: Global) -> Option<(Kind, End)> {
     None
 }
 
-/// A fault at the last wire is told.
+/// A fault at the last wire is reported.
 #[test]
 fn faults_at_the_last_end(rt: HostRuntime) {
     assert_eq!(rt; wrong_last_end(rt.alloc()), None);
@@ -265,7 +265,7 @@ const ONE_MORE: [(Kind, Sizes, &[End], WiringFault); 6] = [
     (Tree, [1, 66, 64], &[Exit(64), Exit(65)], InDegree(63)),
 ];
 
-/// The first network and sizes of which another fault is told.
+/// The first network and sizes for which another fault is reported.
 fn wrong_more(alloc: Global) -> Option<(Kind, Sizes)> {
     for (kind, sizes, more, wanted) in &ONE_MORE {
         if !is_told_all(alloc, with_more(alloc, *kind, more), *sizes, Some(*wanted)) {

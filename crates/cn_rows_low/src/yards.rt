@@ -4,7 +4,7 @@ use cn_spec::limits::MOST_TOKENS;
 use cn_yard::{Token, Yard};
 use std::alloc::Global;
 
-/// A yard whose calls answer nothing where they may not be made.
+/// A yard whose calls answer nothing if they may not be made.
 #[derive(Drop)]
 struct Guarded {
     yard: Yard,

@@ -68,7 +68,7 @@ fn are_in_order(quiet: &Quiet<'_>) -> bool {
 /// a full floor over the tree of width 64.
 type Outcome = ([u64; 3], bool);
 
-/// The room of a lane, as an outcome tells it.
+/// The room of a lane, as an outcome has it.
 fn rooms_of(floor: &Floor<'_>, lane: &mut Lane, rooms: &[u64]) -> Option<[u64; 3]>
     requires { lane.old.home ≡ floor.now }
     ensures { lane.new.home ≡ lane.old.home }
@@ -123,7 +123,7 @@ const ROWS: [(&[u64], [u64; 3]); 3] = [
     (&[MOST_ROOM], [0, MOST_ROOM, MOST_ROOM - MOST_CLIENTS]),
 ];
 
-/// The place of the first row that is told otherwise.
+/// The place of the first row that has another outcome.
 fn wrong_row(alloc: Global) -> Option<usize> {
     for (place, row) in ROWS.iter().enumerate() {
         if full_floor(alloc, row.0) != Some((row.1, true)) {

@@ -14,8 +14,8 @@ use std::sync::Wait;
 use std::test::Fail;
 use std::thread::Threads;
 
-/// What a floor of one client tells on bitonic 2: how many came in, both answers, the counts, the passes, and how many came
-/// by its words.
+/// What a floor of one client answers on bitonic 2: how many came in, both answers, the counts, the passes, and how
+/// many came by its words.
 #[derive(Clone, Copy, Debug, PartialEq, Eq)]
 struct Told {
     entered: u64,
@@ -55,7 +55,7 @@ fn walk_seven(floor: &Floor<'_>, lane: &mut Lane) -> Option<Walk>
     Some((entered(floor, lane), moves))
 }
 
-/// What a closed floor tells after this walk.
+/// What a closed floor answers after this walk.
 fn told_by(quiet: &Quiet<'_>, walk: Walk) -> Option<Told> {
     let (entered, moves) = walk;
     let [first, second] = quiet.counts() else {
@@ -73,7 +73,7 @@ fn told_by(quiet: &Quiet<'_>, walk: Walk) -> Option<Told> {
     })
 }
 
-/// What a floor tells on which it walked, and its words.
+/// What a floor on which it walked answers, and its words.
 fn seven<'a>(floor: Floor<'a>, mut lane: Lane) -> Option<(Told, Words<'a>)>
     requires { lane.home ≡ floor }
 {
@@ -219,7 +219,7 @@ const FIVE_AT_FIRST: Row = (&FIVE, [2, 1, 1, 1], &[17, 5, 99, 23, 42], 5);
 
 const THREE_AFTER_FIVE: Row = (&THREE, [0, 1, 1, 1], &[1, 2, 3], 8);
 
-/// Whether this is told of an epoch.
+/// Whether an epoch has these counts, holders and clients.
 fn is_left(quiet: &Quiet<'_>, counts: &[u64], holders: &[u64], clients: u64) -> bool {
     let are_holders = match quiet.holders() {
         Ok(told) => told.as_slice() == holders,
@@ -233,7 +233,7 @@ fn is_left(quiet: &Quiet<'_>, counts: &[u64], holders: &[u64], clients: u64) -> 
     told == [true; 3]
 }
 
-/// Whether an epoch that goes on from words is as its row tells, and its own words.
+/// Whether an epoch that goes on from words is as its row says, and its own words.
 fn goes_on<'a, R: Threads + Wait + Sync>(
     rt: &R,
     alloc: Global,
@@ -281,8 +281,8 @@ fn epochs_go_on(rt: HostRuntime) {
     assert_eq!(rt; are_left(&rt, rt.alloc()), Some([true; 2]));
 }
 
-/// What words of bitonic 4 tell of its first and last entries, of the two balancers behind the entries, and of its first
-/// and last exits.
+/// What words of bitonic 4 count at its first and last entries, at the two balancers behind the entries, and at its
+/// first and last exits.
 fn tell(words: &Words<'_>, network: &Counting) -> Option<[u64; 6]>
     requires { words.now.network ≡ network.now }
 {
@@ -299,7 +299,7 @@ fn tell(words: &Words<'_>, network: &Counting) -> Option<[u64; 6]>
     ])
 }
 
-/// What they tell after the five.
+/// What they count after the five.
 fn told_after_five<R: Threads + Wait + Sync>(
     rt: &R,
     alloc: Global,

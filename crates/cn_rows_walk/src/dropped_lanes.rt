@@ -70,7 +70,7 @@ fn two_of_three(floor: &Floor<'_>, lane: Lane) -> Option<(Lane, Lane)>
     Some((first, second))
 }
 
-/// The third lane alone is dropped: the steps, and the other two as one.
+/// Only the third lane is dropped: the steps, and the other two as one.
 fn third_dropped(floor: &Floor<'_>, lane: Lane) -> Option<(Steps, Lane)>
     requires { lane.home ≡ floor.now }
     ensures { IfSome result (λ r. r.1.home ≡ floor.now) }
@@ -139,7 +139,7 @@ enum Dropped {
     Empty,
 }
 
-/// What a close tells: whether counts, passes and holders are those of 7 and 8; or how many came in, how many grants
+/// What a close answers: whether counts, passes and holders are those of 7 and 8; or how many came in, how many grants
 /// the lane has, and whether they are those of 7 or none.
 #[derive(Clone, Copy, Debug, PartialEq, Eq)]
 enum End {
@@ -201,7 +201,7 @@ fn drop_lanes(floor: &Floor<'_>, lane: Lane, dropped: Dropped) -> Option<(Steps,
     }
 }
 
-/// The steps of a story, and what a close tells then.
+/// The steps of a story, and what a close answers then.
 fn told_by(floor: Floor<'_>, lane: Lane, dropped: Dropped) -> Option<(Steps, End)>
     requires { lane.home ≡ floor }
 {
@@ -237,7 +237,7 @@ const STORIES: [(Dropped, (Steps, End)); 4] = [
     ),
 ];
 
-/// The first story that is told otherwise.
+/// The first story that ends otherwise.
 fn wrong_story(alloc: Global) -> Option<Dropped> {
     for (dropped, wanted) in &STORIES {
         if told(alloc, *dropped) != Some(*wanted) {

@@ -331,7 +331,7 @@ fn is_full_on<R: Threads + Wait + Sync>(
     }
 }
 
-/// The same of as many clients as the row tells.
+/// The same of as many clients as the row says.
 fn fills<R: Threads + Wait + Sync>(rt: &R, alloc: Global, row: &Full) -> Option<[bool; 2]> {
     let clients = many_clients(alloc, row.1, 0)?;
     is_full(rt, alloc, &clients, row)

@@ -10,7 +10,7 @@ use cn_walk::{CloseFault, Floor, Grant, JoinFault, Lane, LaneFault, SplitFault};
 use std::alloc::Global;
 use std::test::Fail;
 
-/// What is told until the floor is spent.
+/// What the floor answers until it is spent.
 #[derive(Clone, Copy, Debug, PartialEq, Eq)]
 struct Outcome {
     split: SplitFault,
@@ -23,7 +23,7 @@ struct Outcome {
     grant: Grant,
 }
 
-/// More than the lane has cannot be split off; what is told then, and the lane.
+/// More than the lane has cannot be split off: the fault, and the lane.
 fn not_split(floor: &Floor<'_>, lane: Lane) -> Option<(SplitFault, Lane)>
     requires { lane.home ≡ floor.now }
     ensures { IfSome result (λ r. r.1.home ≡ floor.now) }
@@ -34,7 +34,7 @@ fn not_split(floor: &Floor<'_>, lane: Lane) -> Option<(SplitFault, Lane)>
     }
 }
 
-/// The second lane, with a client inside, cannot be joined; what is told then, and the first lane.
+/// The second lane, with a client inside, cannot be joined: the fault, and the first lane.
 fn not_joined(floor: &Floor<'_>, first: Lane, second: Lane) -> Option<(JoinFault, Lane)>
     requires { (first.home ≡ floor.now) × (second.home ≡ floor.now) }
     ensures { IfSome result (λ r. r.1.home ≡ floor.now) }
@@ -45,7 +45,7 @@ fn not_joined(floor: &Floor<'_>, first: Lane, second: Lane) -> Option<(JoinFault
     }
 }
 
-/// What a lane that lacks a client's grant is told when the floor is closed.
+/// What a close answers to a lane that lacks a client's grant.
 type Missed = (u64, u64, Grant);
 
 fn missed(floor: Floor<'_>, lane: Lane) -> Option<Missed>
@@ -77,7 +77,7 @@ fn not_joined_and_missed(floor: Floor<'_>, first: Lane, second: Lane) -> Option<
     }
 }
 
-/// What the first lane is told while both have a client inside.
+/// What the first lane is answered while both have a client inside.
 type Seen = (u64, [Option<LaneFault>; 2], [Option<Moved>; 2]);
 
 /// A client comes in by each lane, and that of the first walks out.

@@ -1,5 +1,5 @@
-//! Three clients in one lane of a counting tree of width 4, where the last overtakes the others: the caller of
-//! the floor's page, word for word, and what it is told.
+//! Three clients in one lane of a counting tree of width 4, of which the last overtakes the others: the caller of the
+//! floor's page, word for word, and what it is answered.
 
 ghost use Rattle.std.specs.Prelude.{◌≡◌};
 
@@ -9,7 +9,7 @@ use cn_walk::{Floor, Lane, Quiet};
 use cn_yard::Token;
 use std::alloc::Global;
 
-/// What a floor tells of the three.
+/// What a floor answers about the three.
 #[derive(Drop)]
 struct Told {
     entered: u64,
@@ -19,7 +19,7 @@ struct Told {
     holders: Vec<u64>,
 }
 
-/// Steps a token, where it stands in the lane.
+/// Steps a token, if it stands in the lane.
 pub(crate) fn step(floor: &Floor<'_>, lane: &mut Lane, token: Token) -> Option<Moved>
     requires { lane.old.home ≡ floor.now }
     ensures { lane.new.home ≡ lane.old.home }
@@ -71,7 +71,7 @@ fn walk_three(alloc: Global, floor: &Floor<'_>, lane: &mut Lane) -> Option<(u64,
     Some((entered, moves))
 }
 
-/// What a closed floor tells.
+/// What a closed floor answers.
 fn told_by(alloc: Global, quiet: &Quiet<'_>, entered: u64, moves: Vec<Moved>) -> Option<Told> {
     Some(Told {
         entered,
@@ -82,7 +82,7 @@ fn told_by(alloc: Global, quiet: &Quiet<'_>, entered: u64, moves: Vec<Moved>) ->
     })
 }
 
-/// What the floor tells when they have walked.
+/// What the floor answers when they have walked.
 fn walked(alloc: Global, floor: Floor<'_>, mut lane: Lane) -> Option<Told>
     requires { lane.home ≡ floor }
 {
@@ -147,7 +147,7 @@ const MOVES: [Moved; 9] = [
     },
 ];
 
-/// Whether this is told: how many entered, each answer, the counts, the passes and the holders.
+/// Whether each answer is right: how many entered, each answer, the counts, the passes and the holders.
 fn is_told(told: &Told) -> [bool; 5] {
     [
         told.entered == 3,

@@ -47,7 +47,7 @@ fn is_run<R: Threads + Wait + Sync>(
     }
 }
 
-/// The place of the first of these rows that is told otherwise.
+/// The place of the first of these rows that ends otherwise.
 fn wrong_row<R: Threads + Wait + Sync>(
     rt: &R,
     alloc: Global,

@@ -68,7 +68,7 @@ impl<'g, G: Shared> Promise<Lane> for IsOn<'g, G> {
     ghost kept_by = { λ p lane. lane.home ≡ G.home p.0.now };
 }
 
-/// Two threads name clients at once, each by a lane of its own. `None` where a thread is refused.
+/// Two threads name clients at once, each by a lane of its own. `None` if a thread is refused.
 fn name_by_two<G: Shared + Sync, R: Threads + Wait>(
     rt: &R,
     shared: &G,
@@ -148,7 +148,7 @@ fn two_threads(rt: &(impl Threads + Wait), alloc: Global) -> Option<(Vec<u64>, V
     named(rt, alloc, floor, lane)
 }
 
-/// The same, with the clients in order, and whether there are such.
+/// The same, with the clients in order: whether the counts and the clients are right.
 fn named_in_order(rt: &(impl Threads + Wait), alloc: Global) -> Option<[bool; 2]> {
     let (counts, mut clients) = two_threads(rt, alloc)?;
     clients.sort().ok()?;

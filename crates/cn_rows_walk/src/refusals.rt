@@ -11,7 +11,7 @@ use cn_yard::Token;
 use std::alloc::Global;
 use std::test::Fail;
 
-/// What a lane tells of itself.
+/// What a lane says of itself.
 #[derive(Clone, Copy, Debug, PartialEq, Eq)]
 struct Told {
     quota: u64,
@@ -76,7 +76,7 @@ fn left_by(quiet: &Quiet<'_>) -> Option<Left> {
     Some(([*first, *second], *passes, quiet.grants().len()))
 }
 
-/// What a lane tells before a client comes in and after, its token, and what others are refused with.
+/// What a lane says before a client comes in and after, its token, and what others are refused with.
 type Entered = ([Told; 2], Token, [Option<LaneFault>; 2]);
 
 fn let_in(floor: &Floor<'_>, lane: &mut Lane) -> Option<Entered>
@@ -93,7 +93,7 @@ fn let_in(floor: &Floor<'_>, lane: &mut Lane) -> Option<Entered>
     Some(([before, entered], token, refused))
 }
 
-/// What a lane tells, and then the last two steps of its token.
+/// What a lane says, and then the last two steps of its token.
 fn let_out(floor: &Floor<'_>, lane: &mut Lane, token: Token) -> (Told, [Option<Moved>; 2])
     requires { lane.old.home ≡ floor.now }
     ensures { lane.new.home ≡ lane.old.home }
@@ -102,7 +102,7 @@ fn let_out(floor: &Floor<'_>, lane: &mut Lane, token: Token) -> (Told, [Option<M
     (still, [step(floor, lane, token), step(floor, lane, token)])
 }
 
-/// What is told after a close that is refused: what the lane tells then, the last two steps, and what the floor leaves.
+/// What follows a close that is refused: what the lane says then, the last two steps, and what the floor leaves.
 type Ended = (Told, [Option<Moved>; 2], Left);
 
 /// The token walks out, and the floor is closed.
@@ -125,7 +125,7 @@ fn refused_and_ended(floor: Floor<'_>, lane: Lane, token: Token) -> Option<Ended
     }
 }
 
-/// A client comes in, and is alone.
+/// A client comes in, and no other.
 fn walked(floor: Floor<'_>, mut lane: Lane) -> Option<Outcome>
     requires { lane.home ≡ floor }
 {

@@ -8,11 +8,10 @@ use std::alloc::Global;
 use std::sync::Wait;
 use std::thread::Threads;
 
-/// What is told of an epoch on bitonic 2: how many left by each exit, and how many came by the words with which the next
-/// begins.
+/// An epoch on bitonic 2: how many left by each exit, and how many came by the words with which the next begins.
 type Told = ([u64; 2], u64);
 
-/// How many left by each exit, where client 7 alone has a name.
+/// How many left by each exit, if only client 7 has a name.
 fn counts_of(ended: Result<Outcome, RunFault>) -> Option<[u64; 2]> {
     let outcome = ended.ok()?;
     let [first, second] = outcome.counts.as_slice() else {
@@ -22,7 +21,7 @@ fn counts_of(ended: Result<Outcome, RunFault>) -> Option<[u64; 2]> {
     (outcome.holders.as_slice() == [7].as_slice()).then_some(counts)
 }
 
-/// An epoch of client 7 alone, who gets its only name.
+/// An epoch of only client 7, who gets its one name.
 fn next<'a, R: Threads + Wait + Sync>(
     rt: &R,
     alloc: Global,
@@ -63,7 +62,7 @@ fn runners_carry(rt: HostRuntime) {
     );
 }
 
-/// What is told of an epoch without workers, and how many came by the words then.
+/// The fault of an epoch without workers, and how many came by the words then.
 fn refused<R: Threads + Wait + Sync>(rt: &R, alloc: Global) -> Option<(Option<RunFault>, u64)> {
     let network = bitonic(alloc, 2).ok()?;
     let runner = Runner::new(alloc, &network, true).ok()?;

@@ -19,7 +19,7 @@ struct Told {
     are_left: [bool; 2],
 }
 
-/// Sweeps a wire, where it is the lowest with a token.
+/// Sweeps a wire, if it is the lowest with a token.
 fn sweep(floor: &Floor<'_>, lane: &mut Lane, wire: u32) -> Option<Sweep>
     requires { lane.old.home ≡ floor.now }
     ensures { lane.new.home ≡ lane.old.home }

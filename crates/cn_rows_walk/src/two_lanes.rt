@@ -1,4 +1,4 @@
-//! Two lanes of one floor, where a client of the second overtakes two of the first.
+//! Two lanes of one floor: a client of the second overtakes two of the first.
 
 ghost use Rattle.std.specs.Prelude.{◌≡◌};
 
@@ -94,8 +94,8 @@ const GRANTS: [Grant; 3] = [
     },
 ];
 
-/// What both lanes are told of how many entered, where the steps lead, and whether grants, counts and passes are as they
-/// should be.
+/// How many entered as far as each lane can see, where the steps lead, and whether grants, counts and passes are as
+/// they should be.
 type Outcome = ([u64; 2], Moves, [bool; 3]);
 
 fn are_ended(quiet: &Quiet<'_>) -> [bool; 3] {
@@ -148,7 +148,7 @@ fn come_in(floor: &Floor<'_>, first: &mut Lane, second: &mut Lane) -> Option<[To
     Some([ten, twenty, thirty])
 }
 
-/// What both lanes are told of how many entered, and where the steps lead.
+/// How many entered as far as each lane can see, and where the steps lead.
 fn told(floor: &Floor<'_>, first: &mut Lane, second: &mut Lane) -> Option<([u64; 2], Moves)>
     requires first { first.old.home ≡ floor.now }
     requires second { second.old.home ≡ floor.now }

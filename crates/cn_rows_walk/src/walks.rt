@@ -30,7 +30,7 @@ pub(crate) fn enter(
     floor.enter(lane, client, entry)
 }
 
-/// How many clients came in, as the lane is told.
+/// How many clients came in, as far as the lane can see.
 pub(crate) fn entered(floor: &Floor<'_>, lane: &mut Lane) -> u64
     requires { lane.old.home ≡ floor.now }
     ensures { lane.new.home ≡ lane.old.home }

@@ -1,7 +1,7 @@
 -- Sums over lists and ranges, how often something stands in a list, and lists of counts.
 use Rattle.std.specs.Prelude.{◌≡◌, ℕ, suc, zero, ◌+◌, ◌<◌, ◌==◌, Bool, cond, nat_lt, List, [], ◌∷◌, slice_index, slice_set}
 
--- n where the test holds, and otherwise nothing
+-- n if the test holds, and otherwise 0
 abbrev pub when : Bool → ℕ → ℕ
 when b n = cond b n 0
 

@@ -9,7 +9,7 @@ ghost use Rattle.cn_spec.specs.Networks.{HasStepChains, IsRow, a_cochain, b_coch
 ghost use Rattle.cn_spec.specs.Sums.{IsOnceBelow, times};
 ghost use Rattle.cn_spec.specs.declared.limits.TheConstants.{MOST_ARRIVALS, MOST_BALANCERS, MOST_CARRIED, MOST_CLIENTS, MOST_DIGITS, MOST_ENDS, MOST_HAND, MOST_LEVEL, MOST_RECORDS, MOST_ROOM, MOST_TOKENS, MOST_WORKERS};
 
-/// What each limit is, in numbers. Clauses and code cite the limits by name; only here are they told.
+/// What each limit is, in numbers. Clauses and code cite the limits by name; only this law gives the numbers.
 pub fn limits_are()
     ensures widths { MOST_LEVEL ≡ 8 }
     ensures wirings { (MOST_ENDS ≡ 4_096) × (MOST_BALANCERS ≡ 65_536) }
@@ -20,8 +20,8 @@ pub fn limits_are()
     ensures workers { (MOST_WORKERS ≡ 64) × (MOST_HAND ≡ 64) }
 {}
 
-/// A row of counts has the step property exactly where each count is its share of the sum
-/// (Aspnes, Herlihy, Shavit 1994, section 2.2).
+/// A row of counts has the step property exactly if each count is its share of the sum (Aspnes, Herlihy, Shavit 1994,
+/// section 2.2).
 pub fn step_is_shares()
     ensures { (counts : List ℕ) → IsStep counts ↔ (counts ≡ shares (sum counts) (length counts)) }
 {}
@@ -37,8 +37,8 @@ pub fn first_shares_are_shares()
     ensures { (k w : ℕ) → shares_after 0 k w ≡ shares k w }
 {}
 
-/// The names that the exits give out among m tokens are the numbers below m, each once; and a name tells its exit and
-/// its visit.
+/// The names that the exits give out among m tokens are the numbers below m, each once; and a name determines its exit
+/// and its visit.
 pub fn names_are_tight()
     ensures each_once { (m w : ℕ) → 0 < w → IsEachBelow m (names m w) }
     ensures below { (m w i v : ℕ) → i < w → (v < share m w i) ↔ (name_of w i v < m) }
@@ -59,8 +59,8 @@ pub fn all_below_is_each_below()
     ensures each_once { (m : ℕ) (xs : List ℕ) → IsEachBelow m xs → IsOnceBelow m xs }
 {}
 
-/// Of the names below k, in any order, as many are those of an exit as its share of k; and where they are less m, since m
-/// tokens came before, as its share of m + k less its share of m.
+/// Of the names below k, in any order, as many are those of an exit as its share of k; and if m is taken from each,
+/// since m tokens came before, as its share of m + k minus its share of m.
 pub fn tight_names_are_shared()
     ensures first { (w k : ℕ) (names : List ℕ) → IsEachBelow k names → counts_of w names ≡ shares k w }
     ensures after { (w m k : ℕ) (names : List ℕ) → IsEachBelow k names

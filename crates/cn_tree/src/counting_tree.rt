@@ -23,7 +23,7 @@ use std::alloc::{AllocError, Global};
 /// then that on its output 1. So a width has one tree, by [`cn_wiring::laws::tables_are_unique`].
 ///
 /// # Errors
-/// [`BuildFault::Width`] where networks of this width are not built, and [`BuildFault::Memory`] where the network gets no
+/// [`BuildFault::Width`] if networks of this width are not built, and [`BuildFault::Memory`] if the network gets no
 /// memory.
 pub fn tree(alloc: Global, width: u32) -> Result<Counting, BuildFault>
     ensures width { IsErrOf result BuildFault.Width ↔ (¬ IsWidth width) }
@@ -49,7 +49,7 @@ pub fn tree(alloc: Global, width: u32) -> Result<Counting, BuildFault>
 /// both outputs of the root, interleaved.
 ///
 /// # Errors
-/// `AllocError` where a list gets no memory. The draft may have some of the balancers.
+/// `AllocError` if a list gets no memory. The draft may have some of the balancers.
 fn grow(alloc: Global, draft: &mut Draft, wire: u32, level: u32) -> Result<Vec<u32>, AllocError>
     requires room { draft.old.balancers + (2 ^ level - 1) ≤ MOST_BALANCERS }
     requires loose { AllLoose draft.old (wire ∷ []) }
@@ -73,7 +73,7 @@ fn grow(alloc: Global, draft: &mut Draft, wire: u32, level: u32) -> Result<Vec<u
 /// The wires of `even` and `odd` by turns, so that those of `even` have the even places.
 ///
 /// # Errors
-/// `AllocError` where the list gets no memory.
+/// `AllocError` if the list gets no memory.
 #[tactic(auto, using(cn_spec::proofs::CallerLemmas::interleave_more, cn_spec::proofs::CallerLemmas::interleave_all))]
 fn interleave(alloc: Global, even: &[u32], odd: &[u32]) -> Result<Vec<u32>, AllocError>
     requires { length even.now ≡ length odd.now }

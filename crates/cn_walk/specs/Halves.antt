@@ -56,11 +56,11 @@ abbrev pub MayWalk : FloorValue → List Client → ℕ → Lanes → Type 0
 MayWalk home clients hand lanes =
     AreReady home (length clients) lanes × All (λ c. c.entry < home.start.network.table.entries) clients × (0 < hand)
 
--- two halves make lanes: where they are ready for the first clients and for the others, and together for all, so are these
+-- two halves make lanes: if they are ready for the first clients, for the others and together for all, so are the lanes
 pub record IsPair (at : ℕ) (left right lanes : Lanes) : Type 0 where
   pub whole_is : whole lanes ≡ together (whole left) (whole right)
   pub ready : (home : FloorValue) (n : ℕ) → IsReady home n (together (whole left) (whole right)) → at ≤ n
       → AreReady home at left → AreReady home (n - at) right → AreReady home n lanes
-  -- and where they are of workers that follow one another, it is of all these
+  -- and if the halves are of workers that follow one another, the lanes are of all these
   pub of : (k w from middle to : ℕ) → from < middle → middle < to → at ≡ first_of k w middle - first_of k w from
       → AreOf k w from middle left → AreOf k w middle to right → AreOf k w from to lanes

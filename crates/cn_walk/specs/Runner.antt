@@ -16,7 +16,7 @@ pub record RunnerValue : Type 0 where
   pub words : WordsValue
   pub carries : Bool
 
--- the words with which the epoch after a closed one begins, where that went on from some
+-- the words with which the epoch after a closed one begins, if that went on from these words
 abbrev pub next_words : Bool → WordsValue → QuietValue → WordsValue
 next_words true words quiet = words_after quiet
 next_words false words quiet = words

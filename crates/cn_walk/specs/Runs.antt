@@ -37,7 +37,7 @@ pub record MayRun (entries : ℕ) (clients : List Client) (workers hand : ℕ) :
   pub few : AreFew clients
   pub by_entries : All (λ c. c.entry < entries) clients
 
--- the fault stands, and no earlier kind of fault does; memory is refused only where the epoch may be run
+-- the fault stands, and no earlier kind of fault does; memory is refused only if the epoch may be run
 abbrev pub IsRefused : ℕ → List Client → ℕ → ℕ → RunFault → Type 0
 IsRefused entries clients workers hand Workers = ¬ WorkersFit workers
 IsRefused entries clients workers hand Hand = WorkersFit workers × ¬ HandFits hand
@@ -52,17 +52,17 @@ pub record IsRunAfter (before : WordsValue) (clients : List Client) (quiet : Qui
   pub after : quiet.start.words ≡ before.words
   -- they came after the clients of the words
   pub came : clients_in before.network.table quiet.words ≡ client_count before + length clients
-  -- each exit let out its share of all, less its share of those that came before
+  -- each exit let out its share of all minus its share of those that came before
   pub counts : counts_of quiet.start quiet.words ≡ shares_after (client_count before) (length clients) before.network.table.width
-  -- each balancer passed what the full flow of all entries brings there, less what passed before
+  -- each balancer passed what the full flow of all entries brings there, minus what passed before
   pub passes : (f : ℕ → ℕ) → IsFullFlow before.network.table f
       → ((u : ℕ) → u < before.network.table.entries
       → f u ≡ entered_in before.network.table before.words u + times u (map (λ c. c.entry) clients))
       → passes_of quiet.start quiet.words
       ≡ map (λ b. sum_at before.network.table (Balancer b) f - count_in before.network.table before.words (Balancer b))
       (range_with_len 0 before.network.table.balancers)
-  -- the names are those below their number, each once, and each is so much less than that of its grant's exit and visit as
-  -- clients came before
+  -- the names are those below their number, each once, and each is that of its grant's exit and visit minus the number
+  -- of clients that came before
   pub names : IsEachBelow (length clients) (map (λ g. g.name) quiet.did.grants)
   pub named : All (λ g. (g.exit < before.network.table.width)
       × (g.name + client_count before ≡ name_of before.network.table.width g.exit g.visit)) quiet.did.grants

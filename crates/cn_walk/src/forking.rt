@@ -25,7 +25,7 @@ pub(crate) enum Lanes {
 }
 
 /// What walks clients through lanes, and joins the lanes. A closure that captures a `&Floor<'a>` itself promises nothing
-/// where threads join: so the recursion is over a type parameter, and [`Floor`] is the one type that it stands for.
+/// when threads join. So the recursion is over a type parameter, and [`Floor`] is the one type that it stands for.
 pub(crate) trait LaneWalker {
     ghost use Rattle.cn_floor.specs.Lane.{FloorValue};
 
@@ -87,7 +87,7 @@ fn first_of(clients: u32, workers: u32, worker: u32) -> u32
 }
 
 /// Makes the lanes of the workers from `from` up to, not including, `to`, out of one, and reserves their memory: each has
-/// quota and room for its own clients, and the first lane of each half has room for the grants of both. `None` where
+/// quota and room for its own clients, and the first lane of each half has room for the grants of both. `None` if
 /// memory is refused.
 pub(crate) fn make_lanes<'a>(
     alloc: Global,
@@ -134,8 +134,8 @@ fn pair(alloc: Global, at: u32, left: Lanes, right: Lanes) -> Option<Lanes>
     Some(Lanes::Halves(at, left, right))
 }
 
-/// Walks the clients through the lanes, the first half in a thread of its own beside the second, and joins the lanes. Where
-/// there is no thread to be had the halves are walked one after the other; one lane alone is walked here.
+/// Walks the clients through the lanes, the first half in a thread of its own beside the second, and joins the lanes.
+/// If no thread can be had the halves are walked one after the other. A single lane is walked here.
 pub(crate) fn walk_lanes<F: LaneWalker + Sync, G: Gate + Sync, R: Threads + Wait + Sync>(
     rt: &R,
     floor: &F,

@@ -46,7 +46,7 @@ impl<'a> Runner<'a> {
     /// Epochs over a network, of which the first begins with words that are all 0.
     ///
     /// # Errors
-    /// `AllocError` where it gets no memory.
+    /// `AllocError` if it gets no memory.
     pub fn new(
         alloc: Global,
         network: &'a Counting,
@@ -70,7 +70,7 @@ impl<'a> Runner<'a> {
     }
 
     /// Runs an epoch of these clients as [`crate::run_epoch_after`] does, on a floor that goes on from the runner's words,
-    /// and gives the runner back. Where the epoch is refused the runner's words are as they were.
+    /// and gives the runner back. If the epoch is refused the runner's words are as they were.
     ///
     /// # Errors
     /// As those of [`crate::run_epoch`], in its order.

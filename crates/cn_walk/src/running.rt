@@ -15,7 +15,7 @@ use std::alloc::Global;
 use std::sync::Wait;
 use std::thread::Threads;
 
-/// Why an epoch is not run; the first cause that stands is told.
+/// Why an epoch is not run; of several causes the first in this order is given.
 #[derive(Clone, Copy, Debug, PartialEq, Eq)]
 pub enum RunFault {
     /// There are no workers, or more than [`MOST_WORKERS`].
@@ -134,8 +134,8 @@ fn run_whole<'a, G: Gate + Sync, R: Threads + Wait + Sync>(
 /// `(j + 1) * k / n`, both rounded down. All lanes are made, and their memory is reserved, before the first worker starts.
 /// One worker starts no thread, and a fork that gets no thread has its halves walk one after the other.
 ///
-/// It returns only if the gate lets each worker on: one that waits for another worker may not, where that one gets no
-/// thread. It is [`run_epoch_after`] of words that are all 0.
+/// It returns only if the gate lets each worker on. A gate that waits for another worker may never do so, if that
+/// worker gets no thread. It is [`run_epoch_after`] of words that are all 0.
 ///
 /// # Errors
 /// The first that stands: `Workers`, `Hand`, `TooMany`, `NoSuchEntry`, `Memory`. Then no worker is left running.

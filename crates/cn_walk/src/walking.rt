@@ -9,7 +9,7 @@ use cn_ledger::Client;
 use cn_wiring::End;
 use std::sync::Wait;
 
-/// Lets the clients in, one after the other, where no more than `hand` are inside then. The hand is for the proof alone.
+/// Lets the clients in, one after the other; no more than `hand` are inside then. The hand is only for the proof.
 fn walk_in<'a, G: Gate, R: Wait>(
     rt: &R,
     floor: &Floor<'a>,

@@ -1,4 +1,4 @@
--- What can be wrong with a table of wire ends, in the order in which it is told.
+-- What can be wrong with a table of wire ends, in the order in which it is reported.
 use Rattle.std.specs.Prelude.{◌≡◌, ℕ, ◌+◌, ◌*◌, ◌<◌, ◌≤◌, MatchOption, Option, length}
 use Rattle.cn_spec.specs.declared.limits.TheConstants.{MOST_BALANCERS, MOST_ENDS}
 use Rattle.cn_wiring.specs.declared.end.End.TheVariants.{Balancer, Exit}
@@ -10,7 +10,7 @@ use Rattle.cn_wiring.specs.Table.{Table, LeadsOn, Stands, end_of, sum_at}
 abbrev pub IsFirst : ℕ → (ℕ → Type 0) → ℕ → Type 0
 IsFirst n P k = (k < n) × (¬ P k) × ((m : ℕ) → m < k → P m)
 
--- the answer is the first number below n at which P does not hold, or none where P holds of all
+-- the answer is the first number below n at which P does not hold, or none if P holds of all
 abbrev pub IsFirstFailure : Option ℕ → ℕ → (ℕ → Type 0) → Type 0
 IsFirstFailure answer n P = MatchOption answer ((k : ℕ) → k < n → P k) (IsFirst n P)
 
@@ -56,8 +56,8 @@ pub record BalancersFed (t : Table) : Type 0 where
   pub lead_on : EndsLeadOn t
   pub fed : (b : ℕ) → b < t.balancers → IsFed t b
 
--- the fault stands, with the least number, and no earlier kind of fault does; want of memory is told where none of the
--- first three kinds stands
+-- the fault stands, with the least number, and no earlier kind of fault does; want of memory is reported only if none
+-- of the first three kinds stands
 abbrev pub IsFault : Table → WiringFault → Type 0
 IsFault t Length = ¬ SizesFit t
 IsFault t (NoSuchEnd wire) = SizesFit t × IsFirst (length t.ends) (StandsAt t) wire

@@ -1,4 +1,4 @@
--- What is made where a part of a network is added to a plan: the plan after it, and the part's outputs, in order.
+-- What is made when a part of a network is added to a plan: the plan after it, and the part's outputs, in order.
 use Rattle.std.specs.Prelude.{◌≡◌, ℕ, ◌*◌, List, [], ◌∷◌, length}
 use Rattle.std.specs.List.{range_with_len}
 use Rattle.cn_wiring.specs.Plan.{Plan, next_wire, with_balancer}

@@ -50,7 +50,7 @@ abbrev pub IsFlow : Plan → (ℕ → ℕ) → Type 0
 IsFlow d f =
     (b : ℕ) → b < d.balancers → (f (output d b 0) ≡ half (passages d b f) 0) × (f (output d b 1) ≡ half (passages d b f) 1)
 
--- 1 where wire w is loose, and otherwise 0
+-- 1 if wire w is loose, and otherwise 0
 abbrev pub loose : Plan → ℕ → ℕ
 loose d w = when (is_none (slice_index_or d.ends w (Some 0))) 1
 

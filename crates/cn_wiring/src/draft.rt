@@ -48,7 +48,7 @@ impl Draft {
     /// A draft of `entries` entries, all loose, and no balancer. There are 1 to [`MOST_ENDS`] entries.
     ///
     /// # Errors
-    /// `AllocError` where the list of wires gets no memory.
+    /// `AllocError` if the list of wires gets no memory.
     pub fn new(alloc: Global, entries: u32) -> Result<Draft, AllocError>
         requires some { 1 ≤ entries }
         requires limit { entries ≤ MOST_ENDS }
@@ -96,10 +96,10 @@ impl Draft {
     }
 
     /// Makes room for so many more balancers: until they are made, the draft's list of wires grows no more. There are at
-    /// most [`MOST_BALANCERS`] balancers with them. It serves speed alone, so the contract says nothing of the room.
+    /// most [`MOST_BALANCERS`] balancers with them. It only serves speed, so the contract says nothing of the room.
     ///
     /// # Errors
-    /// `AllocError` where the list of wires gets no memory. The draft is as it was.
+    /// `AllocError` if the list of wires gets no memory. The draft is as it was.
     pub fn reserve(&mut self, balancers: u32) -> Result<(), AllocError>
         requires { self.old.balancers + balancers ≤ MOST_BALANCERS }
         ensures { self.new ≡ self.old }
@@ -118,7 +118,7 @@ impl Draft {
     /// than [`MOST_BALANCERS`] balancers before.
     ///
     /// # Errors
-    /// `AllocError` where the list of wires gets no memory. The draft is as it was.
+    /// `AllocError` if the list of wires gets no memory. The draft is as it was.
     pub fn join(&mut self, u: u32, v: u32) -> Result<(u32, u32), AllocError>
         requires room { self.old.balancers < MOST_BALANCERS }
         requires both { AllLoose self.old (u ∷ v ∷ []) }
@@ -146,7 +146,7 @@ impl Draft {
     /// [`MOST_BALANCERS`] balancers before.
     ///
     /// # Errors
-    /// `AllocError` where the list of wires gets no memory. The draft is as it was.
+    /// `AllocError` if the list of wires gets no memory. The draft is as it was.
     pub fn fork(&mut self, wire: u32) -> Result<(u32, u32), AllocError>
         requires room { self.old.balancers < MOST_BALANCERS }
         requires one { AllLoose self.old (wire ∷ []) }
@@ -174,8 +174,7 @@ impl Draft {
     /// [`MOST_BALANCERS`] balancers afterwards.
     ///
     /// # Errors
-    /// `AllocError` where a list gets no memory. The draft may have some of the balancers then, and is only good to be
-    /// dropped.
+    /// `AllocError` if a list gets no memory. The draft may have some of the balancers then, and should be dropped.
     pub fn join_all(&mut self, xs: &[u32], ys: &[u32]) -> Result<Vec<u32>, AllocError>
         requires same { length xs.now ≡ length ys.now }
         requires room { self.old.balancers + length xs.now ≤ MOST_BALANCERS }
@@ -201,7 +200,7 @@ impl Draft {
     /// each loose wire once.
     ///
     /// # Errors
-    /// `AllocError` where the list of ends gets no memory. The draft is handed back.
+    /// `AllocError` if the list of ends gets no memory. The draft is handed back.
     pub fn finish(self, exits: &[u32]) -> Result<Wiring, (Draft, AllocError)>
         requires count { (1 ≤ length exits.now) × (length exits.now ≤ MOST_ENDS) }
         requires each { (w : ℕ) → times w exits.now ≡ loose self w }
@@ -225,7 +224,7 @@ impl Draft {
     /// draft their counts have the step property (Aspnes, Herlihy, Shavit 1994, section 2.2).
     ///
     /// # Errors
-    /// `AllocError` where the list of ends gets no memory. The draft is handed back.
+    /// `AllocError` if the list of ends gets no memory. The draft is handed back.
     pub fn finish_counting(
         self,
         exits: &[u32],
@@ -248,7 +247,7 @@ impl Draft {
     }
 }
 
-/// The ends of the wires, where wire exits[i] ends at exit i.
+/// The ends of the wires: wire exits[i] ends at exit i.
 fn close(alloc: Global, ends: &[Option<u32>], exits: &[u32]) -> Result<Vec<End>, AllocError>
     requires count { length exits.now ≤ MOST_ENDS }
     requires loose { (w : ℕ)
@@ -267,7 +266,7 @@ fn close(alloc: Global, ends: &[Option<u32>], exits: &[u32]) -> Result<Vec<End>,
     Ok(closed)
 }
 
-/// The end at a balancer, or at an exit that is yet to be told.
+/// The end at a balancer, or at an exit that is not chosen yet.
 fn end_at(balancer: Option<u32>) -> End
     ensures { balancer_of result ≡ balancer }
 {

@@ -8,7 +8,7 @@ use std::alloc::{AllocError, Global};
 /// The wires 0 to `count - 1`, in order.
 ///
 /// # Errors
-/// `AllocError` where the list gets no memory.
+/// `AllocError` if the list gets no memory.
 pub fn wires_below(alloc: Global, count: u32) -> Result<Vec<u32>, AllocError>
     ensures { IfOk result (λ wires. wires.items ≡ range_with_len 0 count) }
 {

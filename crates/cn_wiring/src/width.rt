@@ -15,7 +15,7 @@ pub fn width_of(level: u32) -> u32
     2_u32.pow(level)
 }
 
-/// The level of networks of a width, which is its logarithm to base 2, or `None` where no network of this width is built.
+/// The level of networks of a width, which is its logarithm to base 2, or `None` if no network of this width is built.
 pub fn level_of(width: u32) -> Option<u32>
     ensures { MatchOption result (¬ IsWidth width) (λ level. IsWidthOf level width) }
 {

@@ -40,8 +40,8 @@ impl Wiring {
     /// balancer `b` is wire `entries + 2 * b + p`.
     ///
     /// # Errors
-    /// The first kind of fault that stands, in the order of [`WiringFault`], with the least number, and the list. Memory
-    /// comes only where no fault of the first three kinds stands.
+    /// The first kind of fault that stands, in the order of [`WiringFault`], with the least number, and the list.
+    /// `Memory` is given only if no fault of the first three kinds stands.
     pub fn from_ends(
         alloc: Global,
         entries: u32,

@@ -14,20 +14,20 @@ but number list = filter (λ n. not (nat_eq number n)) list
 abbrev pub last_of : ℕ → ℕ → ℕ → List ℕ
 last_of number wire u = if wire == u then number ∷ [] else []
 
--- the lists of all lines, where a number comes last on one
+-- the lists of all lines, with a number put last on one
 abbrev pub put_last : (ℕ → List ℕ) → ℕ → ℕ → ℕ → List ℕ
 put_last order number wire u = order u ++ last_of number wire u
 
--- and where it is taken out of its place before
+-- and with it taken out of its place before
 abbrev pub moved : (ℕ → List ℕ) → ℕ → ℕ → ℕ → List ℕ
 moved order number wire u = but number (order u) ++ last_of number wire u
 
--- the first number, or d where there is none
+-- the first number, or d if there is none
 abbrev pub head_or : ℕ → List ℕ → ℕ
 head_or d [] = d
 head_or d (x ∷ xs) = x
 
--- the last number, or d where there is none
+-- the last number, or d if there is none
 unfoldable pub last_or : ℕ → List ℕ → ℕ
 last_or d [] = d
 last_or d (x ∷ xs) = last_or x xs

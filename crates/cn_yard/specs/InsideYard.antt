@@ -34,6 +34,6 @@ pub record Keeps (y : Inside) (order : ℕ → List ℕ) : Type 0 where
   pub lined : IsLined y.records.items y.lines.items y.marks.items order
   pub wires : length y.lines.items ≡ y.wires + 1
 
--- some lists of numbers are those of the lines. It opens only where that is asked: a caller's proof needs nothing of it
+-- some lists of numbers are those of the lines. It opens only if that is asked: a caller's proof needs nothing of it
 unfoldable pub IsYard : Inside → Type 0
 IsYard y = (order : ℕ → List ℕ) × Keeps y order

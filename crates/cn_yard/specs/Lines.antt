@@ -6,7 +6,7 @@ use Rattle.cn_yard.specs.declared.lines.Line.{Line}
 use Rattle.cn_yard.specs.Chains.{Chain, head_or, last_or}
 use Rattle.cn_yard.specs.Records.{client_of, next_of, prev_of, wire_of}
 
--- what is read where there is no line
+-- what is read if there is no line
 abbrev pub no_line : Line
 no_line = record { first = 0; last = 0; count = 0 }
 

@@ -55,7 +55,7 @@ pub record IsMore (records : List Record) (lines : List Line)
   pub rows : length lines' ≡ length lines
   pub client : (n : ℕ) → n < length records → client_of records' n ≡ client_of records n
 
--- lists that differ at one line alone
+-- lists that differ at one line only
 abbrev pub SameBut : ℕ → (ℕ → List ℕ) → (ℕ → List ℕ) → Type 0
 SameBut to order order' = (u : ℕ) → u ≢ to → order' u ≡ order u
 

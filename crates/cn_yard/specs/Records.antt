@@ -2,7 +2,7 @@
 use Rattle.std.specs.Prelude.{◌≡◌, ℕ, ◌==◌, if◌then◌else◌, List, length, get_or}
 use Rattle.cn_yard.specs.declared.records.Record.{Record}
 
--- what is read where there is no record
+-- what is read if there is no record
 abbrev pub no_record : Record
 no_record = record { prev = 0; next = 0; wire = 0; client = 0 }
 

@@ -14,9 +14,9 @@ fn wire_of_output(output: u32, out0: u32, out1: u32) -> u32
 }
 
 impl Yard {
-    /// Moves the tokens of `wire`, first to last, to two other wires by turns: the first to `out0` where `output` is 0, and
-    /// to `out1` where it is 1. Each is put last on its wire. The three wires differ, and are below [`Yard::wires`]. It
-    /// takes no memory.
+    /// Moves the tokens of `wire`, first to last, to two other wires by turns: the first to `out0` if `output` is 0,
+    /// and to `out1` if it is 1. Each is put last on its wire. The three wires differ, and are below [`Yard::wires`].
+    /// It takes no memory.
     pub fn deal(&mut self, wire: u32, output: u32, out0: u32, out1: u32)
         requires wires { (wire < length self.old.lists) × (out0 < length self.old.lists) × (out1 < length self.old.lists) }
         requires apart { (wire ≢ out0) × (wire ≢ out1) × (out0 ≢ out1) }

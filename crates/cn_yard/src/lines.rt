@@ -8,7 +8,7 @@ ghost use Rattle.cn_yard.specs.Records.{wire_of};
 
 use crate::records::{Record, link, set_wire};
 
-/// How many records stand on a line, and the first and the last of them where there are any.
+/// How many records stand on a line, and the first and the last of them if there are any.
 #[derive(Clone, Copy, Debug)]
 pub(crate) struct Line {
     pub(crate) first: u32,

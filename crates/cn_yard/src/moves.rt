@@ -87,7 +87,7 @@ fn add_all(
 /// Adds records to a line until at least `wanted` stand there.
 ///
 /// # Errors
-/// `AllocError` where they get no memory. Then nothing has changed.
+/// `AllocError` if they get no memory. Then nothing has changed.
 pub(crate) fn fill(
     records: &mut Vec<Record>,
     lines: &mut [Line],

@@ -44,7 +44,7 @@ impl Yard {
     /// A yard of `wires` wires, numbered from 0, with nobody on them and no record.
     ///
     /// # Errors
-    /// `AllocError` where the wires get no memory.
+    /// `AllocError` if the wires get no memory.
     pub fn new(alloc: Global, wires: u32) -> Result<Self, AllocError>
         ensures yard { IfOk result (λ yard. yard ≡ empty wires) }
         ensures nobody { IfOk result (λ yard. tokens_in yard.lists ≡ 0) }
@@ -66,7 +66,7 @@ impl Yard {
     /// [`MOST_TOKENS`].
     ///
     /// # Errors
-    /// `AllocError` where there are fewer and the others get no memory. Then nothing has changed.
+    /// `AllocError` if there are fewer and the others get no memory. Then nothing has changed.
     pub fn reserve(&mut self, records: u32) -> Result<(), AllocError>
         requires { tokens_in self.old.lists + records ≤ MOST_TOKENS }
         ensures lists { self.new.lists ≡ self.old.lists }
@@ -84,8 +84,8 @@ impl Yard {
         )
     }
 
-    /// What holds of each yard: a token stands there at most once, and one that stands there is on one wire alone, for one
-    /// client. Each token is the number of a record; the records, live and free, are numbered from 0 and at most
+    /// What holds of each yard: a token stands there at most once, and one that stands there is on only one wire, for
+    /// one client. Each token is the number of a record; the records, live and free, are numbered from 0 and at most
     /// [`MOST_TOKENS`].
     ///
     /// It does nothing: its contract is the law.
@@ -101,11 +101,11 @@ impl Yard {
         let _wires = self.wires;
     }
 
-    /// A token for a client, last on `wire`, which is below [`Yard::wires`]. It takes a free record where there is one,
+    /// A token for a client, last on `wire`, which is below [`Yard::wires`]. It takes a free record if there is one,
     /// and then no memory. [`Yard::len`] is below [`MOST_TOKENS`] before.
     ///
     /// # Errors
-    /// `AllocError` where there is no free record and a new one gets no memory. Then nothing has changed.
+    /// `AllocError` if there is no free record and a new one gets no memory. Then nothing has changed.
     pub fn admit(&mut self, client: u64, wire: u32) -> Result<Token, AllocError>
         requires wire { wire < length self.old.lists }
         requires room { tokens_in self.old.lists < MOST_TOKENS }
@@ -195,8 +195,8 @@ impl Yard {
         self.lowest_from(0)
     }
 
-    /// The least wire on which a token stands, if one does, where none stands below `from`, which is at most
-    /// [`Yard::wires`]: [`Yard::lowest`] for one who knows so much, and has no need to look there.
+    /// The least wire on which a token stands, if one does. None stands below `from`, which is at most [`Yard::wires`].
+    /// It is [`Yard::lowest`] for a caller who knows this, and does not look below.
     pub fn lowest_from(&self, from: u32) -> Option<u32>
         requires from { from ≤ length self.now.lists }
         requires none { (wire : ℕ) → wire < from → on self.now.lists wire ≡ [] }

@@ -26,7 +26,7 @@ impl<'a> Core<'a> {
     /// taken first.
     ///
     /// # Errors
-    /// `AllocError` where the replies get no room; then no event has been applied. An enter that meets want of memory is a
+    /// `AllocError` if the replies get no room; then no event has been applied. An enter that meets want of memory is a
     /// reply like the others.
     pub fn run(&mut self, events: &[Event]) -> Result<Vec<Reply>, AllocError>
         ensures events { IfOk result (λ replies.

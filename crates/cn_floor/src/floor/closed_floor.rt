@@ -47,7 +47,7 @@ impl<'a> ClosedFloor<'a> {
     /// How many left by each exit since the words with which it began: each exit's share.
     ///
     /// # Errors
-    /// `AllocError` where the list gets no memory.
+    /// `AllocError` if the list gets no memory.
     pub fn counts_since(&self, before: &Words<'_>) -> Result<Vec<u64>, AllocError>
         requires { before.now ≡ words_before self.now.start }
         ensures { IfOk result (λ counts. counts.items ≡ counts_of self.now.start self.now.words) }
@@ -85,7 +85,7 @@ impl<'a> ClosedFloor<'a> {
     /// The clients by rising name.
     ///
     /// # Errors
-    /// `AllocError` where the list gets no memory.
+    /// `AllocError` if the list gets no memory.
     pub fn holders(&self) -> Result<Vec<u64>, AllocError>
         ensures { IfOk result (λ holders. ListsHolders self.now.did.grants holders.items) }
     {

@@ -35,11 +35,11 @@ pub enum CloseFault<'a> {
 }
 
 impl<'a> Floor<'a> {
-    /// Ends the floor. Its lane is to have all that came in.
+    /// Ends the floor. Its lane must have the grants of all that came in.
     ///
     /// # Errors
     /// The first that stands: `StillWalking` (the lane has tokens) and `Memory` give floor and lane back; `LanesMissing`
-    /// where the lane's grants are fewer than those that came in. Then the floor is spent.
+    /// if the lane's grants are fewer than those that came in. Then the floor is spent.
     pub fn close(self, lane: Lane) -> Result<Quiet<'a>, CloseFault<'a>>
         requires own { lane.home ≡ self }
         ensures quiet { IfOk result (λ q. (q.start ≡ self.entry.start) × (q.did ≡ lane.view)) }

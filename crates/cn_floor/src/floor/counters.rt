@@ -60,7 +60,7 @@ impl Counters {
     /// The words as they are given, and the seat of the one lane, which has the whole quota.
     ///
     /// # Errors
-    /// `AllocError` where the table gets no memory.
+    /// `AllocError` if the table gets no memory.
     pub(super) fn new(
         alloc: Global,
         network: &Counting,
@@ -107,7 +107,7 @@ impl Counters {
     }
 
     /// The client comes in by the entry, in one atomic step: an add on the entry's word. The token and the client are
-    /// for the proof alone.
+    /// only for the proof.
     pub(super) fn enter<T: EnterOf>(
         &self,
         seat: &mut Seat<(), View>,
@@ -132,7 +132,7 @@ impl Counters {
     }
 
     /// The token goes by the end of its wire, in one atomic step: an add on the end's word, which gives its number. The
-    /// token, the client and the wire are for the proof alone.
+    /// token, the client and the wire are only for the proof.
     pub(super) fn step<T: StepOf>(
         &self,
         seat: &mut Seat<(), View>,
@@ -158,7 +158,7 @@ impl Counters {
     }
 
     /// The tokens of a wire go by its end, in one atomic step: an add of their number on the end's word, which gives the
-    /// number of the first. The wire is for the proof alone.
+    /// number of the first. The wire is only for the proof.
     pub(super) fn sweep<T: SweepOf>(
         &self,
         seat: &mut Seat<(), View>,
@@ -201,7 +201,7 @@ impl Counters {
             .load::<LoadPlay<T>>(seat, 1 + entry as usize)
     }
 
-    /// The seat's view is cut in two. The quota is for the proof alone.
+    /// The seat's view is cut in two. The quota is only for the proof.
     pub(super) fn split<T: Portion>(&self, seat: &mut Seat<(), View>, _quota: u64) -> Seat<(), View>
         requires own { (seat.old.table_id ≡ self.now.table)
             × (seat.old.me.0.start ≡ self.now.start) }
@@ -216,7 +216,7 @@ impl Counters {
     }
 
     /// The second seat's view is taken into the first's. Gives the sum of the quotas. Quotas and tokens of a floor are
-    /// few, as a look at the table would tell: the branch that looks is never taken.
+    /// few, as a look at the table would show: the branch that looks is never taken.
     pub(super) fn join(
         &self,
         seat: &mut Seat<(), View>,
@@ -244,7 +244,8 @@ impl Counters {
         sum
     }
 
-    /// The words at the end, as the view of the last seat tells of them. They are put into a list that has room for them.
+    /// The words at the end, as the view of the last seat records them. They are put into the list, which has room for
+    /// them.
     pub(super) fn close(self, seat: Seat<(), View>, mut words: Vec<u64>) -> Vec<u64>
         requires own { seat.table_id ≡ self.table }
         requires room { (words.items ≡ [])

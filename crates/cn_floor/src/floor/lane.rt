@@ -60,7 +60,7 @@ impl Lane {
     /// memory.
     ///
     /// # Errors
-    /// `AllocError` where there is less room and the rest gets no memory. Then nothing has changed.
+    /// `AllocError` if there is less room and the rest gets no memory. Then nothing has changed.
     pub fn reserve(&mut self, clients: u64) -> Result<(), AllocError>
         requires { clients ≤ MOST_ROOM }
         ensures ok { OnOk result (self.new ≡ with_room clients self.old) }
@@ -126,7 +126,7 @@ impl Lane {
         self.yard.lowest()
     }
 
-    /// The least wire on which one of its tokens stands, if one does, where none stands below `from`, which is at most the
+    /// The least wire on which one of its tokens stands, if one does. None stands below `from`, which is at most the
     /// number of wires of the network.
     pub fn lowest_from(&self, from: u32) -> Option<u32>
         requires from { from ≤ length self.now.yard.lists }

@@ -24,7 +24,7 @@ use std::alloc::{AllocError, Global};
 /// A word of 0 for the lanes, and one for each entry, balancer and exit.
 ///
 /// # Errors
-/// `AllocError` where they get no memory.
+/// `AllocError` if they get no memory.
 pub(super) fn zeros(alloc: Global, network: &Counting) -> Result<Vec<u64>, AllocError>
     ensures network { IsNetwork network.now }
     ensures words { IfOk result (λ words. words.items
@@ -41,7 +41,7 @@ pub(super) fn zeros(alloc: Global, network: &Counting) -> Result<Vec<u64>, Alloc
 /// A yard with a wire for each of the network.
 ///
 /// # Errors
-/// `AllocError` where it gets no memory.
+/// `AllocError` if it gets no memory.
 pub(super) fn yard_for(alloc: Global, network: &Counting) -> Result<Yard, AllocError>
     ensures empty { IfOk result (λ yard. yard ≡ empty (length network.now.table.ends)) }
     ensures idle { IfOk result (λ yard. IsIdle network.now yard.lists) }
@@ -91,7 +91,7 @@ impl<'a> Floor<'a> {
 
     /// A floor over the network of these words, which goes on from them: its numbers and visits begin with theirs, and its
     /// names are those of its own clients. It has one lane with the whole quota. Over words that are all 0 it is that of
-    /// [`Floor::open`]. They tell of at most [`cn_spec::limits::MOST_CARRIED`] clients.
+    /// [`Floor::open`]. They count at most [`cn_spec::limits::MOST_CARRIED`] clients.
     ///
     /// # Errors
     /// The first that stands: `Quota` (more than [`MOST_CLIENTS`]), `Memory`.
@@ -116,8 +116,8 @@ impl<'a> Floor<'a> {
 
     /// A floor that goes on from what another left, and takes the words and the yard of that. Over leftovers of nobody
     /// ([`Leftovers::new`]) it is that of [`Floor::open`], over those of a closed floor that of [`Floor::open_after`], and its
-    /// lane may have spare records. They tell of at most [`cn_spec::limits::MOST_CARRIED`] clients, and the quota is at most
-    /// [`MOST_CLIENTS`].
+    /// lane may have spare records. They count at most [`cn_spec::limits::MOST_CARRIED`] clients, and the quota is at
+    /// most [`MOST_CLIENTS`].
     ///
     /// # Errors
     /// The leftovers, if a growth was refused. Their words are as they were.
@@ -165,7 +165,7 @@ impl<'a> Floor<'a> {
         }
     }
 
-    /// A floor that goes on from these words, with this yard for its lane. Where it gets no memory the words come back.
+    /// A floor that goes on from these words, with this yard for its lane. If it gets no memory the words come back.
     fn begin(
         alloc: Global,
         words: Words<'a>,

@@ -151,7 +151,7 @@ impl Join<View> for JoinSeats {
     ghost spent = { nobody };
 }
 
-/// A look that changes nothing, and tells that quota and tokens are few.
+/// A look that changes nothing, and shows that quota and tokens are few.
 pub struct BoundPlay;
 
 impl Play<(), View> for BoundPlay {

@@ -93,7 +93,7 @@ impl<'a> Quiet<'a> {
     /// The clients by rising name: `holders[n]` is the client with name n.
     ///
     /// # Errors
-    /// `AllocError` where the list gets no memory.
+    /// `AllocError` if the list gets no memory.
     pub fn holders(&self) -> Result<Vec<u64>, AllocError>
         ensures { IfOk result (λ holders. ListsHolders self.now.did.grants holders.items) }
     {

@@ -5,7 +5,7 @@ ghost use Rattle.cn_floor.specs.Words.{IsDifference, clients_in, word_count};
 
 use cn_wiring::Counting;
 
-/// How many clients came, as the words tell.
+/// How many clients came, by the words.
 pub(super) fn clients_of(network: &Counting, words: &[u64]) -> u64
     requires words { length words.now ≡ word_count network.now.table }
     requires few { clients_in network.now.table words.now < 2 ^ 64 }

@@ -57,8 +57,8 @@ impl<'a> Floor<'a> {
         Ok((lane, other))
     }
 
-    /// Takes the second lane into the first: its grants come after the first's. Where the first has room for them it takes
-    /// no memory, and so much less is its room.
+    /// Takes the second lane into the first: its grants come after the first's. If the first has room for them it takes
+    /// no memory, and its room falls by their number.
     ///
     /// # Errors
     /// The first that stands, with both lanes: `StillWalking` (the second has tokens), `Memory` (the first has no room for

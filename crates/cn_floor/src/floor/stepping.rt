@@ -20,10 +20,10 @@ use std::marker::Brand;
 
 impl<'a> Floor<'a> {
     /// Lets a client in by an entry, in one atomic step; a refusal takes none. Its token stands last on the entry's wire.
-    /// It lowers the lane's quota by one, and its room where there is some. Identities are not compared.
+    /// It lowers the lane's quota by one, and its room if there is some. Identities are not compared.
     ///
     /// # Errors
-    /// The first that stands: `NoSuchEntry`, `QuotaSpent`, `Memory` (where the lane has no room, and gets no memory). Then
+    /// The first that stands: `NoSuchEntry`, `QuotaSpent`, `Memory` (if the lane has no room, and gets no memory). Then
     /// nothing has changed.
     pub fn enter(&self, lane: &mut Lane, client: u64, entry: u64) -> Result<Token, LaneFault>
         requires own { lane.old.home ≡ self.now }
@@ -114,10 +114,10 @@ impl<'a> Floor<'a> {
         total - self.base
     }
 
-    /// How many clients came in since the floor began, by all lanes, as far as one lane can tell: it loads the word of
+    /// How many clients came in since the floor began, by all lanes, as far as one lane can see: it loads the word of
     /// each entry once, in order, and adds. It takes no memory.
     ///
-    /// The answer is no less than the lane let in and than it was told before, and more than each name that it holds.
+    /// The answer is no less than the lane let in and than its earlier answers, and more than each name that it holds.
     pub fn entered(&self, lane: &mut Lane) -> u64
         requires own { lane.old.home ≡ self.now }
         ensures answer { IsAnswer self.now.start lane.old.view result }

@@ -16,7 +16,7 @@ use cn_yard::Yard;
 use std::marker::Brand;
 
 /// Releases the tokens of a wire, first to last, with a grant for each: the exit's visits from `first` on, and their names
-/// less the number of clients that came before the floor began.
+/// minus the number of clients that came before the floor began.
 fn leave_all(
     yard: &mut Yard,
     grants: &mut Vec<Grant>,

@@ -14,7 +14,7 @@ use std::marker::Model;
 /// The words of closed floors over a network: how many clients came in by each entry, passed each balancer and left by each
 /// exit since each word was 0. Another floor may go on from them ([`super::Floor::open_after`]).
 ///
-/// [`Words::zero`] and the close of a floor alone make them. No reader takes memory.
+/// Only [`Words::zero`] and the close of a floor make them. No reader takes memory.
 #[derive(Drop)]
 pub struct Words<'a> {
     pub(super) network: &'a Counting,
@@ -37,7 +37,7 @@ impl<'a> Words<'a> {
     /// Words of which each is 0: nobody came.
     ///
     /// # Errors
-    /// `AllocError` where they get no memory.
+    /// `AllocError` if they get no memory.
     pub fn zero(alloc: Global, network: &'a Counting) -> Result<Words<'a>, AllocError>
         ensures zero { IfOk result (λ words. words ≡ zero_words network.now) }
         ensures nobody { IfOk result (λ words. client_count words ≡ 0) }
@@ -66,7 +66,7 @@ impl<'a> Words<'a> {
     /// The same words once more.
     ///
     /// # Errors
-    /// `AllocError` where they get no memory.
+    /// `AllocError` if they get no memory.
     pub(super) fn copy(&self, alloc: Global) -> Result<Words<'a>, AllocError>
         ensures { IfOk result (λ words. words ≡ self.now) }
     {
@@ -77,8 +77,8 @@ impl<'a> Words<'a> {
         })
     }
 
-    /// How much each word has risen from these to later ones. Where these tell of nobody it is not told: nobody went by an
-    /// end then, and what an end's word counts is what it has risen.
+    /// How much each word has risen from these to later ones. `None` if these count nobody: nobody went by an end then,
+    /// and an end's later word is what it has risen.
     pub(super) fn risen_to(self, later: &[u64]) -> Option<Vec<u64>>
         requires { length self.words ≡ length later.now }
         ensures some { IfSome result (λ risen.

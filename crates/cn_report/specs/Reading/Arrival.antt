@@ -46,7 +46,7 @@ arrivals_in heading entries rows = filter_map (λ row. result_ok (arrival_in hea
 abbrev pub of_epoch : ℕ → List Arrival → List Arrival
 of_epoch epoch arrivals = filter (λ a. a.epoch == epoch) arrivals
 
--- the epoch of the last of them, and 0 where there is none
+-- the epoch of the last of them, and 0 if there is none
 abbrev pub last_epoch : List Arrival → ℕ
 last_epoch arrivals = fold (λ epoch a. a.epoch) 0 arrivals
 

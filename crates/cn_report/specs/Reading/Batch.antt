@@ -33,7 +33,7 @@ batch_cause_name EpochFull = codes "EpochFull"
 batch_cause_name BatchFull = codes "BatchFull"
 batch_cause_name Memory = codes "Memory"
 
--- the cause that tells why no record came
+-- the cause for which no record came
 abbrev pub batch_cause_of_row : RowFault → BatchCause
 batch_cause_of_row row.Read = Read
 batch_cause_of_row row.Memory = Memory
@@ -97,7 +97,7 @@ pub record IsBatch (entries : ℕ) (rows : List Record) (epochs : List BatchEpoc
   pub clean : IsClean (batch_cause entries) rows
   pub holds : AreEpochs epochs (arrivals_in (heading_in rows) entries (drop 1 rows))
 
--- the fault tells the first record with a cause, and its first cause
+-- the fault gives the first record with a cause, and its first cause
 abbrev pub IsBatchFault : ℕ → List Record → BatchFault → Type 0
 IsBatchFault entries rows fault = IsFirstFault (batch_cause entries) IsOfReading rows fault.at fault.cause
 

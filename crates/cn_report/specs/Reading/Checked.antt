@@ -32,20 +32,20 @@ pub record Holds (g : Granting) (grants : List Granted) : Type 0 where
   pub names : (n : ℕ) → has g.names n ≡ has_name n (of_epoch g.latest grants)
   pub gap : IsGapBelow g.latest grants g.gap
 
--- the latest epoch, where it has grants
+-- the latest epoch, if it has grants
 abbrev pub latest_number : ℕ → ℕ → List ℕ
 latest_number latest count = if nat_lt 0 count then latest ∷ [] else []
 
 abbrev pub latest_told : ℕ → ℕ → ℕ → List (ℕ × ℕ × List ℕ)
 latest_told width latest count = if nat_lt 0 count then (latest, count, shares count width) ∷ [] else []
 
--- these are told of the epochs before the latest
+-- these are the numbers, clients and counts of the epochs before the latest
 pub record AreTold (width : ℕ) (over : List (ℕ × ℕ × List ℕ)) (latest count : ℕ) (grants : List Granted) : Type 0 where
   pub numbers : epoch_numbers grants ≡ map (λ p. p.0) over ++ latest_number latest count
   pub told : over ≡ map (shared_epoch width grants) (map (λ p. p.0) over)
   pub below : AllByRecursion (λ p. p.0 < latest) over
 
--- they are, where no gap was found
+-- they are, if no gap was found
 abbrev pub Tells : ℕ → Granting → List Granted → Type 0
 Tells width g grants = g.gap ≡ None → AreTold width (map plain_tight g.over.items) g.latest g.count grants
 

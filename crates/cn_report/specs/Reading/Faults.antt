@@ -2,8 +2,8 @@
 use Rattle.std.specs.Prelude.{ℕ, ◌≡◌, ◌<◌, ◌≤◌, ◌⊎◌, ◌==◌, [], List, length, slice_index_or, take, nat_lt, Option, Some, None, if◌then◌else◌}
 use Rattle.cn_report.specs.Reading.Records.{Record}
 
--- the cause of the record with this number, if it has one: record 0 is asked whether it is the header, where it is missing
--- too, and each later record is judged after those before it
+-- the cause of the record with this number, if it has one: record 0 is asked whether it is the header, even if it is
+-- missing, and each later record is judged after those before it
 unfoldable pub cause_by : {C : Type 0} → (Record → Option C) → (List Record → Record → Option C) → List Record → ℕ → Option C
 cause_by header later rows at =
     if at == 0 then header (slice_index_or rows 0 [])

@@ -28,7 +28,7 @@ grants_in rows = filter_map granted_in rows
 abbrev pub of_epoch : ℕ → List Granted → List Granted
 of_epoch epoch grants = filter (λ g. g.epoch == epoch) grants
 
--- the epoch of the last of them, and 0 where there is none
+-- the epoch of the last of them, and 0 if there is none
 abbrev pub last_epoch : List Granted → ℕ
 last_epoch grants = fold (λ epoch g. g.epoch) 0 grants
 

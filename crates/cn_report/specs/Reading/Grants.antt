@@ -15,7 +15,7 @@ use Rattle.cn_report.specs.declared.reading.grant.Flaw.TheVariants.{Read, Form, 
 use Rattle.cn_report.specs.declared.reading.rows.RowFault.{RowFault}
 use Rattle.cn_report.specs.declared.reading.rows.RowFault.TheVariants as row
 
--- the cause that tells why no record came
+-- the cause for which no record came
 abbrev pub grant_cause_of_row : RowFault → GrantCause
 grant_cause_of_row row.Read = cause.Read
 grant_cause_of_row row.Memory = cause.Memory
@@ -73,7 +73,7 @@ pub record IsGap (grants : List Granted) (epoch name : ℕ) : Type 0 where
   pub first : (e n : ℕ) → Lacks grants e n → epoch ≤ e
   pub least : (n : ℕ) → Lacks grants epoch n → name ≤ n
 
--- what the end of the list tells of these grants
+-- the flaw of these grants at the end of the list
 abbrev pub IsEndFlaw : List Granted → Flaw → Type 0
 IsEndFlaw grants (Gap epoch name) = IsGap grants epoch name
 IsEndFlaw grants Memory = ⊤
@@ -86,7 +86,7 @@ IsEndFlaw grants (DuplicateName at) = ⊥
 abbrev pub IsFirst : List Record → ℕ → GrantCause → Type 0
 IsFirst rows at why = IsFirstFault grants_cause IsOfReading rows at why
 
--- the first record with a cause, and its first cause; and the first gap where no record has one
+-- the first record with a cause, and its first cause; or the first gap if no record has one
 abbrev pub IsFlaw : List Record → Flaw → Type 0
 IsFlaw rows (Read at) = IsFirst rows at cause.Read
 IsFlaw rows (Form at) = IsFirst rows at cause.Form

@@ -1,4 +1,4 @@
--- The header of a batch, by which its records tell the entries of clients or leave them to the rule.
+-- The header of a batch, by which its records give the entries of clients or leave them to the rule.
 use Rattle.std.specs.Prelude.{◌∷◌, [], Bool, List, Option, Some, None, codes, if◌then◌else◌, slice_index_or}
 use Rattle.std.specs.Cmp.Lexicographic.{pointwise}
 use Rattle.std.specs.Str.{bytes_eq}
@@ -6,7 +6,7 @@ use Rattle.cn_report.specs.Reading.Records.{Record}
 use Rattle.cn_report.specs.declared.reading.heading.Heading.{Heading}
 use Rattle.cn_report.specs.declared.reading.heading.Heading.TheVariants.{Told, ByRule}
 
--- the header of a batch that tells entries
+-- the header of a batch that gives entries
 abbrev pub is_batch_header : Record → Bool
 is_batch_header fields = pointwise bytes_eq fields (codes "epoch" ∷ codes "client" ∷ codes "entry" ∷ [])
 
@@ -18,11 +18,11 @@ is_short_header fields = pointwise bytes_eq fields (codes "epoch" ∷ codes "cli
 abbrev pub heading_of : Record → Option Heading
 heading_of fields = if is_batch_header fields then Some Told else if is_short_header fields then Some ByRule else None
 
--- this heading, where there is one
+-- this heading if there is one, and otherwise that with entries
 abbrev pub heading_or : Option Heading → Heading
 heading_or (Some heading) = heading
 heading_or None = Told
 
--- the heading of these records, which is told by the first
+-- the heading of these records, which is that of the first
 abbrev pub heading_in : List Record → Heading
 heading_in rows = heading_or (heading_of (slice_index_or rows 0 []))

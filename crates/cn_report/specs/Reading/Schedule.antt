@@ -24,7 +24,7 @@ cause_name WireNumber = codes "WireNumber"
 cause_name ScheduleFull = codes "ScheduleFull"
 cause_name Memory = codes "Memory"
 
--- the cause that tells why no record came
+-- the cause for which no record came
 abbrev pub cause_of_row : RowFault → ScheduleCause
 cause_of_row row.Read = Read
 cause_of_row row.Memory = Memory
@@ -59,6 +59,6 @@ pub record IsSchedule (rows : List Record) (commands : List Command) : Type 0 wh
   pub clean : IsClean schedule_cause rows
   pub spells : map command_in (drop 1 rows) ≡ map Ok commands
 
--- the fault tells the first record with a cause, and its first cause
+-- the fault gives the first record with a cause, and its first cause
 abbrev pub IsScheduleFault : List Record → ScheduleFault → Type 0
 IsScheduleFault rows fault = IsFirstFault schedule_cause IsOfReading rows fault.at fault.cause

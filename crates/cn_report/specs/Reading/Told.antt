@@ -1,4 +1,4 @@
--- What a tight list tells of its epochs.
+-- What a tight list says of its epochs.
 use Rattle.std.specs.Prelude.{ℕ, ◌≡◌, ◌∷◌, [], List, drop, length, map, ◌++◌, nat_eq, Result, MatchResult, if◌then◌else◌}
 use Rattle.std.specs.List.{fold, list_any}
 use Rattle.cn_spec.specs.Step.{counts_of, shares}
@@ -33,7 +33,7 @@ plain_tight epoch = (epoch.number, epoch.clients, epoch.counts.items)
 abbrev pub names_in : ℕ → List Record → List ℕ
 names_in epoch rows = map (λ g. g.name) (of_epoch epoch (grants_in (drop 1 rows)))
 
--- what the records tell of their epochs, in order
+-- what the records say of their epochs, in order
 abbrev pub told_epochs : ℕ → List Record → List (ℕ × ℕ × List ℕ)
 told_epochs width rows = map (told_epoch width (grants_in (drop 1 rows))) (epoch_numbers (grants_in (drop 1 rows)))
 
@@ -41,7 +41,7 @@ told_epochs width rows = map (told_epoch width (grants_in (drop 1 rows))) (epoch
 abbrev pub IsTold : ℕ → List Record → List TightEpoch → Type 0
 IsTold width rows epochs = map plain_tight epochs ≡ told_epochs width rows
 
--- what these records answer: what a tight list tells of them, or their flaw
+-- what a check of these records answers: their epochs if they are a tight list, or their flaw
 abbrev pub AnswersTight : ℕ → List Record → Result Tight Flaw → Type 0
 AnswersTight width rows result =
     MatchResult result (λ tight. IsTightList rows × IsTold width rows tight.epochs.items) (IsFlaw rows)

@@ -47,6 +47,6 @@ pub record AreTight (records : List EpochRecord) : Type 0 where
   pub names : AllByRecursion HasOwnNames records
   pub few : clients_of records ≤ MOST_RECORDS
 
--- what a check tells of an epoch: its number, its number of clients, and how many of its names are those of each exit
+-- what a check says of an epoch: its number, its number of clients, and how many of its names are those of each exit
 abbrev pub checked_epoch : ℕ → EpochRecord → ℕ × ℕ × List ℕ
 checked_epoch width r = (r.number, r.clients, shares r.clients width)

@@ -56,7 +56,7 @@ moved_line client (On balancer number wire) =
 moved_line client (Out exit visit name) =
     line (codes "leave" ∷ decimal client ∷ codes "exit" ∷ decimal exit ∷ codes "visit" ∷ decimal visit ∷ codes "name" ∷ decimal name ∷ [])
 
--- an enter and its reply; nothing where the reply does not fit, or is want of memory
+-- an enter and its reply; nothing if the reply does not fit, or is want of memory
 unfoldable pub enter_line : ℕ → ℕ → Reply → List ℕ
 enter_line client entry Entered = line (codes "enter" ∷ decimal client ∷ codes "wire" ∷ decimal entry ∷ [])
 enter_line client entry (EnterRefused NoSuchEntry) = line (codes "refused" ∷ codes "enter" ∷ decimal client ∷ codes "NoSuchEntry" ∷ [])
@@ -64,7 +64,7 @@ enter_line client entry (EnterRefused AlreadyIn) = line (codes "refused" ∷ cod
 enter_line client entry (EnterRefused EpochFull) = line (codes "refused" ∷ codes "enter" ∷ decimal client ∷ codes "EpochFull" ∷ [])
 enter_line client entry reply = []
 
--- a step and its reply; nothing where the reply does not fit
+-- a step and its reply; nothing if the reply does not fit
 unfoldable pub step_line : ℕ → Reply → List ℕ
 step_line client (Stepped moved) = moved_line client moved
 step_line client (StepRefused Stranger) = line (codes "refused" ∷ codes "step" ∷ decimal client ∷ codes "Stranger" ∷ [])
@@ -83,7 +83,7 @@ record_lines width r = turn_line r.number r.clients ++ outcome_lines width r
 unfoldable pub not_quiet_line : ℕ → List ℕ
 not_quiet_line inside = line (codes "refused" ∷ codes "turn" ∷ codes "NotQuiet" ∷ decimal inside ∷ [])
 
--- a command and its answer; nothing where the answer does not fit, or is want of memory
+-- a command and its answer; nothing if the answer does not fit, or is want of memory
 unfoldable pub answer_line : ℕ → Command → Answer → List ℕ
 answer_line width (Enter client entry) (Replied reply) = enter_line client entry reply
 answer_line width (Step client) (Replied reply) = step_line client reply

@@ -18,7 +18,7 @@ epoch_lines width r = epoch_line r.number r.clients ++ outcome_lines width r
 abbrev pub clients_of : List EpochRecord → ℕ
 clients_of records = sum_by (λ r. r.clients) records
 
--- what a report tells so far: how wide its network is, its bytes, and how many epochs and grants they tell
+-- what a report has so far: how wide its network is, its bytes, and how many epochs and grants they give
 pub record ReportSoFar : Type 0 where
   pub width : ℕ
   pub bytes : List ℕ

@@ -32,7 +32,7 @@ fn arrival_from(epoch: &[u8], client: &[u8], entry: &[u8]) -> Result<Arrival, Ba
     })
 }
 
-/// The arrival of a record that tells its entry.
+/// The arrival of a record that gives its entry.
 #[tactic(auto, using(crate::proofs::ReadingLemmas::ArrivalFields::arrival_of_three, crate::proofs::ReadingLemmas::ArrivalFields::arrival_of_others))]
 fn told_arrival(row: &ByteRecord) -> Result<Arrival, BatchCause>
     ensures { result ≡ told_arrival (fields_of row.now) }

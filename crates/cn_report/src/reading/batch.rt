@@ -48,7 +48,7 @@ fn take_header<R: Read>(rows: &mut Reader<R>, row: &mut ByteRecord) -> Result<He
     }
 }
 
-/// Takes the arrival of record `at`, and tells whether there was one.
+/// Takes the arrival of record `at`, and returns whether there was one.
 fn take_arrival<R: Read>(
     alloc: Global,
     rows: &mut Reader<R>,
@@ -139,8 +139,8 @@ fn take_arrivals<R: Read>(
 ///
 /// # Errors
 ///
-/// The first record that has a cause, with its first cause. A failed read and want of memory are told at the record that
-/// was being read.
+/// The first record that has a cause, with its first cause. A failed read and want of memory are reported at the record
+/// that was being read.
 pub fn read_batch<R: Read + Drop>(
     alloc: Global,
     reader: R,

@@ -84,8 +84,8 @@ impl Gathering {
         Ok(())
     }
 
-    /// Takes a client of the latest epoch, which is record `at`, where it has no cause. One look-up finds whether it stands
-    /// there and puts it in.
+    /// Takes a client of the latest epoch, which is record `at`, if it has no cause. One look-up finds whether it
+    /// stands there and puts it in.
     fn join(&mut self, at: u64, client: Client) -> Result<(), BatchCause>
         ensures ok { OnOk result ((joining_cause at self.old client ≡ None)
             × (self.new.over ≡ self.old.over)
@@ -112,7 +112,7 @@ impl Gathering {
         Ok(())
     }
 
-    /// Takes an arrival, which is record `at`, where it has no cause.
+    /// Takes an arrival, which is record `at`, if it has no cause.
     pub(crate) fn take(
         &mut self,
         alloc: Global,

@@ -32,8 +32,8 @@ pub(crate) enum GrantCause {
     Memory,
 }
 
-/// What is wrong with a grant list: the first record with a cause, and its first cause in this order; where no record has
-/// one, the first name that is missing. Records are told by their number; the header is record 0.
+/// What is wrong with a grant list: the first record with a cause, and its first cause in this order; if no record has
+/// one, the first name that is missing. Records are given by their number; the header is record 0.
 #[derive(Clone, Copy, Debug, PartialEq, Eq)]
 pub enum Flaw {
     /// The reader failed at this record.

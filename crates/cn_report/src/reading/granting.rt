@@ -61,7 +61,7 @@ impl Granting {
         }
     }
 
-    /// The first gap of the epochs so far, where the latest is over.
+    /// The first gap of the epochs so far, if the latest is over.
     pub(crate) fn first_gap(&self) -> Option<Gap>
         ensures gap { (grants : List Granted) → Holds self.now grants
             → IsGapBelow (self.now.latest + 1) grants result }
@@ -77,7 +77,7 @@ impl Granting {
         })
     }
 
-    /// Ends the latest epoch, and tells it where it has grants and no gap was found.
+    /// Ends the latest epoch, and adds it to those that are over if it has grants and no gap was found.
     fn end(&mut self, alloc: Global, width: u32) -> Result<(), AllocError>
         requires width { IsWidth width }
         requires few { self.old.count ≤ MOST_RECORDS }
@@ -125,7 +125,7 @@ impl Granting {
         Ok(())
     }
 
-    /// Takes a grant of the latest epoch, where it has no cause.
+    /// Takes a grant of the latest epoch, if it has no cause.
     fn join(&mut self, grant: Granted) -> Result<(), GrantCause>
         requires { self.old.count < MOST_RECORDS }
         ensures ok { OnOk result ((joining_cause self.old grant ≡ None)
@@ -151,7 +151,7 @@ impl Granting {
         Ok(())
     }
 
-    /// Takes a grant, which is record `at`, where it has no cause.
+    /// Takes a grant, which is record `at`, if it has no cause.
     pub(crate) fn take(
         &mut self,
         alloc: Global,
@@ -178,7 +178,7 @@ impl Granting {
         self.join(grant)
     }
 
-    /// The epochs, where none lacks a name.
+    /// The epochs, if none lacks a name.
     pub(crate) fn finish(self, alloc: Global, width: u32) -> Result<Tight, Flaw>
         requires width { IsWidth width }
         requires few { self.count ≤ MOST_RECORDS }

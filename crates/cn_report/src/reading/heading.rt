@@ -7,7 +7,7 @@ ghost use Rattle.cn_report.specs.Reading.Heading.{heading_of};
 use crate::reading::rows::{is_header, is_short_header};
 use csv::ByteRecord;
 
-/// How the records of a batch tell by which entry a client comes.
+/// How the records of a batch give the entry by which a client comes.
 #[derive(Clone, Copy, Debug, PartialEq, Eq)]
 pub(crate) enum Heading {
     /// `epoch,client,entry`: in a field of its own.

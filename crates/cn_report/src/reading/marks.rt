@@ -5,7 +5,7 @@ ghost use Rattle.std.specs.Prelude.{◌<◌, ◌≤◌, ℕ, slice_index};
 use std::alloc::{AllocError, Global};
 
 /// A set of numbers below [`cn_spec::limits::MOST_RECORDS`], with a place for each up to the greatest so far: a number is in
-/// the set where its place has the current stamp. So one step adds a number, and one step clears the set.
+/// the set if its place has the current stamp. So one step adds a number, and one step clears the set.
 #[derive(Drop)]
 pub(crate) struct Marks {
     stamps: Vec<u32>,
@@ -47,7 +47,7 @@ impl Marks {
         }
     }
 
-    /// Adds a number, and tells whether it is new. Where it gets no memory the set stays.
+    /// Adds a number, and returns whether it is new. If it gets no memory the set stays as it is.
     pub(crate) fn add(&mut self, number: u64) -> Result<bool, AllocError>
         requires { number < MOST_RECORDS }
         ensures added { IfOk result (λ added. added ≡ not (is_marked self.old number)) }

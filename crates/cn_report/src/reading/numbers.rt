@@ -49,7 +49,7 @@ impl Numbers {
         }
     }
 
-    /// Adds a number, and tells whether it is new.
+    /// Adds a number, and returns whether it is new.
     pub(crate) fn add(&mut self, number: u64) -> Result<bool, AllocError>
         ensures added { IfOk result (λ added. added ≡ not (has self.old number)) }
         ensures more { IfOk result (λ _. (n : ℕ)

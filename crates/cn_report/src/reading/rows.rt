@@ -43,7 +43,7 @@ pub(crate) fn open_rows<R: Read>(alloc: Global, reader: R) -> Reader<R>
         .from_reader(alloc, reader)
 }
 
-/// Reads the next record into `row`, and tells whether there was one.
+/// Reads the next record into `row`, and returns whether there was one.
 pub(crate) fn next_row<R: Read>(
     rows: &mut Reader<R>,
     row: &mut ByteRecord,

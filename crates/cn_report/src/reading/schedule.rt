@@ -99,8 +99,8 @@ fn take_commands<R: Read>(
 ///
 /// # Errors
 ///
-/// The first record that has a cause, with its first cause. A failed read and want of memory are told at the record that
-/// was being read.
+/// The first record that has a cause, with its first cause. A failed read and want of memory are reported at the record
+/// that was being read.
 pub fn read_schedule<R: Read + Drop>(
     alloc: Global,
     reader: R,

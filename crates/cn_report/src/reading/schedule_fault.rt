@@ -6,8 +6,8 @@ ghost use Rattle.cn_report.specs.Reading.Schedule.{cause_name, cause_of_row};
 use crate::reading::rows::RowFault;
 use std::fmt;
 
-/// What is wrong with a record of a schedule. Of several causes the first in this order is told, but for `Memory`, which
-/// stands in place of any other.
+/// What is wrong with a record of a schedule. Of several causes the first in this order is given, except that `Memory`
+/// may stand in place of any other.
 #[derive(Clone, Copy, Debug, PartialEq, Eq)]
 pub enum ScheduleCause {
     /// The reader failed.

@@ -36,7 +36,7 @@ fn take_header<R: Read>(rows: &mut Reader<R>, row: &mut ByteRecord) -> Result<()
     }
 }
 
-/// Takes the grant of record `at`, and tells whether there was one.
+/// Takes the grant of record `at`, and returns whether there was one.
 fn take_grant<R: Read>(
     alloc: Global,
     rows: &mut Reader<R>,
@@ -108,13 +108,13 @@ fn take_grants<R: Read>(
 
 /// Whether a grant list gives each epoch's clients the names below their number, each once: a header `epoch,client,name`,
 /// and then a record of three numbers for each grant, as `csv` reads them. An epoch is a run of records of one number, and
-/// the numbers rise. Of each epoch it tells the number, how many clients it has, and how many of its names have each
+/// the numbers rise. Of each epoch it returns the number, how many clients it has, and how many of its names have each
 /// remainder by `width`, which is a width that networks have.
 ///
 /// # Errors
 ///
-/// The first record that has a cause, with its first cause; where no record has one, the first name that is missing. A
-/// failed read is told at the record that was being read. `Memory` where a growth was refused.
+/// The first record that has a cause, with its first cause; if no record has one, the first name that is missing. A
+/// failed read is reported at the record that was being read. `Memory` if a growth was refused.
 pub fn check_grants<R: Read + Drop>(alloc: Global, reader: R, width: u32) -> Result<Tight, Flaw>
     requires { IsWidth width }
     ensures answer { IfSome (R.remaining reader) (λ text.

@@ -8,15 +8,15 @@ use std::io::Write;
 /// A text could not be written whole: a write failed or took nothing, or the flush at the end failed.
 #[derive(Clone, Copy, Debug, PartialEq, Eq)]
 pub struct EmitFault {
-    /// How many bytes of the text were written; its whole length where the flush failed.
+    /// How many bytes of the text were written; its whole length if the flush failed.
     pub written: u64,
 }
 
 /// Writes the text and flushes once at the end.
 ///
 /// # Errors
-/// `EmitFault` where a write fails, is interrupted or takes no byte, which ends it: the bytes written until then are the
-/// first of the text. A failed flush is told with its whole length.
+/// `EmitFault` if a write fails, is interrupted or takes no byte, which ends it: the bytes written until then are the
+/// first of the text. A failed flush is reported with the whole length of the text.
 pub fn emit<W: Write>(writer: &mut W, text: &[u8]) -> Result<(), EmitFault>
     ensures all { OnOk result (Appends (W.contents writer.old) (W.contents writer.new) text.now) }
     ensures within { IfErr result (λ fault. fault.written ≤ length text.now) }

@@ -51,7 +51,7 @@ impl GrantsText {
     /// The grant list of no epoch yet: its header.
     ///
     /// # Errors
-    /// `AllocError` where the text gets no memory.
+    /// `AllocError` if the text gets no memory.
     pub fn begin(alloc: Global) -> Result<Self, AllocError>
         ensures { IfOk result (λ text. text ≡ grants_text []) }
     {
@@ -64,7 +64,7 @@ impl GrantsText {
     /// each of its clients.
     ///
     /// # Errors
-    /// `AllocError` where the text gets no memory.
+    /// `AllocError` if the text gets no memory.
     pub fn add(self, epoch: &EpochRecord) -> Result<Self, AllocError>
         requires { HasHolders epoch.now }
         ensures { (records : List EpochRecord) → self ≡ grants_text records
@@ -87,11 +87,11 @@ impl GrantsText {
 /// The grant list of epochs: a header `epoch,client,name`, and for each epoch a record of each name and its holder, by
 /// rising name. Each record has a holder for each of its clients.
 ///
-/// Where the epochs' numbers rise and each is tight, [`crate::check_grants`] takes it for a tight list
+/// If the epochs' numbers rise and each is tight, [`crate::check_grants`] takes it for a tight list
 /// ([`crate::laws::written_grants_are_tight`]).
 ///
 /// # Errors
-/// `AllocError` where the text gets no memory.
+/// `AllocError` if the text gets no memory.
 pub fn render_grants(alloc: Global, records: &[EpochRecord]) -> Result<Vec<u8>, AllocError>
     requires { All HasHolders records.now }
     ensures { IfOk result (λ text. text.items ≡ grants_text records.now) }

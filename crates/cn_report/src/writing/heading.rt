@@ -1,4 +1,4 @@
-//! The line that tells a network, at the head of a text.
+//! The line that names a network, at the head of a text.
 
 ghost use Rattle.std.specs.Prelude.{OnOk};
 ghost use Rattle.cn_report.specs.Writing.Text.{Grows, heading};

@@ -155,13 +155,13 @@ fn put_end(text: &mut String, number: u64, entered: u64, inside: u64) -> Result<
 /// The text of a replay on a network: its heading, the lines of each command and its answer, and an end line. A turn that
 /// is done has the record of its epoch: a line for each exit and its count, and one for each name and its holder.
 ///
-/// The end line tells how many epochs ended, and how many clients of the open one entered and are inside.
+/// The end line says how many epochs ended, and how many clients of the open one entered and are inside.
 ///
 /// The answers fit the commands one by one, and none is want of memory; each record has a count for each exit of the
-/// network, and a holder for each of its clients. So it is where they are the answers of epochs of the network.
+/// network, and a holder for each of its clients. This holds if they are the answers of epochs of the network.
 ///
 /// # Errors
-/// `AllocError` where the text gets no memory.
+/// `AllocError` if the text gets no memory.
 pub fn render_replay(
     alloc: Global,
     network: &Counting,

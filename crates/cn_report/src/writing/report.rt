@@ -63,7 +63,7 @@ impl ReportText {
     /// The report of no epoch yet, on a network: its heading.
     ///
     /// # Errors
-    /// `AllocError` where the text gets no memory.
+    /// `AllocError` if the text gets no memory.
     pub fn begin(alloc: Global, network: &Counting) -> Result<Self, AllocError>
         ensures { IfOk result (λ text. text ≡ report_so_far network.now []) }
     {
@@ -81,7 +81,7 @@ impl ReportText {
     /// for each name and its holder. The record has a count for each exit of the network, and a holder for each client.
     ///
     /// # Errors
-    /// `AllocError` where the text gets no memory.
+    /// `AllocError` if the text gets no memory.
     pub fn add(self, epoch: &EpochRecord) -> Result<Self, AllocError>
         requires { IsWholeRecord self.width epoch.now }
         ensures told { (network : Network) (records : List EpochRecord)
@@ -109,7 +109,7 @@ impl ReportText {
     /// The whole text: an end line with the numbers of epochs and of grants is the last.
     ///
     /// # Errors
-    /// `AllocError` where the text gets no memory.
+    /// `AllocError` if the text gets no memory.
     pub fn end(self) -> Result<Vec<u8>, AllocError>
         ensures { (network : Network) (records : List EpochRecord)
             → self ≡ report_so_far network records
@@ -132,7 +132,7 @@ impl ReportText {
 /// Each record has a count for each exit of the network, and a holder for each of its clients.
 ///
 /// # Errors
-/// `AllocError` where the text gets no memory.
+/// `AllocError` if the text gets no memory.
 pub fn render_report(
     alloc: Global,
     network: &Counting,

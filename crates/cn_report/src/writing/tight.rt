@@ -75,7 +75,7 @@ fn put_end(text: &mut String, epochs: usize, grants: u128) -> Result<(), AllocEr
 /// the width, for each `i` below it; and an end line with the numbers of epochs and of grants.
 ///
 /// # Errors
-/// `AllocError` where the text gets no memory.
+/// `AllocError` if the text gets no memory.
 pub fn render_tight(alloc: Global, tight: &Tight) -> Result<Vec<u8>, AllocError>
     ensures { IfOk result (λ text. text.items
         ≡ tight_text (map plain_tight tight.now.epochs.items)) }

@@ -40,7 +40,7 @@ fn put_end(text: &mut String, wires: u32) -> Result<(), AllocError>
 ///
 /// # Errors
 ///
-/// `AllocError` where the text gets no memory.
+/// `AllocError` if the text gets no memory.
 pub fn render_wiring(alloc: Global, network: &Counting) -> Result<Vec<u8>, AllocError>
     ensures { IfOk result (λ text. text.items ≡ wiring_text network.now) }
 {

@@ -12,8 +12,8 @@ use std::test::Fail;
 use std::thread::Threads;
 
 /// How many bytes are left at most, counted on from the row before, and the answer to each of these cuts. What is
-/// left of the header is no header but where it is one of the two; what is left of a record has too few fields, then an entry
-/// without digits, and then is the record, with and without the end of its line.
+/// left of the header is a header only if it is one of the two. What is left of a record has too few fields, then an
+/// entry without digits, and then is the record, with and without the end of its line.
 const ANSWERS: [(usize, Answer); 19] = [
     (11, Answer::Refused(0, BatchCause::Header)),
     (12, Answer::Written(b"epoch,client,name\n")),

@@ -9,7 +9,7 @@ use std::io;
 pub(crate) struct Computed {
     header: &'static [u8],
     /// A record and its line end. `A` to `G` stand for the digits of the record's number, from 0 on, the last digit
-    /// first; `Y` and `Z` for the two of its epoch's, where 262,144 records make an epoch, from 1 on.
+    /// first; `Y` and `Z` for the two of its epoch's, from 1 on; 262,144 records make an epoch.
     form: &'static [u8],
     records: u64,
     last: &'static [u8],

@@ -159,7 +159,7 @@ fn checked(alloc: Global, last: &'static [u8]) -> Option<(Result<(), CheckFault>
 const FULL_LIST_TIGHT: &[u8] = b"epoch 1 clients 1048576 counts 524288 524288\n\
       tight epochs 1 grants 1048576\n";
 
-/// Whether such a list is tight where nothing follows.
+/// Whether such a list is tight if nothing follows.
 fn is_tight(alloc: Global) -> bool {
     match checked(alloc, b"") {
         Some((done, written)) => done == Ok(()) && written.as_slice() == FULL_LIST_TIGHT,

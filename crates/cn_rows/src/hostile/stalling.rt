@@ -110,7 +110,7 @@ fn are_counted(quiet: &Quiet<'_>, holders: &[u64; 4]) -> bool {
     are_named && quiet.counts() == [1, 1, 1, 1].as_slice()
 }
 
-/// Whether the run of an epoch is told so.
+/// Whether the run of an epoch gives these holders.
 fn is_epoch_right<R: Threads + Wait + Sync>(
     rt: &R,
     alloc: Global,
@@ -166,7 +166,7 @@ fn holders_of(report: &[u8]) -> Option<[u64; 4]> {
     ])
 }
 
-/// Whether the run of a batch is told so.
+/// Whether the report of a batch gives these holders.
 fn is_batch_right<R: Threads + Wait + Sync>(
     rt: &R,
     alloc: Global,
@@ -180,7 +180,8 @@ fn is_batch_right<R: Threads + Wait + Sync>(
     }
 }
 
-/// Whether the run of an epoch and that of a batch are told so, where this worker is held before this moment.
+/// Whether the run of an epoch and that of a batch give these holders, and each has held this worker before this
+/// moment.
 fn are_right<R: Threads + Wait + Sync>(
     rt: &R,
     alloc: Global,

@@ -117,7 +117,7 @@ fn are_named(alloc: Global, quiet: &Quiet<'_>, clients: u64) -> Option<[bool; 4]
     ])
 }
 
-/// The same, when the two threads have named on a floor, by how many came in as its one lane is told then.
+/// The same, when the two threads have named on a floor, by how many came in then, as far as its one lane can see.
 fn named(
     rt: &(impl Threads + Wait),
     alloc: Global,
