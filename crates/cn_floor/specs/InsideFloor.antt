@@ -7,7 +7,6 @@ use Rattle.cn_floor.specs.Views.{base}
 
 -- its shared words are those of its network, and it has what they began with
 pub record IsFloor (f : Inside) : Type 0 where
-  pub network : f.counters.start.network ≡ f.network.now
   pub base : f.base ≡ base f.counters.start
   pub before : f.before ≡ words_before f.counters.start
   pub began : IsStart f.counters.start

@@ -4,7 +4,7 @@ use Rattle.cn_floor.specs.declared.floor.words.Words.TheInside.{Inside}
 use Rattle.cn_floor.specs.Carried.{IsClosed, WordsValue, client_count}
 
 abbrev pub words_of : Inside → WordsValue
-words_of w = record { network = w.network.now; words = w.words.items }
+words_of w = record { network = w.network; words = w.words.items }
 
 -- another floor may begin with them, and the number of clients is theirs
 pub record KeepsWords (w : Inside) : Type 0 where

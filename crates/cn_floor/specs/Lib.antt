@@ -2,6 +2,7 @@ pub mod Words
 pub mod Views
 pub mod Rule
 pub mod Carried
+pub mod InsideNetworkRef
 pub mod InsideWords
 pub mod Steps
 pub mod Sweeps

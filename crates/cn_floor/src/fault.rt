@@ -1,5 +1,10 @@
 //! Why calls of a floor are refused.
 
+ghost use Rattle.std.specs.Prelude.{◌≡◌};
+ghost use Rattle.cn_floor.specs.declared.fault.OpenFault.TheVariants as open_fault;
+
+use std::alloc::AllocError;
+
 /// Why a floor is not opened.
 #[derive(Clone, Copy, Debug, PartialEq, Eq)]
 pub enum OpenFault {
@@ -7,6 +12,14 @@ pub enum OpenFault {
     Quota,
     /// A growth was refused.
     Memory,
+}
+
+impl From<AllocError> for OpenFault {
+    ghost from_gives = { λ _ fault. fault ≡ open_fault.Memory };
+
+    fn from(_e: AllocError) -> OpenFault {
+        OpenFault::Memory
+    }
 }
 
 /// Why a client is not let in; of several causes the first in this order is given.

@@ -6,6 +6,7 @@ mod counters;
 mod lane;
 mod leftovers;
 mod lone;
+mod network_ref;
 mod opening;
 mod plays;
 mod quiet;
@@ -41,10 +42,9 @@ pub use words::Words;
 #[derive(Drop)]
 pub struct Floor<'a> {
     alloc: Global,
-    network: &'a Counting,
     /// How many clients came before it began.
     base: u64,
-    /// The words as they then were.
+    /// The words as they then were, over its network.
     before: Words<'a>,
     counters: Counters,
 }
@@ -62,10 +62,10 @@ impl<'a> Model for Floor<'a> {
 
 impl<'a> Floor<'a> {
     /// The network that it was opened over.
-    pub fn network(&self) -> &'a Counting
+    pub fn network(&self) -> &Counting
         ensures value { result.now ≡ self.now.start.network }
         ensures network { IsNetwork self.now.start.network }
     {
-        self.network
+        self.before.network()
     }
 }

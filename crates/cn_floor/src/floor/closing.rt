@@ -10,6 +10,7 @@ use super::Floor;
 use super::closed_floor::ClosedFloor;
 use super::lane::Lane;
 use super::leftovers::Leftovers;
+use super::network_ref::NetworkRef;
 use super::quiet::Quiet;
 use super::reading::clients_of;
 use super::words::Words;
@@ -75,22 +76,26 @@ impl<'a> Floor<'a> {
         if !lane.yard.is_empty() {
             return Err(CloseFault::StillWalking(self, lane));
         }
-        match Vec::with_capacity(self.alloc, self.counters.len()) {
-            Ok(room) => self.end(lane, room),
-            Err(_) => Err(CloseFault::Memory(self, lane)),
+        let room = Vec::with_capacity(self.alloc, self.counters.len());
+        let network = self.before.share_network();
+        match (room, network) {
+            (Ok(room), Ok(network)) => self.end(lane, room, network),
+            _ => Err(CloseFault::Memory(self, lane)),
         }
     }
 
-    /// Ends the floor by a lane with no token, with room for its words.
+    /// Ends the floor by a lane with no token, with room for its words and a holder of its network for them.
     fn end(
         self,
         lane: Lane,
         room: Vec<u64>,
+        network: NetworkRef<'a>,
     ) -> Result<(ClosedFloor<'a>, Leftovers<'a>), CloseFault<'a>>
         requires own { lane.home ≡ self }
         requires out { tokens_in lane.yard.lists ≡ 0 }
         requires room { (room.items ≡ [])
             × (word_count self.start.network.table ≤ vec_capacity room) }
+        requires network { network ≡ self.start.network }
         ensures closed { IfOk result (λ r. (r.0.start ≡ self.entry.start) × (r.0.did ≡ lane.view)) }
         ensures leftovers { IfOk result (λ r. r.1 ≡ words_before self.entry.start) }
         ensures refused { IfErr result (λ f. IsCloseRefused self.entry lane f) }
@@ -98,7 +103,6 @@ impl<'a> Floor<'a> {
         let told = Snapshot::of(&lane);
         let Floor {
             alloc,
-            network,
             base,
             before,
             counters,
@@ -110,7 +114,7 @@ impl<'a> Floor<'a> {
             ..
         } = lane;
         let words = counters.close(seat, room);
-        let clients = clients_of(network, words.as_slice());
+        let clients = clients_of(before.network(), words.as_slice());
         let entered = clients - base;
         let granted = grants.len() as u64;
         if entered != granted {

@@ -42,12 +42,13 @@ impl<'a> Floor<'a> {
             × PassesOn self.now.start token client numbers wire seat.old.me.0 result seat.new.me.0 }
         ensures exit { (i : ℕ) × (end_of self.now.start.network.table result ≡ Exit i) }
     {
+        let network = self.network();
         let mut at = wire;
-        while let End::Balancer(balancer) = self.network.end(at) {
+        while let End::Balancer(balancer) = network.end(at) {
             gate.before(rt, worker, Moment::Pass);
             let end = End::Balancer(balancer);
             let number = self.counters.step::<Brand>(seat, token, client, at, end);
-            at = self.network.entries() + 2 * balancer + output_of(number);
+            at = network.entries() + 2 * balancer + output_of(number);
         }
         at
     }

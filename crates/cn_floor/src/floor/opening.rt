@@ -1,5 +1,6 @@
 //! How a floor begins.
 
+ghost use Rattle.std.specs.Arc.{arc_value};
 ghost use Rattle.std.specs.Prelude.{◌≡◌, ◌+◌, ◌<◌, ◌≤◌, ◌↔◌, length, replicate, IfErr, IfOk, IfSome, IsErrOf};
 ghost use Rattle.cn_spec.specs.declared.limits.TheConstants.{MOST_CARRIED, MOST_CLIENTS};
 ghost use Rattle.cn_wiring.specs.Network.{IsNetwork};
@@ -14,12 +15,14 @@ use super::Floor;
 use super::counters::Counters;
 use super::lane::Lane;
 use super::leftovers::Leftovers;
+use super::network_ref::NetworkRef;
 use super::words::Words;
 use crate::fault::OpenFault;
 use cn_spec::limits::MOST_CLIENTS;
 use cn_wiring::Counting;
 use cn_yard::Yard;
 use std::alloc::{AllocError, Global};
+use std::sync::Arc;
 
 /// A word of 0 for the lanes, and one for each entry, balancer and exit.
 ///
@@ -48,6 +51,20 @@ pub(super) fn yard_for(alloc: Global, network: &Counting) -> Result<Yard, AllocE
     ensures nobody { IfOk result (λ yard. tokens_in yard.lists ≡ 0) }
 {
     Yard::new(alloc, network.entries() + 2 * network.balancers())
+}
+
+/// Whether so many clients may come in.
+///
+/// # Errors
+/// `Quota` if they are more than [`MOST_CLIENTS`].
+fn quota_fits(quota: u64) -> Result<(), OpenFault>
+    ensures ok { IfOk result (λ _. quota ≤ MOST_CLIENTS) }
+    ensures err { IfErr result (λ fault. (fault ≡ OpenFault.Quota) × (MOST_CLIENTS < quota)) }
+{
+    if quota > MOST_CLIENTS {
+        return Err(OpenFault::Quota);
+    }
+    Ok(())
 }
 
 /// The yard that is there, or else a new one.
@@ -80,13 +97,32 @@ impl<'a> Floor<'a> {
         ensures lane { IfOk result (λ r. r.1 ≡ empty_lane r.0 quota) }
         ensures quota { IsErrOf result OpenFault.Quota ↔ (MOST_CLIENTS < quota) }
     {
-        if quota > MOST_CLIENTS {
-            return Err(OpenFault::Quota);
-        }
-        match Words::zero(alloc, network) {
-            Ok(words) => Floor::open_words(alloc, words, quota),
-            Err(_memory) => Err(OpenFault::Memory),
-        }
+        quota_fits(quota)?;
+        let words = Words::zero(alloc, network)?;
+        Floor::open_words(alloc, words, quota)
+    }
+
+    /// A floor as [`Floor::open`] opens it, which holds the network together with the caller: it outlives no owner, so a
+    /// struct can keep it, and a thread can take it along.
+    ///
+    /// # Errors
+    /// The first that stands: `Quota` (more than [`MOST_CLIENTS`]), `Memory`.
+    pub fn open_shared(
+        alloc: Global,
+        network: &Arc<Counting, Global>,
+        quota: u64,
+    ) -> Result<(Floor<'a>, Lane), OpenFault>
+        ensures floor { IfOk result (λ r. (r.0.start.network ≡ arc_value network.now)
+            × (r.0.start.quota ≡ quota)) }
+        ensures zero { IfOk result (λ r. r.0.start.words
+            ≡ replicate (word_count (arc_value network.now).table) 0) }
+        ensures base { IfOk result (λ r. base r.0.start ≡ 0) }
+        ensures lane { IfOk result (λ r. r.1 ≡ empty_lane r.0 quota) }
+        ensures quota { IsErrOf result OpenFault.Quota ↔ (MOST_CLIENTS < quota) }
+    {
+        quota_fits(quota)?;
+        let words = Words::zero_shared(alloc, network)?;
+        Floor::open_words(alloc, words, quota)
     }
 
     /// A floor over the network of these words, which goes on from them: its numbers and visits begin with theirs, and its
@@ -105,13 +141,9 @@ impl<'a> Floor<'a> {
         ensures lane { IfOk result (λ r. r.1 ≡ empty_lane r.0 quota) }
         ensures quota { IsErrOf result OpenFault.Quota ↔ (MOST_CLIENTS < quota) }
     {
-        if quota > MOST_CLIENTS {
-            return Err(OpenFault::Quota);
-        }
-        match words.copy(alloc) {
-            Ok(copy) => Floor::open_words(alloc, copy, quota),
-            Err(_memory) => Err(OpenFault::Memory),
-        }
+        quota_fits(quota)?;
+        let copy = words.copy(alloc)?;
+        Floor::open_words(alloc, copy, quota)
     }
 
     /// A floor that goes on from what another left, and takes the words and the yard of that. Over leftovers of nobody
@@ -133,7 +165,7 @@ impl<'a> Floor<'a> {
         ensures back { IfErr result (λ back. back ≡ leftovers.entry) }
     {
         let Leftovers { words, yard } = leftovers;
-        let Ok(yard) = spare_yard(alloc, words.network, yard) else {
+        let Ok(yard) = spare_yard(alloc, words.network(), yard) else {
             return Err(Leftovers { words, yard: None });
         };
         match Floor::begin(alloc, words, quota, yard) {
@@ -156,9 +188,7 @@ impl<'a> Floor<'a> {
         ensures lane { IfOk result (λ r. r.1 ≡ empty_lane r.0 quota) }
         ensures memory { IfErr result (λ fault. fault ≡ OpenFault.Memory) }
     {
-        let Ok(yard) = yard_for(alloc, words.network) else {
-            return Err(OpenFault::Memory);
-        };
+        let yard = yard_for(alloc, words.network())?;
         match Floor::begin(alloc, words, quota, yard) {
             Ok(opened) => Ok(opened),
             Err(_words) => Err(OpenFault::Memory),
@@ -178,7 +208,7 @@ impl<'a> Floor<'a> {
         ensures lane { IfOk result (λ r. r.1 ≡ record (empty_lane r.0 quota) { yard = yard }) }
         ensures back { IfErr result (λ back. back ≡ words.entry) }
     {
-        let made = Counters::new(alloc, words.network, quota, &words.words);
+        let made = Counters::new(alloc, words.network(), quota, &words.words);
         let Ok((counters, seat)) = made else {
             return Err(words);
         };
@@ -191,7 +221,6 @@ impl<'a> Floor<'a> {
         };
         let floor = Floor {
             alloc,
-            network: words.network,
             base: words.clients,
             before: words,
             counters,

@@ -42,7 +42,7 @@ impl<'a> Floor<'a> {
         if quota > lane.quota {
             return Err((SplitFault::QuotaTooSmall, lane));
         }
-        let Ok(yard) = yard_for(self.alloc, self.network) else {
+        let Ok(yard) = yard_for(self.alloc, self.network()) else {
             return Err((SplitFault::Memory, lane));
         };
         let seat = self.counters.split::<Brand>(&mut lane.seat, quota);

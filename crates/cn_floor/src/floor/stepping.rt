@@ -35,7 +35,7 @@ impl<'a> Floor<'a> {
             ↔ ((entry < self.now.start.network.table.entries) × (lane.old.view.quota ≡ 0)) }
         ensures room { 0 < lane.old.room → ¬ (IsErrOf result LaneFault.Memory) }
     {
-        if entry >= u64::from(self.network.entries()) {
+        if entry >= u64::from(self.network().entries()) {
             return Err(LaneFault::NoSuchEntry);
         }
         if lane.quota == 0 {
@@ -67,13 +67,14 @@ impl<'a> Floor<'a> {
     {
         let client = lane.yard.client_of(token);
         let wire = lane.yard.wire_of(token);
-        let end = self.network.end(wire);
+        let network = self.network();
+        let end = network.end(wire);
         let number = self
             .counters
             .step::<Brand>(&mut lane.seat, token, client, wire, end);
         match end {
             End::Balancer(balancer) => {
-                let wire = self.network.entries() + 2 * balancer + output_of(number);
+                let wire = network.entries() + 2 * balancer + output_of(number);
                 lane.yard.move_to(token, wire);
                 Moved::On {
                     balancer,
@@ -82,7 +83,7 @@ impl<'a> Floor<'a> {
                 }
             }
             End::Exit(exit) => {
-                let name = name_of(self.network.width(), exit, number) - self.base;
+                let name = name_of(network.width(), exit, number) - self.base;
                 lane.yard.release(token);
                 lane.grants.push_reserved(Grant {
                     client,
@@ -108,7 +109,7 @@ impl<'a> Floor<'a> {
         ensures answer { IsAnswer self.now.start seat.old.me.0 result }
     {
         let mut total = 0;
-        for entry in 0..self.network.entries() {
+        for entry in 0..self.network().entries() {
             total += self.counters.load_next::<Brand>(seat, entry);
         }
         total - self.base

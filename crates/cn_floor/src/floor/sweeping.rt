@@ -65,13 +65,14 @@ impl<'a> Floor<'a> {
     {
         lane.lane_laws();
         let tokens = u64::from(lane.yard.count(wire));
-        let end = self.network.end(wire);
+        let network = self.network();
+        let end = network.end(wire);
         let first = self
             .counters
             .sweep::<Brand>(&mut lane.seat, wire, end, tokens);
         match end {
             End::Balancer(balancer) => {
-                let out = self.network.entries() + 2 * balancer;
+                let out = network.entries() + 2 * balancer;
                 lane.yard.deal(wire, output_of(first), out, out + 1);
                 Sweep::On {
                     balancer,
@@ -80,7 +81,7 @@ impl<'a> Floor<'a> {
                 }
             }
             End::Exit(exit) => {
-                let width = self.network.width();
+                let width = network.width();
                 leave_all(
                     &mut lane.yard,
                     &mut lane.grants,

@@ -1,15 +1,18 @@
 //! The words of closed floors.
 
+ghost use Rattle.std.specs.Arc.{arc_value};
 ghost use Rattle.std.specs.Prelude.{◌≡◌, ◌<◌, None, length, IfOk, IfSome};
 ghost use Rattle.cn_wiring.specs.declared.end.End.TheVariants.{Balancer, Exit};
 ghost use Rattle.cn_floor.specs.Carried.{AreTight, IsClosed, client_count, zero_words};
 ghost use Rattle.cn_floor.specs.Words.{IsDifference, NoneWent, count_in, entered_in};
 
+use super::network_ref::NetworkRef;
 use super::reading::rise;
 use super::zeros;
 use cn_wiring::Counting;
 use std::alloc::{AllocError, Global};
 use std::marker::Model;
+use std::sync::Arc;
 
 /// The words of closed floors over a network: how many clients came in by each entry, passed each balancer and left by each
 /// exit since each word was 0. Another floor may go on from them ([`super::Floor::open_after`]).
@@ -17,7 +20,7 @@ use std::marker::Model;
 /// Only [`Words::zero`] and the close of a floor make them. No reader takes memory.
 #[derive(Drop)]
 pub struct Words<'a> {
-    pub(super) network: &'a Counting,
+    pub(super) network: NetworkRef<'a>,
     pub(super) words: Vec<u64>,
     pub(super) clients: u64,
 }
@@ -42,19 +45,45 @@ impl<'a> Words<'a> {
         ensures zero { IfOk result (λ words. words ≡ zero_words network.now) }
         ensures nobody { IfOk result (λ words. client_count words ≡ 0) }
     {
+        Words::zero_over(alloc, NetworkRef::borrowed(network))
+    }
+
+    /// Words of which each is 0, which hold the network together with the caller.
+    ///
+    /// # Errors
+    /// `AllocError` where they get no memory.
+    pub fn zero_shared(
+        alloc: Global,
+        network: &Arc<Counting, Global>,
+    ) -> Result<Words<'a>, AllocError>
+        ensures zero { IfOk result (λ words. words ≡ zero_words (arc_value network.now)) }
+        ensures nobody { IfOk result (λ words. client_count words ≡ 0) }
+    {
+        Words::zero_over(alloc, NetworkRef::shared(network)?)
+    }
+
+    /// Words of which each is 0, over a network that is held in some way.
+    ///
+    /// # Errors
+    /// `AllocError` where they get no memory.
+    pub(super) fn zero_over(alloc: Global, network: NetworkRef<'a>) -> Result<Words<'a>, AllocError>
+        ensures zero { IfOk result (λ words. words ≡ zero_words network.entry) }
+        ensures nobody { IfOk result (λ words. client_count words ≡ 0) }
+    {
+        let words = zeros(alloc, network.get())?;
         Ok(Words {
             network,
-            words: zeros(alloc, network)?,
+            words,
             clients: 0,
         })
     }
 
     /// Those of a floor that is closed, with the number of all their clients.
-    pub(super) fn closed(network: &'a Counting, words: Vec<u64>, clients: u64) -> Words<'a>
-        requires closed { IsClosed (record { network = network.now; words = words.items }) }
+    pub(super) fn closed(network: NetworkRef<'a>, words: Vec<u64>, clients: u64) -> Words<'a>
+        requires closed { IsClosed (record { network = network; words = words.items }) }
         requires clients { clients
-            ≡ client_count (record { network = network.now; words = words.items }) }
-        ensures { result ≡ record { network = network.now; words = words.items } }
+            ≡ client_count (record { network = network; words = words.items }) }
+        ensures { result ≡ record { network = network.entry; words = words.items } }
     {
         Words {
             network,
@@ -71,7 +100,7 @@ impl<'a> Words<'a> {
         ensures { IfOk result (λ words. words ≡ self.now) }
     {
         Ok(Words {
-            network: self.network,
+            network: self.network.share()?,
             words: Vec::from_slice(alloc, self.words.as_slice())?,
             clients: self.clients,
         })
@@ -106,10 +135,20 @@ impl<'a> Words<'a> {
     }
 
     /// The network that they are of.
-    pub fn network(&self) -> &'a Counting
+    pub fn network(&self) -> &Counting
         ensures { result.now ≡ self.now.network }
     {
-        self.network
+        self.network.get()
+    }
+
+    /// One more holder of this network.
+    ///
+    /// # Errors
+    /// `AllocError` if its holders cannot be counted.
+    pub(super) fn share_network(&self) -> Result<NetworkRef<'a>, AllocError>
+        ensures { IfOk result (λ network. network ≡ self.now.network) }
+    {
+        self.network.share()
     }
 
     /// How many clients came.
@@ -132,7 +171,7 @@ impl<'a> Words<'a> {
         requires { balancer < self.now.network.table.balancers }
         ensures { result ≡ count_in self.now.network.table self.now.words (Balancer balancer) }
     {
-        self.words[1 + self.network.entries() as usize + balancer as usize]
+        self.words[1 + self.network().entries() as usize + balancer as usize]
     }
 
     /// How many left by an exit of the network.
@@ -140,7 +179,8 @@ impl<'a> Words<'a> {
         requires { exit < self.now.network.table.width }
         ensures { result ≡ count_in self.now.network.table self.now.words (Exit exit) }
     {
-        let first = 1 + self.network.entries() as usize + self.network.balancers() as usize;
+        let network = self.network();
+        let first = 1 + network.entries() as usize + network.balancers() as usize;
         self.words[first + exit as usize]
     }
 }

@@ -19,7 +19,7 @@ invariant_of-closed c =
     let v : View = c.lane.inside.seat.me.0 in
     let ws : List ℕ = c.close-words.result.items in
     let e = c.close-words.ensures in
-    let network : c.self.inside.network.now ≡ start.network = sym c.self.invariant.network in
+    let network : c.network.result.now ≡ start.network = c.network.ensures ∙ ap (λ (w : WordsValue). w.network) c.self.invariant.before in
     let lane : c.of-told.result.value ≡ c.args.lane = c.of-told.ensures in
     let view : v ≡ c.of-told.result.value.view = ap (λ (l : LaneValue). l.view) (c.lane.view_is ∙ sym lane) in
     let about : start ≡ c.of-told.result.value.home.start = ap (λ (h : FloorValue). h.start) (c.self.view_is ∙ sym c.requires.own ∙ ap (λ (l : LaneValue). l.home) (sym lane)) in
@@ -32,7 +32,7 @@ invariant_of-closed c =
     let after : c.closed.result.words ≡ ws = ap (λ (w : WordsValue). w.words) c.closed.ensures in
     record {
       quiet = subst (λ (z : Start × View × List ℕ). IsClosedFloor z.0 z.1 z.2) (λ i. (about i, view i, sym after i)) quiet;
-      network = ap (λ (w : WordsValue). w.network) c.closed.ensures ∙ network ∙ ap (λ (s : Start). s.network) about;
+      network = ap (λ (w : WordsValue). w.network) c.closed.ensures ∙ c.requires.network ∙ ap (λ (h : FloorValue). h.start.network) (sym c.self.view_is) ∙ ap (λ (s : Start). s.network) about;
       grants = c.lane.invariant.grants ∙ ap (λ (x : View). x.grants) view;
     }
 
@@ -43,7 +43,7 @@ closed-requires-clause-closed c =
     let ws : List ℕ = c.close-words.result.items in
     let e = c.close-words.ensures in
     let began = c.self.invariant.began in
-    let network : c.self.inside.network.now ≡ start.network = sym c.self.invariant.network in
+    let network : c.network.result.now ≡ start.network = c.network.ensures ∙ ap (λ (w : WordsValue). w.network) c.self.invariant.before in
     let nobody : tokens_in c.lane.inside.yard.lists ≡ 0 = search rules in
     let out : inside_in v ≡ 0 = inside-yard c.lane.inside.yard v c.lane.invariant.tokens ∙ nobody in
     let clients : c.clients_of-clients.result ≡ clients_in start.network.table ws = c.clients_of-clients.ensures ∙ (λ i. clients_in (network i).table (c.as_slice.ensures.value i)) in
@@ -55,12 +55,13 @@ closed-requires-clause-closed c =
       carried = quiet.closed;
       few = omega (arith, e.few, began.few, began.quota);
     } in
-    subst IsClosed (λ i. record { network = sym network i; words = ws }) closed
+    let held : start.network ≡ c.args.network = ap (λ (h : FloorValue). h.start.network) c.self.view_is ∙ sym c.requires.network in
+    subst IsClosed (λ i. record { network = held i; words = ws }) closed
 
 pub closed-requires-clause-clients : goal.closed-requires-clause-clients
 closed-requires-clause-clients c =
-    let ws : List ℕ = c.close-words.result.items in
-    c.clients_of-clients.ensures ∙ (λ i. clients_in c.self.inside.network.now.table (c.as_slice.ensures.value i))
+    let network : c.network.result.now ≡ c.args.network = c.network.ensures ∙ ap (λ (w : WordsValue). w.network) c.self.invariant.before ∙ ap (λ (h : FloorValue). h.start.network) c.self.view_is ∙ sym c.requires.network in
+    c.clients_of-clients.ensures ∙ (λ i. clients_in (network i).table (c.as_slice.ensures.value i))
 
 pub invariant_of-leftovers : goal.invariant_of-leftovers
 invariant_of-leftovers c =
@@ -81,7 +82,7 @@ returns-then-entered-granted-clause-refused c =
     let ws : List ℕ = c.close-words.result.items in
     let e = c.close-words.ensures in
     let entered : ℕ = c.clients_of-clients.result - c.self.inside.base in
-    let network : c.self.inside.network.now ≡ start.network = sym c.self.invariant.network in
+    let network : c.network.result.now ≡ start.network = c.network.ensures ∙ ap (λ (w : WordsValue). w.network) c.self.invariant.before in
     let clients : c.clients_of-clients.result ≡ clients_in start.network.table ws = c.clients_of-clients.ensures ∙ (λ i. clients_in (network i).table (c.as_slice.ensures.value i)) in
     let granted : c.len-granted.result ≡ length v.grants = search rules in
     let missing : IsMissing start v entered = record {

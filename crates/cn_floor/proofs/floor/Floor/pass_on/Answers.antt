@@ -32,8 +32,8 @@ module _ (g : given.Over) (c : goal.After-output_of g) where
   of : v.start ≡ start
   of = c.loop-balancer.invariant.passed.start ∙ c.requires.own.1
 
-  network : start.network ≡ c.self.inside.network.now
-  network = ap (λ (h : FloorValue). h.start.network) (sym c.self.view_is) ∙ c.self.invariant.network
+  network : start.network ≡ c.network-network.result.now
+  network = sym c.network-network.ensures.value
 
   formed : IsWellFormed start.network.table
   formed = subst (λ (x : Network). IsWellFormed x.table) (sym network) c.end.ensures.network.formed
