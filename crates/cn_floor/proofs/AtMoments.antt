@@ -1,4 +1,5 @@
 -- Between two atomic steps: what keeps the rule.
+pub mod Places
 pub mod Totals
 pub mod Raised
 pub mod Ledgers
@@ -13,3 +14,4 @@ pub mod Sweeps
 pub mod Openings
 pub mod Loading
 pub mod Sharing
+pub mod Names

@@ -1,10 +1,9 @@
 -- What the laws of floors say.
-use Rattle.std.specs.Prelude.{◌≡◌, ℕ, ◌+◌, ◌*◌, ◌<◌, ◌≤◌, All, length, sum_by}
+use Rattle.std.specs.Prelude.{◌≡◌, ℕ, ◌+◌, ◌*◌, ◌<◌, ◌≤◌, All, length, map, sum_by}
 use mathlib.Core.Option.{some}
 use lib.ListN.{get_elem?}
-use Rattle.atomic_table.specs.Table.{State}
 use Rattle.cn_spec.specs.Step.{share}
-use Rattle.cn_spec.specs.Sums.{once_below}
+use Rattle.cn_spec.specs.Sums.{once_below, times}
 use Rattle.cn_wiring.specs.declared.end.End.{End}
 use Rattle.cn_wiring.specs.declared.end.End.TheVariants.{Exit}
 use Rattle.cn_wiring.specs.Levels.{IsLevel}
@@ -12,21 +11,17 @@ use Rattle.cn_wiring.specs.Table.{Stands}
 use Rattle.cn_ledger.specs.Ledger.{Ledger}
 use Rattle.cn_floor.specs.declared.view.Start.{Start}
 use Rattle.cn_floor.specs.declared.view.View.{View}
-use Rattle.cn_floor.specs.Rule.{KeepsRule, ledger_of}
+use Rattle.cn_floor.specs.Rule.{FloorState, KeepsRule, ledger_of}
 use Rattle.cn_floor.specs.Views.{base, given_in, inside_in, levels_in}
 use Rattle.cn_floor.specs.Words.{clients_in, count_in}
 
--- the words and the views of a floor
-abbrev pub FloorState : Type 0
-FloorState = State (Unit {0}) View
+-- each state that keeps the rule of a floor has this property
+abbrev pub AtEachMoment : Start → (Start → FloorState → Type 0) → Type 0
+AtEachMoment start P = (s : FloorState) → KeepsRule start s → P start s
 
--- each state that keeps the rule has this property
-abbrev pub AtEachMoment : (Start → FloorState → Type 0) → Type 0
-AtEachMoment P = (start : Start) (s : FloorState) → KeepsRule start s → P start s
-
--- each view in each state that keeps the rule has this property
-abbrev pub InEachView : (Start → FloorState → View → Type 0) → Type 0
-InEachView P = AtEachMoment (λ start s. (id : ℕ) (v : View) → get_elem? s.views id ≡ some v → P start s v)
+-- each view in each state that keeps the rule of a floor has this property
+abbrev pub InEachView : Start → (Start → FloorState → View → Type 0) → Type 0
+InEachView start P = AtEachMoment start (λ start s. (id : ℕ) (v : View) → get_elem? s.views id ≡ some v → P start s v)
 
 -- the ledger of all that ever came
 abbrev pub ledger_at : Start → FloorState → Ledger
@@ -49,6 +44,10 @@ HasFewWords start s =
 -- the names that a lane holds are below the number that came since the floor began
 abbrev pub HoldsLowNames : Start → FloorState → View → Type 0
 HoldsLowNames start s v = All (λ g. base start + g.name < entered_at start s) v.grants
+
+-- no name stands twice in a lane
+abbrev pub NamesOnce : Start → FloorState → View → Type 0
+NamesOnce start s v = (name : ℕ) → times name (map (λ g. g.name) v.grants) ≤ 1
 
 -- the visits that lanes were given on an exit begin with its share of the clients that came before the floor began, and
 -- are those below its count, each once

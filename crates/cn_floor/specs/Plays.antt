@@ -1,13 +1,14 @@
 -- What each kind of atomic step says of the lane's view before and after.
 use Rattle.std.specs.Prelude.{◌≡◌, ℕ, ◌+◌, ◌-◌, ◌≤◌, ◌++◌, ◌∷◌, [], length, sum}
+use Rattle.cn_spec.specs.declared.limits.TheConstants.{MOST_CLIENTS}
 use Rattle.cn_wiring.specs.declared.end.End.{End}
 use Rattle.cn_wiring.specs.declared.end.End.TheVariants.{Exit}
 use Rattle.cn_ledger.specs.Moves.{IsMoveOf}
 use Rattle.cn_ledger.specs.Events.{Enters}
 use Rattle.cn_floor.specs.declared.view.Start.{Start}
 use Rattle.cn_floor.specs.declared.view.View.{View}
-use Rattle.cn_floor.specs.Steps.{IsAnswer, IsAtomicStep, answer_at}
-use Rattle.cn_floor.specs.Views.{after_enter, after_load, after_step, base, no_start, own_count}
+use Rattle.cn_floor.specs.Steps.{HasMoment, IsAnswer, IsAtomicStep, answer_at}
+use Rattle.cn_floor.specs.Views.{after_enter, after_load, after_look, after_step, base, inside_in, no_start, own_count}
 use Rattle.cn_floor.specs.Words.{count_in}
 
 -- who comes in by which entry, on which floor
@@ -56,4 +57,9 @@ pub record IsLoad (start : Start) (v : View) (n : ℕ) : Type 0 where
       → (base start ≤ sum (v.loads ++ n ∷ [])) × IsAnswer start v (sum (v.loads ++ n ∷ []) - base start)
 
 abbrev pub Loads : Start → View → ℕ → View → Type 0
-Loads start v n w = (w ≡ after_load start n v) × IsLoad start v n
+Loads start v n w = (w ≡ after_load start n v) × IsLoad start v n × HasMoment start w
+
+-- a look, at a moment at which the lane has its view
+abbrev pub Looks : Start → View → View → Type 0
+Looks start v w =
+    (w ≡ after_look v) × HasMoment start w × (inside_in v + v.quota ≤ MOST_CLIENTS)

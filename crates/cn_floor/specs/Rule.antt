@@ -34,6 +34,7 @@ ledger_of t carried words views = record {
 -- words that a floor may carry: those of a sound ledger with nobody inside
 pub record IsCarried (t : Table) (carried : List ℕ) : Type 0 where
   pub words : length carried ≡ word_count t
+  pub lanes : slice_index carried 0 ≡ 0
   pub sound : IsSound t (ledger_of t carried carried [])
 
 -- what a floor may begin with
@@ -64,10 +65,15 @@ pub record IsFresh (start : Start) (words : List ℕ) (v : View) : Type 0 where
   pub seen : base start + v.seen ≤ load_bound start.network.table words v.loads
   pub names : All (λ g. base start + g.name < load_bound start.network.table words v.loads) v.grants
 
+-- the words and the views of a floor
+abbrev pub FloorState : Type 0
+FloorState = State (Unit {0}) View
+
 -- what holds between any two atomic steps
-pub record KeepsRule (start : Start) (s : State (Unit {0}) View) : Type 0 where
-  pub began : IsStart start
+pub record KeepsRule (start : Start) (s : FloorState) : Type 0 where
   pub words : length s.words ≡ word_count start.network.table
+  -- nobody ever adds to the lanes' word
+  pub lanes : slice_index s.words 0 ≡ 0
   -- the ledger is sound
   pub sound : IsSound start.network.table (ledger_of start.network.table start.words s.words s.views)
   -- each entry's word has the entries of all views, above the carried ones
@@ -78,6 +84,11 @@ pub record KeepsRule (start : Start) (s : State (Unit {0}) View) : Type 0 where
   pub fresh : (id : ℕ) (v : View) → get_elem? s.views id ≡ some v → IsFresh start s.words v
   -- the quota is spent only on entries
   pub quotas : sum_by (λ v. v.quota + length v.entries) s.views ≡ start.quota
+
+-- the rule of a table: that of a floor which began as a floor may
+pub record HoldsAt (start : Start) (s : FloorState) : Type 0 where
+  pub began : IsStart start
+  pub rule : KeepsRule start s
 
 -- what a floor begins with, by what its words are opened with
 abbrev pub start_of : Opening → Start

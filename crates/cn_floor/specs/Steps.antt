@@ -2,7 +2,6 @@
 use Rattle.std.specs.Prelude.{◌≡◌, ℕ, ◌-◌, ◌%◌, ◌≤◌, ◌<◌, All, length, slice_set}
 use mathlib.Core.Option.{some}
 use lib.ListN.{get_elem?}
-use Rattle.atomic_table.specs.Table.{State}
 use Rattle.cn_spec.specs.Step.{name_of}
 use Rattle.cn_wiring.specs.declared.end.End.{End}
 use Rattle.cn_wiring.specs.declared.end.End.TheVariants.{Balancer, Exit}
@@ -12,16 +11,26 @@ use Rattle.cn_ledger.specs.declared.moved.Moved.TheVariants.{On, Out}
 use Rattle.cn_ledger.specs.Ledger.{Ledger}
 use Rattle.cn_floor.specs.declared.view.Start.{Start}
 use Rattle.cn_floor.specs.declared.view.View.{View}
-use Rattle.cn_floor.specs.Rule.{KeepsRule, ledger_of}
+use Rattle.cn_floor.specs.Rule.{FloorState, KeepsRule, ledger_of}
 use Rattle.cn_floor.specs.Views.{base}
+
+-- At this moment of the floor a lane has this view: the state keeps the rule.
+pub record IsMoment (start : Start) (v : View) (s : FloorState) : Type 0 where
+  pub id : ℕ
+  pub here : get_elem? s.views id ≡ some v
+  pub kept : KeepsRule start s
+
+abbrev pub HasMoment : Start → View → Type 0
+HasMoment start v = (s : FloorState) × IsMoment start v s
 
 -- At a moment of the floor one view becomes another and no other changes, and that is this event on the ledger; the rule
 -- holds before it and after.
 pub record IsAtomicStep (start : Start) (v w : View) (event : Ledger → Ledger → Type 0) : Type 0 where
-  pub old : State (Unit {0}) View
-  pub new : State (Unit {0}) View
+  pub old : FloorState
+  pub new : FloorState
   pub id : ℕ
   pub here : get_elem? old.views id ≡ some v
+  pub there : get_elem? new.views id ≡ some w
   pub views : new.views ≡ slice_set old.views id w
   pub kept_before : KeepsRule start old
   pub kept_after : KeepsRule start new

@@ -103,15 +103,19 @@ after_load start n v = after_load_by (nat_eq (length v.loads + 1) start.network.
 abbrev pub after_entered : Start → ℕ → View → View
 after_entered start answer v = record v { seen = answer; steps = v.steps + start.network.table.entries }
 
--- what is left of a view after q of its quota are split off
+-- a lane looked once, and keeps nothing of what it saw
+abbrev pub after_look : View → View
+after_look v = record v { steps = v.steps + 1 }
+
+-- what is left of a view after q of its quota are split off, in one step
 abbrev pub after_split : ℕ → View → View
-after_split q v = record v { quota = v.quota - q }
+after_split q v = record v { quota = v.quota - q; steps = v.steps + 1 }
 
 -- what the new lane has, with this quota
 abbrev pub split_off : ℕ → View → View
 split_off q v = record (empty_view v.start q) { seen = v.seen }
 
--- two views made one; the second has no tokens
+-- two views made one, in one step; the second has no tokens
 abbrev pub after_join : View → View → View
 after_join v w = record v {
   quota = v.quota + w.quota;
@@ -119,7 +123,7 @@ after_join v w = record v {
   passages = v.passages ++ w.passages;
   grants = v.grants ++ w.grants;
   seen = max v.seen w.seen;
-  steps = v.steps + w.steps;
+  steps = v.steps + w.steps + 1;
 }
 
 -- a view that no lane has now

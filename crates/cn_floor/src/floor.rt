@@ -4,6 +4,7 @@ mod closed_floor;
 mod closing;
 mod counters;
 mod lane;
+mod laws;
 mod leftovers;
 mod lone;
 mod network_ref;

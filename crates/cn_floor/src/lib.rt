@@ -4,7 +4,6 @@
 mod fault;
 mod floor;
 mod gate;
-pub mod laws;
 mod view;
 
 pub use fault::{JoinFault, LaneFault, OpenFault, SplitFault};

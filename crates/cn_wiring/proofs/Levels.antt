@@ -6,7 +6,7 @@ use Rattle.cn_wiring.specs.declared.end.End.{End}
 use Rattle.cn_wiring.specs.declared.end.End.TheVariants.{Balancer, Exit}
 use Rattle.cn_wiring.specs.Plan.{Feeds, IsPath, HasLevel}
 use Rattle.cn_wiring.specs.Table.{Table, IsWellFormed, end_of, balancer_of, plan_of_table, HasDepth}
-use Rattle.cn_wiring.specs.Levels.{IsLevel}
+use Rattle.cn_wiring.specs.Levels.{CountsPaths, IsLevel}
 use Rattle.cn_wiring.proofs.PlanFlow.{paths}
 use Rattle.cn_wiring.proofs.Tables.{ahead, orderly-table}
 
@@ -52,8 +52,8 @@ module _ (t : Table) (w : IsWellFormed t) where
     unfolding level
     level-paths x h = level_by-paths x (cases_lt x (length t.ends)) h
 
-    pub levels : (lv : ℕ → ℕ) × IsLevel t n lv
-    levels = (
+    pub path-levels : (lv : ℕ → ℕ) × IsLevel t n lv × CountsPaths t lv
+    path-levels = (
       level,
       record {
         entry = λ u h. let k : u < length t.ends = omega (arith, w.wires) in sym (level-paths u k [] h);
@@ -65,10 +65,13 @@ module _ (t : Table) (w : IsWellFormed t) where
             let next = level-paths (t.entries + 2 * b + p) in_range (u ∷ us) (feeds u b (t.entries + 2 * b + p) h e (zero-or-one (t.entries + 2 * b) p few), path) in
             omega arith;
         exit = λ u i h e. let (us, path) = path_to u h in sym (level-paths u h us path) ∙ deep i u h e us path;
-        paths = level-paths;
       },
+      level-paths,
     )
       where
         zero-or-one : (m p : ℕ) → p < 2 → (m + p ≡ m) ⊎ (m + p ≡ m + 1)
         zero-or-one m zero h = inl (omega arith)
         zero-or-one m (suc p) h = inr (omega arith)
+
+    pub levels : (lv : ℕ → ℕ) × IsLevel t n lv
+    levels = let (lv, is, _) = path-levels in (lv, is)

@@ -10,5 +10,7 @@ pub record IsLevel (t : Table) (n : ℕ) (level : ℕ → ℕ) : Type 0 where
   pub output : (u b p : ℕ) → u < length t.ends → end_of t u ≡ Balancer b → p < 2
       → level (output_wire t b p) ≡ level u + 1
   pub exit : (u i : ℕ) → u < length t.ends → end_of t u ≡ Exit i → level u ≡ n
-  -- each path to a wire passes as many balancers as its level
-  pub paths : (u : ℕ) → u < length t.ends → HasLevel (plan_of_table t) (level u) u
+
+-- each path to a wire passes as many balancers as its level
+abbrev pub CountsPaths : Table → (ℕ → ℕ) → Type 0
+CountsPaths t level = (u : ℕ) → u < length t.ends → HasLevel (plan_of_table t) (level u) u

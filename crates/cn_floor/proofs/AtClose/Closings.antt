@@ -21,7 +21,7 @@ use Rattle.cn_floor.specs.declared.view.View.{View}
 use Rattle.cn_ledger.specs.Grants.{Grant as Listed, ListsGrants, is_grant}
 use Rattle.cn_floor.specs.Closing.{IsEnding}
 use Rattle.cn_floor.specs.Ends.{IsClosedFloor, NobodyInside, counts_of}
-use Rattle.cn_floor.specs.Rule.{KeepsRule, ledger_of}
+use Rattle.cn_floor.specs.Rule.{HoldsAt, ledger_of}
 use Rattle.cn_floor.specs.Views.{base, given_in, granted_in, inside_in, on_in, standing_in}
 use Rattle.cn_floor.specs.Words.{clients_in, count_in, entered_in}
 use Rattle.cn_floor.proofs.AtMoments.Bounds.{all_came, few_came}
@@ -79,14 +79,14 @@ no-entry : (u : ℕ) (es : List ℕ) → length es ≡ 0 → times u es ≡ 0
 no-entry u [] none = times-nil u
 no-entry u (e ∷ es) none = absurd (omega arith)
 
-module _ (start : Start) (s : State (Unit {0}) View) (id : ℕ) (v : View) (kept : KeepsRule start s) (at : get_elem? s.views id ≡ some v) where
+module _ (start : Start) (s : State (Unit {0}) View) (id : ℕ) (v : View) (kept : HoldsAt start s) (at : get_elem? s.views id ≡ some v) where
   -- a lane that let nobody in has nobody inside, and no grants
   none-inside : (j : ℕ) (x : View) → get_elem? s.views j ≡ some x → length x.entries ≡ 0 → (u : ℕ) → on_in u x ≡ 0
-  none-inside j x a none = none-on x (omega (arith, (kept.accounted j x a).all))
+  none-inside j x a none = none-on x (omega (arith, (kept.rule.accounted j x a).all))
 
   none-granted : (j : ℕ) (x : View) → get_elem? s.views j ≡ some x → length x.entries ≡ 0 → (c i k name : ℕ) → granted_in (base start) c i k name x ≡ 0
   none-granted j x a none c i k name =
-      omega (arith, (kept.accounted j x a).all, count_by-le-length (λ (g : Grant). eqb g.client c && (eqb g.exit i && (eqb g.visit k && eqb (g.name + base start) name))) x.grants)
+      omega (arith, (kept.rule.accounted j x a).all, count_by-le-length (λ (g : Grant). eqb g.client c && (eqb g.exit i && (eqb g.visit k && eqb (g.name + base start) name))) x.grants)
 
   -- a sum over this lane alone
   alone : (f : View → ℕ) → sum_by f (v ∷ []) ≡ f v
@@ -100,7 +100,7 @@ module _ (start : Start) (s : State (Unit {0}) View) (id : ℕ) (v : View) (kept
       let one : test g ≡ 1 = rw (eq-eqb g.client g.client refl, eq-eqb g.exit g.exit refl, eq-eqb g.visit g.visit refl, eq-eqb (g.name + base start) (g.name + base start) refl) refl in
       let part = get_or-le-sum_by test v.grants j d l in
       let all = part_le (granted_in (base start) g.client g.exit g.visit (g.name + base start)) s.views id v at in
-      kept.sound.named g.client g.exit g.visit (g.name + base start) (omega arith)
+      kept.rule.sound.named g.client g.exit g.visit (g.name + base start) (omega arith)
 
   -- the names are those below the number of grants, each once
   names-at : IsTight start.network.table (ledger_of start.network.table start.words s.words (v ∷ [])) → clients_in start.network.table s.words ≡ base start + length v.grants
@@ -130,8 +130,8 @@ module _ (start : Start) (s : State (Unit {0}) View) (id : ℕ) (v : View) (kept
   quiet out all =
       let t = start.network.table in
       let entries : View → ℕ = λ x. length x.entries in
-      let account = kept.accounted id v at in
-      let f = kept.fresh id v at in
+      let account = kept.rule.accounted id v at in
+      let f = kept.rule.fresh id v at in
       let came = all_came start s kept in
       let mine : sum_by entries s.views ≡ entries v = omega (arith, came, account.all) in
       let on : (u : ℕ) → sum_by (on_in u) s.views ≡ on_in u v = λ u. mine_alone (on_in u) entries s.views id v at (λ j x a z. none-inside j x a z u) mine in
@@ -151,11 +151,11 @@ module _ (start : Start) (s : State (Unit {0}) View) (id : ℕ) (v : View) (kept
             + (granted c i k name ∙ sym (alone (granted_in (base start) c i k name))) x;
       } in
       let numbers : (end : End) (n : ℕ) → Stands t end → once_below (count_in t start.words end) n + given_in end n v ≡ once_below (count_in t s.words end) n = λ end n stands.
-      omega (arith, given end n, kept.sound.numbered end n stands) in
+      omega (arith, given end n, kept.rule.sound.numbered end n stands) in
       let own : (u : ℕ) → u < t.entries → entered_in t s.words u ≡ entered_in t start.words u + times u v.entries = λ u l.
-      omega (arith, kept.entered u l, mine_alone (λ (x : View). times u x.entries) entries s.views id v at (λ j x a z. no-entry u x.entries z) mine) in
+      omega (arith, kept.rule.entered u l, mine_alone (λ (x : View). times u x.entries) entries s.views id v at (λ j x a z. no-entry u x.entries z) mine) in
       let nobody : NobodyInside start (v ∷ []) = λ u l. omega (arith, alone (on_in u), none-on v out u) in
-      let sound : IsSound t (ledger_of t start.words s.words (v ∷ [])) = subst (IsSound t) same kept.sound in
+      let sound : IsSound t (ledger_of t start.words s.words (v ∷ [])) = subst (IsSound t) same kept.rule.sound in
       let end = tight-after start kept.began s.words (v ∷ []) sound nobody in
       record {
         out = omega (arith, account.all);
@@ -175,19 +175,28 @@ module _ (start : Start) (s : State (Unit {0}) View) (id : ℕ) (v : View) (kept
         seen = omega (arith, f.seen, load_bound-few t s.words v.loads f.low);
         named = named-at;
         names = names-at end all;
-        closed = carried-after start kept.began s.words (v ∷ []) sound nobody kept.words;
+        closed = carried-after start kept.began s.words (v ∷ []) sound nobody kept.rule.words kept.rule.lanes;
       }
 
   pub ending-at : IsEnding start v s.words
   ending-at = record {
-    moment = record { state = s; id = id; here = at; kept = kept; same = refl };
-    count = kept.words;
+    state = s;
+    moment = record { id = id; here = at; kept = kept.rule };
+    same = refl;
+    count = kept.rule.words;
     few = few_came start s kept;
-    granted = omega (arith, all_came start s kept, part_le (λ (x : View). length x.entries) s.views id v at, (kept.accounted id v at).all);
+    granted = omega (arith, all_came start s kept, part_le (λ (x : View). length x.entries) s.views id v at, (kept.rule.accounted id v at).all);
+    sole = λ whole.
+        omega (
+          arith,
+          all_came start s kept,
+          mine_alone (λ (x : View). length x.entries) (λ (x : View). x.quota + length x.entries) s.views id v at (λ j x a z. omega arith) (kept.rule.quotas ∙ sym whole),
+        );
+    within = omega (arith, kept.rule.quotas, part_le (λ (x : View). x.quota + length x.entries) s.views id v at);
     quiet = quiet;
   }
 
-pub ending : (start : Start) (id : ℕ) (v : View) (ws : List ℕ) (xs : List (Unit {0})) → Final (Seen (KeepsRule start) id v) ws xs → IsEnding start v ws
+pub ending : (start : Start) (id : ℕ) (v : View) (ws : List ℕ) (xs : List (Unit {0})) → Final (Seen (HoldsAt start) id v) ws xs → IsEnding start v ws
 ending start id v ws xs f = subst (λ (w : List ℕ). IsEnding start v w) f.2 (ending-at start f.0 id v f.1.0 f.1.1)
 
 -- a lane's yard has as many tokens as its view

@@ -1,5 +1,5 @@
 -- Where nobody is inside, the names of a floor are tight, and its words can be carried.
-use Rattle.std.proofs.Common.{◌≡◌, ◌≢◌, ℕ, ◌+◌, ◌<◌, ◌≤◌, ◌&&◌, inl, inr, Bool, true, false, eqb, ltb, List, [], length, sym, refl, ap, arith}
+use Rattle.std.proofs.Common.{◌≡◌, ◌≢◌, ℕ, ◌+◌, ◌<◌, ◌≤◌, ◌&&◌, inl, inr, Bool, true, false, eqb, ltb, List, [], length, get_or, sym, refl, ap, arith}
 use Rattle.std.proofs.lemmas.Bool.{cases_lt, eq-eqb, eqb-true, lt-ltb, le-ltb, ltb-true, ne_eqb}
 use Rattle.atomic_table.specs.Table.{State}
 use Rattle.cn_spec.specs.Step.{name_of}
@@ -12,7 +12,7 @@ use Rattle.cn_floor.specs.declared.view.Start.{Start}
 use Rattle.cn_floor.specs.declared.view.View.{View}
 use Rattle.cn_floor.specs.Carried.{AreTight, IsClosed, WordsValue}
 use Rattle.cn_floor.specs.Ends.{NobodyInside}
-use Rattle.cn_floor.specs.Rule.{IsCarried, IsStart, KeepsRule, ledger_of}
+use Rattle.cn_floor.specs.Rule.{IsCarried, IsStart, HoldsAt, ledger_of}
 use Rattle.cn_floor.specs.Words.{count_in, word_count}
 use Rattle.cn_spec.proofs.CallerLemmas.{once_in, sum_below-zero, total_where-agree}
 use Rattle.cn_ledger.proofs.CallerLemmas.{tight}
@@ -91,9 +91,10 @@ module _ (start : Start) (began : IsStart start) where
         tight t net.formed net.counts (ledger_of t start.words words views) sound nobody
 
     -- another floor may begin with the words
-    pub carried-after : length words ≡ word_count t → IsCarried t words
-    carried-after long = record {
+    pub carried-after : length words ≡ word_count t → get_or words 0 0 ≡ 0 → IsCarried t words
+    carried-after long none = record {
       words = long;
+      lanes = none;
       sound = alone-sound t words (λ e h.
           let now : Ledger = ledger_of t start.words words views in
           let is = sound.balanced e h in
@@ -107,6 +108,6 @@ closed-tight w is =
     let t = w.network.table in
     tight t is.network.formed is.network.counts (ledger_of t w.words w.words []) is.carried.sound (λ u l. refl)
 
-pub ended : (start : Start) (s : State (Unit {0}) View) → KeepsRule start s → NobodyInside start s.views
+pub ended : (start : Start) (s : State (Unit {0}) View) → HoldsAt start s → NobodyInside start s.views
     → IsTight start.network.table (ledger_of start.network.table start.words s.words s.views)
-ended start s kept nobody = tight-after start kept.began s.words s.views kept.sound nobody
+ended start s kept nobody = tight-after start kept.began s.words s.views kept.rule.sound nobody

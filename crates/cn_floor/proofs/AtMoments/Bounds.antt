@@ -9,35 +9,35 @@ use Rattle.cn_wiring.specs.declared.end.End.TheVariants.{Exit}
 use Rattle.cn_wiring.specs.Table.{Stands, Table}
 use Rattle.cn_floor.specs.declared.view.Start.{Start}
 use Rattle.cn_floor.specs.declared.view.View.{View}
-use Rattle.cn_floor.specs.Rule.{KeepsRule, ledger_of}
+use Rattle.cn_floor.specs.Rule.{HoldsAt, ledger_of}
 use Rattle.cn_floor.specs.Views.{base}
 use Rattle.cn_floor.specs.Words.{clients_in, count_in, entered_in}
 use Rattle.cn_floor.proofs.AtMoments.Totals.{total_le, total_same}
 use Rattle.cn_spec.proofs.CallerLemmas.{name-below, sum_below-plus, sum_below-same, sum_below-total, times-below}
 use Rattle.cn_ledger.proofs.CallerLemmas.{counts-few, tight}
 
-module _ (start : Start) (s : State (Unit {0}) View) (kept : KeepsRule start s) where
+module _ (start : Start) (s : State (Unit {0}) View) (kept : HoldsAt start s) where
   abbrev t : Table
   t = start.network.table
 
   -- as many came as before, and the entries of all views
   pub all_came : clients_in t s.words ≡ base start + sum_by (λ (v : View). length v.entries) s.views
   all_came =
-      sum_below-same t.entries (entered_in t s.words) (λ u. entered_in t start.words u + sum_by (λ (v : View). times u v.entries) s.views) kept.entered
+      sum_below-same t.entries (entered_in t s.words) (λ u. entered_in t start.words u + sum_by (λ (v : View). times u v.entries) s.views) kept.rule.entered
       ∙ sum_below-plus t.entries (entered_in t start.words) (λ u. sum_by (λ (v : View). times u v.entries) s.views)
       ∙ ap (λ (k : ℕ). base start + k)
       (sum_below-total (λ u (v : View). times u v.entries) s.views t.entries
       ∙ total_same (λ (v : View). sum_below t.entries (λ u. times u v.entries)) (λ (v : View). length v.entries) s.views
-      (λ id v at. times-below t.entries v.entries (kept.accounted id v at).entries))
+      (λ id v at. times-below t.entries v.entries (kept.rule.accounted id v at).entries))
 
   pub few_came : clients_in t s.words ≤ base start + start.quota
   few_came =
       let few = total_le (λ (v : View). length v.entries) (λ (v : View). v.quota + length v.entries) s.views (λ id v at. omega arith) in
-      omega (arith, all_came, kept.quotas)
+      omega (arith, all_came, kept.rule.quotas)
 
   -- no count is more than those that came
   pub count_few : (end : End) → Stands t end → count_in t s.words end ≤ clients_in t s.words
-  count_few end stands = counts-few t kept.began.network.formed (ledger_of t start.words s.words s.views) kept.sound end stands
+  count_few end stands = counts-few t kept.began.network.formed (ledger_of t start.words s.words s.views) kept.rule.sound end stands
 
   -- nor is it less than the carried one
   pub count_risen : (end : End) → Stands t end → count_in t start.words end ≤ count_in t s.words end
@@ -47,7 +47,7 @@ module _ (start : Start) (s : State (Unit {0}) View) (kept : KeepsRule start s) 
         let n : ℕ = count_in t s.words end in
         let there : ◌≡◌ {A = ℕ} (once_below (count_in t start.words end) n) 1 = ap {B = ℕ} (λ b. cond b 1 0) (lt-ltb n (count_in t start.words end) l) in
         let none : ◌≡◌ {A = ℕ} (once_below (count_in t s.words end) n) 0 = ap {B = ℕ} (λ b. cond b 1 0) (le-ltb n n (omega arith)) in
-        absurd (omega (arith, kept.sound.numbered end n stands))
+        absurd (omega (arith, kept.rule.sound.numbered end n stands))
   ]
 
   -- the next name is none of the carried ones

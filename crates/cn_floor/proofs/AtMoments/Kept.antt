@@ -1,19 +1,21 @@
 -- The rule is kept where views change and what they add up to does not.
-use Rattle.std.proofs.Common.{◌≡◌, ℕ, ◌+◌, ◌&&◌, List, length, sum_by, subst, arith, eqb, ltb}
+use Rattle.std.proofs.Common.{◌≡◌, ℕ, ◌+◌, ◌&&◌, List, length, set, sum_by, subst, refl, arith, eqb, ltb, ⊎_elim}
 use mathlib.Core.Option.{some}
 use lib.ListN.{get_elem?}
 use Rattle.atomic_table.specs.Table.{State}
+use Rattle.atomic_table.proofs.Lists.{at_set}
 use Rattle.cn_spec.specs.Step.{name_of}
 use Rattle.cn_spec.specs.Sums.{once_below, times, when}
 use Rattle.cn_wiring.specs.declared.end.End.{End}
-use Rattle.cn_wiring.specs.declared.end.End.TheVariants.{Exit}
+use Rattle.cn_wiring.specs.declared.end.End.TheVariants.{Balancer, Exit}
 use Rattle.cn_wiring.specs.Table.{Table}
 use Rattle.cn_ledger.specs.Ledger.{IsSound}
 use Rattle.cn_floor.specs.declared.view.Start.{Start}
 use Rattle.cn_floor.specs.declared.view.View.{View}
-use Rattle.cn_floor.specs.Rule.{IsAccounted, IsFresh, KeepsRule, ledger_of}
+use Rattle.cn_floor.specs.Rule.{IsAccounted, IsFresh, HoldsAt, ledger_of}
 use Rattle.cn_floor.specs.Views.{base, given_in, granted_in, on_in, standing_in}
 use Rattle.cn_floor.specs.Words.{clients_in, count_in, entered_in}
+use Rattle.cn_floor.proofs.AtMoments.Totals.{total_set}
 
 -- the views add up to the same
 pub record AddUpAlike (m : ℕ) (old new : List View) : Type 0 where
@@ -35,16 +37,59 @@ ledger-alike t carried words old new same = λ x. record {
   granted = λ c i v name. when (eqb 0 c && (ltb v (count_in t carried (Exit i)) && eqb (name_of t.width i v) name)) 1 + same.granted c i v name x;
 }
 
-pub kept_alike : (start : Start) (s : State (Unit {0}) View) (new : List View) → KeepsRule start s → AddUpAlike (base start) s.views new
+pub kept_alike : (start : Start) (s : State (Unit {0}) View) (new : List View) → HoldsAt start s → AddUpAlike (base start) s.views new
     → ((id : ℕ) (v : View) → get_elem? new id ≡ some v → IsAccounted start.network v)
     → ((id : ℕ) (v : View) → get_elem? new id ≡ some v → IsFresh start s.words v)
-    → KeepsRule start (record { words = s.words; homes = s.homes; views = new })
+    → HoldsAt start (record { words = s.words; homes = s.homes; views = new })
 kept_alike start s new kept same account fresh = record {
   began = kept.began;
-  words = kept.words;
-  sound = subst (IsSound start.network.table) (ledger-alike start.network.table start.words s.words s.views new same) kept.sound;
-  entered = λ u l. omega (arith, kept.entered u l, same.entries u);
+  rule = record {
+  words = kept.rule.words;
+  lanes = kept.rule.lanes;
+  sound = subst (IsSound start.network.table) (ledger-alike start.network.table start.words s.words s.views new same) kept.rule.sound;
+  entered = λ u l. omega (arith, kept.rule.entered u l, same.entries u);
   accounted = account;
   fresh = fresh;
-  quotas = omega (arith, kept.quotas, same.quotas);
+  quotas = omega (arith, kept.rule.quotas, same.quotas);
+  };
 }
+
+-- how many steps a view counts is nothing to the rule
+module _ (start : Start) (s : State (Unit {0}) View) (id : ℕ) (g : View) (k : ℕ) (here : get_elem? s.views id ≡ some g) where
+  abbrev w : View
+  w = record g { steps = k }
+
+  sums : (f : View → ℕ) → f g ≡ f w → sum_by f s.views ≡ sum_by f (set s.views id w)
+  sums f same = omega (arith, total_set f s.views id g w here, same)
+
+  given-alike : (other : End) (m : ℕ) → given_in other m g ≡ given_in other m w
+  given-alike (Balancer b) m = refl
+  given-alike (Exit i) m = refl
+
+  pub counted-alike : (m : ℕ) → AddUpAlike m s.views (set s.views id w)
+  counted-alike m = record {
+    on = λ u. sums (on_in u) refl;
+    standing = λ u c. sums (standing_in u c) refl;
+    given = λ other n. sums (given_in other n) (given-alike other n);
+    granted = λ c i n name. sums (granted_in m c i n name) refl;
+    entries = λ u. sums (λ x. times u x.entries) refl;
+    quotas = sums (λ x. x.quota + length x.entries) refl;
+  }
+
+  accounted-alike : IsAccounted start.network g → IsAccounted start.network w
+  accounted-alike a = record { all = a.all; entries = a.entries; walked = a.walked }
+
+  fresh-alike : IsFresh start s.words g → IsFresh start s.words w
+  fresh-alike f = record { low = f.low; own = f.own; seen = f.seen; names = f.names }
+
+  pub kept-recounted : HoldsAt start s → HoldsAt start (record { words = s.words; homes = s.homes; views = set s.views id w })
+  kept-recounted kept =
+      kept_alike start s (set s.views id w) kept (counted-alike (base start))
+      (λ i x e. ⊎_elim
+      (λ y. subst (IsAccounted start.network) y.1 (accounted-alike (kept.rule.accounted id g here)))
+      (λ y. kept.rule.accounted i x y.1)
+      (at_set s.views id i w x e))
+      (λ i x e. ⊎_elim
+      (λ y. subst (IsFresh start s.words) y.1 (fresh-alike (kept.rule.fresh id g here)))
+      (λ y. kept.rule.fresh i x y.1)
+      (at_set s.views id i w x e))

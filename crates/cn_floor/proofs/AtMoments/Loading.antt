@@ -13,13 +13,14 @@ use Rattle.cn_wiring.specs.Table.{Table}
 use Rattle.cn_floor.specs.declared.view.Start.{Start}
 use Rattle.cn_floor.specs.declared.view.View.{View}
 use Rattle.cn_floor.specs.Plays.{IsLoad, Loads}
-use Rattle.cn_floor.specs.Steps.{IsAnswer}
-use Rattle.cn_floor.specs.Rule.{IsAccounted, IsFresh, KeepsRule, load_bound}
+use Rattle.cn_floor.specs.Steps.{HasMoment, IsAnswer}
+use Rattle.cn_floor.specs.Rule.{HoldsAt, IsAccounted, IsFresh, load_bound}
 use Rattle.cn_floor.specs.Views.{after_load, after_load_by, base, given_in, granted_in, on_in, standing_in}
 use Rattle.cn_floor.specs.Words.{clients_in, entered_in, entry_word}
 use Rattle.cn_floor.proofs.AtMoments.Bounds.{few_came}
 use Rattle.cn_floor.proofs.AtMoments.Fresh.{fresh_load, load_bound-all, load_bound-few, load_bound-more, low_more, sum_few}
 use Rattle.cn_floor.proofs.AtMoments.Kept.{AddUpAlike, kept_alike}
+use Rattle.cn_floor.proofs.AtMoments.Places.{get-here}
 use Rattle.cn_floor.proofs.AtMoments.Totals.{total_set}
 use Rattle.cn_floor.proofs.AtMoments.Raised.{entered-word}
 
@@ -56,7 +57,7 @@ module _ (start : Start) (ls : List ℕ) (v : View) where
 
 -- a load of the next entry's word
 pub loads : (start : Start) (slots id : ℕ) (me : Me (Unit {0}) View) (is : Start) → is ≡ start → me.1 ≡ [] → length me.0.loads < start.network.table.entries
-    → Allows (KeepsRule start) slots id me (entry_word (length me.0.loads)) (λ n. n) (λ n new. (new.1 ≡ []) × Loads is me.0 n new.0)
+    → Allows (HoldsAt start) slots id me (entry_word (length me.0.loads)) (λ n. n) (λ n new. (new.1 ≡ []) × Loads is me.0 n new.0)
 loads start slots id me is same no_slot less s kept homes at fits =
     let t : Table = start.network.table in
     let v : View = me.0 in
@@ -66,7 +67,7 @@ loads start slots id me is same no_slot less s kept homes at fits =
     let b : Bool = eqb (length v.loads + 1) t.entries in
     let ls : List ℕ = v.loads ++ n ∷ [] in
     let w : View = after_load start n v in
-    let f = kept.fresh id v at in
+    let f = kept.rule.fresh id v at in
     let size : length ls ≡ length v.loads + 1 = length_push v.loads n in
     let its : v.loads ++ entered_in t s.words (length v.loads) ∷ [] ≡ ls = ap (λ (k : ℕ). v.loads ++ k ∷ []) word in
     let low : (u : ℕ) → get_or ls u 0 ≤ entered_in t s.words u = subst (λ (xs : List ℕ). (u : ℕ) → get_or xs u 0 ≤ entered_in t s.words u) its (low_more v.loads (entered_in t s.words) f.low) in
@@ -83,12 +84,12 @@ loads start slots id me is same no_slot less s kept homes at fits =
       entries = λ u. sums (λ (x : View). times u x.entries) (ap (λ (es : List ℕ). times u es) (entries-after_load start ls v b));
       quotas = sums (λ (x : View). x.quota + length x.entries) (λ j. quota-after_load start ls v b j + length (entries-after_load start ls v b j));
     } in
-    let after : KeepsRule start record { words = s.words; homes = s.homes; views = set s.views id w } =
+    let after : HoldsAt start record { words = s.words; homes = s.homes; views = set s.views id w } =
     kept_alike start s (set s.views id w) kept alike
-    (λ j x e. ⊎_elim (λ y. subst (λ (z : View). IsAccounted start.network z) y.1 (accounted-after_load start ls v start.network b (kept.accounted id v at))) (λ y. kept.accounted j x y.1) (at_set s.views id j w x e))
+    (λ j x e. ⊎_elim (λ y. subst (λ (z : View). IsAccounted start.network z) y.1 (accounted-after_load start ls v start.network b (kept.rule.accounted id v at))) (λ y. kept.rule.accounted j x y.1) (at_set s.views id j w x e))
     (λ j x e. ⊎_elim
     (λ y. subst (λ (z : View). IsFresh start s.words z) y.1 (subst (λ (k : ℕ). IsFresh start s.words (after_load start k v)) word (fresh_load start s.words v f)))
-    (λ y. kept.fresh j x y.1) (at_set s.views id j w x e)) in
+    (λ y. kept.rule.fresh j x y.1) (at_set s.views id j w x e)) in
     let load : IsLoad start v n = record {
       few = omega arith;
       last = λ e.
@@ -106,20 +107,28 @@ loads start slots id me is same no_slot less s kept homes at fits =
       w,
       keeps,
       tt,
-      subst (λ (x : List ℕ). KeepsRule start record { words = x; homes = s.homes; views = set s.views id w }) (sym (set-get_or s.words i 0)) after,
-      (no_slot, subst (λ (z : Start). Loads z v n w) (sym same) (refl, load)),
+      subst (λ (x : List ℕ). HoldsAt start record { words = x; homes = s.homes; views = set s.views id w }) (sym (set-get_or s.words i 0)) after,
+      (
+        no_slot,
+        subst (λ (z : Start). Loads z v n w) (sym same) (
+          refl,
+          load,
+          (record { words = s.words; homes = s.homes; views = set s.views id w }, record { id = id; here = get-here s.views id v w at; kept = after.rule }),
+        ),
+      ),
     )
 
 pub loads_by : (start : Start) (slots id : ℕ) (me : Me (Unit {0}) View) (is : Start) (entry : ℕ) → is ≡ start → me.1 ≡ [] → length me.0.loads ≡ entry → entry < start.network.table.entries
-    → Allows (KeepsRule start) slots id me (entry_word entry) (λ n. n) (λ n new. (new.1 ≡ []) × Loads is me.0 n new.0)
+    → Allows (HoldsAt start) slots id me (entry_word entry) (λ n. n) (λ n new. (new.1 ≡ []) × Loads is me.0 n new.0)
 loads_by start slots id me is entry same no_slot next less =
-    subst (λ (e : ℕ). Allows (KeepsRule start) slots id me (entry_word e) (λ n. n) (λ n new. (new.1 ≡ []) × Loads is me.0 n new.0)) next (loads start slots id me is same no_slot (omega arith))
+    subst (λ (e : ℕ). Allows (HoldsAt start) slots id me (entry_word e) (λ n. n) (λ n new. (new.1 ≡ []) × Loads is me.0 n new.0)) next (loads start slots id me is same no_slot (omega arith))
 
 -- after k loads that found total together
 pub record Loaded (start : Start) (was : View) (k total : ℕ) (v : View) : Type 0 where
   pub few : total ≤ base start + start.quota
   pub on_way : k < start.network.table.entries → (v ≡ record was { loads = v.loads; steps = was.steps + k }) × (length v.loads ≡ k) × (total ≡ sum v.loads)
   pub at_end : k ≡ start.network.table.entries → (v ≡ record was { seen = total - base start; loads = []; steps = was.steps + k }) × (base start ≤ total) × IsAnswer start was (total - base start)
+  pub moment : k ≡ start.network.table.entries → HasMoment start v
 
 answer_as : (start : Start) (was v : View) (ls : List ℕ) (n k m : ℕ) → v ≡ record was { loads = ls; steps = n } → k ≡ m → IsAnswer start v k → IsAnswer start was m
 answer_as start was v ls n k m is same a =
@@ -127,7 +136,7 @@ answer_as start was v ls n k m is same a =
     record { own = b.own; seen = b.seen; names = b.names; quota = b.quota }
 
 pub loaded_next : (start : Start) (was : View) (k total n : ℕ) (v w : View) → k < start.network.table.entries → Loaded start was k total v → Loads start v n w → Loaded start was (k + 1) (total + n) w
-loaded_next start was k total n v w less mid (is, load) =
+loaded_next start was k total n v w less mid (is, load, moment) =
     let t : Table = start.network.table in
     let on = mid.on_way less in
     let ls : List ℕ = v.loads ++ n ∷ [] in
@@ -141,6 +150,7 @@ loaded_next start was k total n v w less mid (is, load) =
       few = omega (arith, load.few);
       on_way = λ _. (ap (λ (x : View). record x { loads = ls; steps = x.steps + 1 }) on.0 ∙ ap (λ (n : ℕ). record was { loads = ls; steps = n }) one, omega (arith, on.1), more);
       at_end = λ h. absurd (omega arith);
+      moment = λ h. absurd (omega arith);
     })
     (λ high.
     let last : length v.loads + 1 ≡ t.entries = omega (arith, on.1) in
@@ -154,6 +164,7 @@ loaded_next start was k total n v w less mid (is, load) =
         omega (arith, end.0),
         answer_as start was v v.loads (was.steps + k) (sum ls - base start) (total + n - base start) on.0 (λ i. sym more i - base start) end.1,
       );
+      moment = λ _. subst (λ (x : View). HasMoment start x) e moment;
     })
     (cases_lt (k + 1) t.entries)
 
@@ -165,4 +176,5 @@ loaded_none start was idle more =
       few = omega arith;
       on_way = λ _. (ap (λ (n : ℕ). record was { loads = was.loads; steps = n }) none, ap (λ (ls : List ℕ). length ls) idle, sym (ap (λ (ls : List ℕ). sum ls) idle));
       at_end = λ h. absurd (omega arith);
+      moment = λ h. absurd (omega arith);
     }

@@ -14,7 +14,7 @@ use Rattle.cn_wiring.specs.Table.{Table}
 use Rattle.cn_ledger.specs.Ledger.{IsSound}
 use Rattle.cn_floor.specs.declared.view.Start.{Start}
 use Rattle.cn_floor.specs.declared.view.View.{View}
-use Rattle.cn_floor.specs.Rule.{IsCarried, IsAccounted, IsFresh, KeepsRule, IsStart, ledger_of}
+use Rattle.cn_floor.specs.Rule.{IsCarried, IsAccounted, IsFresh, HoldsAt, IsStart, ledger_of}
 use Rattle.cn_floor.specs.Views.{base, given_in, granted_in, empty_view, on_in, standing_in, levels_in, inside_in}
 use Rattle.cn_floor.specs.Words.{clients_in, count_in, end_word, entered_in, entry_word, word_count}
 use Rattle.cn_spec.proofs.CallerLemmas.{sum_below-zero, times-nil, zero_at}
@@ -65,6 +65,7 @@ module _ (t : Table) where
   pub carries-nothing : IsCarried t zeros
   carries-nothing = record {
     words = length-replicate (word_count t) 0;
+    lanes = zero_at (word_count t) 0;
     sound = sound-nothing t (ledger_of t zeros zeros []) nobody;
   }
 
@@ -128,15 +129,18 @@ module _ (start : Start) (quota : ℕ) where
   }
 
 -- a floor may begin with words that it may carry
-pub begins : (start : Start) → IsStart start → KeepsRule start (opening start.words [] (empty_view start start.quota))
+pub begins : (start : Start) → IsStart start → HoldsAt start (opening start.words [] (empty_view start start.quota))
 begins start is = record {
   began = is;
+  rule = record {
   words = is.carried.words;
+  lanes = is.carried.lanes;
   sound = subst (IsSound start.network.table) (ledger-new start start.quota start.words) is.carried.sound;
   entered = λ u l. omega (arith, times-nil u);
   accounted = λ id v e. account-at id v e;
   fresh = λ id v e. fresh-at id v e;
   quotas = omega arith;
+  };
 }
   where
     fresh-at : (id : ℕ) (v : View) → get_elem? (empty_view start start.quota ∷ []) id ≡ some v → IsFresh start start.words v

@@ -1,5 +1,5 @@
 -- The words of a floor, where one of them rises.
-use Rattle.std.proofs.Common.{◌≡◌, ◌≢◌, ℕ, ◌+◌, ◌<◌, inl, inr, cond, eqb, ltb, List, length, get_or, set, refl, ap, ◌∙◌, arith}
+use Rattle.std.proofs.Common.{◌≡◌, ◌≢◌, ℕ, zero, suc, ◌+◌, ◌<◌, ◌≤◌, inl, inr, cond, eqb, ltb, List, [], ◌∷◌, length, get_or, set, refl, ap, ◌∙◌, arith}
 use Rattle.std.proofs.lemmas.Bool.{cases_eq, cases_lt, ne_eqb, eq-eqb, lt-ltb, le-ltb}
 use Rattle.std.proofs.lemmas.Bool.Decides.{nat_tests}
 use Rattle.cn_spec.specs.Sums.{when}
@@ -17,6 +17,16 @@ end_there t (Exit i) h = omega arith
 -- the words, of which that at place i is one more
 abbrev pub raised : List ℕ → ℕ → List ℕ
 raised words i = set words i (get_or words i 0 + 1)
+
+-- the lanes' word is no other
+pub lanes-raised : (words : List ℕ) (i : ℕ) → 1 ≤ i → get_or words 0 0 ≡ 0 → get_or (raised words i) 0 0 ≡ 0
+lanes-raised [] i high none = none
+lanes-raised (w ∷ ws) zero high none = absurd (omega arith)
+lanes-raised (w ∷ ws) (suc i) high none = none
+
+pub one-end : (t : Table) (end : End) → 1 ≤ end_word t end
+one-end t (Balancer b) = omega arith
+one-end t (Exit i) = omega arith
 
 module _ (t : Table) (words : List ℕ) (long : length words ≡ word_count t) where
   -- a guarded word

@@ -6,10 +6,9 @@ use Rattle.std.proofs.lemmas.List.{length-append}
 use Rattle.std.proofs.lemmas.List.Elements.{All-append}
 use Rattle.std.proofs.lemmas.List.Sums.{count_by-le-length, sum_by-append, sum_by_push}
 use Rattle.atomic_table.specs.Table.{Allows, Joins, Me, Splits, keeps}
-use Rattle.atomic_table.proofs.Lists.{at_set, at_snoc, set_again, set_else}
+use Rattle.atomic_table.proofs.Lists.{at_set, at_snoc, set_else}
 use Rattle.std.proofs.lemmas.List.{set-get_or}
 use Rattle.cn_spec.specs.Sums.{times}
-use Rattle.cn_spec.specs.declared.limits.TheConstants.{MOST_CLIENTS}
 use Rattle.cn_wiring.specs.declared.end.End.{End}
 use Rattle.cn_wiring.specs.declared.end.End.TheVariants.{Balancer, Exit}
 use Rattle.cn_wiring.specs.Network.{Network}
@@ -17,18 +16,20 @@ use Rattle.cn_floor.specs.declared.view.Grant.{Grant}
 use Rattle.cn_floor.specs.declared.view.Passage.{Passage}
 use Rattle.cn_floor.specs.declared.view.Start.{Start}
 use Rattle.cn_floor.specs.declared.view.View.{View}
-use Rattle.cn_floor.specs.Rule.{IsAccounted, IsFresh, KeepsRule, load_bound}
-use Rattle.cn_floor.specs.Views.{after_join, after_split, base, empty_view, given_in, granted_in, inside_in, levels_in, nobody, on_in, split_off, standing_in}
+use Rattle.cn_floor.specs.Rule.{IsAccounted, IsFresh, HoldsAt, load_bound}
+use Rattle.cn_floor.specs.Plays.{Looks}
+use Rattle.cn_floor.specs.Views.{after_join, after_look, after_split, base, empty_view, given_in, granted_in, inside_in, levels_in, nobody, on_in, split_off, standing_in}
 use Rattle.cn_floor.specs.Words.{clients_in}
 use Rattle.cn_floor.proofs.AtMoments.Bounds.{all_came}
-use Rattle.cn_floor.proofs.AtMoments.Kept.{AddUpAlike, kept_alike}
+use Rattle.cn_floor.proofs.AtMoments.Kept.{AddUpAlike, kept-recounted, kept_alike}
 use Rattle.cn_floor.proofs.AtMoments.Openings.{accounted-new, on-new, standing-new}
+use Rattle.cn_floor.proofs.AtMoments.Places.{get-here}
 use Rattle.cn_floor.proofs.AtMoments.Totals.{part_le, total_set}
 use Rattle.cn_spec.proofs.CallerLemmas.{sum_below-zero, times-append, times-nil}
 
 -- ---- split
 
-pub splits : (start : Start) (id q : ℕ) (v : View) → v.start ≡ start → v.loads ≡ [] → q ≤ v.quota → Splits (KeepsRule start) id v (after_split q v) (split_off q v)
+pub splits : (start : Start) (id q : ℕ) (v : View) → v.start ≡ start → v.loads ≡ [] → q ≤ v.quota → Splits (HoldsAt start) id v (after_split q v) (split_off q v)
 splits start id q v of idle enough s kept at =
     let left : View = after_split q v in
     let right : View = split_off q v in
@@ -44,8 +45,8 @@ splits start id q v of idle enough s kept at =
           let f : View → ℕ = λ x. x.quota + length x.entries in
           omega (arith, total_set f s.views id v left at, sum_by_push f (set s.views id left) right);
     } in
-    let f = kept.accounted id v at in
-    let g = kept.fresh id v at in
+    let f = kept.rule.accounted id v at in
+    let g = kept.rule.fresh id v at in
     let new = subst (λ (n : Start). IsAccounted n.network (empty_view v.start q)) of (accounted-new v.start q) in
     let all : load_bound start.network.table s.words v.loads ≡ clients_in start.network.table s.words = ap (λ (ls : List ℕ). load_bound start.network.table s.words ls) idle in
     let accounted-left : IsAccounted start.network left = record { all = f.all; entries = f.entries; walked = f.walked } in
@@ -54,11 +55,11 @@ splits start id q v of idle enough s kept at =
     let fresh-right : IsFresh start s.words right = record { low = λ u. omega arith; own = omega (arith, all_came start s kept); seen = omega (arith, g.seen); names = λ k d less. absurd (omega arith) } in
     kept_alike start s vs kept alike
     (λ j x e. ⊎_elim
-    (λ y. ⊎_elim (λ z. subst (λ (u : View). IsAccounted start.network u) z.1 accounted-left) (λ z. kept.accounted j x z.1) (at_set s.views id j left x y))
+    (λ y. ⊎_elim (λ z. subst (λ (u : View). IsAccounted start.network u) z.1 accounted-left) (λ z. kept.rule.accounted j x z.1) (at_set s.views id j left x y))
     (λ y. subst (λ (u : View). IsAccounted start.network u) y accounted-right)
     (at_snoc (set s.views id left) right x j e))
     (λ j x e. ⊎_elim
-    (λ y. ⊎_elim (λ z. subst (λ (u : View). IsFresh start s.words u) z.1 fresh-left) (λ z. kept.fresh j x z.1) (at_set s.views id j left x y))
+    (λ y. ⊎_elim (λ z. subst (λ (u : View). IsFresh start s.words u) z.1 fresh-left) (λ z. kept.rule.fresh j x z.1) (at_set s.views id j left x y))
     (λ y. subst (λ (u : View). IsFresh start s.words u) y fresh-right)
     (at_snoc (set s.views id left) right x j e))
   where
@@ -109,7 +110,7 @@ given-nobody : (end : End) (n : ℕ) → given_in end n nobody ≡ 0
 given-nobody (Balancer b) n = refl
 given-nobody (Exit i) n = refl
 
-pub joins : (start : Start) (id other : ℕ) (v w : View) → v.loads ≡ [] → w.loads ≡ [] → Empty w → Joins (KeepsRule start) id v other w (after_join v w) nobody
+pub joins : (start : Start) (id other : ℕ) (v w : View) → v.loads ≡ [] → w.loads ≡ [] → Empty w → Joins (HoldsAt start) id v other w (after_join v w) nobody
 joins start id other v w idle idle' out s kept at apart at_other =
     let both : View = after_join v w in
     let once : List View = set s.views id both in
@@ -126,8 +127,8 @@ joins start id other v w idle idle' out s kept at apart at_other =
       quotas = sums (λ (x : View). x.quota + length x.entries) (omega (arith, length-append v.entries w.entries)) refl;
     } in
     let t = start.network.table in
-    let g = kept.fresh id v at in
-    let h = kept.fresh other w here in
+    let g = kept.rule.fresh id v at in
+    let h = kept.rule.fresh other w here in
     let all : load_bound t s.words v.loads ≡ clients_in t s.words = ap (λ (ls : List ℕ). load_bound t s.words ls) idle in
     let all' : load_bound t s.words w.loads ≡ clients_in t s.words = ap (λ (ls : List ℕ). load_bound t s.words ls) idle' in
     let entries : length v.entries + length w.entries ≤ sum_by (λ (x : View). length x.entries) s.views =
@@ -149,21 +150,35 @@ joins start id other v w idle idle' out s kept at apart at_other =
     kept_alike start s vs kept alike
     (λ j x e. ⊎_elim
     (λ y. subst (λ (u : View). IsAccounted start.network u) y.1 accounted-spent)
-    (λ y. ⊎_elim (λ z. subst (λ (u : View). IsAccounted start.network u) z.1 (accounted-after_join v w out start.network (kept.accounted id v at) (kept.accounted other w here))) (λ z. kept.accounted j x z.1) (at_set s.views id j both x y.1))
+    (λ y. ⊎_elim (λ z. subst (λ (u : View). IsAccounted start.network u) z.1 (accounted-after_join v w out start.network (kept.rule.accounted id v at) (kept.rule.accounted other w here))) (λ z. kept.rule.accounted j x z.1) (at_set s.views id j both x y.1))
     (at_set once other j nobody x e))
     (λ j x e. ⊎_elim
     (λ y. subst (λ (u : View). IsFresh start s.words u) y.1 fresh-spent)
-    (λ y. ⊎_elim (λ z. subst (λ (u : View). IsFresh start s.words u) z.1 fresh-both) (λ z. kept.fresh j x z.1) (at_set s.views id j both x y.1))
+    (λ y. ⊎_elim (λ z. subst (λ (u : View). IsFresh start s.words u) z.1 fresh-both) (λ z. kept.rule.fresh j x z.1) (at_set s.views id j both x y.1))
     (at_set once other j nobody x e))
 
--- a look changes nothing, and tells that quota and tokens are few
-pub looks : (start : Start) (slots id i : ℕ) (me : Me (Unit {0}) View) → Allows (KeepsRule start) slots id me i (λ n. n) (λ n new. (new ≡ me) × (inside_in me.0 + me.0.quota ≤ MOST_CLIENTS))
-looks start slots id i me s kept homes at fits =
+-- ---- look
+
+-- a lane may look: it learns of a moment at which it has its view
+pub looks : (start : Start) (slots id i : ℕ) (me : Me (Unit {0}) View) (is : Start) → is ≡ start → me.1 ≡ []
+    → Allows (HoldsAt start) slots id me i (λ n. n) (λ n new. (new.1 ≡ []) × Looks is me.0 new.0)
+looks start slots id i me is same no_slot s kept homes at fits =
     let v : View = me.0 in
-    let words : s.words ≡ set s.words i (get_or s.words i 0) = sym (set-get_or s.words i 0) in
-    let views : s.views ≡ set s.views id v = sym (set_again s.views id v at) in
-    let after : KeepsRule start record { words = set s.words i (get_or s.words i 0); homes = s.homes; views = set s.views id v } =
-    subst (λ (x : List ℕ × List View). KeepsRule start record { words = x.0; homes = s.homes; views = x.1 }) (λ j. (words j, views j)) kept in
-    let f = kept.accounted id v at in
-    let quota = part_le (λ (x : View). x.quota + length x.entries) s.views id v at in
-    (v, keeps, tt, after, (refl, omega (arith, f.all, kept.quotas, kept.began.quota)))
+    let w : View = after_look v in
+    let after : HoldsAt start (record { words = s.words; homes = s.homes; views = set s.views id w }) =
+    kept-recounted start s id v (v.steps + 1) at kept in
+    let f = kept.rule.accounted id v at in
+    let quota = part_le (λ (x : View). x.quota + length x.entries) s.views id v at in (
+      w,
+      keeps,
+      tt,
+      subst (λ (x : List ℕ). HoldsAt start record { words = x; homes = s.homes; views = set s.views id w }) (sym (set-get_or s.words i 0)) after,
+      (
+        no_slot,
+        subst (λ (z : Start). Looks z v w) (sym same) (
+          refl,
+          (record { words = s.words; homes = s.homes; views = set s.views id w }, record { id = id; here = get-here s.views id v w at; kept = after.rule }),
+          omega (arith, f.all, kept.rule.quotas, kept.began.quota),
+        ),
+      ),
+    )

@@ -13,7 +13,7 @@ use Rattle.cn_floor.specs.declared.view.Grant.{Grant}
 use Rattle.cn_floor.specs.declared.view.Passage.{Passage}
 use Rattle.cn_floor.specs.declared.view.Start.{Start}
 use Rattle.cn_floor.specs.declared.view.View.{View}
-use Rattle.cn_floor.specs.Rule.{KeepsRule}
+use Rattle.cn_floor.specs.Rule.{HoldsAt}
 use Rattle.cn_floor.specs.Views.{given_in, own_count}
 use Rattle.cn_floor.specs.Words.{count_in}
 use Rattle.cn_floor.proofs.AtMoments.Bounds.{count_risen}
@@ -59,14 +59,14 @@ own (Exit j) v n low =
     let one : ◌≡◌ {A = ℕ} (f g.visit g) 1 = rw (h, eq-eqb g.visit g.visit refl) refl in
     low g.visit (omega (arith, part_le (f g.visit) v.grants i g at))))
 
-module _ (start : Start) (s : State (Unit {0}) View) (kept : KeepsRule start s) where
+module _ (start : Start) (s : State (Unit {0}) View) (kept : HoldsAt start s) where
   abbrev t : Table
   t = start.network.table
 
   -- a lane that let nobody in was given nothing
   pub none_given : (id : ℕ) (v : View) → get_elem? s.views id ≡ some v → length v.entries ≡ 0 → (end : End) (k : ℕ) → given_in end k v ≡ 0
   none_given id v at none end k =
-      let account = kept.accounted id v at in
+      let account = kept.rule.accounted id v at in
       let net = kept.began.network in
       let (level, is) = levels t net.formed start.network.depth net.deep in
       let empty = no-levels level v (omega (arith, account.all)) in
@@ -85,10 +85,10 @@ module _ (start : Start) (s : State (Unit {0}) View) (kept : KeepsRule start s) 
       let n : ℕ = count_in t s.words end in
       let c : ℕ = count_in t start.words end in
       let mine : sum_by (λ (x : View). length x.entries) s.views ≡ length v.entries =
-      mine_alone (λ (x : View). length x.entries) (λ (x : View). x.quota + length x.entries) s.views id v at (λ j x a z. omega arith) (kept.quotas ∙ sym whole) in
+      mine_alone (λ (x : View). length x.entries) (λ (x : View). x.quota + length x.entries) s.views id v at (λ j x a z. omega arith) (kept.rule.quotas ∙ sym whole) in
       let each : (k : ℕ) → once_below c k + given_in end k v ≡ once_below n k = λ k.
       let all = mine_alone (given_in end k) (λ (x : View). length x.entries) s.views id v at (λ j x a z. none_given j x a z end k) mine in
-      omega (arith, kept.sound.numbered end k stands) in
+      omega (arith, kept.rule.sound.numbered end k stands) in
       let low = own end v n (λ k h. once_in n k (omega (arith, each k))) in
       let sums = sum_below-same n (λ k. once_below c k + given_in end k v) (once_below n) (λ k l. each k) in
       omega (arith, sum_below-plus n (once_below c) (λ k. given_in end k v), below-once n n (omega arith), below-once n c (count_risen start s kept end stands))

@@ -21,7 +21,7 @@ use Rattle.cn_ledger.specs.Moves.{IsMoveOf}
 use Rattle.cn_floor.specs.Plays.{Coming, ComesIn, Going, GoesOn, IsLetBy}
 use Rattle.cn_floor.specs.Steps.{IsAtomicStep, answer_at}
 use Rattle.cn_floor.specs.Sweeps.{GoesFrom}
-use Rattle.cn_floor.specs.Rule.{IsAccounted, IsFresh, KeepsRule, ledger_of, load_bound}
+use Rattle.cn_floor.specs.Rule.{IsAccounted, IsFresh, HoldsAt, ledger_of, load_bound}
 use Rattle.cn_floor.specs.Views.{after_enter, after_step, base}
 use Rattle.cn_floor.specs.Words.{clients_in, count_in, end_word, entered_in, entry_word}
 use Rattle.cn_floor.proofs.AtMoments.Bounds.{count_few, few_came, name_later}
@@ -29,8 +29,9 @@ use Rattle.cn_floor.proofs.AtMoments.Accounts.{accounted-after_enter, accounted-
 use Rattle.cn_floor.proofs.AtMoments.Fresh.{fresh_grown, names_below}
 use Rattle.cn_floor.proofs.AtMoments.Ledgers.{Lands, enters, leaves, passes}
 use Rattle.cn_floor.proofs.AtMoments.Sole.{sole}
+use Rattle.cn_floor.proofs.AtMoments.Places.{get-here}
 use Rattle.cn_floor.proofs.AtMoments.Totals.{total_set}
-use Rattle.cn_floor.proofs.AtMoments.Raised.{count-raised, count-word, entered-kept, entered-raised, entered-word, raised}
+use Rattle.cn_floor.proofs.AtMoments.Raised.{count-raised, count-word, entered-kept, entered-raised, entered-word, lanes-raised, one-end, raised}
 use Rattle.cn_spec.proofs.CallerLemmas.{sum_below-one, sum_below-part, sum_below-plus, sum_below-same, times-append, times-nil}
 use Rattle.cn_ledger.proofs.CallerLemmas.{bounded, sound-enters, sound-leaves, sound-passes}
 use Rattle.cn_yard.specs.Lists.{IsThere}
@@ -46,7 +47,7 @@ times-last u e es = omega (arith, times-append u es (e ∷ []), times-nil u)
 
 -- ---- who comes in
 
-module _ (start : Start) (id token client entry : ℕ) (v : View) (s : State (Unit {0}) View) (kept : KeepsRule start s) (here : get_elem? s.views id ≡ some v)
+module _ (start : Start) (id token client entry : ℕ) (v : View) (s : State (Unit {0}) View) (kept : HoldsAt start s) (here : get_elem? s.views id ≡ some v)
     (of : v.start ≡ start) (low : entry < start.network.table.entries) (inside : entry < length v.tokens) (some_quota : 0 < v.quota) where
   abbrev w : View
   w = after_enter token client entry v
@@ -55,21 +56,21 @@ module _ (start : Start) (id token client entry : ℕ) (v : View) (s : State (Un
   after = record { words = raised s.words (entry_word entry); homes = s.homes; views = set s.views id w }
 
   came_in : Enters start.network.table (ledger_of start.network.table start.words s.words s.views) (ledger_of start.network.table start.words after.words after.views) client entry
-  came_in = enters start s.words s.views id v kept.words here of token client entry low inside
+  came_in = enters start s.words s.views id v kept.rule.words here of token client entry low inside
 
   risen : (u : ℕ) → entered_in start.network.table s.words u ≤ entered_in start.network.table after.words u
-  risen u = omega (arith, entered-raised start.network.table s.words kept.words entry low u)
+  risen u = omega (arith, entered-raised start.network.table s.words kept.rule.words entry low u)
 
   one_more_came : clients_in start.network.table after.words ≡ clients_in start.network.table s.words + 1
   one_more_came =
       let t = start.network.table in
-      sum_below-same t.entries (entered_in t after.words) (λ u. entered_in t s.words u + one_at entry u) (λ u l. entered-raised t s.words kept.words entry low u)
+      sum_below-same t.entries (entered_in t after.words) (λ u. entered_in t s.words u + one_at entry u) (λ u l. entered-raised t s.words kept.rule.words entry low u)
       ∙ sum_below-plus t.entries (entered_in t s.words) (one_at entry) ∙ omega (arith, sum_below-one t.entries entry 1 low)
 
   fresh-after_enter : v.loads ≡ [] → IsFresh start after.words w
   fresh-after_enter idle =
       let t = start.network.table in
-      let f = kept.fresh id v here in
+      let f = kept.rule.fresh id v here in
       let was : load_bound t s.words v.loads ≡ clients_in t s.words = ap (λ (ls : List ℕ). load_bound t s.words ls) idle in
       let now : load_bound t after.words v.loads ≡ clients_in t after.words = ap (λ (ls : List ℕ). load_bound t after.words ls) idle in
       record {
@@ -79,34 +80,47 @@ module _ (start : Start) (id token client entry : ℕ) (v : View) (s : State (Un
         names = names_below v.grants (base start) (load_bound t s.words v.loads) (load_bound t after.words v.loads) (omega (arith, one_more_came)) f.names;
       }
 
-  pub kept-after_enter : v.loads ≡ [] → KeepsRule start after
+  pub kept-after_enter : v.loads ≡ [] → HoldsAt start after
   kept-after_enter idle = record {
     began = kept.began;
-    words = length-set s.words (entry_word entry) (get_or s.words (entry_word entry) 0 + 1) ∙ kept.words;
-    sound = sound-enters start.network.table (ledger_of start.network.table start.words s.words s.views) (ledger_of start.network.table start.words after.words after.views) client entry came_in kept.sound;
+    rule = record {
+    words = length-set s.words (entry_word entry) (get_or s.words (entry_word entry) 0 + 1) ∙ kept.rule.words;
+    lanes = lanes-raised s.words (entry_word entry) (omega arith) kept.rule.lanes;
+    sound = sound-enters start.network.table (ledger_of start.network.table start.words s.words s.views) (ledger_of start.network.table start.words after.words after.views) client entry came_in kept.rule.sound;
     entered = λ u l.
         let more = total_set (λ (x : View). times u x.entries) s.views id v w here in
-        omega (arith, entered-raised start.network.table s.words kept.words entry low u, kept.entered u l, times-last u entry v.entries);
+        omega (arith, entered-raised start.network.table s.words kept.rule.words entry low u, kept.rule.entered u l, times-last u entry v.entries);
     accounted = λ i x e. ⊎_elim
-        (λ y. subst (λ (z : View). IsAccounted start.network z) y.1 (accounted-after_enter start.network token client entry v low inside (kept.accounted id v here)))
-        (λ y. kept.accounted i x y.1)
+        (λ y. subst (λ (z : View). IsAccounted start.network z) y.1 (accounted-after_enter start.network token client entry v low inside (kept.rule.accounted id v here)))
+        (λ y. kept.rule.accounted i x y.1)
         (at_set s.views id i w x e);
     fresh = λ i x e. ⊎_elim
         (λ y. subst (λ (z : View). IsFresh start after.words z) y.1 (fresh-after_enter idle))
-        (λ y. fresh_grown start s.words after.words x risen (kept.fresh i x y.1))
+        (λ y. fresh_grown start s.words after.words x risen (kept.rule.fresh i x y.1))
         (at_set s.views id i w x e);
     quotas =
         let more = total_set (λ (x : View). x.quota + length x.entries) s.views id v w here in
-        omega (arith, length_push v.entries entry, kept.quotas);
+        omega (arith, length_push v.entries entry, kept.rule.quotas);
+    };
   }
 
   pub step-after_enter : v.loads ≡ [] → IsAtomicStep start v w (λ old new. Enters start.network.table old new client entry)
-  step-after_enter idle = record { old = s; new = after; id = id; here = here; views = refl; kept_before = kept; kept_after = kept-after_enter idle; happened = came_in }
+  step-after_enter idle = record {
+    old = s;
+    new = after;
+    id = id;
+    here = here;
+    there = get-here s.views id v w here;
+    views = refl;
+    kept_before = kept.rule;
+    kept_after = (kept-after_enter idle).rule;
+    happened = came_in;
+  }
 
 -- a client may come in
 pub lets_in : (start : Start) (slots id : ℕ) (me : Me (Unit {0}) View) (is : Coming) → is.start ≡ start → me.1 ≡ [] → me.0.loads ≡ [] → me.0.start ≡ start → is.entry < start.network.table.entries
     → is.entry < length me.0.tokens → 0 < me.0.quota
-    → Allows (KeepsRule start) slots id me (entry_word is.entry) (λ n. (n + 1) % 2 ^ 64) (λ n new. (new.1 ≡ []) × ComesIn is me.0 new.0)
+    → Allows (HoldsAt start) slots id me (entry_word is.entry) (λ n. (n + 1) % 2 ^ 64) (λ n new. (new.1 ≡ []) × ComesIn is me.0 new.0)
 lets_in start slots id me is same no_slot idle of low inside some_quota s kept homes at fits =
     let v : View = me.0 in
     let n : ℕ = get_or s.words (entry_word is.entry) 0 in
@@ -118,7 +132,7 @@ lets_in start slots id me is same no_slot idle of low inside some_quota s kept h
       w,
       keeps,
       tt,
-      subst (λ (x : ℕ). KeepsRule start (stepped s (entry_word is.entry) x id me.1 w keeps)) no_wrap (kept-after_enter start id is.token is.client is.entry v s kept at of low inside some_quota idle),
+      subst (λ (x : ℕ). HoldsAt start (stepped s (entry_word is.entry) x id me.1 w keeps)) no_wrap (kept-after_enter start id is.token is.client is.entry v s kept at of low inside some_quota idle),
       (no_slot, (refl, subst (λ (z : Start). IsAtomicStep z v w (λ old new. Enters z.network.table old new is.client is.entry)) (sym same) (step-after_enter start id is.token is.client is.entry v s kept at of low inside some_quota idle))),
     )
 
@@ -131,7 +145,7 @@ moved-by : (start : Start) (old new : Ledger) (c u : ℕ) (end : End) → GoesFr
 moved-by start old new c u (Balancer b) goes later = (u, goes, refl, refl)
 moved-by start old new c u (Exit i) goes later = (u, goes, refl, let l = later i refl in omega arith)
 
-module _ (start : Start) (id token client wire : ℕ) (end : End) (v : View) (s : State (Unit {0}) View) (kept : KeepsRule start s) (here : get_elem? s.views id ≡ some v)
+module _ (start : Start) (id token client wire : ℕ) (end : End) (v : View) (s : State (Unit {0}) View) (kept : HoldsAt start s) (here : get_elem? s.views id ≡ some v)
     (of : v.start ≡ start) (is : IsThere v.tokens token client wire) (wires : length v.tokens ≡ length start.network.table.ends)
     (ends : end_of start.network.table wire ≡ end) (stands : Stands start.network.table end) where
   abbrev t : Table
@@ -168,27 +182,27 @@ module _ (start : Start) (id token client wire : ℕ) (end : End) (v : View) (s 
   went-at (Balancer b) q =
       let low : b < t.balancers = subst (Stands t) (sym q) stands in
       let all = kept.began.network.formed.wires in
-      passes start s.words s.views id v kept.words here of token client wire b is there (ends ∙ sym q) low (omega arith)
+      passes start s.words s.views id v kept.rule.words here of token client wire b is there (ends ∙ sym q) low (omega arith)
   went-at (Exit i) q =
       let low : i < t.width = subst (Stands t) (sym q) stands in
-      leaves start s.words s.views id v kept.words here of token client wire i is there (ends ∙ sym q) low (name_later start s kept i low)
+      leaves start s.words s.views id v kept.rule.words here of token client wire i is there (ends ∙ sym q) low (name_later start s kept i low)
 
   pub went : GoesFrom t was now client wire end
   went = went-at end refl
 
   sound-by : (e : End) (new : Ledger) → GoesFrom t was new client wire e → IsSound t new
-  sound-by (Balancer b) new ev = sound-passes t was new client wire b ev kept.sound
-  sound-by (Exit i) new ev = sound-leaves t kept.began.network.formed was new client wire i ev kept.sound
+  sound-by (Balancer b) new ev = sound-passes t was new client wire b ev kept.rule.sound
+  sound-by (Exit i) new ev = sound-leaves t kept.began.network.formed was new client wire i ev kept.rule.sound
 
   quota-same : (e : End) (m : ℕ) → ((after_step token client e m v).quota ≡ v.quota) × ((after_step token client e m v).entries ≡ v.entries)
   quota-same (Balancer b) m = (refl, refl)
   quota-same (Exit i) m = (refl, refl)
 
   same-came : clients_in t next.words ≡ clients_in t s.words
-  same-came = sum_below-same t.entries (entered_in t next.words) (entered_in t s.words) (λ u l. entered-kept t s.words kept.words end stands u)
+  same-came = sum_below-same t.entries (entered_in t next.words) (entered_in t s.words) (λ u l. entered-kept t s.words kept.rule.words end stands u)
 
   risen-not : (u : ℕ) → entered_in t s.words u ≤ entered_in t next.words u
-  risen-not u = omega (arith, entered-kept t s.words kept.words end stands u)
+  risen-not u = omega (arith, entered-kept t s.words kept.rule.words end stands u)
 
   -- the name that is given is below the number that came in
   name-low : (i : ℕ) → end ≡ Exit i → name_of t.width i n < clients_in t next.words
@@ -196,7 +210,7 @@ module _ (start : Start) (id token client wire : ℕ) (end : End) (v : View) (s 
       let low : i < t.width = subst (Stands t) q stands in
       let net = kept.began.network in
       let now_sound = sound-by end now went in
-      let risen : count_in t next.words end ≡ n + 1 = count-raised t s.words kept.words end end stands ∙ ap (λ b. n + cond b 1 0) (end-self end) in
+      let risen : count_in t next.words end ≡ n + 1 = count-raised t s.words kept.rule.words end end stands ∙ ap (λ b. n + cond b 1 0) (end-self end) in
       let there_at : count_in t next.words (Exit i) ≡ n + 1 = ap (λ (e : End). count_in t next.words e) (sym q) ∙ risen in
       let given : now.given (Exit i) n ≡ once_below (count_in t next.words (Exit i)) n = now_sound.numbered (Exit i) n low in
       let one : ◌≡◌ {A = ℕ} (once_below (count_in t next.words (Exit i)) n) 1 = ap {B = ℕ} (λ b. cond b 1 0) (lt-ltb n (count_in t next.words (Exit i)) (omega arith)) in
@@ -204,10 +218,10 @@ module _ (start : Start) (id token client wire : ℕ) (end : End) (v : View) (s 
 
   fresh-after_step : v.loads ≡ [] → (e : End) → e ≡ end → IsFresh start next.words (after_step token client e n v)
   fresh-after_step idle (Balancer b) q =
-      let f = fresh_grown start s.words next.words v risen-not (kept.fresh id v here) in
+      let f = fresh_grown start s.words next.words v risen-not (kept.rule.fresh id v here) in
       record { low = f.low; own = f.own; seen = f.seen; names = f.names }
   fresh-after_step idle (Exit i) q =
-      let f = fresh_grown start s.words next.words v risen-not (kept.fresh id v here) in
+      let f = fresh_grown start s.words next.words v risen-not (kept.rule.fresh id v here) in
       let low : i < t.width = subst (Stands t) (sym q) stands in
       let all : load_bound t next.words v.loads ≡ clients_in t next.words = ap (λ (ls : List ℕ). load_bound t next.words ls) idle in
       let later : base start ≤ name_of t.width i (count_in t s.words (Exit i)) = name_later start s kept i low in
@@ -222,32 +236,45 @@ module _ (start : Start) (id token client wire : ℕ) (end : End) (v : View) (s 
             (record { client = client; exit = i; visit = n; name = name_of v.start.network.table.width i n - base v.start }) f.names (omega (arith, name-low i (sym q)));
       }
 
-  pub kept-after_step : v.loads ≡ [] → KeepsRule start next
+  pub kept-after_step : v.loads ≡ [] → HoldsAt start next
   kept-after_step idle = record {
     began = kept.began;
-    words = length-set s.words (end_word t end) (get_or s.words (end_word t end) 0 + 1) ∙ kept.words;
+    rule = record {
+    words = length-set s.words (end_word t end) (get_or s.words (end_word t end) 0 + 1) ∙ kept.rule.words;
+    lanes = lanes-raised s.words (end_word t end) (one-end t end) kept.rule.lanes;
     sound = sound-by end now went;
     entered = λ u l.
         let more = total_set (λ (x : View). times u x.entries) s.views id v then here in
         let same : times u then.entries ≡ times u v.entries = ap (λ (es : List ℕ). times u es) (quota-same end n).1 in
-        omega (arith, entered-kept t s.words kept.words end stands u, kept.entered u l);
+        omega (arith, entered-kept t s.words kept.rule.words end stands u, kept.rule.entered u l);
     accounted = λ i x e. ⊎_elim
-        (λ y. subst (λ (z : View). IsAccounted start.network z) y.1 (accounted-after_step start.network token client wire n v is there (ap (λ (z : Start). z.network) of) end ends (lands-at end refl) (kept.accounted id v here)))
-        (λ y. kept.accounted i x y.1)
+        (λ y. subst (λ (z : View). IsAccounted start.network z) y.1 (accounted-after_step start.network token client wire n v is there (ap (λ (z : Start). z.network) of) end ends (lands-at end refl) (kept.rule.accounted id v here)))
+        (λ y. kept.rule.accounted i x y.1)
         (at_set s.views id i then x e);
     fresh = λ i x e. ⊎_elim
         (λ y. subst (λ (z : View). IsFresh start next.words z) y.1 (fresh-after_step idle end refl))
-        (λ y. fresh_grown start s.words next.words x risen-not (kept.fresh i x y.1))
+        (λ y. fresh_grown start s.words next.words x risen-not (kept.rule.fresh i x y.1))
         (at_set s.views id i then x e);
     quotas =
         let more = total_set (λ (x : View). x.quota + length x.entries) s.views id v then here in
         let same : length then.entries ≡ length v.entries = ap (λ (es : List ℕ). length es) (quota-same end n).1 in
-        omega (arith, (quota-same end n).0, kept.quotas);
+        omega (arith, (quota-same end n).0, kept.rule.quotas);
+    };
   }
 
   pub let-by : v.loads ≡ [] → IsLetBy start v then client end n
   let-by idle = record {
-    step = record { old = s; new = next; id = id; here = here; views = refl; kept_before = kept; kept_after = kept-after_step idle; happened = moved-by start was now client wire end went later-at };
+    step = record {
+      old = s;
+      new = next;
+      id = id;
+      here = here;
+      there = get-here s.views id v then here;
+      views = refl;
+      kept_before = kept.rule;
+      kept_after = (kept-after_step idle).rule;
+      happened = moved-by start was now client wire end went later-at;
+    };
     few = omega (arith, count_few start s kept end stands, few_came start s kept);
     sole = λ whole. sole start s kept id v here whole end stands;
   }
@@ -261,7 +288,7 @@ module _ (start : Start) (id token client wire : ℕ) (end : End) (v : View) (s 
 pub lets_on : (start : Start) (slots id : ℕ) (me : Me (Unit {0}) View) (is : Going) → is.start ≡ start → me.1 ≡ [] → me.0.loads ≡ [] → me.0.start ≡ start
     → IsThere me.0.tokens is.token is.client is.wire → length me.0.tokens ≡ length start.network.table.ends
     → end_of start.network.table is.wire ≡ is.end → Stands start.network.table is.end
-    → Allows (KeepsRule start) slots id me (end_word start.network.table is.end) (λ n. (n + 1) % 2 ^ 64) (λ n new. (new.1 ≡ []) × GoesOn is me.0 n new.0)
+    → Allows (HoldsAt start) slots id me (end_word start.network.table is.end) (λ n. (n + 1) % 2 ^ 64) (λ n new. (new.1 ≡ []) × GoesOn is me.0 n new.0)
 lets_on start slots id me is same no_slot idle of on_it wires ends stands s kept homes at fits =
     let t : Table = start.network.table in
     let v : View = me.0 in
@@ -277,25 +304,25 @@ lets_on start slots id me is same no_slot idle of on_it wires ends stands s kept
       to n,
       keeps,
       tt,
-      subst (λ (x : ℕ). KeepsRule start (stepped s (end_word t is.end) x id me.1 (to n) keeps)) no_wrap
-          (subst (λ (m : ℕ). KeepsRule start (record { words = raised s.words (end_word t is.end); homes = s.homes; views = set s.views id (to m) })) count old),
+      subst (λ (x : ℕ). HoldsAt start (stepped s (end_word t is.end) x id me.1 (to n) keeps)) no_wrap
+          (subst (λ (m : ℕ). HoldsAt start (record { words = raised s.words (end_word t is.end); homes = s.homes; views = set s.views id (to m) })) count old),
       (no_slot, (refl, subst (λ (z : Start). IsLetBy z v (to n) is.client is.end n) (sym same) (subst (λ (m : ℕ). IsLetBy start v (to m) is.client is.end m) count all))),
     )
 
 -- the same, where the word and the steps' marks are told apart
 pub lets_in_by : (start : Start) (slots id : ℕ) (me : Me (Unit {0}) View) (is : Coming) (entry : ℕ) → is.entry ≡ entry → is.start ≡ start → me.1 ≡ [] → me.0.loads ≡ [] → me.0.start ≡ start → entry < start.network.table.entries
     → entry < length me.0.tokens → 0 < me.0.quota
-    → Allows (KeepsRule start) slots id me (entry_word entry) (λ n. (n + 1) % 2 ^ 64) (λ n new. (new.1 ≡ []) × ComesIn is me.0 new.0)
+    → Allows (HoldsAt start) slots id me (entry_word entry) (λ n. (n + 1) % 2 ^ 64) (λ n new. (new.1 ≡ []) × ComesIn is me.0 new.0)
 lets_in_by start slots id me is entry by same no_slot idle of low inside some_quota =
-    subst (λ (e : ℕ). Allows (KeepsRule start) slots id me (entry_word e) (λ n. (n + 1) % 2 ^ 64) (λ n new. (new.1 ≡ []) × ComesIn is me.0 new.0)) by
+    subst (λ (e : ℕ). Allows (HoldsAt start) slots id me (entry_word e) (λ n. (n + 1) % 2 ^ 64) (λ n new. (new.1 ≡ []) × ComesIn is me.0 new.0)) by
     (lets_in start slots id me is same no_slot idle of (omega arith) (omega arith) some_quota)
 
 pub lets_on_by : (start : Start) (slots id : ℕ) (me : Me (Unit {0}) View) (is : Going) (token client wire : ℕ) (end : End) (word : ℕ)
     → is ≡ record { start = start; token = token; client = client; wire = wire; end = end } → word ≡ end_word start.network.table end → me.1 ≡ [] → me.0.loads ≡ [] → me.0.start ≡ start
     → IsThere me.0.tokens token client wire → length me.0.tokens ≡ length start.network.table.ends
     → end_of start.network.table wire ≡ end → Stands start.network.table end
-    → Allows (KeepsRule start) slots id me word (λ n. (n + 1) % 2 ^ 64) (λ n new. (new.1 ≡ []) × GoesOn is me.0 n new.0)
+    → Allows (HoldsAt start) slots id me word (λ n. (n + 1) % 2 ^ 64) (λ n new. (new.1 ≡ []) × GoesOn is me.0 n new.0)
 lets_on_by start slots id me is token client wire end word by at no_slot idle of on_it wires ends stands =
-    subst (λ (x : Going). Allows (KeepsRule start) slots id me word (λ n. (n + 1) % 2 ^ 64) (λ n new. (new.1 ≡ []) × GoesOn x me.0 n new.0)) (sym by)
-    (subst (λ (k : ℕ). Allows (KeepsRule start) slots id me k (λ n. (n + 1) % 2 ^ 64) (λ n new. (new.1 ≡ []) × GoesOn (record { start = start; token = token; client = client; wire = wire; end = end }) me.0 n new.0)) (sym at)
+    subst (λ (x : Going). Allows (HoldsAt start) slots id me word (λ n. (n + 1) % 2 ^ 64) (λ n new. (new.1 ≡ []) × GoesOn x me.0 n new.0)) (sym by)
+    (subst (λ (k : ℕ). Allows (HoldsAt start) slots id me k (λ n. (n + 1) % 2 ^ 64) (λ n new. (new.1 ≡ []) × GoesOn (record { start = start; token = token; client = client; wire = wire; end = end }) me.0 n new.0)) (sym at)
     (lets_on start slots id me (record { start = start; token = token; client = client; wire = wire; end = end }) refl no_slot idle of on_it wires ends stands))

@@ -1,6 +1,6 @@
 -- The rule is kept by a sweep: by as many events in a row as tokens go.
 use Rattle.std.proofs.Common.{◌≡◌, ◌≢◌, ℕ, zero, suc, ◌+◌, ◌*◌, ◌%◌, ◌^◌, ◌<◌, ◌≤◌, inl, inr, cond, List, [], ◌∷◌, ◌++◌, length, get_or, set, sum_by, sym, refl, ap, ◌∙◌, arith, subst, append-nil, ⊎_elim}
-use mathlib.Core.Option.{some, some-injective, some-ne-none}
+use mathlib.Core.Option.{some}
 use lib.ListN.{get_elem?}
 use Rattle.std.proofs.lemmas.Bool.{cases_lt, ne_eqb}
 use Rattle.std.proofs.lemmas.List.{get_or_past, set-get_or, set-set, get_or-set_same}
@@ -18,36 +18,18 @@ use Rattle.cn_yard.specs.Lists.{IsThere, last_on, on, times_in, without}
 use Rattle.cn_yard.proofs.CallerLemmas.{first-there, once-gone, once-moved, rest-on}
 use Rattle.cn_floor.specs.declared.view.Start.{Start}
 use Rattle.cn_floor.specs.declared.view.View.{View}
-use Rattle.cn_floor.specs.Rule.{IsAccounted, IsFresh, KeepsRule, ledger_of}
+use Rattle.cn_floor.specs.Rule.{IsAccounted, IsFresh, HoldsAt, ledger_of}
 use Rattle.cn_floor.specs.Sweeps.{AllGoOn, GoInRow, GoesFrom, Sweeping, after_steps, after_sweep}
 use Rattle.cn_floor.specs.Views.{after_step, base, given_in, granted_in, lists_after, on_in, standing_in}
 use Rattle.cn_floor.specs.Words.{clients_in, count_in, end_word}
 use Rattle.cn_floor.proofs.AtMoments.Bounds.{count_few, few_came, name_later}
-use Rattle.cn_floor.proofs.AtMoments.Kept.{AddUpAlike, kept_alike, ledger-alike}
+use Rattle.cn_floor.proofs.AtMoments.Kept.{counted-alike, kept-recounted, ledger-alike}
 use Rattle.cn_floor.proofs.Lists.{made_at, made_beyond}
+use Rattle.cn_floor.proofs.AtMoments.Places.{get-here, get-there, set-here}
 use Rattle.cn_floor.proofs.AtMoments.Raised.{count-raised, count-word, end_there, raised}
 use Rattle.cn_floor.proofs.AtMoments.Sole.{sole}
 use Rattle.cn_floor.proofs.AtMoments.Steps.{end-self, kept-after_step, went}
 use Rattle.cn_floor.proofs.AtMoments.Totals.{total_set}
-
--- ---- one place of a list
-
-set-here : {X : Type 0} (xs : List X) (i : ℕ) (x : X) → get_elem? xs i ≡ some x → set xs i x ≡ xs
-set-here [] i x e = absurd (some-ne-none x (sym e))
-set-here (y ∷ xs) zero x e = ap (λ z. z ∷ xs) (sym (some-injective y x e))
-set-here (y ∷ xs) (suc i) x e = ap (λ zs. y ∷ zs) (set-here xs i x e)
-
-get-here : {X : Type 0} (xs : List X) (i : ℕ) (x y : X) → get_elem? xs i ≡ some x → get_elem? (set xs i y) i ≡ some y
-get-here [] i x y e = absurd (some-ne-none x (sym e))
-get-here (z ∷ xs) zero x y e = refl
-get-here (z ∷ xs) (suc i) x y e = get-here xs i x y e
-
-get-there : {X : Type 0} (xs : List X) (i j : ℕ) (x y : X) → j ≢ i → get_elem? xs j ≡ some x → get_elem? (set xs i y) j ≡ some x
-get-there [] i j x y other e = e
-get-there (z ∷ xs) zero zero x y other e = absurd (other refl)
-get-there (z ∷ xs) zero (suc j) x y other e = e
-get-there (z ∷ xs) (suc i) zero x y other e = e
-get-there (z ∷ xs) (suc i) (suc j) x y other e = get-there xs i j x y (λ same. other (ap suc same)) e
 
 -- ---- the tokens of a wire, one after the other
 
@@ -135,13 +117,13 @@ module _ (start : Start) (wire : ℕ) (end : End) (formed : IsWellFormed start.n
     pub record Gone (s : State (Unit {0}) View) (v : View) (n : ℕ) (tokens : List (ℕ × ℕ)) : Type 0 where
       pub words : List ℕ
       pub words_are : words ≡ set s.words word (get_or s.words word 0 + length tokens)
-      pub kept : KeepsRule start (record { words = words; homes = s.homes; views = set s.views id (after_steps end n tokens v) })
+      pub kept : HoldsAt start (record { words = words; homes = s.homes; views = set s.views id (after_steps end n tokens v) })
       pub row : GoInRow t wire end n tokens (ledger s) (ledger_of t start.words words (set s.views id (after_steps end n tokens v)))
 
     abbrev with_view : State (Unit {0}) View → View → State (Unit {0}) View
     with_view s v = record { words = s.words; homes = s.homes; views = set s.views id v }
 
-    all-after_steps : (tokens : List (ℕ × ℕ)) (s : State (Unit {0}) View) (v : View) (n : ℕ) → KeepsRule start s → get_elem? s.views id ≡ some v → MayGo v tokens → v.loads ≡ [] → count_in t s.words end ≡ n
+    all-after_steps : (tokens : List (ℕ × ℕ)) (s : State (Unit {0}) View) (v : View) (n : ℕ) → HoldsAt start s → get_elem? s.views id ≡ some v → MayGo v tokens → v.loads ≡ [] → count_in t s.words end ≡ n
         → Gone s v n tokens
     unfolding after_steps GoInRow
     all-after_steps [] s v n kept here may idle count =
@@ -149,7 +131,7 @@ module _ (start : Start) (wire : ℕ) (end : End) (formed : IsWellFormed start.n
         record {
           words = s.words;
           words_are = sym (ap (set s.words word) (plus-zero (get_or s.words word 0)) ∙ set-get_or s.words word 0);
-          kept = subst (λ (vs : List View). KeepsRule start (record { words = s.words; homes = s.homes; views = vs })) (sym same) kept;
+          kept = subst (λ (vs : List View). HoldsAt start (record { words = s.words; homes = s.homes; views = vs })) (sym same) kept;
           row = ap (ledger_of t start.words s.words) (sym same);
         }
       where
@@ -162,21 +144,21 @@ module _ (start : Start) (wire : ℕ) (end : End) (formed : IsWellFormed start.n
         let then : View = after_step token client end n v in
         let kept_m = kept-after_step start id token client wire end v s kept here may.of is may.wires ends stands idle in
         let went_m = went start id token client wire end v s kept here may.of is may.wires ends stands in
-        let kept_n : KeepsRule start (record { words = raise; homes = s.homes; views = set s.views id then }) =
-        subst (λ (k : ℕ). KeepsRule start (record { words = raise; homes = s.homes; views = set s.views id (after_step token client end k v) })) count kept_m in
+        let kept_n : HoldsAt start (record { words = raise; homes = s.homes; views = set s.views id then }) =
+        subst (λ (k : ℕ). HoldsAt start (record { words = raise; homes = s.homes; views = set s.views id (after_step token client end k v) })) count kept_m in
         let went_n : GoesFrom t (ledger s) (ledger_of t start.words raise (set s.views id then)) client wire end =
         subst (λ (k : ℕ). GoesFrom t (ledger s) (ledger_of t start.words raise (set s.views id (after_step token client end k v))) client wire end) count went_m in
         let more : count_in t raise end ≡ n + 1 =
-        count-raised t s.words kept.words end end stands ∙ ap (λ b. m + cond b 1 0) (end-self end) ∙ ap (λ (k : ℕ). k + 1) count in
+        count-raised t s.words kept.rule.words end end stands ∙ ap (λ b. m + cond b 1 0) (end-self end) ∙ ap (λ (k : ℕ). k + 1) count in
         let later = all-after_steps rest (record { words = raise; homes = s.homes; views = set s.views id then }) then (n + 1) kept_n (get-here s.views id v then here) (rest-may n v token client rest may) (still-idle n token client v idle) more in
         let views : set (set s.views id then) id (after_steps end (n + 1) rest then) ≡ set s.views id (after_steps end (n + 1) rest then) = set-set s.views id then (after_steps end (n + 1) rest then) in
-        let inside : word < length s.words = omega (arith, kept.words, end_there t end stands) in
+        let inside : word < length s.words = omega (arith, kept.rule.words, end_there t end stands) in
         let raise_at : get_or raise word 0 ≡ get_or s.words word 0 + 1 = get_or-set_same s.words word (get_or s.words word 0 + 1) 0 inside in
         record {
           words = later.words;
           words_are = later.words_are ∙ set-set s.words word (get_or s.words word 0 + 1) (get_or raise word 0 + length rest)
               ∙ ap (set s.words word) (one-more (get_or raise word 0) (get_or s.words word 0) (length rest) raise_at);
-          kept = subst (λ (vs : List View). KeepsRule start (record { words = later.words; homes = s.homes; views = vs })) views later.kept;
+          kept = subst (λ (vs : List View). HoldsAt start (record { words = later.words; homes = s.homes; views = vs })) views later.kept;
           row = (
             ledger_of t start.words raise (set s.views id then),
             went_n,
@@ -188,52 +170,11 @@ module _ (start : Start) (wire : ℕ) (end : End) (formed : IsWellFormed start.n
         one-more : (x y k : ℕ) → x ≡ y + 1 → x + k ≡ y + suc k
         one-more x y k e = omega (arith, e)
 
-    -- how many steps a view counts is nothing to the rule
-    module _ (s : State (Unit {0}) View) (v g : View) (words : List ℕ) (here : get_elem? s.views id ≡ some v) (k : ℕ)
-        (kept : KeepsRule start (record { words = words; homes = s.homes; views = set s.views id g })) where
-      abbrev w : View
-      w = record g { steps = k }
-
-      sums : (f : View → ℕ) → f g ≡ f w → sum_by f (set s.views id g) ≡ sum_by f (set s.views id w)
-      sums f same = omega (arith, total_set f s.views id v g here, total_set f s.views id v w here, same)
-
-      given-alike : (other : End) (m : ℕ) → given_in other m g ≡ given_in other m w
-      given-alike (Balancer b) m = refl
-      given-alike (Exit i) m = refl
-
-      pub alike : (m : ℕ) → AddUpAlike m (set s.views id g) (set s.views id w)
-      alike m = record {
-        on = λ u. sums (on_in u) refl;
-        standing = λ u c. sums (standing_in u c) refl;
-        given = λ other n. sums (given_in other n) (given-alike other n);
-        granted = λ c i n name. sums (granted_in m c i n name) refl;
-        entries = λ u. sums (λ x. times u x.entries) refl;
-        quotas = sums (λ x. x.quota + length x.entries) refl;
-      }
-
-      accounted-alike : IsAccounted start.network g → IsAccounted start.network w
-      accounted-alike a = record { all = a.all; entries = a.entries; walked = a.walked }
-
-      fresh-alike : IsFresh start words g → IsFresh start words w
-      fresh-alike f = record { low = f.low; own = f.own; seen = f.seen; names = f.names }
-
-      pub kept-counted : KeepsRule start (record { words = words; homes = s.homes; views = set s.views id w })
-      kept-counted =
-          kept_alike start (record { words = words; homes = s.homes; views = set s.views id g }) (set s.views id w) kept (alike (base start))
-          (λ i x e. ⊎_elim
-          (λ y. subst (IsAccounted start.network) y.1 (accounted-alike (kept.accounted id g (get-here s.views id v g here))))
-          (λ y. kept.accounted i x (get-there s.views id i x g y.0 y.1))
-          (at_set s.views id i w x e))
-          (λ i x e. ⊎_elim
-          (λ y. subst (IsFresh start words) y.1 (fresh-alike (kept.fresh id g (get-here s.views id v g here))))
-          (λ y. kept.fresh i x (get-there s.views id i x g y.0 y.1))
-          (at_set s.views id i w x e))
-
 -- the tokens of a wire may go on
 all_may : (start : Start) (slots id : ℕ) (me : Me (Unit {0}) View) (wire : ℕ) (end : End) → me.1 ≡ [] → me.0.loads ≡ [] → me.0.start ≡ start
     → ((k : ℕ) → times_in me.0.tokens k ≤ 1) → length me.0.tokens ≡ length start.network.table.ends → wire < length start.network.table.ends
     → end_of start.network.table wire ≡ end → Stands start.network.table end
-    → Allows (KeepsRule start) slots id me (end_word start.network.table end) (λ n. (n + length (on me.0.tokens wire)) % 2 ^ 64)
+    → Allows (HoldsAt start) slots id me (end_word start.network.table end) (λ n. (n + length (on me.0.tokens wire)) % 2 ^ 64)
     (λ n new. (new.1 ≡ []) × AllGoOn (record { start = start; wire = wire; end = end }) me.0 n new.0)
 all_may start slots id me wire end no_slot idle of once wires low ends stands s kept homes here fits =
     let t : Table = start.network.table in
@@ -248,9 +189,13 @@ all_may start slots id me wire end no_slot idle of once wires low ends stands s 
     let g : View = after_steps end n tokens v in
     let w : View = after_sweep wire end n v in
     let words : List ℕ = gone_all.words in
-    let kept_w = kept-counted start wire end formed low ends stands id s v g words here (v.steps + 1) gone_all.kept in
+    let gone : State (Unit {0}) View = record { words = words; homes = s.homes; views = set s.views id g } in
+    let g_here : get_elem? gone.views id ≡ some g = get-here s.views id v g here in
+    let again : set gone.views id w ≡ set s.views id w = set-set s.views id g w in
+    let kept_w : HoldsAt start (record { words = words; homes = s.homes; views = set s.views id w }) =
+    subst (λ (vs : List View). HoldsAt start (record { words = words; homes = s.homes; views = vs })) again (kept-recounted start gone id g (v.steps + 1) g_here gone_all.kept) in
     let after : State (Unit {0}) View = record { words = words; homes = s.homes; views = set s.views id w } in
-    let inside : at < length s.words = omega (arith, kept.words, end_there t end stands) in
+    let inside : at < length s.words = omega (arith, kept.rule.words, end_there t end stands) in
     let now : count_in t words end ≡ n + length tokens =
     count-word t words end stands ∙ ap (λ (ws : List ℕ). get_or ws at 0) gone_all.words_are ∙ get_or-set_same s.words at (n + length tokens) 0 inside in
     let few : n + length tokens ≤ base start + start.quota = omega (arith, now, count_few start after kept_w end stands, few_came start after kept_w) in
@@ -258,11 +203,11 @@ all_may start slots id me wire end no_slot idle of once wires low ends stands s 
     let carried = kept.began.few in
     let no_wrap : n + length tokens ≡ (n + length tokens) % 18446744073709551616 = omega arith in
     let words_now : words ≡ set s.words at ((n + length tokens) % 18446744073709551616) = gone_all.words_are ∙ ap (set s.words at) no_wrap in
-    let same = ledger-alike t start.words words (set s.views id g) (set s.views id w) (alike start wire end formed low ends stands id s v g words here (v.steps + 1) gone_all.kept (clients_in t start.words)) in (
+    let same = ledger-alike t start.words words gone.views (set gone.views id w) (counted-alike start gone id g (v.steps + 1) g_here (clients_in t start.words)) ∙ ap (ledger_of t start.words words) again in (
       w,
       keeps,
       tt,
-      subst (λ (ws : List ℕ). KeepsRule start (record { words = ws; homes = s.homes; views = set s.views id w })) words_now kept_w,
+      subst (λ (ws : List ℕ). HoldsAt start (record { words = ws; homes = s.homes; views = set s.views id w })) words_now kept_w,
       (
         no_slot,
         (
@@ -273,9 +218,10 @@ all_may start slots id me wire end no_slot idle of once wires low ends stands s 
               new = after;
               id = id;
               here = here;
+              there = get-here s.views id v w here;
               views = refl;
-              kept_before = kept;
-              kept_after = kept_w;
+              kept_before = kept.rule;
+              kept_after = kept_w.rule;
               happened = subst (GoInRow t wire end n tokens (ledger_of t start.words s.words s.views)) same gone_all.row;
             };
             few = few;
@@ -294,9 +240,9 @@ pub all_go_on : (start : Start) (slots id : ℕ) (me : Me (Unit {0}) View) (is :
     → is ≡ record { start = start; wire = wire; end = end } → me.1 ≡ [] → me.0.loads ≡ [] → me.0.start ≡ start
     → ((k : ℕ) → times_in me.0.tokens k ≤ 1) → length me.0.tokens ≡ length start.network.table.ends → wire < length start.network.table.ends
     → length (on me.0.tokens wire) ≡ count → end_of start.network.table wire ≡ end → Stands start.network.table end → end_word start.network.table end ≡ word
-    → Allows (KeepsRule start) slots id me word (λ n. (n + count) % 2 ^ 64) (λ n new. (new.1 ≡ []) × AllGoOn is me.0 n new.0)
+    → Allows (HoldsAt start) slots id me word (λ n. (n + count) % 2 ^ 64) (λ n new. (new.1 ≡ []) × AllGoOn is me.0 n new.0)
 all_go_on start slots id me is wire end count word same no_slot idle of once wires low many ends stands at =
-    subst (λ (x : Sweeping). Allows (KeepsRule start) slots id me word (λ n. (n + count) % 2 ^ 64) (λ n new. (new.1 ≡ []) × AllGoOn x me.0 n new.0)) (sym same)
-    (subst (λ (k : ℕ). Allows (KeepsRule start) slots id me word (λ n. (n + k) % 2 ^ 64) (λ n new. (new.1 ≡ []) × AllGoOn (record { start = start; wire = wire; end = end }) me.0 n new.0)) many
-    (subst (λ (k : ℕ). Allows (KeepsRule start) slots id me k (λ n. (n + length (on me.0.tokens wire)) % 2 ^ 64) (λ n new. (new.1 ≡ []) × AllGoOn (record { start = start; wire = wire; end = end }) me.0 n new.0)) at
+    subst (λ (x : Sweeping). Allows (HoldsAt start) slots id me word (λ n. (n + count) % 2 ^ 64) (λ n new. (new.1 ≡ []) × AllGoOn x me.0 n new.0)) (sym same)
+    (subst (λ (k : ℕ). Allows (HoldsAt start) slots id me word (λ n. (n + k) % 2 ^ 64) (λ n new. (new.1 ≡ []) × AllGoOn (record { start = start; wire = wire; end = end }) me.0 n new.0)) many
+    (subst (λ (k : ℕ). Allows (HoldsAt start) slots id me k (λ n. (n + length (on me.0.tokens wire)) % 2 ^ 64) (λ n new. (new.1 ≡ []) × AllGoOn (record { start = start; wire = wire; end = end }) me.0 n new.0)) at
     (all_may start slots id me wire end no_slot idle of once wires low ends stands)))

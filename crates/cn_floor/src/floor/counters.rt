@@ -3,23 +3,21 @@
 
 ghost use Rattle.std.specs.Prelude.{◌≡◌, ◌+◌, ◌<◌, ◌≤◌, ℕ, [], length, vec_capacity, IfOk};
 ghost use Rattle.std.specs.Mem.Slots.{slots_items, slots_len, IsFull};
-ghost use Rattle.cn_spec.specs.declared.limits.TheConstants.{MOST_CLIENTS};
 ghost use Rattle.cn_wiring.specs.Table.{Stands, end_of};
 ghost use Rattle.cn_yard.specs.Lists.{IsThere, on, times_in};
 ghost use Rattle.cn_floor.specs.Closing.{IsEnding};
-ghost use Rattle.cn_floor.specs.Plays.{ComesIn, GoesOn, Loads};
+ghost use Rattle.cn_floor.specs.Plays.{ComesIn, GoesOn, Loads, Looks};
 ghost use Rattle.cn_floor.specs.Rule.{IsStart};
 ghost use Rattle.cn_floor.specs.Sweeps.{AllGoOn};
-ghost use Rattle.cn_floor.specs.Views.{after_join, after_split, empty_view, inside_in, on_in, split_off};
+ghost use Rattle.cn_floor.specs.Views.{after_join, after_split, empty_view, on_in, split_off};
 ghost use Rattle.cn_floor.specs.Words.{end_word, word_count};
 
 use super::plays::{
-    BoundPlay, EnterOf, EnterPlay, FloorRule, JoinSeats, LoadOf, LoadPlay, Portion, SplitSeat,
-    StepOf, StepPlay, SweepOf, SweepPlay,
+    EnterOf, EnterPlay, FloorRule, JoinSeats, LoadOf, LoadPlay, LookPlay, Portion, SplitSeat, StepOf,
+     StepPlay, SweepOf, SweepPlay,
 };
 use crate::view::{Opening, View};
 use atomic_table::{Closed, Seat, Table};
-use cn_spec::limits::MOST_CLIENTS;
 use cn_wiring::{Counting, End};
 use cn_yard::Token;
 use std::alloc::{AllocError, Global};
@@ -215,33 +213,28 @@ impl Counters {
         self.table.shared.split_seat::<SplitSeat<T>>(seat)
     }
 
-    /// The second seat's view is taken into the first's. Gives the sum of the quotas. Quotas and tokens of a floor are
-    /// few, as a look at the table would show: the branch that looks is never taken.
-    pub(super) fn join(
-        &self,
-        seat: &mut Seat<(), View>,
-        other: Seat<(), View>,
-        inside: u32,
-        quota: u64,
-        more: u64,
-    ) -> u64
+    /// Looks once, in one atomic step: a load of the lanes' word, which nobody changes. It shows a moment at which the lane has
+    /// its view.
+    pub(super) fn look<T: LoadOf>(&self, seat: &mut Seat<(), View>)
+        requires own { seat.old.table_id ≡ self.now.table }
+        requires hears { T.start ≡ self.now.start }
+        requires slots { seat.old.me.1 ≡ [] }
+        ensures seat { (seat.new.table_id ≡ seat.old.table_id) × (seat.new.me.1 ≡ []) }
+        ensures looks { Looks self.now.start seat.old.me.0 seat.new.me.0 }
+    {
+        self.table.shared.load::<LookPlay<T>>(seat, 0);
+    }
+
+    /// The second seat's view is taken into the first's.
+    pub(super) fn join(&self, seat: &mut Seat<(), View>, other: Seat<(), View>)
         requires own { (seat.old.table_id ≡ self.now.table) × (other.table_id ≡ self.now.table) }
         requires slots { (seat.old.me.1 ≡ []) × (seat.old.me.0.loads ≡ []) × (other.me.1 ≡ [])
             × (other.me.0.loads ≡ []) }
         requires out { (wire : ℕ) → on_in wire other.me.0 ≡ 0 }
-        requires quotas { (seat.old.me.0.quota ≡ quota) × (other.me.0.quota ≡ more)
-            × (inside_in seat.old.me.0 ≡ inside) }
-        ensures seat { (seat.new.table_id ≡ seat.old.table_id)
+        ensures { (seat.new.table_id ≡ seat.old.table_id)
             × (seat.new.me ≡ (after_join seat.old.me.0 other.me.0, [])) }
-        ensures sum { (result ≡ quota + more) × (inside + result ≤ MOST_CLIENTS) }
     {
         self.table.shared.join_seat::<JoinSeats>(seat, other);
-        let sum = quota.saturating_add(more);
-        if u64::from(inside).saturating_add(sum) > MOST_CLIENTS {
-            self.table.shared.load::<BoundPlay>(seat, 1);
-            unreachable!();
-        }
-        sum
     }
 
     /// The words at the end, as the view of the last seat records them. They are put into the list, which has room for

@@ -8,10 +8,10 @@ use std::marker::{Brand, PhantomData};
 pub struct FloorRule;
 
 impl TableRule<(), View, Opening> for FloorRule {
-    ghost use Rattle.cn_floor.specs.Rule.{KeepsRule, start_of};
+    ghost use Rattle.cn_floor.specs.Rule.{HoldsAt, start_of};
     ghost use Rattle.cn_floor.specs.Views.{empty_view};
 
-    ghost holds = { λ key s. KeepsRule (start_of key) s };
+    ghost holds = { λ key s. HoldsAt (start_of key) s };
 
     ghost first = { λ key. empty_view (start_of key) key.quota };
 }
@@ -91,7 +91,7 @@ impl<T: SweepOf> Play<(), View> for SweepPlay<T> {
     ghost then = { λ _ me n new. (new.1 ≡ []) × AllGoOn T.sweeping me.0 n new.0 };
 }
 
-/// Of which floor a load is.
+/// Of which floor a load or a look is.
 pub trait LoadOf {
     ghost use Rattle.cn_floor.specs.declared.view.Start.{Start};
 
@@ -151,13 +151,14 @@ impl Join<View> for JoinSeats {
     ghost spent = { nobody };
 }
 
-/// A look that changes nothing, and shows that quota and tokens are few.
-pub struct BoundPlay;
+/// A look at the lanes' word, which shows a moment at which the lane has its view.
+pub struct LookPlay<T> {
+    of: PhantomData<T>,
+}
 
-impl Play<(), View> for BoundPlay {
-    ghost use Rattle.std.specs.Prelude.{◌≡◌, ◌+◌, ◌≤◌};
-    ghost use Rattle.cn_spec.specs.declared.limits.TheConstants.{MOST_CLIENTS};
-    ghost use Rattle.cn_floor.specs.Views.{inside_in};
+impl<T: LoadOf> Play<(), View> for LookPlay<T> {
+    ghost use Rattle.std.specs.Prelude.{◌≡◌, []};
+    ghost use Rattle.cn_floor.specs.Plays.{Looks};
 
-    ghost then = { λ _ me n new. (new ≡ me) × (inside_in me.0 + me.0.quota ≤ MOST_CLIENTS) };
+    ghost then = { λ _ me n new. (new.1 ≡ []) × Looks T.start me.0 new.0 };
 }

@@ -1,9 +1,10 @@
 //! Lanes of one floor are split and joined.
 
-ghost use Rattle.std.specs.Prelude.{◌≡◌, ◌+◌, ◌-◌, ◌<◌, ◌≤◌, ◌↔◌, ◌++◌, length, vec_capacity, vec_len, IfErr, IfOk};
+ghost use Rattle.std.specs.Prelude.{◌≡◌, ◌+◌, ◌-◌, ◌<◌, ◌≤◌, ◌↔◌, ◌++◌, length, vec_capacity, vec_len, IfErr, IfOk, IsErrOf, OnErr, OnOk};
 ghost use Rattle.cn_yard.specs.Lists.{tokens_in};
 ghost use Rattle.cn_floor.specs.Lane.{empty_lane};
-ghost use Rattle.cn_floor.specs.Views.{after_join, after_split, split_off};
+ghost use Rattle.cn_floor.specs.Steps.{HasMoment};
+ghost use Rattle.cn_floor.specs.Views.{after_join, after_look, after_split, split_off};
 
 use super::lane::Lane;
 use super::{Floor, yard_for};
@@ -23,38 +24,64 @@ fn append(to: &mut Vec<Grant>, from: &[Grant])
 }
 
 impl<'a> Floor<'a> {
-    /// Splits off a lane with some of the quota. The first keeps all else.
+    /// Splits off a lane with some of the quota; the lane keeps all else. Each of both lanes then looks once.
+    ///
+    /// # Errors
+    /// The first that stands: `QuotaTooSmall`, `Memory`. Then nothing has changed.
+    pub fn split_off(&self, lane: &mut Lane, quota: u64) -> Result<Lane, SplitFault>
+        requires own { lane.old.home ≡ self.now }
+        ensures first { OnOk result (lane.new
+            ≡ record lane.old { view = after_look (after_split quota lane.old.view) }) }
+        ensures second { IfOk result (λ other. other
+            ≡ record (empty_lane lane.old.home quota) { view = after_look (split_off quota lane.old.view) }) }
+        ensures own { IfOk result (λ other. (lane.new.home ≡ self.now) × (other.home ≡ self.now)) }
+        ensures moments { IfOk result (λ other. HasMoment self.now.start lane.new.view
+            × HasMoment self.now.start other.view) }
+        ensures enough { OnOk result (quota ≤ lane.old.view.quota) }
+        ensures err { OnErr result (lane.new ≡ lane.old) }
+        ensures small { IsErrOf result SplitFault.QuotaTooSmall ↔ (lane.old.view.quota < quota) }
+    {
+        if quota > lane.quota {
+            return Err(SplitFault::QuotaTooSmall);
+        }
+        let Ok(yard) = yard_for(self.alloc, self.network()) else {
+            return Err(SplitFault::Memory);
+        };
+        let mut seat = self.counters.split::<Brand>(&mut lane.seat, quota);
+        self.counters.look::<Brand>(&mut lane.seat);
+        self.counters.look::<Brand>(&mut seat);
+        lane.quota -= quota;
+        Ok(Lane {
+            seat,
+            yard,
+            grants: Vec::new(self.alloc),
+            quota,
+            room: 0,
+        })
+    }
+
+    /// Splits off a lane as [`Floor::split_off`] does, and gives both.
     ///
     /// # Errors
     /// The first that stands, with the lane: `QuotaTooSmall`, `Memory`.
     pub fn split(&self, mut lane: Lane, quota: u64) -> Result<(Lane, Lane), (SplitFault, Lane)>
         requires own { lane.home ≡ self.now }
         ensures first { IfOk result (λ r. r.0
-            ≡ record lane { view = after_split quota lane.view }) }
-        ensures second { IfOk result (λ r.
-            r.1 ≡ record (empty_lane lane.home quota) { view = split_off quota lane.view }) }
+            ≡ record lane { view = after_look (after_split quota lane.view) }) }
+        ensures second { IfOk result (λ r. r.1
+            ≡ record (empty_lane lane.home quota) { view = after_look (split_off quota lane.view) }) }
         ensures own { IfOk result (λ r. (r.0.home ≡ self.now) × (r.1.home ≡ self.now)) }
+        ensures moments { IfOk result (λ r. HasMoment self.now.start r.0.view
+            × HasMoment self.now.start r.1.view) }
         ensures enough { IfOk result (λ r. quota ≤ lane.view.quota) }
         ensures err { IfErr result (λ r. r.1 ≡ lane) }
         ensures small { IfErr result (λ r. (r.0 ≡ SplitFault.QuotaTooSmall)
             ↔ (lane.view.quota < quota)) }
     {
-        if quota > lane.quota {
-            return Err((SplitFault::QuotaTooSmall, lane));
+        match self.split_off(&mut lane, quota) {
+            Ok(other) => Ok((lane, other)),
+            Err(fault) => Err((fault, lane)),
         }
-        let Ok(yard) = yard_for(self.alloc, self.network()) else {
-            return Err((SplitFault::Memory, lane));
-        };
-        let seat = self.counters.split::<Brand>(&mut lane.seat, quota);
-        lane.quota -= quota;
-        let other = Lane {
-            seat,
-            yard,
-            grants: Vec::new(self.alloc),
-            quota,
-            room: 0,
-        };
-        Ok((lane, other))
     }
 
     /// Takes the second lane into the first: its grants come after the first's. If the first has room for them it takes
@@ -66,9 +93,10 @@ impl<'a> Floor<'a> {
     pub fn join(&self, mut lane: Lane, other: Lane) -> Result<Lane, (JoinFault, Lane, Lane)>
         requires own { (lane.home ≡ self.now) × (other.home ≡ self.now) }
         ensures ok { IfOk result (λ r. r ≡ record lane {
-          view = after_join lane.view other.view;
+          view = after_look (after_join lane.view other.view);
           room = lane.room - length other.view.grants;
         }) }
+        ensures moment { IfOk result (λ r. HasMoment self.now.start r.view) }
         ensures out { IfOk result (λ r. tokens_in other.yard.lists ≡ 0) }
         ensures err { IfErr result (λ r. (r.1 ≡ lane) × (r.2 ≡ other)) }
         ensures walking { IfErr result (λ r. (r.0 ≡ JoinFault.StillWalking)
@@ -93,9 +121,9 @@ impl<'a> Floor<'a> {
             quota,
             room: _room,
         } = other;
-        lane.quota = self
-            .counters
-            .join(&mut lane.seat, seat, inside, lane.quota, quota);
+        self.counters.join(&mut lane.seat, seat);
+        self.counters.look::<Brand>(&mut lane.seat);
+        lane.quota += quota;
         lane.room = lane.room.saturating_sub(more as u64);
         append(&mut lane.grants, grants.as_slice());
         Ok(lane)

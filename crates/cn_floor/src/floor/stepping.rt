@@ -3,7 +3,7 @@
 ghost use Rattle.std.specs.Prelude.{◌≡◌, ℕ, ◌+◌, ◌-◌, ◌<◌, ◌≤◌, ◌↔◌, [], IfOk, IsErrOf, IsSome, OnErr};
 ghost use Rattle.cn_yard.specs.Lists.{standing};
 ghost use Rattle.cn_floor.specs.Lane.{LetsIn, StepsOn};
-ghost use Rattle.cn_floor.specs.Steps.{IsAnswer};
+ghost use Rattle.cn_floor.specs.Steps.{HasMoment, IsAnswer};
 ghost use Rattle.cn_floor.specs.Views.{after_entered};
 
 use super::Floor;
@@ -107,6 +107,7 @@ impl<'a> Floor<'a> {
         ensures seat { (seat.new.table_id ≡ seat.old.table_id) × (seat.new.me.1 ≡ []) }
         ensures told { seat.new.me.0 ≡ after_entered self.now.start result seat.old.me.0 }
         ensures answer { IsAnswer self.now.start seat.old.me.0 result }
+        ensures moment { HasMoment self.now.start seat.new.me.0 }
     {
         let mut total = 0;
         for entry in 0..self.network().entries() {
@@ -124,6 +125,7 @@ impl<'a> Floor<'a> {
         ensures answer { IsAnswer self.now.start lane.old.view result }
         ensures lane { lane.new
             ≡ record lane.old { view = after_entered self.now.start result lane.old.view } }
+        ensures moment { HasMoment self.now.start lane.new.view }
     {
         self.load_all(&mut lane.seat)
     }

@@ -1,4 +1,5 @@
-use Rattle.std.proofs.Common.{◌≡◌, ℕ, ◌+◌, ◌-◌, List, [], length, replicate, rules, sym, ap, ◌∙◌, subst, arith}
+use Rattle.std.proofs.Common.{◌≡◌, ℕ, ◌+◌, ◌-◌, ◌<◌, inl, inr, List, [], length, replicate, rules, sym, ap, ◌∙◌, subst, arith}
+use Rattle.std.proofs.lemmas.Bool.{cases_lt}
 use Rattle.cn_wiring.specs.Network.{Network}
 use Rattle.cn_yard.specs.Lists.{tokens_in}
 use Rattle.cn_floor.specs.declared.view.Start.{Start}
@@ -85,11 +86,20 @@ returns-then-entered-granted-clause-refused c =
     let network : c.network.result.now ≡ start.network = c.network.ensures ∙ ap (λ (w : WordsValue). w.network) c.self.invariant.before in
     let clients : c.clients_of-clients.result ≡ clients_in start.network.table ws = c.clients_of-clients.ensures ∙ (λ i. clients_in (network i).table (c.as_slice.ensures.value i)) in
     let granted : c.len-granted.result ≡ length v.grants = search rules in
+    let nobody : tokens_in c.lane.inside.yard.lists ≡ 0 = search rules in
+    let out : inside_in v ≡ 0 = inside-yard c.lane.inside.yard v c.lane.invariant.tokens ∙ nobody in
+    let all = (e.moment.kept.accounted e.moment.id v e.moment.here).all in
     let missing : IsMissing start v entered = record {
-      words = ws;
+      state = e.state;
       moment = e.moment;
-      came = omega (arith, clients, e.granted, c.self.invariant.base);
+      came = ap (clients_in start.network.table) e.same ∙ omega (arith, clients, e.granted, c.self.invariant.base);
       more = omega (arith, clients, granted, e.granted, c.self.invariant.base, c.if-entered-granted.true);
+      short = elim (cases_lt (v.quota + length v.entries) start.quota) [
+        | inl less ↦ less
+        | inr whole ↦
+            let own = e.sole (omega (arith, whole, e.within)) in
+            absurd (omega (arith, own, all, out, clients, granted, c.self.invariant.base, c.if-entered-granted.true))
+      ];
     } in
     let about : start ≡ c.args.self.start = ap (λ (h : FloorValue). h.start) c.self.view_is in
     let view : v ≡ c.args.lane.view = ap (λ (l : LaneValue). l.view) c.lane.view_is in

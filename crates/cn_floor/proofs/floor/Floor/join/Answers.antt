@@ -5,14 +5,6 @@ use Rattle.cn_yard.proofs.CallerLemmas.{nobody-on}
 use Rattle.cn_floor.proofs.floor.Floor.join.Goals.{then-lane-more+else-is_err, else-lane-more}
 use Rattle.cn_floor.proofs.floor.Floor.join.Goals as goal
 
-pub join-requires-clause-quotas : goal.join-requires-clause-quotas
-join-requires-clause-quotas c =
-    let inside = ap tokens_in (sym c.lane.invariant.tokens) ∙ sym c.len-inside.ensures in
-    elim c.if-lane-more.branch [
-      | then-lane-more+else-is_err w ↦ rw w.lane-inside-is (sym c.lane.invariant.quota, sym c.other.invariant.quota, inside)
-      | else-lane-more w ↦ rw w.lane-inside-is (sym c.lane.invariant.quota, sym c.other.invariant.quota, inside)
-    ]
-
 pub join-requires-clause-out : goal.join-requires-clause-out
 join-requires-clause-out c u =
     ap (λ (ls : List (List (ℕ × ℕ))). length (get_or ls u [])) (sym c.other.invariant.tokens) ∙ nobody-on c.other.inside.yard.lists (search rules) u

@@ -1,5 +1,5 @@
 use Rattle.std.proofs.Common.{rules}
-use Rattle.cn_floor.proofs.floor.Floor.split.Goals as goal
+use Rattle.cn_floor.proofs.floor.Floor.split_off.Goals as goal
 
 pub returns-clause-first : goal.returns-clause-first
 returns-clause-first c = search rules

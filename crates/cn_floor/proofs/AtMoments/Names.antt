@@ -1,0 +1,86 @@
+-- At each moment no name stands twice in a lane.
+use Rattle.std.proofs.Common.{◌≡◌, ℕ, ◌+◌, ◌<◌, ◌≤◌, ◌&&◌, inl, inr, Bool, true, false, cond, eqb, List, length, get_or, map, sum_by, sym, refl, ap, ◌∙◌, arith}
+use mathlib.Core.Option.{some}
+use lib.ListN.{get_elem?}
+use Rattle.std.proofs.lemmas.Bool.{cases_eq, cases_lt, eq-eqb, ne_eqb}
+use Rattle.std.proofs.lemmas.List.{get_or-map, length-map}
+use Rattle.std.proofs.lemmas.List.Sums.{get_or-le-sum_by}
+use Rattle.cn_spec.specs.Sums.{times}
+use Rattle.cn_spec.proofs.CallerLemmas.{sum_by-same, times-map, times-place}
+use Rattle.cn_ledger.specs.Ledger.{Ledger}
+use Rattle.cn_ledger.proofs.CallerLemmas.{granted-once, names-differ}
+use Rattle.cn_floor.specs.declared.view.Grant.{Grant}
+use Rattle.cn_floor.specs.declared.view.Start.{Start}
+use Rattle.cn_floor.specs.declared.view.View.{View}
+use Rattle.cn_floor.specs.Laws.{ledger_at}
+use Rattle.cn_floor.specs.Rule.{FloorState, KeepsRule}
+use Rattle.cn_floor.specs.Views.{base, granted_in}
+use Rattle.cn_floor.proofs.AtMoments.Totals.{part_le}
+
+no_grant : Grant
+no_grant = record { client = 0; exit = 0; visit = 0; name = 0 }
+
+none-last : (a b c : Bool) → (a && (b && (c && false))) ≡ false
+none-last false b c = refl
+none-last true false c = refl
+none-last true true false = refl
+none-last true true true = refl
+
+module _ (start : Start) (s : FloorState) (kept : KeepsRule start s) (id : ℕ) (v : View) (at : get_elem? s.views id ≡ some v) where
+  abbrev l : Ledger
+  l = ledger_at start s
+
+  abbrev m : ℕ
+  m = base start
+
+  abbrev grant : ℕ → Grant
+  grant j = get_or v.grants j no_grant
+
+  -- whether a grant is that of another
+  abbrev is_same : Grant → Grant → Bool
+  is_same g x = eqb x.client g.client && (eqb x.exit g.exit && (eqb x.visit g.visit && eqb (x.name + m) (g.name + m)))
+
+  -- each grant of the lane is in the ledger
+  made : (j : ℕ) → j < length v.grants → 1 ≤ l.granted (grant j).client (grant j).exit (grant j).visit ((grant j).name + m)
+  made j low =
+      let g : Grant = grant j in
+      let one : ◌≡◌ {A = ℕ} (cond (is_same g g) 1 0) 1 = rw (eq-eqb g.client g.client refl, eq-eqb g.exit g.exit refl, eq-eqb g.visit g.visit refl, eq-eqb (g.name + m) (g.name + m) refl) refl in
+      omega (
+        arith,
+        get_or-le-sum_by (λ x. cond (is_same g x) 1 0) v.grants j no_grant low,
+        part_le (granted_in m g.client g.exit g.visit (g.name + m)) s.views id v at,
+      )
+
+  -- what has a grant's name is that grant
+  named-alike : (j k name : ℕ) → j < length v.grants → k < length v.grants → (grant j).name ≡ name → eqb (grant k).name name ≡ is_same (grant j) (grant k)
+  named-alike j k name low less is =
+      let g : Grant = grant j in
+      let x : Grant = grant k in
+      elim (cases_eq x.name name) [
+        | inr other ↦
+            ne_eqb x.name name other
+            ∙ sym (ap (λ b. eqb x.client g.client && (eqb x.exit g.exit && (eqb x.visit g.visit && b))) (ne_eqb (x.name + m) (g.name + m) (λ e. other (omega arith))) ∙ none-last (eqb x.client g.client) (eqb x.exit g.exit) (eqb x.visit g.visit))
+        | inl e ↦
+            let (client, exit, visit) = names-differ start.network.table l kept.sound x.client g.client x.exit g.exit x.visit g.visit (x.name + m) (g.name + m) (made k less) (made j low) (omega arith) in
+            eq-eqb x.name name e ∙ sym (rw (eq-eqb x.client g.client client, eq-eqb x.exit g.exit exit, eq-eqb x.visit g.visit visit, eq-eqb (x.name + m) (g.name + m) (omega arith)) refl)
+      ]
+
+  pub names-once : (name : ℕ) → times name (map (λ (g : Grant). g.name) v.grants) ≤ 1
+  names-once name = elim (cases_lt 0 (times name (map (λ (g : Grant). g.name) v.grants))) [
+    | inr low ↦ omega (arith, low)
+    | inl high ↦
+        let names : List ℕ = map (λ (g : Grant). g.name) v.grants in
+        let (j, low, is) = times-place names name (omega (arith, high)) in
+        let less : j < length v.grants = omega (arith, low, length-map v.grants (λ (g : Grant). g.name)) in
+        let g : Grant = grant j in
+        let its : g.name ≡ name = sym (get_or-map (λ (x : Grant). x.name) v.grants j no_grant 0 less) ∙ is in
+        let same : times name names ≡ granted_in m g.client g.exit g.visit (g.name + m) v =
+        times-map (λ (x : Grant). x.name) name v.grants
+        ∙ sum_by-same (λ (x : Grant). cond (eqb x.name name) 1 0) (λ (x : Grant). cond (is_same g x) 1 0) v.grants no_grant (λ k h. ap {B = ℕ} (λ b. cond b 1 0) (named-alike j k name less h its)) in
+        omega (
+          arith,
+          same,
+          part_le (granted_in m g.client g.exit g.visit (g.name + m)) s.views id v at,
+          granted-once start.network.table l kept.sound g.client g.exit g.visit (g.name + m) (made j less),
+        )
+  ]

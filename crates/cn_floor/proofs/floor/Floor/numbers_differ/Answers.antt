@@ -1,0 +1,8 @@
+use Rattle.std.proofs.Common.{arith}
+use Rattle.cn_spec.proofs.CallerLemmas.{at_most_once}
+use Rattle.cn_floor.specs.Words.{count_in}
+use Rattle.cn_floor.proofs.floor.Floor.numbers_differ.Goals as goal
+
+pub returns : goal.returns
+returns c s kept end n stands =
+    omega (arith, kept.sound.numbered end n stands, at_most_once (count_in c.args.self.now.start.network.table s.words end) n)

@@ -1,7 +1,0 @@
-use Rattle.std.proofs.Common.{arith}
-use Rattle.cn_spec.proofs.CallerLemmas.{at_most_once}
-use Rattle.cn_floor.specs.Words.{count_in}
-use Rattle.cn_floor.proofs.laws.numbers_differ.Goals as goal
-
-pub returns : goal.returns
-returns c start s kept = λ end n stands. omega (arith, kept.sound.numbered end n stands, at_most_once (count_in start.network.table s.words end) n)

@@ -1,8 +1,0 @@
-use Rattle.std.proofs.Common.{ℕ, ap, arith}
-use Rattle.cn_spec.specs.Sums.{once_below}
-use Rattle.cn_wiring.specs.declared.end.End.TheVariants.{Exit}
-use Rattle.cn_floor.proofs.AtClose.Ends.{tight-before}
-use Rattle.cn_floor.proofs.laws.visits_go_on.Goals as goal
-
-pub returns : goal.returns
-returns c start s kept i n low = omega (arith, kept.sound.numbered (Exit i) n low, ap (λ (k : ℕ). once_below k n) ((tight-before start kept.began).counts i low))
