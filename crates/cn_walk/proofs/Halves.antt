@@ -12,7 +12,7 @@ use Rattle.cn_walk.specs.declared.forking.Lanes.TheVariants.{One, Halves'}
 use Rattle.cn_floor.specs.declared.view.Grant.{Grant}
 use Rattle.cn_walk.specs.Halves.{AreReady, HasNothing, IsPair, IsReady, first_of, together, whole}
 use Rattle.cn_floor.specs.Lane.{FloorValue, LaneValue, empty_lane, with_room}
-use Rattle.cn_floor.specs.Views.{after_split, split_off}
+use Rattle.cn_floor.specs.Views.{after_look, after_split, split_off}
 use Rattle.cn_walk.specs.Walks.{WalksAll}
 use Rattle.cn_floor.proofs.InLane.Yards.{nobody-in}
 use Rattle.cn_walk.proofs.Walks.{length_both}
@@ -70,10 +70,10 @@ first_later k w a b some h = le-div (a * k / w) (b * k) w some (omega (arith, di
 pub reserved_nothing : (n : ℕ) (a b : LaneValue) → HasNothing a → b ≡ with_room n a → HasNothing b
 reserved_nothing n a b is same = subst HasNothing (sym same) (record { inside = is.inside; entries = is.entries; grants = is.grants })
 
-pub left_nothing : (q : ℕ) (a b : LaneValue) → HasNothing a → b ≡ record a { view = after_split q a.view } → HasNothing b
+pub left_nothing : (q : ℕ) (a b : LaneValue) → HasNothing a → b ≡ record a { view = after_look (after_split q a.view) } → HasNothing b
 left_nothing q a b is same = subst HasNothing (sym same) (record { inside = is.inside; entries = is.entries; grants = is.grants })
 
-pub right_nothing : (q : ℕ) (a b : LaneValue) → b ≡ record (empty_lane a.home q) { view = split_off q a.view } → HasNothing b
+pub right_nothing : (q : ℕ) (a b : LaneValue) → b ≡ record (empty_lane a.home q) { view = after_look (split_off q a.view) } → HasNothing b
 right_nothing q a b same = subst HasNothing (sym same) (record { inside = nobody-in (length a.home.start.network.table.ends); entries = refl; grants = refl })
 
 -- two halves that are ready

@@ -21,7 +21,6 @@ use Rattle.cn_walk.specs.Runs.{IsRun, IsRunAfter}
 use Rattle.cn_floor.specs.Views.{base}
 use Rattle.cn_walk.specs.Walks.{AreFor, WalksAll}
 use Rattle.cn_floor.specs.Words.{clients_in, count_in, entered_in}
-use Rattle.cn_floor.proofs.AtMoments.Bounds.{few_came}
 use Rattle.cn_floor.proofs.AtClose.Closings.{map-same}
 use Rattle.cn_floor.proofs.InLane.Yards.{nobody-in}
 use Rattle.cn_floor.proofs.AtMoments.Openings.{none-came, none-counted, none-entered}
@@ -42,10 +41,7 @@ new_nothing home q yard a is idle =
 -- a lane that has as many grants as the floor may let in misses nothing
 pub none-missing : (start : Start) (v : View) (entered : ℕ) → IsMissing start v entered → length v.grants ≡ start.quota → ⊥
 none-missing start v entered is all =
-    let s = is.moment.state in
-    let few = few_came start s is.moment.kept in
-    let same : clients_in start.network.table s.words ≡ clients_in start.network.table is.words = ap (λ (ws : List ℕ). clients_in start.network.table ws) is.moment.same in
-    omega (arith, is.came, is.more)
+    omega (arith, is.short, (is.moment.kept.accounted is.moment.id v is.moment.here).all)
 
 -- a quiet floor that went on from words, where its lane let these clients in
 module _ (q : QuietValue) (clients : List Client) (quiet : IsClosedFloor q.start q.did q.words) where

@@ -124,7 +124,7 @@ freed-clear [] y z u same clear = ap (λ (x : Yard). on x.lists u) same ∙ clea
 freed-clear (e ∷ rest) y z u (between, one, more) clear = freed-clear rest between z u more (one.lists u ∙ ap (without e.0) clear)
 
 -- a sweep is a part of a walk, and less is left after it
-module _ (a b : LaneValue) (wire n : ℕ) (answer : Sweep) (is : SweepsOn a b wire n answer) (held : IsHeld a) (some : 0 < length (on a.yard.lists wire)) where
+module _ (a b : LaneValue) (wire n : ℕ) (answer : Sweep) (formed : IsWellFormed a.home.start.network.table) (is : SweepsOn a b wire n answer) (held : IsHeld a) (some : 0 < length (on a.yard.lists wire)) where
   abbrev v : View
   v = a.view
 
@@ -133,9 +133,6 @@ module _ (a b : LaneValue) (wire n : ℕ) (answer : Sweep) (is : SweepsOn a b wi
 
   inside : wire < length a.home.start.network.table.ends
   inside = omega (arith, some-inside a.yard.lists wire some, held.wires)
-
-  formed : IsWellFormed a.home.start.network.table
-  formed = is.by.step.kept_before.began.network.formed
 
   may : (e : End) (ends : end_of a.home.start.network.table wire ≡ e) (stands : Stands a.home.start.network.table e) → MayGo a.home.start wire e formed inside ends stands v tokens
   may e ends stands = record {

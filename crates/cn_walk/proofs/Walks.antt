@@ -12,7 +12,7 @@ use Rattle.cn_spec.specs.Sums.{sum_below, when}
 use Rattle.cn_spec.proofs.CallerLemmas.{sum_below-one, sum_below-plus, sum_below-same, sum_below-shift, sum_below-zero}
 use Rattle.cn_wiring.specs.declared.end.End.{End}
 use Rattle.cn_wiring.specs.declared.end.End.TheVariants.{Balancer, Exit}
-use Rattle.cn_wiring.specs.Table.{LeadsOn, Stands, Table, end_of, output_wire}
+use Rattle.cn_wiring.specs.Table.{IsWellFormed, LeadsOn, Stands, Table, end_of, output_wire}
 use Rattle.cn_ledger.specs.declared.client.Client.{Client}
 use Rattle.cn_ledger.specs.declared.moved.Moved.{Moved}
 use Rattle.cn_yard.specs.Lists.{IsLowest, IsThere, Lists, first_of, here_or, last_on, on, standing, standing_below, times_in, tokens_in, without}
@@ -83,10 +83,9 @@ came_by f token client entry v inside =
     ap (λ (k : ℕ). sum_below k (λ u. sum_by (λ (e : ℕ × ℕ). f e.1) (on w.tokens u))) wires ∙ same
     ∙ omega (arith, sum_below-plus m weight (λ u. when (eqb entry u) (f client)), sum_below-one m entry (f client) inside)
 
-pub comes : (a b : LaneValue) (token client entry : ℕ) → IsHeld a → 0 < a.view.quota → entry < a.home.start.network.table.entries → LetsIn a b token client entry
+pub comes : (a b : LaneValue) (token client entry : ℕ) → IsWellFormed a.home.start.network.table → IsHeld a → 0 < a.view.quota → entry < a.home.start.network.table.entries → LetsIn a b token client entry
     → Walks a b (record { id = client; entry = entry } ∷ [])
-comes a b token client entry held some low is =
-    let formed = is.step.kept_before.began.network.formed in
+comes a b token client entry formed held some low is =
     let wire : entry < length a.view.tokens = omega (arith, low, formed.wires, held.wires, ap length held.tokens) in
     record {
       home = is.home;
@@ -149,61 +148,6 @@ module _ (token client wire n : ℕ) (v : View) (is : IsThere v.tokens token cli
   pub less_left : (i : ℕ) → steps_left (after_step token client (Exit i) n v) < steps_left v
   less_left i =
       omega (arith, left (Exit i), weighed-went v.start.network token client wire n v is there refl g (Exit i) tt, at-none (length v.tokens) g, is.inside)
-
-pub goes : (a b : LaneValue) (token client wire n : ℕ) (answer : Moved) → StepsOn a b token client wire n answer → IsHeld a → Walks a b [] × (steps_left b.view < steps_left a.view)
-goes a b token client wire n answer is held = by (end_of a.home.start.network.table wire) refl
-  where
-    v : View
-    v = a.view
-
-    t : Table
-    t = a.home.start.network.table
-
-    at : IsThere v.tokens token client wire
-    at = subst (λ (ls : Lists). IsThere ls token client wire) held.tokens (held.there token client wire is.stood)
-
-    inside : wire < length t.ends
-    inside = omega (arith, at.inside, ap length held.tokens, held.wires)
-
-    here : wire < length v.start.network.table.ends
-    here = omega (arith, inside, ap (λ (s : Start). length s.network.table.ends) held.start)
-
-    by : (e : End) → end_of t wire ≡ e → Walks a b [] × (steps_left b.view < steps_left a.view)
-    by (Balancer c) ends =
-        let view : b.view ≡ after_step token client (Balancer c) n v = is.view ∙ ap (λ (e : End). after_step token client e n v) ends in
-        let formed = is.step.kept_before.began.network.formed in
-        let stands : c < t.balancers = subst (λ (e : End). Stands t e) ends (formed.stands wire inside) in
-        let forward : wire < t.entries + 2 * c = subst (λ (e : End). LeadsOn t wire e) ends (formed.forward wire inside) in
-        let entries : v.start.network.table.entries ≡ t.entries = ap (λ (s : Start). s.network.table.entries) held.start in
-        let two = mod_below n 2 (omega arith) in
-        let lands : output_wire v.start.network.table c (n % 2) < length v.tokens = omega (arith, stands, entries, two, formed.wires, held.wires, ap length held.tokens) in (
-          record {
-            home = is.home;
-            quota = omega (arith, ap (λ (x : View). x.quota) view);
-            room = omega (arith, is.room);
-            entries = ap (λ (x : View). x.entries) view ∙ sym (append-nil v.entries);
-            seen = ap (λ (x : View). x.seen) view;
-            grants = ([], ap (λ (x : View). x.grants) view ∙ sym (append-nil v.grants), λ f. omega (arith, ap (λ (x : View). inside_by f x) view, passed_by token client wire n v at f c lands));
-          },
-          omega (arith, ap steps_left view, less_passed token client wire n v at here c lands (omega (arith, entries, forward))),
-        )
-    by (Exit i) ends =
-        let view : b.view ≡ after_step token client (Exit i) n v = is.view ∙ ap (λ (e : End). after_step token client e n v) ends in
-        let grant : Grant = record { client = client; exit = i; visit = n; name = name_of v.start.network.table.width i n - base v.start } in (
-          record {
-            home = is.home;
-            quota = omega (arith, ap (λ (x : View). x.quota) view);
-            room = omega (arith, is.room);
-            entries = ap (λ (x : View). x.entries) view ∙ sym (append-nil v.entries);
-            seen = ap (λ (x : View). x.seen) view;
-            grants = (
-              grant ∷ [],
-              ap (λ (x : View). x.grants) view,
-              λ f. omega (arith, ap (λ (x : View). inside_by f x) view, left_by token client wire n v at f i),
-            );
-          },
-          omega (arith, ap steps_left view, less_left token client wire n v at here i),
-        )
 
 -- ---- whole walks
 

@@ -5,7 +5,7 @@ use Rattle.cn_yard.specs.Lists.{tokens_in}
 use Rattle.cn_walk.specs.declared.forking.Lanes.{Lanes}
 use Rattle.cn_walk.specs.declared.forking.Lanes.TheVariants.{One, Halves'}
 use Rattle.cn_floor.specs.Lane.{FloorValue, LaneValue}
-use Rattle.cn_floor.specs.Views.{after_join}
+use Rattle.cn_floor.specs.Views.{after_join, after_look}
 
 -- the position of a worker's first client among k, of w workers
 abbrev pub first_of : ℕ → ℕ → ℕ → ℕ
@@ -14,7 +14,7 @@ first_of k w worker = worker * k / w
 -- the second lane taken into the first
 abbrev pub together : LaneValue → LaneValue → LaneValue
 together lane other = record lane {
-  view = after_join lane.view other.view;
+  view = after_look (after_join lane.view other.view);
   room = lane.room - length other.view.grants;
 }
 

@@ -26,6 +26,7 @@ fn walk_in<'a, G: Gate, R: Wait>(
     requires hand { tokens_in lane.old.yard.lists + length clients.now ≤ _hand }
     ensures { Walks lane.old lane.new clients.now }
 {
+    floor.start_laws();
     for client in clients {
         lane.lane_laws();
         gate.before(rt, worker, Moment::Enter);

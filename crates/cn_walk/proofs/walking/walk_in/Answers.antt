@@ -1,4 +1,5 @@
-use Rattle.std.proofs.Common.{rules, ◌<◌, ◌∙◌, ap}
+use Rattle.std.proofs.Common.{rules, ◌<◌, ◌∙◌, ap, subst, sym}
+use Rattle.cn_wiring.specs.Table.{IsWellFormed}
 use Rattle.cn_floor.specs.Lane.{FloorValue}
 use Rattle.cn_walk.proofs.Walks.{IsHeld, comes, comes_next}
 use Rattle.cn_walk.proofs.walking.walk_in.Goals as goal
@@ -8,5 +9,7 @@ loop-client-preserved g c =
     let laws = c.lane_laws.ensures in
     let held : IsHeld c.loop-client.lane = record { start = laws.start; tokens = laws.tokens; wires = laws.wires; once = laws.once; there = laws.there } in
     let home = ap (λ (h : FloorValue). h.start.network.table.entries) (c.loop-client.invariant.home ∙ c.requires.own) in
+    let formed : IsWellFormed c.loop-client.lane.home.start.network.table =
+    subst (λ (h : FloorValue). IsWellFormed h.start.network.table) (sym (c.loop-client.invariant.home ∙ c.requires.own)) c.start_laws.ensures.network.formed in
     let some : 0 < c.loop-client.lane.view.quota = search rules in
-    comes_next _ _ _ _ (record { id = 0; entry = 0 }) _ c.loop-client-test.true c.loop-client.invariant (comes _ _ _ _ _ held some (search rules) c.in-Ok.ensures.ok)
+    comes_next _ _ _ _ (record { id = 0; entry = 0 }) _ c.loop-client-test.true c.loop-client.invariant (comes _ _ _ _ _ formed held some (search rules) c.in-Ok.ensures.ok)

@@ -1,4 +1,5 @@
-use Rattle.std.proofs.Common.{rules, ◌≡◌, ℕ, ◌<◌, [], ap, arith, length}
+use Rattle.std.proofs.Common.{rules, ◌≡◌, ℕ, ◌<◌, [], ap, ◌∙◌, subst, sym, arith, length}
+use Rattle.cn_wiring.specs.Table.{IsWellFormed}
 use Rattle.cn_yard.specs.Lists.{on, tokens_in}
 use Rattle.cn_floor.specs.Lane.{FloorValue}
 use Rattle.cn_walk.proofs.SweptWalks.{clear-below, sweeps}
@@ -11,7 +12,10 @@ loop-lowest-smaller g c =
     let (n, is) = c.sweep.ensures in
     let laws = c.lane_laws-in-Some.ensures in
     let held : IsHeld c.bring_on-wire.new.lane = record { start = laws.start; tokens = laws.tokens; wires = laws.wires; once = laws.once; there = laws.there } in
-    let swept = sweeps _ _ c.bring_on-wire.result n _ is held (omega (arith, c.bring_on-wire.ensures.lowest.some)) in
+    let home = c.bring_on-wire.ensures.walked.home ∙ c.loop-lowest.invariant.walks.home ∙ c.requires.own in
+    let formed : IsWellFormed c.bring_on-wire.new.lane.home.start.network.table =
+    subst (λ (h : FloorValue). IsWellFormed h.start.network.table) (sym home) c.network.ensures.network.formed in
+    let swept = sweeps _ _ c.bring_on-wire.result n _ formed is held (omega (arith, c.bring_on-wire.ensures.lowest.some)) in
     omega (arith, c.bring_on-wire.ensures.left, swept.1)
 
 pub loop-lowest-preserved : goal.loop-lowest-preserved
@@ -24,12 +28,15 @@ loop-lowest-preserved g c =
     let held : IsHeld c.bring_on-wire.new.lane = record { start = laws.start; tokens = laws.tokens; wires = laws.wires; once = laws.once; there = laws.there } in
     let some : 0 < length (on c.bring_on-wire.new.lane.yard.lists wire) = omega (arith, brought.lowest.some) in
     let inside = lowest-inside c.bring_on-wire.new.lane.yard.lists wire brought.lowest in
-    let swept = sweeps _ _ wire n _ is held some in
+    let home = brought.walked.home ∙ c.loop-lowest.invariant.walks.home ∙ c.requires.own in
+    let formed : IsWellFormed c.bring_on-wire.new.lane.home.start.network.table =
+    subst (λ (h : FloorValue). IsWellFormed h.start.network.table) (sym home) c.network.ensures.network.formed in
+    let swept = sweeps _ _ wire n _ formed is held some in
     record {
       walks = walks_on _ _ _ [] [] (walks_on _ _ _ [] [] c.loop-lowest.invariant.walks brought.walked) swept.0;
       held = record { start = later.start; tokens = later.tokens; wires = later.wires; once = later.once; there = later.there };
       from = omega (arith, inside, laws.wires, later.wires, ap (λ (h : FloorValue). length h.start.network.table.ends) swept.0.home);
-      clear = clear-below _ _ wire n _ is held some brought.lowest.below;
+      clear = clear-below _ _ wire n _ formed is held some brought.lowest.below;
     }
 
 pub returns-clause-out : goal.returns-clause-out
