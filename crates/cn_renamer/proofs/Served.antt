@@ -8,10 +8,9 @@ use Rattle.cn_spec.proofs.CallerLemmas.{order-times, times-map, times-order}
 use Rattle.cn_ledger.specs.declared.client.Client.{Client}
 use Rattle.cn_epoch.specs.declared.record.EpochRecord.{EpochRecord}
 use Rattle.cn_floor.specs.declared.view.Grant.{Grant}
-use Rattle.cn_walk.specs.declared.runner.Outcome.{Outcome}
 use Rattle.cn_floor.specs.Carried.{WordsValue, client_count}
 use Rattle.cn_floor.specs.Ends.{ListsHolders, QuietValue}
-use Rattle.cn_walk.specs.Runner.{IsOutcomeOf}
+use Rattle.cn_floor.specs.Ends.{IsOutcomeOf, OutcomeValue}
 use Rattle.cn_walk.specs.Runs.{IsRunAfter}
 use Rattle.cn_walk.specs.Walks.{AreFor}
 use Rattle.cn_report.specs.Reading.Batch.{MayCome}
@@ -34,16 +33,16 @@ module _ (clients : List Client) (grants : List Grant) (theirs : AreFor clients 
   once come client = omega (arith, times-order ids holders client own, come client)
 
 -- the record of a run is that of its epoch, served after so many clients
-pub served : (entries width m : ℕ) (epoch : BatchEpoch) (before : WordsValue) (quiet : QuietValue) (outcome : Outcome) (r : EpochRecord) → MayCome entries epoch.clients.items
+pub served : (entries width m : ℕ) (epoch : BatchEpoch) (before : WordsValue) (quiet : QuietValue) (outcome : OutcomeValue) (r : EpochRecord) → MayCome entries epoch.clients.items
     → before.network.table.width ≡ width → client_count before ≡ m → IsRunAfter before epoch.clients.items quiet → IsOutcomeOf quiet outcome
-    → r.number ≡ epoch.number → r.clients ≡ length epoch.clients.items → r.counts ≡ outcome.counts → r.holders ≡ outcome.holders → IsServed width m epoch r
+    → r.number ≡ epoch.number → r.clients ≡ length epoch.clients.items → r.counts.items ≡ outcome.counts → r.holders.items ≡ outcome.holders → IsServed width m epoch r
 served entries width m epoch before quiet outcome r come wide after run came number many counts holders =
     let clients : List Client = epoch.clients.items in
-    let lists : ListsHolders quiet.did.grants r.holders.items = subst (λ (ns : List ℕ). ListsHolders quiet.did.grants ns) (λ x. (sym holders x).items) came.holders in
+    let lists : ListsHolders quiet.did.grants r.holders.items = subst (λ (ns : List ℕ). ListsHolders quiet.did.grants ns) (sym holders) came.holders in
     record {
       number = number;
       clients = many;
-      counts = (λ x. (counts x).items) ∙ came.counts ∙ run.counts ∙ (λ x. shares_after (after x) (sym many x) (wide x));
+      counts = counts ∙ came.counts ∙ run.counts ∙ (λ x. shares_after (after x) (sym many x) (wide x));
       holders = own clients quiet.did.grants run.theirs r.holders.items lists;
       once = once clients quiet.did.grants run.theirs r.holders.items lists come.once;
     }

@@ -29,14 +29,15 @@ use std::thread::Threads;
 fn record_of(epoch: &BatchEpoch, outcome: Outcome) -> EpochRecord
     ensures number { result.number ≡ epoch.now.number }
     ensures clients { result.clients ≡ length epoch.now.clients.items }
-    ensures counts { result.counts ≡ outcome.counts }
-    ensures holders { result.holders ≡ outcome.holders }
+    ensures counts { result.counts.items ≡ outcome.counts }
+    ensures holders { result.holders.items ≡ outcome.holders }
 {
+    let (counts, holders) = outcome.into_lists();
     EpochRecord {
         number: epoch.number,
         clients: epoch.clients.len() as u64,
-        counts: outcome.counts,
-        holders: outcome.holders,
+        counts,
+        holders,
     }
 }
 

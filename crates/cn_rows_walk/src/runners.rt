@@ -14,11 +14,11 @@ type Told = ([u64; 2], u64);
 /// How many left by each exit, if only client 7 has a name.
 fn counts_of(ended: Result<Outcome, RunFault>) -> Option<[u64; 2]> {
     let outcome = ended.ok()?;
-    let [first, second] = outcome.counts.as_slice() else {
+    let [first, second] = outcome.counts() else {
         return None;
     };
     let counts = [*first, *second];
-    (outcome.holders.as_slice() == [7].as_slice()).then_some(counts)
+    (outcome.holders() == [7].as_slice()).then_some(counts)
 }
 
 /// An epoch of only client 7, who gets its one name.

@@ -1,15 +1,9 @@
 -- Epochs that are run one after another.
 use Rattle.std.specs.Prelude.{◌≡◌, Bool, true, false, List}
 use Rattle.cn_ledger.specs.declared.client.Client.{Client}
-use Rattle.cn_walk.specs.declared.runner.Outcome.{Outcome}
 use Rattle.cn_floor.specs.Carried.{WordsValue}
-use Rattle.cn_floor.specs.Ends.{ListsHolders, QuietValue, counts_of, words_after}
+use Rattle.cn_floor.specs.Ends.{IsOutcomeOf, OutcomeValue, QuietValue, words_after}
 use Rattle.cn_walk.specs.Runs.{IsRunAfter}
-
--- what came of a closed floor: how many left by each exit, and the clients by rising name
-pub record IsOutcomeOf (quiet : QuietValue) (outcome : Outcome) : Type 0 where
-  pub counts : outcome.counts.items ≡ counts_of quiet.start quiet.words
-  pub holders : ListsHolders quiet.did.grants outcome.holders.items
 
 -- a runner of epochs as contracts see it: the words with which the next begins, and whether later ones go on from its own
 pub record RunnerValue : Type 0 where
@@ -22,7 +16,7 @@ next_words true words quiet = words_after quiet
 next_words false words quiet = words
 
 -- an epoch was run from a runner's words, and the next begins as the runner has it
-pub record RunsNext (old new : RunnerValue) (clients : List Client) (outcome : Outcome) : Type 0 where
+pub record RunsNext (old new : RunnerValue) (clients : List Client) (outcome : OutcomeValue) : Type 0 where
   pub quiet : QuietValue
   pub run : IsRunAfter old.words clients quiet
   pub came : IsOutcomeOf quiet outcome

@@ -8,8 +8,8 @@ mod walking;
 
 pub use cn_floor::{
     CloseFault, ClosedFloor, Floor, Gate, Grant, JoinFault, Lane, LaneFault, Leftovers, Moment,
-    OpenFault, OpenGate, Opening, Passage, Quiet, SplitFault, Start, Sweep, View, Words,
+    OpenFault, OpenGate, Opening, Outcome, Passage, Quiet, SplitFault, Start, Sweep, View, Words,
 };
-pub use runner::{Outcome, Runner};
+pub use runner::Runner;
 pub use running::{RunFault, run_epoch, run_epoch_after};
 pub use walking::walk_all;

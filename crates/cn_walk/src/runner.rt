@@ -3,26 +3,18 @@
 ghost use Rattle.std.specs.Prelude.{◌≡◌, ◌≤◌, IfErr, IfOk, OnErr, OnOk};
 ghost use Rattle.cn_spec.specs.declared.limits.TheConstants.{MOST_CARRIED};
 ghost use Rattle.cn_floor.specs.Carried.{client_count, words_before, zero_words};
-ghost use Rattle.cn_walk.specs.Runner.{IsOutcomeOf, RunsNext, next_words};
+ghost use Rattle.cn_floor.specs.Ends.{IsOutcomeOf};
+ghost use Rattle.cn_walk.specs.Runner.{RunsNext, next_words};
 ghost use Rattle.cn_walk.specs.Runs.{IsRefused, IsRunAfter, MayRun};
 
 use crate::running::{RunFault, may_run, run_on};
-use cn_floor::{ClosedFloor, Floor, Gate, Leftovers, Words};
+use cn_floor::{ClosedFloor, Floor, Gate, Leftovers, Outcome, Words};
 use cn_ledger::Client;
 use cn_wiring::Counting;
 use std::alloc::{AllocError, Global};
 use std::marker::Model;
 use std::sync::Wait;
 use std::thread::Threads;
-
-/// What came of an epoch.
-#[derive(Debug, Drop, PartialEq, Eq)]
-pub struct Outcome {
-    /// How many left by each exit, from exit 0 up.
-    pub counts: Vec<u64>,
-    /// The clients by rising name: `holders[n]` is the client with name n.
-    pub holders: Vec<u64>,
-}
 
 /// Runs epochs over one network, one after another, and keeps what they share: the words with which each begins, and the
 /// yard of the first worker's lane. If it carries, each epoch goes on from the words of the last; else all begin with words
@@ -141,17 +133,6 @@ fn run_leftovers<'a, G: Gate + Sync, R: Threads + Wait + Sync>(
     run_on(rt, alloc, floor, lane, clients, workers, hand, gate)
 }
 
-/// What came of a closed floor, which began with these words.
-fn outcome_of(closed: &ClosedFloor<'_>, before: &Words<'_>) -> Result<Outcome, AllocError>
-    requires { before.now ≡ words_before closed.now.start }
-    ensures { IfOk result (IsOutcomeOf closed.now) }
-{
-    Ok(Outcome {
-        counts: closed.counts_since(before)?,
-        holders: closed.holders()?,
-    })
-}
-
 /// The runner after an epoch, and what came of that.
 fn keep<'a>(
     closed: ClosedFloor<'a>,
@@ -168,7 +149,7 @@ fn keep<'a>(
         ≡ record { words = leftovers.entry; carries = carries }) }
     ensures refused { IfErr result.1 (λ fault. fault ≡ RunFault.Memory) }
 {
-    match outcome_of(&closed, leftovers.words()) {
+    match closed.outcome_since(leftovers.words()) {
         Ok(outcome) => {
             let leftovers = if carries {
                 leftovers.go_on_from(closed)

@@ -2,10 +2,11 @@
 
 ghost use Rattle.std.specs.Prelude.{◌≡◌, IfOk};
 ghost use Rattle.cn_floor.specs.Carried.{words_before};
-ghost use Rattle.cn_floor.specs.Ends.{IsClosedFloor, ListsHolders, counts_of};
+ghost use Rattle.cn_floor.specs.Ends.{IsClosedFloor, IsOutcomeOf, ListsHolders, counts_of};
 
 use super::lane::Lane;
 use super::leftovers::Leftovers;
+use super::outcome::Outcome;
 use super::quiet::Quiet;
 use super::words::Words;
 use crate::view::Grant;
@@ -48,7 +49,7 @@ impl<'a> ClosedFloor<'a> {
     ///
     /// # Errors
     /// `AllocError` if the list gets no memory.
-    pub fn counts_since(&self, before: &Words<'_>) -> Result<Vec<u64>, AllocError>
+    fn counts_since(&self, before: &Words<'_>) -> Result<Vec<u64>, AllocError>
         requires { before.now ≡ words_before self.now.start }
         ensures { IfOk result (λ counts. counts.items ≡ counts_of self.now.start self.now.words) }
     {
@@ -59,6 +60,20 @@ impl<'a> ClosedFloor<'a> {
             counts.push_reserved(count.saturating_sub(earlier));
         }
         Ok(counts)
+    }
+
+    /// What came of it since the words with which it began.
+    ///
+    /// # Errors
+    /// `AllocError` if its lists get no memory.
+    pub fn outcome_since(&self, before: &Words<'_>) -> Result<Outcome, AllocError>
+        requires { before.now ≡ words_before self.now.start }
+        ensures { IfOk result (IsOutcomeOf self.now) }
+    {
+        Ok(Outcome {
+            counts: self.counts_since(before)?,
+            holders: self.holders()?,
+        })
     }
 
     /// The lane's grants, in its order.
@@ -86,7 +101,7 @@ impl<'a> ClosedFloor<'a> {
     ///
     /// # Errors
     /// `AllocError` if the list gets no memory.
-    pub fn holders(&self) -> Result<Vec<u64>, AllocError>
+    pub(super) fn holders(&self) -> Result<Vec<u64>, AllocError>
         ensures { IfOk result (λ holders. ListsHolders self.now.did.grants holders.items) }
     {
         let mut holders = vec![in self.alloc; 0; self.grants.len()]?;
