@@ -15,3 +15,4 @@ pub mod Openings
 pub mod Loading
 pub mod Sharing
 pub mod Names
+pub mod Together

@@ -18,3 +18,4 @@ pub mod InsideClosedFloor
 pub mod InsideQuiet
 pub mod Laws
 pub mod Lone
+pub mod Together

@@ -7,6 +7,7 @@ mod lane;
 mod laws;
 mod leftovers;
 mod lone;
+mod looking;
 mod network_ref;
 mod opening;
 mod outcome;

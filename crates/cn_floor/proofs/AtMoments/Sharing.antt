@@ -1,5 +1,5 @@
 -- The rule is kept where a view is cut in two, and where two become one.
-use Rattle.std.proofs.Common.{◌≡◌, ℕ, ◌+◌, ◌*◌, ◌<◌, ◌≤◌, ◌&&◌, List, [], ◌∷◌, ◌++◌, length, get_or, set, sum_by, cond, eqb, sym, refl, ap, ◌∙◌, subst, ⊎_elim, arith}
+use Rattle.std.proofs.Common.{◌≡◌, ℕ, ◌+◌, ◌*◌, ◌<◌, ◌≤◌, ◌&&◌, List, [], ◌∷◌, ◌++◌, length, get_or, max, set, sum_by, All, cond, eqb, sym, refl, ap, ◌∙◌, subst, ⊎_elim, arith}
 use mathlib.Core.Option.{some}
 use lib.ListN.{get_elem?}
 use Rattle.std.proofs.lemmas.List.{length-append}
@@ -73,26 +73,90 @@ splits start id q v of idle enough s kept at =
 
 -- ---- join
 
+-- a view is what two others are together
+pub record IsSum (m : ℕ) (network : Network) (v w both : View) : Type 0 where
+  pub on : (u : ℕ) → on_in u both ≡ on_in u v + on_in u w
+  pub standing : (u c : ℕ) → standing_in u c both ≡ standing_in u c v + standing_in u c w
+  pub given : (end : End) (n : ℕ) → given_in end n both ≡ given_in end n v + given_in end n w
+  pub quota : both.quota ≡ v.quota + w.quota
+  pub entries : both.entries ≡ v.entries ++ w.entries
+  pub grants : both.grants ≡ v.grants ++ w.grants
+  pub seen : both.seen ≡ max v.seen w.seen
+  pub loads : both.loads ≡ []
+  pub accounted : IsAccounted network v → IsAccounted network w → IsAccounted network both
+
+pub granted-both : (v w both : View) → both.grants ≡ v.grants ++ w.grants → (m c i k name : ℕ) → granted_in m c i k name both ≡ granted_in m c i k name v + granted_in m c i k name w
+granted-both v w both is m c i k name =
+    ap (λ (gs : List Grant). sum_by (λ (g : Grant). cond (eqb g.client c && (eqb g.exit i && (eqb g.visit k && eqb (g.name + m) name))) 1 0) gs) is
+    ∙ sum_by-append (λ (g : Grant). cond (eqb g.client c && (eqb g.exit i && (eqb g.visit k && eqb (g.name + m) name))) 1 0) v.grants w.grants
+
+given-nobody : (end : End) (n : ℕ) → given_in end n nobody ≡ 0
+given-nobody (Balancer b) n = refl
+given-nobody (Exit i) n = refl
+
+-- two views may become what they are together
+pub joins-sum : (start : Start) (id other : ℕ) (v w both : View) → IsSum (base start) start.network v w both → v.loads ≡ [] → w.loads ≡ [] → Joins (HoldsAt start) id v other w both nobody
+joins-sum start id other v w both is idle idle' s kept at apart at_other =
+    let once : List View = set s.views id both in
+    let vs : List View = set once other nobody in
+    let here : get_elem? s.views other ≡ some w = ⊎_elim (λ y. absurd (apart y.0)) (λ y. y.1) (at_set s.views id other both w at_other) in
+    let two : (f : View → ℕ) → sum_by f vs + f v + f w ≡ sum_by f s.views + f both + f nobody = λ f. omega (arith, total_set f s.views id v both at, total_set f once other w nobody at_other) in
+    let sums : (f : View → ℕ) → f both ≡ f v + f w → f nobody ≡ 0 → sum_by f s.views ≡ sum_by f vs = λ f e z. omega (arith, two f) in
+    let many : length both.entries ≡ length v.entries + length w.entries = ap (λ (es : List ℕ). length es) is.entries ∙ length-append v.entries w.entries in
+    let alike : AddUpAlike (base start) s.views vs = record {
+      on = λ u. sums (on_in u) (is.on u) refl;
+      standing = λ u c. sums (standing_in u c) (is.standing u c) refl;
+      given = λ end n. sums (given_in end n) (is.given end n) (given-nobody end n);
+      granted = λ c i k name. sums (granted_in (base start) c i k name) (granted-both v w both is.grants (base start) c i k name) refl;
+      entries = λ u. sums (λ (x : View). times u x.entries) (ap (times u) is.entries ∙ times-append u v.entries w.entries) (times-nil u);
+      quotas = sums (λ (x : View). x.quota + length x.entries) (omega (arith, is.quota, many)) refl;
+    } in
+    let t = start.network.table in
+    let g = kept.rule.fresh id v at in
+    let h = kept.rule.fresh other w here in
+    let all : load_bound t s.words v.loads ≡ clients_in t s.words = ap (λ (ls : List ℕ). load_bound t s.words ls) idle in
+    let all' : load_bound t s.words w.loads ≡ clients_in t s.words = ap (λ (ls : List ℕ). load_bound t s.words ls) idle' in
+    let all-both : load_bound t s.words both.loads ≡ clients_in t s.words = ap (λ (ls : List ℕ). load_bound t s.words ls) is.loads in
+    let entries : length v.entries + length w.entries ≤ sum_by (λ (x : View). length x.entries) s.views =
+    let part = part_le (λ (x : View). length x.entries) (set s.views id nobody) other w (set_else s.views id other nobody apart ∙ here) in
+    omega (arith, total_set (λ (x : View). length x.entries) s.views id v nobody at) in
+    let came = all_came start s kept in
+    let names : All (λ (x : Grant). base start + x.name < clients_in t s.words) (v.grants ++ w.grants) =
+    All-append (λ (x : Grant). base start + x.name < clients_in t s.words) v.grants w.grants (λ k d less. let n = g.names k d less in omega (arith, n)) (λ k d less. let n = h.names k d less in omega (arith, n)) in
+    let fresh-both : IsFresh start s.words both = record {
+      low = λ u. omega (arith, ap (λ (ls : List ℕ). get_or ls u 0) is.loads);
+      own = omega (arith, many);
+      seen = omega (arith, is.seen, g.seen, h.seen);
+      names = subst (λ (x : ℕ × List Grant). All (λ (y : Grant). base start + y.name < x.0) x.1) (λ x. (sym all-both x, sym is.grants x)) names;
+    } in
+    let fresh-spent : IsFresh start s.words nobody = record { low = λ u. omega arith; own = omega arith; seen = omega arith; names = λ k d less. absurd (omega arith) } in
+    let accounted-spent : IsAccounted start.network nobody = record {
+      all = omega (arith, sum_below-zero 0 (λ _. 0) (λ _. refl));
+      entries = λ k d less. absurd (omega arith);
+      walked = λ level is. omega (arith, sum_below-zero (length nobody.tokens) (λ u. level u * on_in u nobody) (λ u. omega arith));
+    } in
+    kept_alike start s vs kept alike
+    (λ j x e. ⊎_elim
+    (λ y. subst (λ (u : View). IsAccounted start.network u) y.1 accounted-spent)
+    (λ y. ⊎_elim (λ z. subst (λ (u : View). IsAccounted start.network u) z.1 (is.accounted (kept.rule.accounted id v at) (kept.rule.accounted other w here))) (λ z. kept.rule.accounted j x z.1) (at_set s.views id j both x y.1))
+    (at_set once other j nobody x e))
+    (λ j x e. ⊎_elim
+    (λ y. subst (λ (u : View). IsFresh start s.words u) y.1 fresh-spent)
+    (λ y. ⊎_elim (λ z. subst (λ (u : View). IsFresh start s.words u) z.1 fresh-both) (λ z. kept.rule.fresh j x z.1) (at_set s.views id j both x y.1))
+    (at_set once other j nobody x e))
+
 -- the lane has no tokens
 abbrev pub Empty : View → Type 0
 Empty w = (u : ℕ) → on_in u w ≡ 0
 
-module _ (v w : View) (out : Empty w) where
+-- a lane without tokens may be joined
+module _ (v w : View) (idle : v.loads ≡ []) (out : Empty w) where
   standing-out : (u c : ℕ) → standing_in u c w ≡ 0
   standing-out u c = omega (arith, out u, count_by-le-length (λ (e : ℕ × ℕ). eqb e.1 c) (get_or w.tokens u []))
-
-  on-after_join : (u : ℕ) → on_in u (after_join v w) ≡ on_in u v + on_in u w
-  on-after_join u = omega (arith, out u)
-
-  standing-after_join : (u c : ℕ) → standing_in u c (after_join v w) ≡ standing_in u c v + standing_in u c w
-  standing-after_join u c = omega (arith, standing-out u c)
 
   given-after_join : (end : End) (n : ℕ) → given_in end n (after_join v w) ≡ given_in end n v + given_in end n w
   given-after_join (Balancer b) n = sum_by-append (λ (p : Passage). cond (eqb b p.balancer && eqb p.number n) 1 0) v.passages w.passages
   given-after_join (Exit i) n = sum_by-append (λ (g : Grant). cond (eqb i g.exit && eqb g.visit n) 1 0) v.grants w.grants
-
-  granted-after_join : (m c i k name : ℕ) → granted_in m c i k name (after_join v w) ≡ granted_in m c i k name v + granted_in m c i k name w
-  granted-after_join m c i k name = sum_by-append (λ (g : Grant). cond (eqb g.client c && (eqb g.exit i && (eqb g.visit k && eqb (g.name + m) name))) 1 0) v.grants w.grants
 
   accounted-after_join : (network : Network) → IsAccounted network v → IsAccounted network w → IsAccounted network (after_join v w)
   accounted-after_join network f g =
@@ -106,56 +170,21 @@ module _ (v w : View) (out : Empty w) where
             omega (arith, f.walked level is, g.walked level is, length-append v.passages w.passages);
       }
 
-given-nobody : (end : End) (n : ℕ) → given_in end n nobody ≡ 0
-given-nobody (Balancer b) n = refl
-given-nobody (Exit i) n = refl
+  pub sum-after_join : (m : ℕ) (network : Network) → IsSum m network v w (after_join v w)
+  sum-after_join m network = record {
+    on = λ u. omega (arith, out u);
+    standing = λ u c. omega (arith, standing-out u c);
+    given = given-after_join;
+    quota = refl;
+    entries = refl;
+    grants = refl;
+    seen = refl;
+    loads = idle;
+    accounted = accounted-after_join network;
+  }
 
 pub joins : (start : Start) (id other : ℕ) (v w : View) → v.loads ≡ [] → w.loads ≡ [] → Empty w → Joins (HoldsAt start) id v other w (after_join v w) nobody
-joins start id other v w idle idle' out s kept at apart at_other =
-    let both : View = after_join v w in
-    let once : List View = set s.views id both in
-    let vs : List View = set once other nobody in
-    let here : get_elem? s.views other ≡ some w = ⊎_elim (λ y. absurd (apart y.0)) (λ y. y.1) (at_set s.views id other both w at_other) in
-    let two : (f : View → ℕ) → sum_by f vs + f v + f w ≡ sum_by f s.views + f both + f nobody = λ f. omega (arith, total_set f s.views id v both at, total_set f once other w nobody at_other) in
-    let sums : (f : View → ℕ) → f both ≡ f v + f w → f nobody ≡ 0 → sum_by f s.views ≡ sum_by f vs = λ f e z. omega (arith, two f) in
-    let alike : AddUpAlike (base start) s.views vs = record {
-      on = λ u. sums (on_in u) (on-after_join v w out u) refl;
-      standing = λ u c. sums (standing_in u c) (standing-after_join v w out u c) refl;
-      given = λ end n. sums (given_in end n) (given-after_join v w out end n) (given-nobody end n);
-      granted = λ c i k name. sums (granted_in (base start) c i k name) (granted-after_join v w out (base start) c i k name) refl;
-      entries = λ u. sums (λ (x : View). times u x.entries) (times-append u v.entries w.entries) (times-nil u);
-      quotas = sums (λ (x : View). x.quota + length x.entries) (omega (arith, length-append v.entries w.entries)) refl;
-    } in
-    let t = start.network.table in
-    let g = kept.rule.fresh id v at in
-    let h = kept.rule.fresh other w here in
-    let all : load_bound t s.words v.loads ≡ clients_in t s.words = ap (λ (ls : List ℕ). load_bound t s.words ls) idle in
-    let all' : load_bound t s.words w.loads ≡ clients_in t s.words = ap (λ (ls : List ℕ). load_bound t s.words ls) idle' in
-    let entries : length v.entries + length w.entries ≤ sum_by (λ (x : View). length x.entries) s.views =
-    let part = part_le (λ (x : View). length x.entries) (set s.views id nobody) other w (set_else s.views id other nobody apart ∙ here) in
-    omega (arith, total_set (λ (x : View). length x.entries) s.views id v nobody at) in
-    let came = all_came start s kept in
-    let fresh-both : IsFresh start s.words both = record {
-      low = g.low;
-      own = omega (arith, length-append v.entries w.entries);
-      seen = omega (arith, g.seen, h.seen);
-      names = All-append (λ (x : Grant). base start + x.name < load_bound t s.words v.loads) v.grants w.grants g.names (λ k d less. let n = h.names k d less in omega (arith, n));
-    } in
-    let fresh-spent : IsFresh start s.words nobody = record { low = λ u. omega arith; own = omega arith; seen = omega arith; names = λ k d less. absurd (omega arith) } in
-    let accounted-spent : IsAccounted start.network nobody = record {
-      all = omega (arith, sum_below-zero 0 (λ _. 0) (λ _. refl));
-      entries = λ k d less. absurd (omega arith);
-      walked = λ level is. omega (arith, sum_below-zero (length nobody.tokens) (λ u. level u * on_in u nobody) (λ u. omega arith));
-    } in
-    kept_alike start s vs kept alike
-    (λ j x e. ⊎_elim
-    (λ y. subst (λ (u : View). IsAccounted start.network u) y.1 accounted-spent)
-    (λ y. ⊎_elim (λ z. subst (λ (u : View). IsAccounted start.network u) z.1 (accounted-after_join v w out start.network (kept.rule.accounted id v at) (kept.rule.accounted other w here))) (λ z. kept.rule.accounted j x z.1) (at_set s.views id j both x y.1))
-    (at_set once other j nobody x e))
-    (λ j x e. ⊎_elim
-    (λ y. subst (λ (u : View). IsFresh start s.words u) y.1 fresh-spent)
-    (λ y. ⊎_elim (λ z. subst (λ (u : View). IsFresh start s.words u) z.1 fresh-both) (λ z. kept.rule.fresh j x z.1) (at_set s.views id j both x y.1))
-    (at_set once other j nobody x e))
+joins start id other v w idle idle' out = joins-sum start id other v w (after_join v w) (sum-after_join v w idle out (base start) start.network) idle idle'
 
 -- ---- look
 

@@ -9,11 +9,12 @@ ghost use Rattle.cn_floor.specs.Closing.{IsEnding};
 ghost use Rattle.cn_floor.specs.Plays.{ComesIn, GoesOn, Loads, Looks};
 ghost use Rattle.cn_floor.specs.Rule.{IsStart};
 ghost use Rattle.cn_floor.specs.Sweeps.{AllGoOn};
+ghost use Rattle.cn_floor.specs.Together.{NamesApart, after_looks};
 ghost use Rattle.cn_floor.specs.Views.{after_join, after_split, empty_view, on_in, split_off};
 ghost use Rattle.cn_floor.specs.Words.{end_word, word_count};
 
 use super::plays::{
-    EnterOf, EnterPlay, FloorRule, JoinSeats, LoadOf, LoadPlay, LookPlay, Portion, SplitSeat, StepOf,
+    CutApart, EnterOf, EnterPlay, FloorRule, JoinSeats, LoadOf, LoadPlay, LookPlay, PairOf, Portion, SplitSeat, StepOf, TakeTogether,
      StepPlay, SweepOf, SweepPlay,
 };
 use crate::view::{Opening, View};
@@ -21,7 +22,7 @@ use atomic_table::{Closed, Seat, Table};
 use cn_wiring::{Counting, End};
 use cn_yard::Token;
 use std::alloc::{AllocError, Global};
-use std::marker::Model;
+use std::marker::{Brand, Model};
 use std::snapshot::Snapshot;
 
 /// One word for the lanes, and then one for each entry, each balancer and each exit.
@@ -235,6 +236,32 @@ impl Counters {
             × (seat.new.me ≡ (after_join seat.old.me.0 other.me.0, [])) }
     {
         self.table.shared.join_seat::<JoinSeats>(seat, other);
+    }
+
+    /// Looks at both seats at one moment, for which the second's view is taken to the first's. Gives the second back.
+    pub(super) fn look_at_both<T: PairOf>(
+        &self,
+        seat: &mut Seat<(), View>,
+        mut other: Seat<(), View>,
+    ) -> Seat<(), View>
+        requires own { (seat.old.table_id ≡ self.now.table) × (other.table_id ≡ self.now.table) }
+        requires start { (seat.old.me.0.start ≡ self.now.start) × (other.me.0.start ≡ self.now.start) }
+        requires slots { (seat.old.me.1 ≡ []) × (seat.old.me.0.loads ≡ []) × (other.me.1 ≡ [])
+            × (other.me.0.loads ≡ []) }
+        requires wires { length other.me.0.tokens ≡ length seat.old.me.0.tokens }
+        requires pair { T.pair
+            ≡ record { first = after_looks 4 seat.old.me.0; second = after_looks 1 other.me.0 } }
+        ensures first { (seat.new.table_id ≡ seat.old.table_id)
+            × (seat.new.me ≡ (after_looks 4 seat.old.me.0, [])) }
+        ensures second { (result.table_id ≡ seat.old.table_id)
+            × (result.me ≡ (after_looks 1 other.me.0, [])) }
+        ensures apart { NamesApart seat.old.me.0 other.me.0 }
+    {
+        self.look::<Brand>(seat);
+        self.look::<Brand>(&mut other);
+        self.table.shared.join_seat::<TakeTogether>(seat, other);
+        self.look::<Brand>(seat);
+        self.table.shared.split_seat::<CutApart<T>>(seat)
     }
 
     /// The words at the end, as the view of the last seat records them. They are put into the list, which has room for

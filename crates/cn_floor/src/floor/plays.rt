@@ -151,6 +151,42 @@ impl Join<View> for JoinSeats {
     ghost spent = { nobody };
 }
 
+/// Two views become one, wire by wire.
+pub struct TakeTogether;
+
+impl Join<View> for TakeTogether {
+    ghost use Rattle.cn_floor.specs.Together.{both_of};
+    ghost use Rattle.cn_floor.specs.Views.{nobody};
+
+    ghost both = { both_of };
+
+    ghost spent = { nobody };
+}
+
+/// Of which two views one was made.
+pub trait PairOf {
+    ghost use Rattle.cn_floor.specs.Together.{Pair};
+
+    ghost pair: { Pair };
+}
+
+impl PairOf for Brand {
+    ghost use Rattle.cn_floor.specs.Together.{no_pair};
+
+    ghost pair = { no_pair };
+}
+
+/// One view becomes the two of which it was made.
+pub struct CutApart<T> {
+    of: PhantomData<T>,
+}
+
+impl<T: PairOf> Split<View> for CutApart<T> {
+    ghost left = { λ _. T.pair.first };
+
+    ghost right = { λ _. T.pair.second };
+}
+
 /// A look at the lanes' word, which shows a moment at which the lane has its view.
 pub struct LookPlay<T> {
     of: PhantomData<T>,

@@ -1,0 +1,35 @@
+-- Two lanes of one floor, looked at together.
+use Rattle.std.specs.Prelude.{ℕ, ◌+◌, ◌≤◌, ◌++◌, length, map, max}
+use Rattle.std.specs.List.{range_with_len}
+use Rattle.cn_spec.specs.Sums.{times}
+use Rattle.cn_yard.specs.Lists.{on}
+use Rattle.cn_floor.specs.declared.view.View.{View}
+use Rattle.cn_floor.specs.Views.{nobody}
+
+-- two views as one: on each wire the tokens of the first, and then those of the second
+abbrev pub both_of : View → View → View
+both_of v w = record v {
+  quota = v.quota + w.quota;
+  entries = v.entries ++ w.entries;
+  tokens = map (λ u. on v.tokens u ++ on w.tokens u) (range_with_len 0 (length v.tokens));
+  passages = v.passages ++ w.passages;
+  grants = v.grants ++ w.grants;
+  seen = max v.seen w.seen;
+}
+
+-- the two views of which one was made
+pub record Pair : Type 0 where
+  pub first : View
+  pub second : View
+
+abbrev pub no_pair : Pair
+no_pair = record { first = nobody; second = nobody }
+
+-- no name stands in both lanes, or twice in one
+abbrev pub NamesApart : View → View → Type 0
+NamesApart v w =
+    (name : ℕ) → times name (map (λ g. g.name) v.grants) + times name (map (λ g. g.name) w.grants) ≤ 1
+
+-- a lane looked so many times
+abbrev pub after_looks : ℕ → View → View
+after_looks n v = record v { steps = v.steps + n }
