@@ -4,3 +4,4 @@ pub mod Outs
 pub mod Swept
 pub mod Lanes
 pub mod Lone
+pub mod Named

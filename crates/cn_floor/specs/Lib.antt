@@ -19,3 +19,4 @@ pub mod InsideQuiet
 pub mod Laws
 pub mod Lone
 pub mod Together
+pub mod Named

@@ -8,6 +8,7 @@ mod laws;
 mod leftovers;
 mod lone;
 mod looking;
+mod naming;
 mod network_ref;
 mod opening;
 mod outcome;

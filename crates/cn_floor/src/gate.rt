@@ -25,3 +25,31 @@ pub struct OpenGate;
 impl Gate for OpenGate {
     fn before<R: Wait>(&self, _rt: &R, _worker: u32, _moment: Moment) {}
 }
+
+/// What is asked before each atomic step of one worker.
+pub(crate) trait Pause {
+    /// A step of this kind comes.
+    fn before(&self, moment: Moment);
+}
+
+/// A gate, asked in a worker's name.
+#[derive(Drop)]
+pub(crate) struct Asked<'r, G: Gate, R: Wait> {
+    pub(crate) rt: &'r R,
+    pub(crate) gate: &'r G,
+    pub(crate) worker: u32,
+}
+
+impl<'r, G: Gate, R: Wait> Pause for Asked<'r, G, R> {
+    fn before(&self, moment: Moment) {
+        self.gate.before(self.rt, self.worker, moment);
+    }
+}
+
+/// Nobody is asked.
+#[derive(Drop)]
+pub(crate) struct NoPause;
+
+impl Pause for NoPause {
+    fn before(&self, _moment: Moment) {}
+}

@@ -44,13 +44,13 @@ pub kept_alike : (start : Start) (s : State (Unit {0}) View) (new : List View) �
 kept_alike start s new kept same account fresh = record {
   began = kept.began;
   rule = record {
-  words = kept.rule.words;
-  lanes = kept.rule.lanes;
-  sound = subst (IsSound start.network.table) (ledger-alike start.network.table start.words s.words s.views new same) kept.rule.sound;
-  entered = λ u l. omega (arith, kept.rule.entered u l, same.entries u);
-  accounted = account;
-  fresh = fresh;
-  quotas = omega (arith, kept.rule.quotas, same.quotas);
+    words = kept.rule.words;
+    lanes = kept.rule.lanes;
+    sound = subst (IsSound start.network.table) (ledger-alike start.network.table start.words s.words s.views new same) kept.rule.sound;
+    entered = λ u l. omega (arith, kept.rule.entered u l, same.entries u);
+    accounted = account;
+    fresh = fresh;
+    quotas = omega (arith, kept.rule.quotas, same.quotas);
   };
 }
 

@@ -133,13 +133,13 @@ pub begins : (start : Start) → IsStart start → HoldsAt start (opening start.
 begins start is = record {
   began = is;
   rule = record {
-  words = is.carried.words;
-  lanes = is.carried.lanes;
-  sound = subst (IsSound start.network.table) (ledger-new start start.quota start.words) is.carried.sound;
-  entered = λ u l. omega (arith, times-nil u);
-  accounted = λ id v e. account-at id v e;
-  fresh = λ id v e. fresh-at id v e;
-  quotas = omega arith;
+    words = is.carried.words;
+    lanes = is.carried.lanes;
+    sound = subst (IsSound start.network.table) (ledger-new start start.quota start.words) is.carried.sound;
+    entered = λ u l. omega (arith, times-nil u);
+    accounted = λ id v e. account-at id v e;
+    fresh = λ id v e. fresh-at id v e;
+    quotas = omega arith;
   };
 }
   where

@@ -84,23 +84,23 @@ module _ (start : Start) (id token client entry : ℕ) (v : View) (s : State (Un
   kept-after_enter idle = record {
     began = kept.began;
     rule = record {
-    words = length-set s.words (entry_word entry) (get_or s.words (entry_word entry) 0 + 1) ∙ kept.rule.words;
-    lanes = lanes-raised s.words (entry_word entry) (omega arith) kept.rule.lanes;
-    sound = sound-enters start.network.table (ledger_of start.network.table start.words s.words s.views) (ledger_of start.network.table start.words after.words after.views) client entry came_in kept.rule.sound;
-    entered = λ u l.
-        let more = total_set (λ (x : View). times u x.entries) s.views id v w here in
-        omega (arith, entered-raised start.network.table s.words kept.rule.words entry low u, kept.rule.entered u l, times-last u entry v.entries);
-    accounted = λ i x e. ⊎_elim
-        (λ y. subst (λ (z : View). IsAccounted start.network z) y.1 (accounted-after_enter start.network token client entry v low inside (kept.rule.accounted id v here)))
-        (λ y. kept.rule.accounted i x y.1)
-        (at_set s.views id i w x e);
-    fresh = λ i x e. ⊎_elim
-        (λ y. subst (λ (z : View). IsFresh start after.words z) y.1 (fresh-after_enter idle))
-        (λ y. fresh_grown start s.words after.words x risen (kept.rule.fresh i x y.1))
-        (at_set s.views id i w x e);
-    quotas =
-        let more = total_set (λ (x : View). x.quota + length x.entries) s.views id v w here in
-        omega (arith, length_push v.entries entry, kept.rule.quotas);
+      words = length-set s.words (entry_word entry) (get_or s.words (entry_word entry) 0 + 1) ∙ kept.rule.words;
+      lanes = lanes-raised s.words (entry_word entry) (omega arith) kept.rule.lanes;
+      sound = sound-enters start.network.table (ledger_of start.network.table start.words s.words s.views) (ledger_of start.network.table start.words after.words after.views) client entry came_in kept.rule.sound;
+      entered = λ u l.
+          let more = total_set (λ (x : View). times u x.entries) s.views id v w here in
+          omega (arith, entered-raised start.network.table s.words kept.rule.words entry low u, kept.rule.entered u l, times-last u entry v.entries);
+      accounted = λ i x e. ⊎_elim
+          (λ y. subst (λ (z : View). IsAccounted start.network z) y.1 (accounted-after_enter start.network token client entry v low inside (kept.rule.accounted id v here)))
+          (λ y. kept.rule.accounted i x y.1)
+          (at_set s.views id i w x e);
+      fresh = λ i x e. ⊎_elim
+          (λ y. subst (λ (z : View). IsFresh start after.words z) y.1 (fresh-after_enter idle))
+          (λ y. fresh_grown start s.words after.words x risen (kept.rule.fresh i x y.1))
+          (at_set s.views id i w x e);
+      quotas =
+          let more = total_set (λ (x : View). x.quota + length x.entries) s.views id v w here in
+          omega (arith, length_push v.entries entry, kept.rule.quotas);
     };
   }
 
@@ -240,25 +240,25 @@ module _ (start : Start) (id token client wire : ℕ) (end : End) (v : View) (s 
   kept-after_step idle = record {
     began = kept.began;
     rule = record {
-    words = length-set s.words (end_word t end) (get_or s.words (end_word t end) 0 + 1) ∙ kept.rule.words;
-    lanes = lanes-raised s.words (end_word t end) (one-end t end) kept.rule.lanes;
-    sound = sound-by end now went;
-    entered = λ u l.
-        let more = total_set (λ (x : View). times u x.entries) s.views id v then here in
-        let same : times u then.entries ≡ times u v.entries = ap (λ (es : List ℕ). times u es) (quota-same end n).1 in
-        omega (arith, entered-kept t s.words kept.rule.words end stands u, kept.rule.entered u l);
-    accounted = λ i x e. ⊎_elim
-        (λ y. subst (λ (z : View). IsAccounted start.network z) y.1 (accounted-after_step start.network token client wire n v is there (ap (λ (z : Start). z.network) of) end ends (lands-at end refl) (kept.rule.accounted id v here)))
-        (λ y. kept.rule.accounted i x y.1)
-        (at_set s.views id i then x e);
-    fresh = λ i x e. ⊎_elim
-        (λ y. subst (λ (z : View). IsFresh start next.words z) y.1 (fresh-after_step idle end refl))
-        (λ y. fresh_grown start s.words next.words x risen-not (kept.rule.fresh i x y.1))
-        (at_set s.views id i then x e);
-    quotas =
-        let more = total_set (λ (x : View). x.quota + length x.entries) s.views id v then here in
-        let same : length then.entries ≡ length v.entries = ap (λ (es : List ℕ). length es) (quota-same end n).1 in
-        omega (arith, (quota-same end n).0, kept.rule.quotas);
+      words = length-set s.words (end_word t end) (get_or s.words (end_word t end) 0 + 1) ∙ kept.rule.words;
+      lanes = lanes-raised s.words (end_word t end) (one-end t end) kept.rule.lanes;
+      sound = sound-by end now went;
+      entered = λ u l.
+          let more = total_set (λ (x : View). times u x.entries) s.views id v then here in
+          let same : times u then.entries ≡ times u v.entries = ap (λ (es : List ℕ). times u es) (quota-same end n).1 in
+          omega (arith, entered-kept t s.words kept.rule.words end stands u, kept.rule.entered u l);
+      accounted = λ i x e. ⊎_elim
+          (λ y. subst (λ (z : View). IsAccounted start.network z) y.1 (accounted-after_step start.network token client wire n v is there (ap (λ (z : Start). z.network) of) end ends (lands-at end refl) (kept.rule.accounted id v here)))
+          (λ y. kept.rule.accounted i x y.1)
+          (at_set s.views id i then x e);
+      fresh = λ i x e. ⊎_elim
+          (λ y. subst (λ (z : View). IsFresh start next.words z) y.1 (fresh-after_step idle end refl))
+          (λ y. fresh_grown start s.words next.words x risen-not (kept.rule.fresh i x y.1))
+          (at_set s.views id i then x e);
+      quotas =
+          let more = total_set (λ (x : View). x.quota + length x.entries) s.views id v then here in
+          let same : length then.entries ≡ length v.entries = ap (λ (es : List ℕ). length es) (quota-same end n).1 in
+          omega (arith, (quota-same end n).0, kept.rule.quotas);
     };
   }
 

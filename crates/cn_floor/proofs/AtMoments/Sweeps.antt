@@ -1,14 +1,12 @@
 -- The rule is kept by a sweep: by as many events in a row as tokens go.
-use Rattle.std.proofs.Common.{◌≡◌, ◌≢◌, ℕ, zero, suc, ◌+◌, ◌*◌, ◌%◌, ◌^◌, ◌<◌, ◌≤◌, inl, inr, cond, List, [], ◌∷◌, ◌++◌, length, get_or, set, sum_by, sym, refl, ap, ◌∙◌, arith, subst, append-nil, ⊎_elim}
+use Rattle.std.proofs.Common.{◌≡◌, ℕ, suc, ◌+◌, ◌*◌, ◌%◌, ◌^◌, ◌<◌, ◌≤◌, inl, inr, cond, List, [], ◌∷◌, ◌++◌, length, get_or, set, sym, refl, ap, ◌∙◌, arith, subst, append-nil}
 use mathlib.Core.Option.{some}
 use lib.ListN.{get_elem?}
 use Rattle.std.proofs.lemmas.Bool.{cases_lt, ne_eqb}
 use Rattle.std.proofs.lemmas.List.{get_or_past, set-get_or, set-set, get_or-set_same}
 use Rattle.std.proofs.lemmas.List.FromFn.{length-map-range_with_len}
 use Rattle.atomic_table.specs.Table.{Allows, Me, State, keeps}
-use Rattle.atomic_table.proofs.Lists.{at_set}
 use Rattle.cn_spec.specs.Step.{name_of}
-use Rattle.cn_spec.specs.Sums.{times}
 use Rattle.cn_wiring.specs.declared.end.End.{End}
 use Rattle.cn_wiring.specs.declared.end.End.TheVariants.{Balancer, Exit}
 use Rattle.cn_wiring.specs.Table.{IsWellFormed, LeadsOn, Stands, Table, end_of, output_wire}
@@ -18,18 +16,17 @@ use Rattle.cn_yard.specs.Lists.{IsThere, last_on, on, times_in, without}
 use Rattle.cn_yard.proofs.CallerLemmas.{first-there, once-gone, once-moved, rest-on}
 use Rattle.cn_floor.specs.declared.view.Start.{Start}
 use Rattle.cn_floor.specs.declared.view.View.{View}
-use Rattle.cn_floor.specs.Rule.{IsAccounted, IsFresh, HoldsAt, ledger_of}
+use Rattle.cn_floor.specs.Rule.{HoldsAt, ledger_of}
 use Rattle.cn_floor.specs.Sweeps.{AllGoOn, GoInRow, GoesFrom, Sweeping, after_steps, after_sweep}
-use Rattle.cn_floor.specs.Views.{after_step, base, given_in, granted_in, lists_after, on_in, standing_in}
+use Rattle.cn_floor.specs.Views.{after_step, base, lists_after}
 use Rattle.cn_floor.specs.Words.{clients_in, count_in, end_word}
 use Rattle.cn_floor.proofs.AtMoments.Bounds.{count_few, few_came, name_later}
 use Rattle.cn_floor.proofs.AtMoments.Kept.{counted-alike, kept-recounted, ledger-alike}
 use Rattle.cn_floor.proofs.Lists.{made_at, made_beyond}
-use Rattle.cn_floor.proofs.AtMoments.Places.{get-here, get-there, set-here}
+use Rattle.cn_floor.proofs.AtMoments.Places.{get-here, set-here}
 use Rattle.cn_floor.proofs.AtMoments.Raised.{count-raised, count-word, end_there, raised}
 use Rattle.cn_floor.proofs.AtMoments.Sole.{sole}
 use Rattle.cn_floor.proofs.AtMoments.Steps.{end-self, kept-after_step, went}
-use Rattle.cn_floor.proofs.AtMoments.Totals.{total_set}
 
 -- ---- the tokens of a wire, one after the other
 

@@ -1,14 +1,11 @@
 -- Two views are taken together for a moment, and cut apart again.
-use Rattle.std.proofs.Common.{◌≡◌, ℕ, ◌+◌, ◌*◌, ◌<◌, ◌≤◌, ◌&&◌, inl, inr, All, List, [], ◌∷◌, ◌++◌, length, get_or, map, max, set, sum_by, cond, eqb, sym, refl, ap, ◌∙◌, subst, ⊎_elim, arith}
-use mathlib.Core.Option.{some}
-use lib.ListN.{get_elem?}
-use Rattle.std.specs.List.{range_with_len}
+use Rattle.std.proofs.Common.{◌≡◌, ℕ, ◌+◌, ◌*◌, ◌<◌, ◌≤◌, ◌&&◌, inl, inr, All, List, [], ◌∷◌, ◌++◌, length, get_or, map, set, sum_by, cond, eqb, sym, refl, ap, ◌∙◌, subst, ⊎_elim, arith}
 use Rattle.std.proofs.lemmas.Bool.{cases_lt}
 use Rattle.std.proofs.lemmas.List.{get_or-append-add, get_or_append_left, get_or_past, length-append}
 use Rattle.std.proofs.lemmas.List.Elements.{All-append}
 use Rattle.std.proofs.lemmas.List.FromFn.{length-map-range_with_len}
 use Rattle.std.proofs.lemmas.List.Sums.{sum_by-append, sum_by_push}
-use Rattle.atomic_table.specs.Table.{Joins, Splits, State}
+use Rattle.atomic_table.specs.Table.{Joins, Splits}
 use Rattle.atomic_table.proofs.Lists.{at_set, at_snoc}
 use Rattle.cn_spec.specs.Sums.{sum_below, times}
 use Rattle.cn_wiring.specs.declared.end.End.{End}
@@ -19,9 +16,9 @@ use Rattle.cn_floor.specs.declared.view.Passage.{Passage}
 use Rattle.cn_floor.specs.declared.view.Start.{Start}
 use Rattle.cn_floor.specs.declared.view.View.{View}
 use Rattle.cn_floor.specs.Rule.{HoldsAt, IsAccounted, IsFresh, load_bound}
-use Rattle.cn_floor.specs.Steps.{HasMoment, IsMoment}
+use Rattle.cn_floor.specs.Steps.{HasMoment}
 use Rattle.cn_floor.specs.Together.{NamesApart, both_of}
-use Rattle.cn_floor.specs.Views.{base, given_in, granted_in, inside_in, levels_in, nobody, on_in, standing_in}
+use Rattle.cn_floor.specs.Views.{base, given_in, granted_in, nobody, on_in, standing_in}
 use Rattle.cn_floor.specs.Words.{clients_in}
 use Rattle.cn_floor.proofs.Lists.{made_at, made_beyond, ones}
 use Rattle.cn_floor.proofs.AtMoments.Kept.{AddUpAlike, kept_alike}

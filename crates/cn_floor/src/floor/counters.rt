@@ -14,8 +14,8 @@ ghost use Rattle.cn_floor.specs.Views.{after_join, after_split, empty_view, on_i
 ghost use Rattle.cn_floor.specs.Words.{end_word, word_count};
 
 use super::plays::{
-    CutApart, EnterOf, EnterPlay, FloorRule, JoinSeats, LoadOf, LoadPlay, LookPlay, PairOf, Portion, SplitSeat, StepOf, TakeTogether,
-     StepPlay, SweepOf, SweepPlay,
+    CutApart, EnterOf, EnterPlay, FloorRule, JoinSeats, LoadOf, LoadPlay, LookPlay, PairOf,
+    Portion, SplitSeat, StepOf, StepPlay, SweepOf, SweepPlay, TakeTogether,
 };
 use crate::view::{Opening, View};
 use atomic_table::{Closed, Seat, Table};

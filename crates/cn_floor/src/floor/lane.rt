@@ -73,6 +73,21 @@ impl Lane {
         Ok(())
     }
 
+    /// Makes room for one more client, if there is none.
+    ///
+    /// # Errors
+    /// `AllocError` if there is none, and it gets no memory. Then nothing has changed.
+    pub(super) fn reserve_one(&mut self) -> Result<(), AllocError>
+        ensures ok { OnOk result (self.new ≡ with_room 1 self.old) }
+        ensures err { OnErr result (self.new ≡ self.old) }
+        ensures none { OnErr result (self.old.room ≡ 0) }
+    {
+        if self.room > 0 {
+            return Ok(());
+        }
+        self.reserve(1)
+    }
+
     /// For how many clients it has room: as many can come in, and get their grants, with no further memory.
     pub fn room(&self) -> u64
         ensures { result ≡ self.now.room }

@@ -7,7 +7,7 @@ ghost use Rattle.cn_yard.specs.Lists.{on, tokens_in};
 ghost use Rattle.cn_floor.specs.Lone.{GoesAlone, IsAlone, OnlyPassed, PassesOn};
 
 use crate::floor::{Floor, Lane};
-use crate::gate::{Gate, Moment};
+use crate::gate::{Asked, Gate, Moment, Pause};
 use crate::view::View;
 use atomic_table::Seat;
 use cn_balancer::output_of;
@@ -19,15 +19,13 @@ use std::sync::Wait;
 impl<'a> Floor<'a> {
     /// Lets a token that stands alone in a view pass one balancer after the other, until its wire ends at an exit. Gives
     /// this wire.
-    fn pass_on<G: Gate, R: Wait>(
+    pub(super) fn pass_on<P: Pause>(
         &self,
-        rt: &R,
         seat: &mut Seat<(), View>,
         token: Token,
         client: u64,
         wire: u32,
-        gate: &G,
-        worker: u32,
+        pause: &P,
     ) -> u32
         requires own { (seat.old.table_id ≡ self.now.table)
             × (seat.old.me.0.start ≡ self.now.start) }
@@ -45,7 +43,7 @@ impl<'a> Floor<'a> {
         let network = self.network();
         let mut at = wire;
         while let End::Balancer(balancer) = network.end(at) {
-            gate.before(rt, worker, Moment::Pass);
+            pause.before(Moment::Pass);
             let end = End::Balancer(balancer);
             let number = self.counters.step::<Brand>(seat, token, client, at, end);
             at = network.entries() + 2 * balancer + output_of(number);
@@ -75,7 +73,8 @@ pub fn pass_alone<'a, G: Gate, R: Wait>(
         unreachable!()
     };
     let client = lane.yard.client_of(token);
-    let to = floor.pass_on(rt, &mut lane.seat, token, client, wire, gate, worker);
+    let asked = Asked { rt, gate, worker };
+    let to = floor.pass_on(&mut lane.seat, token, client, wire, &asked);
     lane.yard.move_to(token, to);
     to
 }

@@ -27,7 +27,9 @@ impl<'a> Floor<'a> {
             quota,
             room,
         } = other;
-        let other_seat = self.counters.look_at_both::<Brand>(&mut lane.seat, other_seat);
+        let other_seat = self
+            .counters
+            .look_at_both::<Brand>(&mut lane.seat, other_seat);
         let other = Lane {
             seat: other_seat,
             yard,

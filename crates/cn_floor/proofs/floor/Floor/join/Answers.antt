@@ -1,6 +1,5 @@
 use Rattle.std.proofs.Common.{ℕ, List, length, get_or, rules, sym, ap, ◌∙◌, [], arith}
 use Rattle.std.proofs.lemmas.Grind.{common_steps}
-use Rattle.cn_yard.specs.Lists.{tokens_in}
 use Rattle.cn_yard.proofs.CallerLemmas.{nobody-on}
 use Rattle.cn_floor.proofs.floor.Floor.join.Goals.{then-lane-more+else-is_err, else-lane-more}
 use Rattle.cn_floor.proofs.floor.Floor.join.Goals as goal

@@ -1,7 +1,5 @@
-use Rattle.std.proofs.Common.{◌≡◌, rules, sym, ap, ◌∙◌, arith, subst}
-use Rattle.cn_floor.specs.declared.view.Start.{Start}
+use Rattle.std.proofs.Common.{◌≡◌, rules, sym, ap, ◌∙◌, arith}
 use Rattle.cn_floor.specs.Lane.{FloorValue}
-use Rattle.cn_floor.specs.Plays.{Looks}
 use Rattle.cn_floor.specs.Rule.{start_of}
 use Rattle.cn_floor.proofs.AtMoments.Sharing.{looks}
 use Rattle.cn_floor.proofs.floor.counters.Counters.look.Goals as goal

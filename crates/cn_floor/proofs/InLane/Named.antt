@@ -1,0 +1,77 @@
+-- A client that walks through by itself.
+use Rattle.std.proofs.Common.{◌≡◌, ℕ, ◌-◌, ◌<◌, ◌++◌, ◌∷◌, inl, inr, All, List, [], length, replicate, refl, sym, ap, ◌∙◌, arith}
+use Rattle.std.proofs.lemmas.Bool.{cases_lt}
+use Rattle.std.proofs.lemmas.List.FromFn.{length-map-range_with_len}
+use Rattle.cn_spec.specs.Step.{name_of}
+use Rattle.cn_wiring.specs.declared.end.End.TheVariants.{Exit}
+use Rattle.cn_ledger.specs.Ledger.{Ledger}
+use Rattle.cn_yard.specs.Lists.{last_on, on, without}
+use Rattle.cn_floor.specs.declared.view.Start.{Start}
+use Rattle.cn_floor.specs.declared.view.View.{View}
+use Rattle.cn_floor.specs.Lone.{IsAlone}
+use Rattle.cn_floor.specs.Named.{WalksThrough}
+use Rattle.cn_floor.specs.Rule.{IsStart}
+use Rattle.cn_floor.specs.Steps.{HasMoment, IsAtomicStep}
+use Rattle.cn_floor.specs.Views.{after_enter, after_step, base}
+use Rattle.cn_floor.proofs.Lists.{made_at, made_beyond}
+use Rattle.cn_floor.proofs.AtClose.Rises.{all-empty}
+use Rattle.cn_floor.proofs.AtMoments.Bounds.{few_came}
+use Rattle.cn_floor.proofs.AtMoments.Fresh.{load_bound-few}
+use Rattle.cn_floor.proofs.AtMoments.Sweeps.{lists_after-on}
+use Rattle.cn_floor.proofs.InLane.Lone.{nobody-else, off-own}
+use Rattle.cn_floor.proofs.InLane.Yards.{nobody-there}
+
+-- if nobody stands on any wire, who comes in stands alone
+pub alone-entered : (token client entry : ℕ) (v : View) → entry < length v.tokens → ((u : ℕ) → on v.tokens u ≡ []) → IsAlone (after_enter token client entry v).tokens token client entry
+alone-entered token client entry v inside out =
+    let make : ℕ → List (ℕ × ℕ) = λ u. on v.tokens u ++ last_on token client entry u in
+    record {
+      inside = omega (arith, length-map-range_with_len make 0 (length v.tokens));
+      only = λ u. elim (cases_lt u (length v.tokens)) [
+        | inl l ↦ made_at v.tokens make u l ∙ ap (λ (es : List (ℕ × ℕ)). es ++ last_on token client entry u) (out u)
+        | inr l ↦ made_beyond v.tokens make u l ∙ sym (off-own token client entry u (λ e. omega (arith, e, l, inside)))
+      ];
+    }
+
+-- who stands alone and leaves, leaves nobody
+pub gone-alone : (token client wire exit n : ℕ) (v : View) → IsAlone v.tokens token client wire → (after_step token client (Exit exit) n v).tokens ≡ replicate (length v.tokens) []
+gone-alone token client wire exit n v is =
+    let lists = (after_step token client (Exit exit) n v).tokens in
+    let each : (u : ℕ) → on lists u ≡ [] =
+    λ u. lists_after-on v.tokens token (λ _. []) (λ _ _. refl) u ∙ ap (λ (es : List (ℕ × ℕ)). es ++ []) (nobody-else v.tokens token client wire is u) in
+    all-empty lists (nobody-there lists (λ u. ap length (each u)))
+    ∙ ap (λ (k : ℕ). replicate k []) (length-map-range_with_len (λ u. without token (on v.tokens u) ++ []) 0 (length v.tokens))
+
+-- after a step a lane stands at a moment
+pub moment-after : (start : Start) (v w : View) (event : Ledger → Ledger → Type 0) → IsAtomicStep start v w event → HasMoment start w
+moment-after start v w event step = (step.new, record { id = step.id; here = step.there; kept = step.kept_after })
+
+-- at a moment the names of a lane are below what the floor may let in
+pub names-low : (start : Start) (v : View) → IsStart start → HasMoment start v → All (λ g. g.name < start.quota) v.grants
+names-low start v began (s, moment) k d less =
+    let f = moment.kept.fresh moment.id v moment.here in
+    omega (arith, f.names k d less, load_bound-few start.network.table s.words v.loads f.low, few_came start s record { began = began; rule = moment.kept })
+
+-- what a client that walked through made of a view
+pub record Grew (v w : View) (client entry exit visit : ℕ) : Type 0 where
+  pub start : w.start ≡ v.start
+  pub quota : w.quota ≡ v.quota - 1
+  pub entries : w.entries ≡ v.entries ++ entry ∷ []
+  pub grants : w.grants ≡ v.grants ++ record { client = client; exit = exit; visit = visit; name = name_of v.start.network.table.width exit visit - base v.start } ∷ []
+  pub seen : w.seen ≡ v.seen
+  pub loads : w.loads ≡ v.loads
+
+pub grew : (start : Start) (client entry exit visit : ℕ) (v w : View) → WalksThrough start client entry exit visit v w → Grew v w client entry exit visit
+grew start client entry exit visit v w is =
+    let came = is.comes.0 in
+    let begun : is.before.start ≡ v.start = is.only.start ∙ ap (λ (x : View). x.start) came in
+    let had : is.before.grants ≡ v.grants = is.only.grants ∙ ap (λ (x : View). x.grants) came in
+    record {
+      start = ap (λ (x : View). x.start) is.after ∙ begun;
+      quota = ap (λ (x : View). x.quota) is.after ∙ is.only.quota ∙ ap (λ (x : View). x.quota) came;
+      entries = ap (λ (x : View). x.entries) is.after ∙ is.only.entries ∙ ap (λ (x : View). x.entries) came;
+      grants = ap (λ (x : View). x.grants) is.after
+          ∙ (λ i. had i ++ record { client = client; exit = exit; visit = visit; name = name_of (begun i).network.table.width exit visit - base (begun i) } ∷ []);
+      seen = ap (λ (x : View). x.seen) is.after ∙ is.only.seen ∙ ap (λ (x : View). x.seen) came;
+      loads = ap (λ (x : View). x.loads) is.after ∙ is.only.loads ∙ ap (λ (x : View). x.loads) came;
+    }

@@ -1,0 +1,108 @@
+use Rattle.std.proofs.Common.{◌≡◌, ℕ, ◌-◌, ◌<◌, ◌++◌, ◌∷◌, [], List, length, max, replicate, get_or, sym, ap, ◌∙◌, subst, arith}
+use Rattle.std.proofs.Math.Seq.{get_or-append_seam}
+use Rattle.std.proofs.lemmas.List.{length_push, nil_from_length}
+use Rattle.cn_spec.specs.Step as step
+use Rattle.cn_yard.specs.Lists.{Lists, on, tokens_in}
+use Rattle.cn_yard.proofs.CallerLemmas.{nobody-on}
+use Rattle.cn_floor.specs.declared.view.Grant.{Grant}
+use Rattle.cn_floor.specs.declared.view.Start.{Start}
+use Rattle.cn_floor.specs.declared.view.View.{View}
+use Rattle.cn_floor.specs.InsideLane.{lane_of}
+use Rattle.cn_floor.specs.Lane.{FloorValue, LaneValue, with_room}
+use Rattle.cn_floor.specs.Named.{WalksThrough}
+use Rattle.cn_floor.specs.Rule.{IsStart}
+use Rattle.cn_floor.specs.Steps.{HasMoment}
+use Rattle.cn_floor.specs.Views.{base}
+use Rattle.cn_floor.proofs.AtClose.Rises.{all-empty}
+use Rattle.cn_floor.proofs.InLane.Named.{grew, moment-after, names-low}
+use Rattle.cn_floor.proofs.floor.Floor.name.Goals as goal
+
+pub walk_through-exit-requires-clause-out : goal.walk_through-exit-requires-clause-out
+walk_through-exit-requires-clause-out c u =
+    let held : lane_of c.lane.inside ≡ with_room 1 c.args.lane.now = c.lane.view_is ∙ c.in-Ok.ensures.ok in
+    let nobody : tokens_in c.lane.inside.yard.lists ≡ 0 = ap (λ (l : LaneValue). tokens_in l.yard.lists) held ∙ c.requires.out in
+    subst (λ (ls : Lists). on ls u ≡ []) c.lane.invariant.tokens (nil_from_length (on c.lane.inside.yard.lists u) (nobody-on c.lane.inside.yard.lists nobody u))
+
+pub name_of-requires-clause-visit : goal.name_of-requires-clause-visit
+name_of-requires-clause-visit c =
+    omega (arith, c.walk_through-exit.ensures.walked.leaves.few, c.start_laws.ensures.few, c.start_laws.ensures.quota)
+
+pub invariant_of-lane : goal.invariant_of-lane
+invariant_of-lane c =
+    let v : View = c.lane.inside.seat.me.0 in
+    let w : View = c.walk_through-exit.new.seat.me.0 in
+    let exit : ℕ = c.walk_through-exit.result.0 in
+    let visit : ℕ = c.walk_through-exit.result.1 in
+    let was = c.lane.invariant in
+    let held : lane_of c.lane.inside ≡ with_room 1 c.args.lane.now = c.lane.view_is ∙ c.in-Ok.ensures.ok in
+    let nobody : tokens_in c.lane.inside.yard.lists ≡ 0 = ap (λ (l : LaneValue). tokens_in l.yard.lists) held ∙ c.requires.out in
+    let some : c.lane.inside.room ≡ max 1 c.args.lane.now.room = ap (λ (l : LaneValue). l.room) held in
+    let is = grew _ c.args.client c.args.entry exit visit v w c.walk_through-exit.ensures.walked in
+    let begun : v.start ≡ c.args.self.now.start = ap (λ (l : LaneValue). l.home.start) held ∙ ap (λ (h : FloorValue). h.start) c.requires.own in
+    let width : c.width.result ≡ v.start.network.table.width = c.width.ensures.value ∙ (λ i. (c.network-network.ensures.value i).table.width) ∙ sym (ap (λ (s : Start). s.network.table.width) begun) in
+    let base_is : c.self.inside.base ≡ base v.start = c.self.invariant.base ∙ ap (λ (h : FloorValue). base h.start) c.self.view_is ∙ sym (ap (λ (s : Start). base s) begun) in
+    let name : c.name_of.result - c.self.inside.base ≡ step.name_of v.start.network.table.width exit visit - base v.start =
+    (λ x. c.name_of.ensures x - base_is x) ∙ ap (λ (n : ℕ). step.name_of n exit visit - base v.start) width in
+    let grants : c.push_reserved.new.self.items ≡ w.grants =
+    c.push_reserved.ensures.items ∙ (λ x. was.grants x ++ record { client = c.args.client; exit = exit; visit = visit; name = name x } ∷ []) ∙ sym is.grants in
+    record {
+      no_slot = c.walk_through-exit.ensures.seat.1;
+      idle = is.loads ∙ was.idle;
+      tokens = all-empty c.lane.inside.yard.lists nobody ∙ (λ x. replicate (length (was.tokens x)) []) ∙ sym c.walk_through-exit.ensures.gone;
+      wires = was.wires ∙ ap (λ (s : Start). length s.network.table.ends) (sym is.start);
+      grants = grants;
+      quota = omega (arith, was.quota, is.quota);
+      few = omega (arith, was.few);
+      room = omega (
+        arith,
+        was.room,
+        some,
+        c.push_reserved.ensures.capacity,
+        ap (λ (gs : List Grant). length gs) c.push_reserved.ensures.items,
+        length_push c.lane.inside.grants.items (record { client = c.args.client; exit = exit; visit = visit; name = c.name_of.result - c.self.inside.base }),
+      );
+      spare = omega (arith, was.spare);
+    }
+
+pub returns-clause-ok : goal.returns-clause-ok
+returns-clause-ok c =
+    let v : View = c.lane.inside.seat.me.0 in
+    let w : View = c.walk_through-exit.new.seat.me.0 in
+    let exit : ℕ = c.walk_through-exit.result.0 in
+    let visit : ℕ = c.walk_through-exit.result.1 in
+    let given : ℕ = c.name_of.result - c.self.inside.base in
+    let old : LaneValue = c.args.lane.now in
+    let was = c.lane.invariant in
+    let held : lane_of c.lane.inside ≡ with_room 1 old = c.lane.view_is ∙ c.in-Ok.ensures.ok in
+    let view : v ≡ old.view = ap (λ (l : LaneValue). l.view) held in
+    let is = grew _ c.args.client c.args.entry exit visit v w c.walk_through-exit.ensures.walked in
+    let own : c.args.self.now.start ≡ old.home.start = sym (ap (λ (h : FloorValue). h.start) c.requires.own) in
+    let begun : v.start ≡ c.args.self.now.start = ap (λ (l : LaneValue). l.home.start) held ∙ ap (λ (h : FloorValue). h.start) c.requires.own in
+    let width : c.width.result ≡ v.start.network.table.width = c.width.ensures.value ∙ (λ i. (c.network-network.ensures.value i).table.width) ∙ sym (ap (λ (s : Start). s.network.table.width) begun) in
+    let base_is : c.self.inside.base ≡ base v.start = c.self.invariant.base ∙ ap (λ (h : FloorValue). base h.start) c.self.view_is ∙ sym (ap (λ (s : Start). base s) begun) in
+    let name : given ≡ step.name_of v.start.network.table.width exit visit - base v.start =
+    (λ x. c.name_of.ensures x - base_is x) ∙ ap (λ (n : ℕ). step.name_of n exit visit - base v.start) width in
+    let one : ℕ → Grant = λ n. record { client = c.args.client; exit = exit; visit = visit; name = n } in
+    let grants : w.grants ≡ old.view.grants ++ one given ∷ [] = is.grants ∙ (λ x. (view x).grants ++ one (sym name x) ∷ []) in
+    let walked : WalksThrough old.home.start c.args.client c.args.entry exit visit old.view w =
+    subst (λ (z : Start × View). WalksThrough z.0 c.args.client c.args.entry exit visit z.1 w) (λ i. (own i, view i)) c.walk_through-exit.ensures.walked in
+    let moment : HasMoment old.home.start w = moment-after _ _ _ _ walked.leaves.step in
+    let low = names-low old.home.start w (subst IsStart own c.start_laws.ensures) moment (length old.view.grants) (one given)
+    (omega (arith, ap (λ (gs : List Grant). length gs) grants, length_push old.view.grants (one given))) in
+    let last : get_or w.grants (length old.view.grants) (one given) ≡ one given =
+    ap (λ (gs : List Grant). get_or gs (length old.view.grants) (one given)) grants ∙ get_or-append_seam old.view.grants (one given) [] (one given) in
+    record {
+      home = (λ x. record { table = c.walk_through-exit.ensures.seat.0 x; start = is.start x }) ∙ ap (λ (l : LaneValue). l.home) held;
+      exit = exit;
+      visit = visit;
+      walked = walked;
+      quota = omega (arith, is.quota, was.quota, ap (λ (x : View). x.quota) view, c.if-quota-eq0, c.quota.ensures);
+      entries = is.entries ∙ (λ x. (view x).entries ++ c.args.entry ∷ []);
+      grants = grants;
+      seen = is.seen ∙ ap (λ (x : View). x.seen) view;
+      low = subst (λ (g : Grant). g.name < old.home.start.quota) last low;
+      moment = moment;
+      lists = ap (λ (l : LaneValue). l.yard.lists) held;
+      spare = ap (λ (l : LaneValue). l.yard.spare) held;
+      room = omega (arith, ap (λ (l : LaneValue). l.room) held);
+    }

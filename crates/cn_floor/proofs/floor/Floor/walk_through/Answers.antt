@@ -1,0 +1,44 @@
+use Rattle.std.proofs.Common.{◌≡◌, ℕ, ◌<◌, ◌++◌, [], length, replicate, rules, sym, ap, ◌∙◌, subst}
+use Rattle.std.proofs.lemmas.List.FromFn.{length-map-range_with_len}
+use Rattle.cn_yard.specs.Lists.{last_on, on}
+use Rattle.cn_floor.specs.declared.view.View.{View}
+use Rattle.cn_floor.specs.Lane.{FloorValue}
+use Rattle.cn_floor.specs.Lone.{IsAlone}
+use Rattle.cn_floor.proofs.InLane.Lone.{there-alone}
+use Rattle.cn_floor.proofs.InLane.Named.{alone-entered, gone-alone}
+use Rattle.cn_floor.proofs.floor.Floor.walk_through.Goals as goal
+
+pub pass_on-wire-requires-clause-wires : goal.pass_on-wire-requires-clause-wires
+pass_on-wire-requires-clause-wires c =
+    let v : View = c.args.seat.now.me.0 in
+    ap (λ (x : View). length x.tokens) c.enter.ensures.came.0
+    ∙ length-map-range_with_len (λ u. on v.tokens u ++ last_on c.first-token.result c.args.client c.args.entry u) 0 (length v.tokens) ∙ c.requires.wires
+
+pub pass_on-wire-requires-clause-alone : goal.pass_on-wire-requires-clause-alone
+pass_on-wire-requires-clause-alone c =
+    let v : View = c.args.seat.now.me.0 in
+    let inside : c.args.entry < length v.tokens = search rules in
+    subst (λ (x : View). IsAlone x.tokens c.first-token.result c.args.client c.args.entry) (sym c.enter.ensures.came.0)
+    (alone-entered c.first-token.result c.args.client c.args.entry v inside c.requires.out)
+
+pub step-visit-requires-clause-there : goal.step-visit-requires-clause-there
+step-visit-requires-clause-there c =
+    there-alone c.pass_on-wire.new.seat.me.0.tokens c.first-token.result c.args.client c.pass_on-wire.result c.pass_on-wire.ensures.alone
+
+pub step-visit-requires-clause-wires : goal.step-visit-requires-clause-wires
+step-visit-requires-clause-wires c =
+    let v : View = c.args.seat.now.me.0 in
+    c.pass_on-wire.ensures.passed.wires ∙ ap (λ (x : View). length x.tokens) c.enter.ensures.came.0
+    ∙ length-map-range_with_len (λ u. on v.tokens u ++ last_on c.first-token.result c.args.client c.args.entry u) 0 (length v.tokens) ∙ c.requires.wires
+    ∙ ap (λ (h : FloorValue). length h.start.network.table.ends) (sym c.self.view_is)
+
+pub returns-clause-gone : goal.returns-clause-gone
+returns-clause-gone c =
+    let v : View = c.args.seat.now.me.0 in
+    let before : View = c.pass_on-wire.new.seat.me.0 in
+    let wires : length before.tokens ≡ length v.tokens =
+    c.pass_on-wire.ensures.passed.wires ∙ ap (λ (x : View). length x.tokens) c.enter.ensures.came.0
+    ∙ length-map-range_with_len (λ u. on v.tokens u ++ last_on c.first-token.result c.args.client c.args.entry u) 0 (length v.tokens) in
+    ap (λ (x : View). x.tokens) c.step-visit.ensures.went.0
+    ∙ gone-alone c.first-token.result c.args.client c.pass_on-wire.result c.in-Exit.exit c.step-visit.result before c.pass_on-wire.ensures.alone
+    ∙ ap (λ (n : ℕ). replicate n []) wires

@@ -1,0 +1,43 @@
+-- A client that walked through a network by itself, and its name.
+use Rattle.std.specs.Prelude.{◌≡◌, ℕ, ◌+◌, ◌<◌, ◌++◌, ◌∷◌, [], List, max}
+use Rattle.cn_wiring.specs.declared.end.End.TheVariants.{Exit}
+use Rattle.cn_wiring.specs.Table.{end_of}
+use Rattle.cn_floor.specs.declared.view.Start.{Start}
+use Rattle.cn_floor.specs.declared.view.View.{View}
+use Rattle.cn_floor.specs.Lane.{LaneValue}
+use Rattle.cn_floor.specs.Lone.{OnlyPassed, PassesOn}
+use Rattle.cn_floor.specs.Plays.{ComesIn, IsLetBy}
+use Rattle.cn_floor.specs.Steps.{HasMoment}
+use Rattle.cn_floor.specs.Views.{after_step}
+
+-- a client comes in by an entry, passes balancers, and leaves by an exit with this visit: by one event each
+pub record WalksThrough (start : Start) (client entry exit visit : ℕ) (v w : View) : Type 0 where
+  pub token : ℕ
+  pub numbers : List ℕ
+  pub wire : ℕ
+  -- the view once it is in, and once it stands before the exit
+  pub inside : View
+  pub before : View
+  pub comes : ComesIn (record { start = start; token = token; client = client; entry = entry }) v inside
+  pub passes : PassesOn start token client numbers entry inside wire before
+  pub only : OnlyPassed inside before
+  pub ends : end_of start.network.table wire ≡ Exit exit
+  pub leaves : IsLetBy start before w client (Exit exit) visit
+  pub after : w ≡ after_step token client (Exit exit) visit before
+
+-- a lane named one client more
+pub record IsNamed (old new : LaneValue) (client entry name : ℕ) : Type 0 where
+  pub home : new.home ≡ old.home
+  pub exit : ℕ
+  pub visit : ℕ
+  pub walked : WalksThrough old.home.start client entry exit visit old.view new.view
+  pub quota : new.view.quota + 1 ≡ old.view.quota
+  pub entries : new.view.entries ≡ old.view.entries ++ entry ∷ []
+  pub grants : new.view.grants ≡ old.view.grants ++ record { client = client; exit = exit; visit = visit; name = name } ∷ []
+  pub seen : new.view.seen ≡ old.view.seen
+  -- the name is below what the floor may let in, and the lane stands at some moment
+  pub low : name < old.home.start.quota
+  pub moment : HasMoment old.home.start new.view
+  pub lists : new.yard.lists ≡ old.yard.lists
+  pub spare : new.yard.spare ≡ max 1 old.yard.spare
+  pub room : new.room + 1 ≡ max 1 old.room

@@ -1,0 +1,88 @@
+//! A client is named by one call.
+
+ghost use Rattle.std.specs.Prelude.{◌≡◌, ℕ, ◌<◌, ◌≤◌, ◌↔◌, [], length, replicate, IfOk, IsErrOf, OnErr};
+ghost use Rattle.cn_yard.specs.Lists.{on, tokens_in};
+ghost use Rattle.cn_floor.specs.Named.{IsNamed, WalksThrough};
+
+use super::Floor;
+use super::lane::Lane;
+use crate::fault::LaneFault;
+use crate::gate::NoPause;
+use crate::view::{Grant, View};
+use atomic_table::Seat;
+use cn_exit::name_of;
+use cn_wiring::End;
+use cn_yard::Token;
+use std::marker::Brand;
+
+impl<'a> Floor<'a> {
+    /// Lets a client in by an entry and walks it out, in one atomic step for the entry, for each balancer on its way and for
+    /// the exit: its name. Nobody of the lane is inside. The client's place is in a local, and not in the lane's yard. It
+    /// waits for nobody, and takes memory only if the lane has no room.
+    ///
+    /// # Errors
+    /// The first that stands: `NoSuchEntry`, `QuotaSpent`, `Memory` (the lane has no room, and gets no memory). Then nothing
+    /// has changed.
+    pub fn name(&self, lane: &mut Lane, client: u64, entry: u64) -> Result<u64, LaneFault>
+        requires own { lane.old.home ≡ self.now }
+        requires out { tokens_in lane.old.yard.lists ≡ 0 }
+        ensures ok { IfOk result (λ name. IsNamed lane.old lane.new client entry name) }
+        ensures err { OnErr result (lane.new ≡ lane.old) }
+        ensures entry { IsErrOf result LaneFault.NoSuchEntry
+            ↔ (self.now.start.network.table.entries ≤ entry) }
+        ensures quota { IsErrOf result LaneFault.QuotaSpent
+            ↔ ((entry < self.now.start.network.table.entries) × (lane.old.view.quota ≡ 0)) }
+        ensures room { 0 < lane.old.room → ¬ (IsErrOf result LaneFault.Memory) }
+    {
+        self.start_laws();
+        let network = self.network();
+        if entry >= u64::from(network.entries()) {
+            return Err(LaneFault::NoSuchEntry);
+        }
+        if lane.quota() == 0 {
+            return Err(LaneFault::QuotaSpent);
+        }
+        let Ok(()) = lane.reserve_one() else {
+            return Err(LaneFault::Memory);
+        };
+        let (exit, visit) = self.walk_through(&mut lane.seat, client, entry as u32);
+        let name = name_of(network.width(), exit, visit) - self.base;
+        lane.grants.push_reserved(Grant {
+            client,
+            exit,
+            visit,
+            name,
+        });
+        lane.quota -= 1;
+        lane.room -= 1;
+        Ok(name)
+    }
+
+    /// Lets a client in by an entry and walks it out, by a view with nobody inside: the exit by which it left, and its visit.
+    fn walk_through(&self, seat: &mut Seat<(), View>, client: u64, entry: u32) -> (u32, u64)
+        requires own { (seat.old.table_id ≡ self.now.table)
+            × (seat.old.me.0.start ≡ self.now.start) }
+        requires slots { (seat.old.me.1 ≡ []) × (seat.old.me.0.loads ≡ []) }
+        requires wires { length seat.old.me.0.tokens ≡ length self.now.start.network.table.ends }
+        requires out { (wire : ℕ) → on seat.old.me.0.tokens wire ≡ [] }
+        requires entry { entry < self.now.start.network.table.entries }
+        requires quota { 0 < seat.old.me.0.quota }
+        ensures seat { (seat.new.table_id ≡ seat.old.table_id) × (seat.new.me.1 ≡ []) }
+        ensures walked { WalksThrough self.now.start client entry result.0 result.1 seat.old.me.0 seat.new.me.0 }
+        ensures gone { seat.new.me.0.tokens ≡ replicate (length seat.old.me.0.tokens) [] }
+        ensures exit { result.0 < self.now.start.network.table.width }
+    {
+        let network = self.network();
+        let token = Token::first();
+        self.counters.enter::<Brand>(seat, token, client, entry);
+        let wire = self.pass_on(seat, token, client, entry, &NoPause);
+        match network.end(wire) {
+            End::Balancer(_) => unreachable!(),
+            End::Exit(exit) => {
+                let end = End::Exit(exit);
+                let visit = self.counters.step::<Brand>(seat, token, client, wire, end);
+                (exit, visit)
+            }
+        }
+    }
+}
