@@ -2,7 +2,7 @@
 -- their steps, what a run writes gives, for each epoch of k clients, exit i the count ceiling((k - i) / w) and its clients
 -- the names 0 to k-1, each once. If counters are carried: for each epoch of k clients after m, exit i has its share of
 -- m+k clients minus its share of m. Without carry m is 0, and both are one. (At every moment before that the rule of
--- the floor holds: `cn_walk`'s `KeepsRule`.)
+-- the floor holds: `cn_floor`'s `KeepsRule`.)
 use Rattle.std.specs.Prelude.{ℕ, ◌≡◌, ◌+◌, ◌≤◌, [], ◌∷◌, Bool, IfSome, List, Option, length, map, ⊤}
 use Rattle.std.specs.List.Sorted.{IsPermutation}
 use Rattle.cn_spec.specs.Step.{shares, shares_after}
