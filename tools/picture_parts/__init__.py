@@ -1,0 +1,1 @@
+"""The parts of tools/picture: texts are read, laid out and drawn."""
