@@ -20,6 +20,7 @@ pub record IsMoment (start : Start) (v : View) (s : FloorState) : Type 0 where
   pub here : get_elem? s.views id ≡ some v
   pub kept : KeepsRule start s
 
+-- at some moment of the floor a lane has this view
 abbrev pub HasMoment : Start → View → Type 0
 HasMoment start v = (s : FloorState) × IsMoment start v s
 

@@ -41,8 +41,8 @@ pub use words::Words;
 /// comes in, passes a balancer and leaves by one atomic add each, without a lock.
 ///
 /// A lane belongs to the floor that made it, and each call has the condition that its lanes are its own. Only
-/// [`Floor::open`], [`Floor::open_after`], [`Floor::open_on`], [`Floor::split`], [`Floor::join`], [`Floor::close`],
-/// [`Floor::close_for`] and an [`Floor::enter`] without room take memory. Lanes can be sent to threads, and a floor can be
+/// [`Floor::open`] and its like, [`Floor::split`], [`Floor::split_off`], [`Floor::join`], [`Floor::close`],
+/// [`Floor::close_for`], and a [`Floor::enter`] or a [`Floor::name`] without room take memory. Lanes can be sent to threads, and a floor can be
 /// shared by them.
 #[derive(Drop)]
 pub struct Floor<'a> {

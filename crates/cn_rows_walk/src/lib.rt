@@ -11,7 +11,11 @@ mod dropped_lanes;
 #[cfg(test)]
 mod epochs;
 #[cfg(test)]
+mod held;
+#[cfg(test)]
 mod missing_lane;
+#[cfg(test)]
+mod named;
 #[cfg(test)]
 mod one_lane;
 #[cfg(test)]

@@ -102,7 +102,7 @@ impl<'a> Floor<'a> {
         Floor::open_words(alloc, words, quota)
     }
 
-    /// A floor as [`Floor::open`] opens it, which holds the network together with the caller: it outlives no owner, so a
+    /// A floor as [`Floor::open`] opens it, which shares the network with the caller by count: it borrows nothing, so a
     /// struct can keep it, and a thread can take it along.
     ///
     /// # Errors

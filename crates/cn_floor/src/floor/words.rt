@@ -17,7 +17,7 @@ use std::sync::Arc;
 /// The words of closed floors over a network: how many clients came in by each entry, passed each balancer and left by each
 /// exit since each word was 0. Another floor may go on from them ([`super::Floor::open_after`]).
 ///
-/// Only [`Words::zero`] and the close of a floor make them. No reader takes memory.
+/// Only [`Words::zero`], [`Words::zero_shared`] and the close of a floor make them. No reader takes memory.
 #[derive(Drop)]
 pub struct Words<'a> {
     pub(super) network: NetworkRef<'a>,
@@ -51,7 +51,7 @@ impl<'a> Words<'a> {
     /// Words of which each is 0, which hold the network together with the caller.
     ///
     /// # Errors
-    /// `AllocError` where they get no memory.
+    /// `AllocError` if they get no memory.
     pub fn zero_shared(
         alloc: Global,
         network: &Arc<Counting, Global>,
@@ -65,7 +65,7 @@ impl<'a> Words<'a> {
     /// Words of which each is 0, over a network that is held in some way.
     ///
     /// # Errors
-    /// `AllocError` where they get no memory.
+    /// `AllocError` if they get no memory.
     pub(super) fn zero_over(alloc: Global, network: NetworkRef<'a>) -> Result<Words<'a>, AllocError>
         ensures zero { IfOk result (λ words. words ≡ zero_words network.entry) }
         ensures nobody { IfOk result (λ words. client_count words ≡ 0) }
