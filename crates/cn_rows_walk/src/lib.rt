@@ -7,6 +7,8 @@ mod ample_memory;
 #[cfg(test)]
 mod carried;
 #[cfg(test)]
+mod clients;
+#[cfg(test)]
 mod dropped_lanes;
 #[cfg(test)]
 mod epochs;

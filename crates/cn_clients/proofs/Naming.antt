@@ -1,0 +1,57 @@
+-- Lanes that gave names.
+use Rattle.std.proofs.Common.{◌≡◌, ℕ, ◌+◌, ◌<◌, ◌≤◌, All, List, [], ◌∷◌, ◌++◌, length, get_or, map, refl, sym, ap, ◌∙◌, subst, arith, append_assoc, append-nil}
+use Rattle.std.proofs.lemmas.List.{get_or-append-add, get_or-map, get_or_append_left, length-append, length-map, map-append}
+use Rattle.cn_spec.specs.Sums.{times}
+use Rattle.cn_spec.proofs.CallerLemmas.{times-append}
+use Rattle.cn_floor.specs.declared.view.Grant.{Grant}
+use Rattle.cn_floor.specs.Lane.{LaneValue}
+use Rattle.cn_floor.specs.Named.{IsNamed}
+use Rattle.cn_clients.specs.Naming.{GaveNames, names_in}
+
+pub gave-none : (lane : LaneValue) → GaveNames lane lane []
+gave-none lane = record { home = refl; lists = refl; grants = ([], sym (append-nil lane.view.grants), refl) }
+
+pub gave-one : (a b c : LaneValue) (names : List ℕ) (client entry name : ℕ) → GaveNames a b names → IsNamed b c client entry name → GaveNames a c (names ++ name ∷ [])
+gave-one a b c names client entry name gave is =
+    let (more, grants, told) = gave.grants in
+    let one : List Grant = record { client = client; exit = is.exit; visit = is.visit; name = name } ∷ [] in
+    record {
+      home = is.home ∙ gave.home;
+      lists = is.lists ∙ gave.lists;
+      grants = (
+        more ++ one,
+        is.grants ∙ ap (λ (gs : List Grant). gs ++ one) grants ∙ append_assoc a.view.grants more one,
+        ap (λ (ns : List ℕ). ns ++ name ∷ []) told ∙ sym (map-append (λ (g : Grant). g.name) more one),
+      );
+    }
+
+-- the names that a lane gave are among those of its grants
+pub among : (a b : LaneValue) (names : List ℕ) → GaveNames a b names → (name : ℕ) → times name names ≤ times name (names_in b.view.grants)
+among a b names gave name =
+    let (more, grants, told) = gave.grants in
+    omega (
+      arith,
+      ap (λ (ns : List ℕ). times name ns) told,
+      ap (λ (gs : List Grant). times name (names_in gs)) grants,
+      ap (λ (ns : List ℕ). times name ns) (map-append (λ (g : Grant). g.name) a.view.grants more),
+      times-append name (names_in a.view.grants) (names_in more),
+    )
+
+-- what is below a bound in a lane is below it among these names
+pub below : (a b : LaneValue) (names : List ℕ) (bound : ℕ) → GaveNames a b names → All (λ g. g.name < bound) b.view.grants → All (λ name. name < bound) names
+below a b names bound gave low k d less =
+    let (more, grants, told) = gave.grants in
+    let none : Grant = record { client = 0; exit = 0; visit = 0; name = 0 } in
+    let long : length names ≡ length more = ap (λ (ns : List ℕ). length ns) told ∙ length-map more (λ (g : Grant). g.name) in
+    let all : All (λ (g : Grant). g.name < bound) (a.view.grants ++ more) = subst (λ (gs : List Grant). All (λ (g : Grant). g.name < bound) gs) grants low in
+    let at : get_or (a.view.grants ++ more) (length a.view.grants + k) none ≡ get_or more k none = get_or-append-add a.view.grants more k none in
+    let this : (get_or more k none).name < bound = subst (λ (g : Grant). g.name < bound) at (all (length a.view.grants + k) none (omega (arith, less, long, length-append a.view.grants more))) in
+    let name : get_or names k d ≡ (get_or more k none).name = ap (λ (ns : List ℕ). get_or ns k d) told ∙ get_or-map (λ (g : Grant). g.name) more k none d (omega (arith, less, long)) in
+    omega (arith, name, this)
+
+-- the first and the rest of a list
+pub All-left : {X : Type 0} (P : X → Type 0) (xs ys : List X) → All P (xs ++ ys) → All P xs
+All-left P xs ys all k d less = subst P (get_or_append_left xs ys d k less) (all k d (omega (arith, less, length-append xs ys)))
+
+pub All-right : {X : Type 0} (P : X → Type 0) (xs ys : List X) → All P (xs ++ ys) → All P ys
+All-right P xs ys all k d less = subst P (get_or-append-add xs ys k d) (all (length xs + k) d (omega (arith, less, length-append xs ys)))

@@ -1,0 +1,14 @@
+use Rattle.std.proofs.Common.{rules, ◌≡◌, ℕ, List, ap, ◌∙◌, sym, subst}
+use Rattle.cn_yard.specs.Lists.{Lists, tokens_in}
+use Rattle.cn_clients.specs.Naming.{GaveNames}
+use Rattle.cn_clients.proofs.Naming.{gave-none, gave-one}
+use Rattle.cn_clients.proofs.two_threads.name_all.Goals as goal
+
+pub loop-client-init : goal.loop-client-init
+loop-client-init c = subst (λ (ns : List ℕ). GaveNames c.args.lane c.args.lane ns) (sym c.new-names.ensures.items) (gave-none c.args.lane)
+
+pub name-requires-clause-out : goal.name-requires-clause-out
+name-requires-clause-out c = ap (λ (ls : Lists). tokens_in ls) c.loop-client.invariant.lists ∙ c.requires.out
+
+pub loop-client-preserved : goal.loop-client-preserved
+loop-client-preserved c = subst (λ (ns : List ℕ). GaveNames c.args.lane c.name.new.lane ns) (sym c.in-Ok-push.ensures.items) (gave-one _ _ _ _ _ _ _ c.loop-client.invariant c.in-Ok.ensures.ok)

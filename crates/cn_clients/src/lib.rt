@@ -1,0 +1,7 @@
+//! Callers of a floor whose contracts say what a user wants: names that are all different while threads run, slots that no
+//! thread writes twice, and a table by name. Each is proved from public contracts only, and runs in threads.
+#![tactic(auto)]
+
+mod two_threads;
+
+pub use two_threads::{Named, name_by_two};

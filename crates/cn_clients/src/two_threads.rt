@@ -1,0 +1,137 @@
+//! Two threads name clients on one floor. Before it is closed no name is given twice, and each is below the number of clients
+//! that came in.
+
+ghost use Rattle.std.specs.Prelude.{◌≡◌, ◌<◌, ◌≤◌, All, IfSome};
+ghost use Rattle.cn_yard.specs.Lists.{tokens_in};
+ghost use Rattle.cn_clients.specs.Naming.{AreApart, GaveNames};
+ghost use denote.Param.Send.{IsSync};
+
+use cn_floor::{Floor, Lane};
+use std::alloc::Global;
+use std::thread;
+use std::thread::Threads;
+
+/// Names clients one after the other, each by entry 0: the lane, and the names. `None` if one is refused.
+fn name_all(
+    alloc: Global,
+    floor: &Floor<'_>,
+    mut lane: Lane,
+    clients: &[u64],
+) -> Option<(Lane, Vec<u64>)>
+    requires own { lane.home ≡ floor.now }
+    requires out { tokens_in lane.yard.lists ≡ 0 }
+    ensures { IfSome result (λ r. GaveNames lane r.0 r.1.items) }
+{
+    let mut names = Vec::new(alloc);
+    for client in clients {
+        let Ok(name) = floor.name(&mut lane, *client, 0) else {
+            return None;
+        };
+        let Ok(()) = names.push(name) else {
+            return None;
+        };
+    }
+    Some((lane, names))
+}
+
+/// What the threads share. The closure of a thread that captures a `&Floor<'a>` promises nothing, so it captures a type
+/// parameter, for which the floor stands.
+trait Shared {
+    ghost use Rattle.cn_floor.specs.Lane.{FloorValue};
+
+    ghost home: { Self → FloorValue };
+
+    fn name_all(&self, alloc: Global, lane: Lane, clients: &[u64]) -> Option<(Lane, Vec<u64>)>
+        requires own { lane.home ≡ Self.home self.now }
+        requires out { tokens_in lane.yard.lists ≡ 0 }
+        ensures { IfSome result (λ r. GaveNames lane r.0 r.1.items) };
+}
+
+impl<'a> Shared for Floor<'a> {
+    ghost home = { λ floor. floor };
+
+    fn name_all(&self, alloc: Global, lane: Lane, clients: &[u64]) -> Option<(Lane, Vec<u64>)> {
+        name_all(alloc, self, lane, clients)
+    }
+}
+
+/// Two threads name their clients, each by a lane of its own: the lanes, and the names. `None` if a client is refused, or the
+/// lists get no memory.
+fn name_in_threads<G: Shared + Sync, R: Threads>(
+    rt: &R,
+    alloc: Global,
+    floor: &G,
+    lane: Lane,
+    other: Lane,
+    first: &[u64],
+    second: &[u64],
+) -> Option<(Lane, Lane, Vec<u64>, Vec<u64>)>
+    requires own { (lane.home ≡ G.home floor.now) × (other.home ≡ G.home floor.now) }
+    requires out { (tokens_in lane.yard.lists ≡ 0) × (tokens_in other.yard.lists ≡ 0) }
+    ensures { IfSome result (λ r. GaveNames lane r.0 r.2.items × GaveNames other r.1 r.3.items) }
+{
+    let (one, two) = thread::join(
+        rt,
+        move || -> Option<(Lane, Vec<u64>)>
+            requires { (lane.home ≡ G.home floor.now) × (tokens_in lane.yard.lists ≡ 0) }
+            ensures { IfSome result (λ r. GaveNames lane r.0 r.1.items) }
+        { floor.name_all(alloc, lane, first) },
+        move || -> Option<(Lane, Vec<u64>)>
+            requires { (other.home ≡ G.home floor.now) × (tokens_in other.yard.lists ≡ 0) }
+            ensures { IfSome result (λ r. GaveNames other r.0 r.1.items) }
+        { floor.name_all(alloc, other, second) },
+    );
+    match (one, two) {
+        (Some((lane, first)), Some((other, second))) => Some((lane, other, first, second)),
+        _ => None,
+    }
+}
+
+/// What two threads were given, before the floor is closed.
+#[derive(Drop)]
+pub struct Named {
+    /// The names of the first thread's clients, in their order.
+    pub first: Vec<u64>,
+    /// The names of the second thread's clients, in their order.
+    pub second: Vec<u64>,
+    /// How many clients came in.
+    pub entered: u64,
+}
+
+/// Two threads name clients at once, each by a lane of its own. When they are done the floor is still open, and other lanes
+/// of it may go on. `None` if a client is refused, or memory.
+pub fn name_by_two<R: Threads>(
+    rt: &R,
+    alloc: Global,
+    floor: &Floor<'_>,
+    lane: Lane,
+    other: Lane,
+    first: &[u64],
+    second: &[u64],
+) -> Option<(Lane, Named)>
+    requires own { (lane.home ≡ floor.now) × (other.home ≡ floor.now) }
+    requires out { (tokens_in lane.yard.lists ≡ 0) × (tokens_in other.yard.lists ≡ 0) }
+    ensures differ { IfSome result (λ r. AreApart r.1.first.items r.1.second.items) }
+    ensures low { IfSome result (λ r. All (λ name. name < r.1.entered) r.1.first.items
+        × All (λ name. name < r.1.entered) r.1.second.items) }
+    ensures few { IfSome result (λ r. r.1.entered ≤ floor.now.start.quota) }
+    ensures home { IfSome result (λ r. r.0.home ≡ floor.now) }
+{
+    let named = name_in_threads(rt, alloc, floor, lane, other, first, second);
+    let Some((lane, other, first, second)) = named else {
+        return None;
+    };
+    let (lane, other) = floor.look_at_both(lane, other);
+    let Ok(mut lane) = floor.join(lane, other) else {
+        return None;
+    };
+    let entered = floor.entered(&mut lane);
+    Some((
+        lane,
+        Named {
+            first,
+            second,
+            entered,
+        },
+    ))
+}
