@@ -11,7 +11,9 @@ import pathlib
 import re
 import shlex
 
-LAWS = pathlib.Path(__file__).resolve().parent.parent / "crates" / "cn_spec" / "src" / "laws.rt"
+ROOT = pathlib.Path(__file__).resolve().parent.parent
+LAWS = ROOT / "crates" / "cn_spec" / "src" / "laws.rt"
+VERSION = ROOT / "VERSION"
 # A number, in digits or as a word.
 NUMBER = re.compile(r"\d+|\b(?:two|three|four|five|six|seven|eight|nine|ten)\b")
 # So far may a record of a fault line lie, so that an input that long is soon made.
@@ -58,7 +60,6 @@ def phrases_of_help(job):
 
 # The forms of phrases of the manual page that have no limit.
 MANUAL = [
-    r"^RENAMER 1\b",
     r"identities are below 2\^64",
     r"get the names 0 to k-1\b",
     r"its two outputs",
@@ -76,7 +77,10 @@ MANUAL = [
     r"FieldCount \(not three fields, or under the shorter header not two\)",
     r"FieldCount \(not three fields\)",
     r"What status 3 (means|tells)\b",
+    r"A word of the command line that is not UTF-8\b",
     r"by eight workers",
+    r"A word that is not UTF-8\b",
+    r"\bawk\(1\), jq\(1\), sqlite3\(1\)",
 ]
 
 
@@ -87,6 +91,7 @@ def phrases_of_manual():
     *narrow, wide = [2**level for level in range(1, limit["MOST_LEVEL"] + 1)]
     return [
         *MANUAL,
+        rf'^RENAMER 1 "\d{{4}}-\d\d-\d\d" "renamer {re.escape(VERSION.read_text().strip())}"',
         rf"width of the network: {', '.join(map(str, narrow))} or {wide}\.",
         rf"How many workers [^:]*: 1 to {limit['MOST_WORKERS']}\. By default 1\.",
         rf"How many tokens in hand [^:]*: 1 to {limit['MOST_HAND']}\. By default 1\.",
