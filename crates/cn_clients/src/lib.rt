@@ -2,6 +2,10 @@
 //! thread writes twice, and a table by name. Each is proved from public contracts only, and runs in threads.
 #![tactic(auto)]
 
+mod filled;
+mod slots;
 mod two_threads;
 
+pub use filled::Filled;
+pub use slots::fill_by_two;
 pub use two_threads::{Named, name_by_two};

@@ -1,0 +1,66 @@
+-- Lanes that filled slots.
+use Rattle.std.proofs.Common.{◌≡◌, ℕ, ◌+◌, inl, inr, List, [], ◌∷◌, ◌++◌, length, map, replicate, refl, sym, ap, ◌∙◌, subst, arith, append_assoc, append-nil}
+use Rattle.std.proofs.lemmas.Bool.{cases_lt}
+use Rattle.std.proofs.lemmas.List.{get_or-replicate, get_or_past, length-append, length-map, length-replicate, map-append}
+use Rattle.std.proofs.lemmas.Simd.{map-map}
+use Rattle.cn_spec.specs.Step.{IsEachBelow}
+use Rattle.cn_spec.proofs.CallerLemmas.{sum_below-zero}
+use Rattle.cn_yard.specs.Lists.{empty, on, tokens_in}
+use Rattle.cn_floor.specs.declared.view.Grant.{Grant}
+use Rattle.cn_floor.specs.Lane.{LaneValue}
+use Rattle.cn_floor.specs.Named.{IsNamed}
+use Rattle.cn_clients.specs.declared.filled.Filled.{Filled}
+use Rattle.cn_clients.specs.Slots.{FilledBy, given, names_of, written}
+
+pub filled-none : (lane : LaneValue) → FilledBy lane lane []
+filled-none lane = record { home = refl; lists = refl; grants = ([], sym (append-nil lane.view.grants), refl) }
+
+pub filled-one : (a b c : LaneValue) (filled : List Filled) (one : Filled) (entry : ℕ) → FilledBy a b filled → IsNamed b c one.client entry one.name → FilledBy a c (filled ++ one ∷ [])
+filled-one a b c filled one entry by is =
+    let (more, grants, same) = by.grants in
+    let grant : List Grant = record { client = one.client; exit = is.exit; visit = is.visit; name = one.name } ∷ [] in
+    record {
+      home = is.home ∙ by.home;
+      lists = is.lists ∙ by.lists;
+      grants = (
+        more ++ grant,
+        is.grants ∙ ap (λ (gs : List Grant). gs ++ grant) grants ∙ append_assoc a.view.grants more grant,
+        map-append written filled (one ∷ []) ∙ ap (λ (ps : List (ℕ × ℕ)). ps ++ (one.name, one.client) ∷ []) same
+            ∙ sym (map-append given more grant),
+      );
+    }
+
+-- the names of the slots are those of all grants of a lane that had none
+pub names-all : (a b : LaneValue) (filled : List Filled) → a.view.grants ≡ [] → FilledBy a b filled → map (λ g. g.name) b.view.grants ≡ names_of filled
+names-all a b filled none by =
+    let (more, grants, same) = by.grants in
+    ap (λ (gs : List Grant). map (λ (g : Grant). g.name) gs) (grants ∙ ap (λ (gs : List Grant). gs ++ more) none)
+    ∙ sym (map-map (λ (p : ℕ × ℕ). p.0) given more)
+    ∙ ap (λ (ps : List (ℕ × ℕ)). map (λ (p : ℕ × ℕ). p.0) ps) (sym same)
+    ∙ map-map (λ (p : ℕ × ℕ). p.0) written filled
+
+-- nobody is in an empty yard
+pub nobody-in : (n : ℕ) → tokens_in (empty n).lists ≡ 0
+nobody-in n =
+    sum_below-zero (length (empty n).lists) (λ u. length (on (empty n).lists u)) (λ u. ap (λ (es : List (ℕ × ℕ)). length es) (none u))
+  where
+    none : (u : ℕ) → on (empty n).lists u ≡ []
+    none u = elim (cases_lt u n) [ inl l ↦ get_or-replicate n u [] [] l | inr l ↦ get_or_past (replicate n []) u [] (omega (arith, length-replicate {A = List (ℕ × ℕ)} n [])) ]
+
+-- the grants of two lanes that had none are of all slots
+pub all-filled : (a b c d : LaneValue) (one two : List Filled) (grants : List Grant) → a.view.grants ≡ [] → c.view.grants ≡ [] → FilledBy a b one → FilledBy c d two → grants ≡ b.view.grants ++ d.view.grants
+    → IsEachBelow (length grants) (map (λ g. g.name) grants) → IsEachBelow (length one + length two) (names_of one ++ names_of two)
+all-filled a b c d one two grants none none' by by' is each =
+    let names : map (λ (g : Grant). g.name) grants ≡ names_of one ++ names_of two =
+    ap (λ (gs : List Grant). map (λ (g : Grant). g.name) gs) is ∙ map-append (λ (g : Grant). g.name) b.view.grants d.view.grants
+    ∙ (λ i. names-all a b one none by i ++ names-all c d two none' by' i) in
+    let many : length grants ≡ length one + length two =
+    omega (
+      arith,
+      length-map grants (λ (g : Grant). g.name),
+      ap (λ (ns : List ℕ). length ns) names,
+      length-append (names_of one) (names_of two),
+      length-map one (λ (f : Filled). f.name),
+      length-map two (λ (f : Filled). f.name),
+    ) in
+    subst (λ (x : ℕ × List ℕ). IsEachBelow x.0 x.1) (λ i. (many i, names i)) each

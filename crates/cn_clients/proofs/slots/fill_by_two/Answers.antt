@@ -1,0 +1,22 @@
+use Rattle.std.proofs.Common.{◌≡◌, ℕ, ◌++◌, List, [], length, sym, ap, ◌∙◌}
+use Rattle.cn_yard.specs.Lists.{tokens_in}
+use Rattle.cn_floor.specs.declared.view.Grant.{Grant}
+use Rattle.cn_floor.specs.declared.view.View.{View}
+use Rattle.cn_floor.specs.Lane.{LaneValue}
+use Rattle.cn_clients.proofs.FilledSlots.{all-filled, nobody-in}
+use Rattle.cn_clients.proofs.slots.fill_by_two.Goals as goal
+
+pub fill_in_threads-filled-requires-clause-out : goal.fill_in_threads-filled-requires-clause-out
+fill_in_threads-filled-requires-clause-out g c _ _ = (
+  ap (λ (l : LaneValue). tokens_in l.yard.lists) c.in-Ok.ensures.first ∙ c.requires.out,
+  ap (λ (l : LaneValue). tokens_in l.yard.lists) c.in-Ok.ensures.second ∙ nobody-in (length c.args.lane.home.start.network.table.ends),
+)
+
+pub returns : goal.returns
+returns g c =
+    let filled = c.in-Some.ensures in
+    let none : c.split_off.new.lane.view.grants ≡ [] = ap (λ (l : LaneValue). l.view.grants) c.in-Ok.ensures.first ∙ c.requires.fresh in
+    let none' : c.in-Ok.other.view.grants ≡ [] = ap (λ (l : LaneValue). l.view.grants) c.in-Ok.ensures.second in
+    let joined = ap (λ (l : LaneValue). l.view.grants) c.in-Ok-join.ensures.ok in
+    let did = ap (λ (v : View). v.grants) c.in-Ok-close.ensures.quiet.1 in
+    record { full = all-filled _ _ _ _ c.in-Some.one.items c.in-Some.two.items _ none none' filled.0 filled.1 (did ∙ joined) c.quiet_laws.ensures.names }

@@ -1,0 +1,24 @@
+-- Slots that threads fill by name.
+use Rattle.std.specs.Prelude.{◌≡◌, ℕ, ◌++◌, List, map}
+use Rattle.cn_floor.specs.declared.view.Grant.{Grant}
+use Rattle.cn_floor.specs.Lane.{LaneValue}
+use Rattle.cn_clients.specs.declared.filled.Filled.{Filled}
+
+-- the names whose slots were filled
+abbrev pub names_of : List Filled → List ℕ
+names_of filled = map (λ f. f.name) filled
+
+-- the name and the client of a slot, and those of a grant
+abbrev pub written : Filled → ℕ × ℕ
+written f = (f.name, f.client)
+
+abbrev pub given : Grant → ℕ × ℕ
+given g = (g.name, g.client)
+
+-- a lane gave names, and the slot of each was filled with the client that got the name: they are those of the lane's newest
+-- grants, in their order, and nobody is inside
+pub record FilledBy (old new : LaneValue) (filled : List Filled) : Type 0 where
+  pub home : new.home ≡ old.home
+  pub lists : new.yard.lists ≡ old.yard.lists
+  pub grants : (more : List Grant) × (new.view.grants ≡ old.view.grants ++ more)
+      × (map written filled ≡ map given more)

@@ -1,0 +1,156 @@
+//! Slots that threads share: a thread takes a name for its client on a floor, and writes the client into the slot of that
+//! name, without a lock. No slot is written twice, and each holds the client whose name it is.
+
+ghost use Rattle.std.specs.Prelude.{◌≡◌, ◌+◌, ◌≤◌, ◌++◌, [], IfSome, length};
+ghost use Rattle.cn_spec.specs.Step.{IsEachBelow};
+ghost use Rattle.cn_yard.specs.Lists.{tokens_in};
+ghost use Rattle.cn_clients.specs.Slots.{FilledBy, names_of};
+
+use crate::filled::Filled;
+use cn_floor::{Floor, Lane};
+use std::alloc::Global;
+use std::sync::OnceLock;
+use std::thread;
+use std::thread::Threads;
+
+/// Names clients one after the other, each by entry 0, and writes each into the slot of its name. `None` if a client is
+/// refused, a list gets no memory, or a slot was written before.
+fn fill_all<'s>(
+    alloc: Global,
+    floor: &Floor<'_>,
+    mut lane: Lane,
+    clients: &[u64],
+    slots: &'s [OnceLock<u64>],
+) -> Option<(Lane, Vec<Filled<'s>>)>
+    requires own { lane.home ≡ floor.now }
+    requires out { tokens_in lane.yard.lists ≡ 0 }
+    requires slots { floor.now.start.quota ≤ length slots.now }
+    ensures { IfSome result (λ r. FilledBy lane r.0 r.1.items) }
+{
+    let mut filled = Vec::new(alloc);
+    for client in clients {
+        let Ok(name) = floor.name(&mut lane, *client, 0) else {
+            return None;
+        };
+        let slot = &slots[name as usize];
+        let Ok(token) = slot.try_set(*client) else {
+            return None;
+        };
+        let one = Filled {
+            slot,
+            token,
+            name,
+            client: *client,
+        };
+        let Ok(()) = filled.push(one) else {
+            return None;
+        };
+    }
+    Some((lane, filled))
+}
+
+/// What the threads share ([`crate::two_threads`] says why it is a trait).
+trait Shared {
+    ghost use Rattle.cn_floor.specs.Lane.{FloorValue};
+
+    ghost home: { Self → FloorValue };
+
+    fn fill_all<'s>(
+        &self,
+        alloc: Global,
+        lane: Lane,
+        clients: &[u64],
+        slots: &'s [OnceLock<u64>],
+    ) -> Option<(Lane, Vec<Filled<'s>>)>
+        requires own { lane.home ≡ Self.home self.now }
+        requires out { tokens_in lane.yard.lists ≡ 0 }
+        requires slots { (Self.home self.now).start.quota ≤ length slots.now }
+        ensures { IfSome result (λ r. FilledBy lane r.0 r.1.items) };
+}
+
+impl<'a> Shared for Floor<'a> {
+    ghost home = { λ floor. floor };
+
+    fn fill_all<'s>(
+        &self,
+        alloc: Global,
+        lane: Lane,
+        clients: &[u64],
+        slots: &'s [OnceLock<u64>],
+    ) -> Option<(Lane, Vec<Filled<'s>>)> {
+        fill_all(alloc, self, lane, clients, slots)
+    }
+}
+
+/// Two threads fill slots at once, each by a lane of its own. `None` if a client is refused, a list gets no memory, or a slot
+/// was written before.
+fn fill_in_threads<'s, G: Shared + Sync, R: Threads>(
+    rt: &R,
+    alloc: Global,
+    floor: &G,
+    lane: Lane,
+    other: Lane,
+    first: &[u64],
+    second: &[u64],
+    slots: &'s [OnceLock<u64>],
+) -> Option<(Lane, Lane, Vec<Filled<'s>>, Vec<Filled<'s>>)>
+    requires own { (lane.home ≡ G.home floor.now) × (other.home ≡ G.home floor.now) }
+    requires out { (tokens_in lane.yard.lists ≡ 0) × (tokens_in other.yard.lists ≡ 0) }
+    requires slots { (G.home floor.now).start.quota ≤ length slots.now }
+    ensures { IfSome result (λ r. FilledBy lane r.0 r.2.items
+        × FilledBy other r.1 r.3.items) }
+{
+    let (one, two) = thread::join(
+        rt,
+        move || -> Option<(Lane, Vec<Filled<'_>>)>
+            requires { (lane.home ≡ G.home floor.now) × (tokens_in lane.yard.lists ≡ 0)
+                × ((G.home floor.now).start.quota ≤ length slots.now) }
+            ensures { IfSome result (λ r. FilledBy lane r.0 r.1.items) }
+        { floor.fill_all(alloc, lane, first, slots) },
+        move || -> Option<(Lane, Vec<Filled<'_>>)>
+            requires { (other.home ≡ G.home floor.now) × (tokens_in other.yard.lists ≡ 0)
+                × ((G.home floor.now).start.quota ≤ length slots.now) }
+            ensures { IfSome result (λ r. FilledBy other r.0 r.1.items) }
+        { floor.fill_all(alloc, other, second, slots) },
+    );
+    match (one, two) {
+        (Some((lane, first)), Some((other, second))) => Some((lane, other, first, second)),
+        _ => None,
+    }
+}
+
+/// Two threads fill slots at once, on a floor that gave no name yet, and the floor is closed: the slots that each filled. The
+/// second thread has as many names as it has clients. The slots that were filled are the first ones, each once, and each
+/// holds the client whose name it is. `None` if a client is refused, a list gets no memory, or a slot was written before.
+pub fn fill_by_two<'s, R: Threads>(
+    rt: &R,
+    alloc: Global,
+    floor: Floor<'_>,
+    mut lane: Lane,
+    first: &[u64],
+    second: &[u64],
+    slots: &'s [OnceLock<u64>],
+) -> Option<(Vec<Filled<'s>>, Vec<Filled<'s>>)>
+    requires own { lane.home ≡ floor }
+    requires out { tokens_in lane.yard.lists ≡ 0 }
+    requires fresh { lane.view.grants ≡ [] }
+    requires slots { floor.start.quota ≤ length slots.now }
+    ensures full { IfSome result (λ r. IsEachBelow (length r.0.items + length r.1.items)
+        (names_of r.0.items ++ names_of r.1.items)) }
+{
+    let Ok(other) = floor.split_off(&mut lane, second.len() as u64) else {
+        return None;
+    };
+    let filled = fill_in_threads(rt, alloc, &floor, lane, other, first, second, slots);
+    let Some((lane, other, one, two)) = filled else {
+        return None;
+    };
+    let Ok(lane) = floor.join(lane, other) else {
+        return None;
+    };
+    let Ok(quiet) = floor.close(lane) else {
+        return None;
+    };
+    quiet.quiet_laws();
+    Some((one, two))
+}
