@@ -3,16 +3,18 @@
 
 On the floor, by one worker with one token in hand: what a run of a million clients takes longer on bitonic 64, with 22
 steps each, than on bitonic 2, with 2 steps each, by step; and what a run of the full batch through one entry takes longer
-on bitonic 64, with 21 balancers on a token's way, than on the tree of width 64, with six, by balancer.
+on bitonic 64, with 21 balancers on a token's way, than on the tree of width 64, with six, by balancer. On floors over this
+tree also what it takes to name a client by one call, which is eight adds; less what it takes to open the floors.
 
 Of a core over bitonic 64, with 60,000 clients: what a step takes where each client is walked out before the next enters,
 so that one is inside, and where all enter and then each takes one step after the other; less what the enters take. A
-look-up in the table of clients is measured by look-ups in the place of the steps. The program is core/, on cn_core.
+look-up in the table of clients is measured by look-ups in the place of the steps. The program is core/, on cn_core and
+cn_floor.
 """
 import measure
 
-ADDS, CORE_STEPS = 100_000_000, 60_000 * 22
-CORE_WORDS = ("enter", "one", "all", "look-one", "look-all")
+ADDS, CORE_STEPS, NAMES = 100_000_000, 60_000 * 22, 512 * 8_192
+CORE_WORDS = ("opens", "names", "enter", "one", "all", "look-one", "look-all")
 
 
 def rows(bench):
@@ -23,7 +25,7 @@ def rows(bench):
     runs = [(bench.ours("bitonic", 64), batch), (bench.ours("bitonic", 2), batch)]
     runs += [(bench.ours("bitonic", 64), full), (bench.ours("tree", 64), full)]
     jobs = [*runs, ([bench.plain, "add"],), *(([core, word],) for word in CORE_WORDS)]
-    wide, narrow, deep, flat, adds, enter, *walks = bench.medians(jobs, rounds)
+    wide, narrow, deep, flat, adds, opens, names, enter, *walks = bench.medians(jobs, rounds)
     add = adds / ADDS
 
     def row(name, seconds):
@@ -31,6 +33,7 @@ def rows(bench):
 
     yield row("a step on the floor", (wide - narrow) / (epochs * clients * 20))
     yield row("one more balancer", (deep - flat) / (15 * epochs * bench.size(65_536, 2_048)))
+    yield row("a name by one call, tree 64", (names - opens) / NAMES)
     one, many, look_one, look_many = ((walk - enter) / CORE_STEPS for walk in walks)
     yield row("a step of a core with one inside", one)
     yield row("its look-up, with one inside", look_one)

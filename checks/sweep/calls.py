@@ -69,6 +69,14 @@ def floors(kind, width, count):
     return made | {"closed floors are tight": 3}
 
 
+def shared(kind, width, count):
+    made = {kind: 1, "Floor::open_shared": 1, "Floor::split_off": 1, "Floor::name": count, "Lane::reserve": 1}
+    made |= {"Floor::join": 2, "Floor::close_for": 1, "ClosedFloor::outcome_since": 1}
+    made |= {"outcomes of closed floors are tight": 1, "Words::zero_shared": 1, "Floor::open_after": 1}
+    made |= {"Floor::split": 1, "Floor::enter": count, "Floor::close": 1, "Quiet::holders": 1}
+    return made | {"closed floors are tight": 1}
+
+
 def runs(kind, width, count):
     made = {kind: 1, "run_epoch": 1, "run_epoch_after": 2, "Quiet::holders": 3, "closed floors are tight": 3}
     return made | {"Words::zero": 1, "Runner::new": 2, "Runner::run": 7, "epochs of runners are tight": 7}
@@ -111,7 +119,7 @@ def low_shapes():
 def shapes():
     """All shapes, the longest first."""
     yield carries, "tree", 2, 1_024
-    for family in (epochs, runs, cores, floors, texts):
+    for family in (epochs, runs, cores, floors, shared, texts):
         yield from sorted(on_networks(family), key=lambda shape: -shape[2] * shape[3])
     yield from low_shapes()
     yield from on_networks(tables, [0])
