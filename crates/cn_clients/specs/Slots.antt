@@ -1,5 +1,6 @@
 -- Slots that threads fill by name.
-use Rattle.std.specs.Prelude.{◌≡◌, ℕ, ◌++◌, List, map}
+use Rattle.std.specs.Prelude.{◌≡◌, ℕ, ◌<◌, ◌++◌, All, List, get_or, length, map}
+use Rattle.std.specs.Sync.OnceLock.{Named}
 use Rattle.cn_floor.specs.declared.view.Grant.{Grant}
 use Rattle.cn_floor.specs.Lane.{LaneValue}
 use Rattle.cn_clients.specs.declared.filled.Filled.{Filled}
@@ -15,10 +16,16 @@ written f = (f.name, f.client)
 abbrev pub given : Grant → ℕ × ℕ
 given g = (g.name, g.client)
 
+-- what was filled is the slot of the name among these
+abbrev pub AreSlotsOf : List Named → List Filled → Type 0
+AreSlotsOf slots filled =
+    All (λ f. (f.name < length slots) × (f.slot.now ≡ get_or slots f.name f.slot.now)) filled
+
 -- a lane gave names, and the slot of each was filled with the client that got the name: they are those of the lane's newest
 -- grants, in their order, and nobody is inside
-pub record FilledBy (old new : LaneValue) (filled : List Filled) : Type 0 where
+pub record FilledBy (slots : List Named) (old new : LaneValue) (filled : List Filled) : Type 0 where
   pub home : new.home ≡ old.home
   pub lists : new.yard.lists ≡ old.yard.lists
   pub grants : (more : List Grant) × (new.view.grants ≡ old.view.grants ++ more)
       × (map written filled ≡ map given more)
+  pub own : AreSlotsOf slots filled

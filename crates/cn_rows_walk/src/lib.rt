@@ -29,6 +29,8 @@ mod refusals;
 #[cfg(test)]
 mod runners;
 #[cfg(test)]
+mod slots;
+#[cfg(test)]
 mod stalls;
 #[cfg(test)]
 mod sweeps;

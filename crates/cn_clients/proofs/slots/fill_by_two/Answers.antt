@@ -1,6 +1,5 @@
-use Rattle.std.proofs.Common.{◌≡◌, ℕ, ◌++◌, List, [], length, sym, ap, ◌∙◌}
+use Rattle.std.proofs.Common.{◌≡◌, [], length, ap, ◌∙◌}
 use Rattle.cn_yard.specs.Lists.{tokens_in}
-use Rattle.cn_floor.specs.declared.view.Grant.{Grant}
 use Rattle.cn_floor.specs.declared.view.View.{View}
 use Rattle.cn_floor.specs.Lane.{LaneValue}
 use Rattle.cn_clients.proofs.FilledSlots.{all-filled, nobody-in}
@@ -19,4 +18,4 @@ returns g c =
     let none' : c.in-Ok.other.view.grants ≡ [] = ap (λ (l : LaneValue). l.view.grants) c.in-Ok.ensures.second in
     let joined = ap (λ (l : LaneValue). l.view.grants) c.in-Ok-join.ensures.ok in
     let did = ap (λ (v : View). v.grants) c.in-Ok-close.ensures.quiet.1 in
-    record { full = all-filled _ _ _ _ c.in-Some.one.items c.in-Some.two.items _ none none' filled.0 filled.1 (did ∙ joined) c.quiet_laws.ensures.names }
+    record { full = all-filled _ _ _ _ _ c.in-Some.one.items c.in-Some.two.items _ none none' filled.0 filled.1 (did ∙ joined) c.quiet_laws.ensures.names; own = (filled.0.own, filled.1.own) }

@@ -1,4 +1,4 @@
-use Rattle.std.proofs.Common.{rules, ◌≡◌, ℕ, List, ap, ◌∙◌, sym, subst}
+use Rattle.std.proofs.Common.{ℕ, List, ap, ◌∙◌, sym, subst}
 use Rattle.cn_yard.specs.Lists.{Lists, tokens_in}
 use Rattle.cn_clients.specs.Naming.{GaveNames}
 use Rattle.cn_clients.proofs.Naming.{gave-none, gave-one}
