@@ -1,2 +1,4 @@
 mod Naming
 mod FilledSlots
+mod Ranges
+mod Inverses

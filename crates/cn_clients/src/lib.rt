@@ -4,8 +4,10 @@
 
 mod filled;
 mod slots;
+mod tables;
 mod two_threads;
 
 pub use filled::Filled;
 pub use slots::fill_by_two;
+pub use tables::{NameTable, table_of};
 pub use two_threads::{Named, name_by_two};

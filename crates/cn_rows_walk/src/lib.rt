@@ -35,6 +35,8 @@ mod stalls;
 #[cfg(test)]
 mod sweeps;
 #[cfg(test)]
+mod tables;
+#[cfg(test)]
 mod threads;
 #[cfg(test)]
 mod two_lanes;
