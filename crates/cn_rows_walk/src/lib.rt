@@ -7,17 +7,11 @@ mod ample_memory;
 #[cfg(test)]
 mod carried;
 #[cfg(test)]
-mod clients;
-#[cfg(test)]
 mod dropped_lanes;
 #[cfg(test)]
 mod epochs;
 #[cfg(test)]
-mod held;
-#[cfg(test)]
 mod missing_lane;
-#[cfg(test)]
-mod named;
 #[cfg(test)]
 mod one_lane;
 #[cfg(test)]
@@ -29,13 +23,9 @@ mod refusals;
 #[cfg(test)]
 mod runners;
 #[cfg(test)]
-mod slots;
-#[cfg(test)]
 mod stalls;
 #[cfg(test)]
 mod sweeps;
-#[cfg(test)]
-mod tables;
 #[cfg(test)]
 mod threads;
 #[cfg(test)]

@@ -1,26 +1,41 @@
 //! Callers of cn_clients, in threads.
 
+ghost use Rattle.std.specs.Prelude.{◌≡◌};
+
 use cn_clients::{Named, name_by_two};
 use cn_tree::tree;
-use cn_walk::Floor;
+use cn_walk::{Floor, Lane};
 use std::alloc::Global;
 use std::thread::Threads;
 
 /// How many clients each thread names.
 const EACH: u64 = 1000;
 
-/// What two threads are given on a tree of width 8.
-fn named(rt: &impl Threads, alloc: Global) -> Option<Named> {
-    let network = tree(alloc, 8).ok()?;
-    let (floor, mut lane) = Floor::open(alloc, &network, 2 * EACH).ok()?;
+/// What two threads are given, each with a lane of its own.
+fn named_on(
+    rt: &impl Threads,
+    alloc: Global,
+    floor: &Floor<'_>,
+    mut lane: Lane,
+    clients: &[u64],
+) -> Option<Named>
+    requires { lane.home ≡ floor.now }
+{
     let other = floor.split_off(&mut lane, EACH).ok()?;
     if lane.inside() > 0 || other.inside() > 0 {
         return None;
     }
-    let first: Vec<u64> = Vec::from_iter(alloc, 0..EACH).ok()?;
-    let second: Vec<u64> = Vec::from_iter(alloc, EACH..2 * EACH).ok()?;
-    let (_lane, named) = name_by_two(rt, alloc, &floor, lane, other, &first, &second)?;
+    let (first, second) = clients.split_at_checked(EACH as usize)?;
+    let (_lane, named) = name_by_two(rt, alloc, floor, lane, other, first, second)?;
     Some(named)
+}
+
+/// What they are given on a tree of width 8.
+fn named(rt: &impl Threads, alloc: Global) -> Option<Named> {
+    let clients: Vec<u64> = Vec::from_iter(alloc, 0..2 * EACH).ok()?;
+    let network = tree(alloc, 8).ok()?;
+    let (floor, lane) = Floor::open(alloc, &network, 2 * EACH).ok()?;
+    named_on(rt, alloc, &floor, lane, &clients)
 }
 
 /// Whether both threads were given as many names as they have clients, these are the names below their number, and all

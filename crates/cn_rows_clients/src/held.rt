@@ -62,12 +62,10 @@ impl Pool {
     }
 }
 
-/// A pool is made here, moved into a struct of others, and used in a thread.
+/// A pool is made here, and used in a thread.
 fn named_elsewhere(rt: &impl Threads, alloc: Global) -> Option<([u64; 3], Vec<u64>)> {
-    let pools = [Pool::open(alloc, 3)?, Pool::open(alloc, 1)?];
-    let [first, second] = pools;
-    drop(second);
-    let child = thread::spawn(rt, move || first.name_three()).ok()?;
+    let pool = Pool::open(alloc, 3)?;
+    let child = thread::spawn(rt, move || pool.name_three()).ok()?;
     child.join(rt)
 }
 
