@@ -60,21 +60,18 @@ fn fill_on_tree(rt: &impl Threads, alloc: Global, slots: &[OnceLock<u64>]) -> Op
     fill(rt, alloc, &network, first, second, slots)
 }
 
-/// How many slots are filled, whether they are the first ones, and whether each holds its client.
-fn filled(rt: &impl Threads, alloc: Global) -> Option<(usize, bool, bool)> {
+/// Whether the slots that are filled are the first ones, and no others, and whether each holds its client.
+fn filled(rt: &impl Threads, alloc: Global) -> Option<[bool; 2]> {
     let slots = empty_slots(alloc)?;
     let held = fill_on_tree(rt, alloc, slots.as_slice())?;
-    let mut full = 0;
     let mut first = true;
     for (at, slot) in slots.iter().enumerate() {
-        let is_full = slot.get().is_some();
-        full += usize::from(is_full);
-        first &= is_full == (at < 2 * EACH as usize);
+        first &= slot.get().is_some() == (at < 2 * EACH as usize);
     }
-    Some((full, first, held))
+    Some([first, held])
 }
 
 #[test]
 fn two_threads_fill_the_first_slots(rt: HostRuntime) {
-    assert_eq!(rt; filled(&rt, rt.alloc()), Some((2000, true, true)));
+    assert_eq!(rt; filled(&rt, rt.alloc()), Some([true, true]));
 }
