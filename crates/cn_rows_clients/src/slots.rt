@@ -1,0 +1,77 @@
+//! Slots that two threads fill by name, by the caller of cn_clients.
+
+use cn_clients::{Filled, fill_by_two};
+use cn_tree::tree;
+use cn_walk::Floor;
+use cn_wiring::Counting;
+use std::alloc::Global;
+use std::sync::OnceLock;
+use std::thread::Threads;
+
+/// How many clients each thread has.
+const EACH: u64 = 1000;
+
+/// How many slots there are.
+const SLOTS: usize = 2100;
+
+/// Slots that nobody filled.
+fn empty_slots(alloc: Global) -> Option<Vec<OnceLock<u64>>> {
+    let mut slots = Vec::with_capacity(alloc, SLOTS).ok()?;
+    for _ in 0..SLOTS {
+        slots.push(OnceLock::new()).ok()?;
+    }
+    Some(slots)
+}
+
+/// Whether each slot that was filled holds its client.
+fn are_held(filled: &Vec<Filled<'_>>) -> bool {
+    let mut all = true;
+    for one in filled {
+        all &= one.read() == one.client;
+    }
+    all
+}
+
+/// Two threads fill slots: whether each slot holds its client.
+fn fill(
+    rt: &impl Threads,
+    alloc: Global,
+    network: &Counting,
+    first: &[u64],
+    second: &[u64],
+    slots: &[OnceLock<u64>],
+) -> Option<bool> {
+    if slots.len() != SLOTS {
+        return None;
+    }
+    let (floor, lane) = Floor::open(alloc, network, SLOTS as u64).ok()?;
+    if lane.inside() > 0 {
+        return None;
+    }
+    let (one, two) = fill_by_two(rt, alloc, floor, lane, first, second, slots)?;
+    Some(are_held(&one) && are_held(&two))
+}
+
+/// The same on a tree of width 8, with 1,000 clients for each thread.
+fn fill_on_tree(rt: &impl Threads, alloc: Global, slots: &[OnceLock<u64>]) -> Option<bool> {
+    let network = tree(alloc, 8).ok()?;
+    let clients: Vec<u64> = Vec::from_iter(alloc, 0..2 * EACH).ok()?;
+    let (first, second) = clients.as_slice().split_at_checked(EACH as usize)?;
+    fill(rt, alloc, &network, first, second, slots)
+}
+
+/// Whether the slots that are filled are the first ones, and no others, and whether each holds its client.
+fn filled(rt: &impl Threads, alloc: Global) -> Option<[bool; 2]> {
+    let slots = empty_slots(alloc)?;
+    let held = fill_on_tree(rt, alloc, slots.as_slice())?;
+    let mut first = true;
+    for (at, slot) in slots.iter().enumerate() {
+        first &= slot.get().is_some() == (at < 2 * EACH as usize);
+    }
+    Some([first, held])
+}
+
+#[test]
+fn two_threads_fill_the_first_slots(rt: HostRuntime) {
+    assert_eq!(rt; filled(&rt, rt.alloc()), Some([true, true]));
+}
