@@ -14,12 +14,12 @@ use Rattle.cn_floor.specs.Named.{IsNamed}
 use Rattle.cn_clients.specs.declared.filled.Filled.{Filled}
 use Rattle.cn_clients.specs.Slots.{FilledBy, given, names_of, written}
 
-pub filled-none : (slots : List Named) (lane : LaneValue) → FilledBy slots lane lane []
-filled-none slots lane = record { home = refl; lists = refl; grants = ([], sym (append-nil lane.view.grants), refl); own = λ k d less. absurd (omega arith) }
+pub filled-none : (slots : List Named) (lane : LaneValue) → FilledBy slots lane lane [] []
+filled-none slots lane = record { home = refl; lists = refl; grants = ([], sym (append-nil lane.view.grants), refl); all = refl; own = λ k d less. absurd (omega arith) }
 
-pub filled-one : (slots : List Named) (a b c : LaneValue) (filled : List Filled) (one : Filled) (entry : ℕ) → FilledBy slots a b filled → IsNamed b c one.client entry one.name → (one.name < length slots) × (one.slot.now ≡ get_or slots one.name one.slot.now)
-    → FilledBy slots a c (filled ++ one ∷ [])
-filled-one slots a b c filled one entry by is at =
+pub filled-one : (slots : List Named) (a b c : LaneValue) (clients : List ℕ) (filled : List Filled) (one : Filled) (entry : ℕ) → FilledBy slots a b clients filled → IsNamed b c one.client entry one.name → (one.name < length slots) × (one.slot.now ≡ get_or slots one.name one.slot.now)
+    → FilledBy slots a c (clients ++ one.client ∷ []) (filled ++ one ∷ [])
+filled-one slots a b c clients filled one entry by is at =
     let (more, grants, same) = by.grants in
     let grant : List Grant = record { client = one.client; exit = is.exit; visit = is.visit; name = one.name } ∷ [] in
     record {
@@ -31,12 +31,13 @@ filled-one slots a b c filled one entry by is at =
         map-append written filled (one ∷ []) ∙ ap (λ (ps : List (ℕ × ℕ)). ps ++ (one.name, one.client) ∷ []) same
             ∙ sym (map-append given more grant),
       );
+      all = map-append (λ (f : Filled). f.client) filled (one ∷ []) ∙ ap (λ (cs : List ℕ). cs ++ one.client ∷ []) by.all;
       own = All-push (λ (f : Filled). (f.name < length slots) × (f.slot.now ≡ get_or slots f.name f.slot.now)) filled one by.own at;
     }
 
 -- the names of the slots are those of all grants of a lane that had none
-pub names-all : (slots : List Named) (a b : LaneValue) (filled : List Filled) → a.view.grants ≡ [] → FilledBy slots a b filled → map (λ g. g.name) b.view.grants ≡ names_of filled
-names-all slots a b filled none by =
+pub names-all : (slots : List Named) (a b : LaneValue) (clients : List ℕ) (filled : List Filled) → a.view.grants ≡ [] → FilledBy slots a b clients filled → map (λ g. g.name) b.view.grants ≡ names_of filled
+names-all slots a b clients filled none by =
     let (more, grants, same) = by.grants in
     ap (λ (gs : List Grant). map (λ (g : Grant). g.name) gs) (grants ∙ ap (λ (gs : List Grant). gs ++ more) none)
     ∙ sym (map-map (λ (p : ℕ × ℕ). p.0) given more)
@@ -52,12 +53,12 @@ nobody-in n =
     none u = elim (cases_lt u n) [ inl l ↦ get_or-replicate n u [] [] l | inr l ↦ get_or_past (replicate n []) u [] (omega (arith, length-replicate {A = List (ℕ × ℕ)} n [])) ]
 
 -- the grants of two lanes that had none are of all slots
-pub all-filled : (slots : List Named) (a b c d : LaneValue) (one two : List Filled) (grants : List Grant) → a.view.grants ≡ [] → c.view.grants ≡ [] → FilledBy slots a b one → FilledBy slots c d two → grants ≡ b.view.grants ++ d.view.grants
+pub all-filled : (slots : List Named) (a b c d : LaneValue) (first second : List ℕ) (one two : List Filled) (grants : List Grant) → a.view.grants ≡ [] → c.view.grants ≡ [] → FilledBy slots a b first one → FilledBy slots c d second two → grants ≡ b.view.grants ++ d.view.grants
     → IsEachBelow (length grants) (map (λ g. g.name) grants) → IsEachBelow (length one + length two) (names_of one ++ names_of two)
-all-filled slots a b c d one two grants none none' by by' is each =
+all-filled slots a b c d first second one two grants none none' by by' is each =
     let names : map (λ (g : Grant). g.name) grants ≡ names_of one ++ names_of two =
     ap (λ (gs : List Grant). map (λ (g : Grant). g.name) gs) is ∙ map-append (λ (g : Grant). g.name) b.view.grants d.view.grants
-    ∙ (λ i. names-all slots a b one none by i ++ names-all slots c d two none' by' i) in
+    ∙ (λ i. names-all slots a b first one none by i ++ names-all slots c d second two none' by' i) in
     let many : length grants ≡ length one + length two =
     omega (
       arith,

@@ -1,6 +1,6 @@
 -- Lanes that gave names.
 use Rattle.std.proofs.Common.{◌≡◌, ℕ, ◌+◌, ◌<◌, ◌≤◌, All, List, [], ◌∷◌, ◌++◌, length, get_or, refl, sym, ap, ◌∙◌, subst, arith, append_assoc, append-nil}
-use Rattle.std.proofs.lemmas.List.{get_or-append-add, get_or-map, get_or_append_left, length-append, length-map, map-append}
+use Rattle.std.proofs.lemmas.List.{get_or-append-add, get_or-map, length-append, length-map, map-append}
 use Rattle.cn_spec.specs.Sums.{times}
 use Rattle.cn_spec.proofs.CallerLemmas.{times-append}
 use Rattle.cn_floor.specs.declared.view.Grant.{Grant}
@@ -8,12 +8,12 @@ use Rattle.cn_floor.specs.Lane.{LaneValue}
 use Rattle.cn_floor.specs.Named.{IsNamed}
 use Rattle.cn_clients.specs.Naming.{GaveNames, names_in}
 
-pub gave-none : (lane : LaneValue) → GaveNames lane lane []
-gave-none lane = record { home = refl; lists = refl; grants = ([], sym (append-nil lane.view.grants), refl) }
+pub gave-none : (lane : LaneValue) → GaveNames lane lane [] []
+gave-none lane = record { home = refl; lists = refl; grants = ([], sym (append-nil lane.view.grants), (refl, refl)) }
 
-pub gave-one : (a b c : LaneValue) (names : List ℕ) (client entry name : ℕ) → GaveNames a b names → IsNamed b c client entry name → GaveNames a c (names ++ name ∷ [])
-gave-one a b c names client entry name gave is =
-    let (more, grants, told) = gave.grants in
+pub gave-one : (a b c : LaneValue) (clients names : List ℕ) (client entry name : ℕ) → GaveNames a b clients names → IsNamed b c client entry name → GaveNames a c (clients ++ client ∷ []) (names ++ name ∷ [])
+gave-one a b c clients names client entry name gave is =
+    let (more, grants, (who, told)) = gave.grants in
     let one : List Grant = record { client = client; exit = is.exit; visit = is.visit; name = name } ∷ [] in
     record {
       home = is.home ∙ gave.home;
@@ -21,14 +21,17 @@ gave-one a b c names client entry name gave is =
       grants = (
         more ++ one,
         is.grants ∙ ap (λ (gs : List Grant). gs ++ one) grants ∙ append_assoc a.view.grants more one,
-        ap (λ (ns : List ℕ). ns ++ name ∷ []) told ∙ sym (map-append (λ (g : Grant). g.name) more one),
+        (
+          ap (λ (cs : List ℕ). cs ++ client ∷ []) who ∙ sym (map-append (λ (g : Grant). g.client) more one),
+          ap (λ (ns : List ℕ). ns ++ name ∷ []) told ∙ sym (map-append (λ (g : Grant). g.name) more one),
+        ),
       );
     }
 
 -- the names that a lane gave are among those of its grants
-pub among : (a b : LaneValue) (names : List ℕ) → GaveNames a b names → (name : ℕ) → times name names ≤ times name (names_in b.view.grants)
-among a b names gave name =
-    let (more, grants, told) = gave.grants in
+pub among : (a b : LaneValue) (clients names : List ℕ) → GaveNames a b clients names → (name : ℕ) → times name names ≤ times name (names_in b.view.grants)
+among a b clients names gave name =
+    let (more, grants, (_, told)) = gave.grants in
     omega (
       arith,
       ap (λ (ns : List ℕ). times name ns) told,
@@ -38,9 +41,9 @@ among a b names gave name =
     )
 
 -- what is below a bound in a lane is below it among these names
-pub below : (a b : LaneValue) (names : List ℕ) (bound : ℕ) → GaveNames a b names → All (λ g. g.name < bound) b.view.grants → All (λ name. name < bound) names
-below a b names bound gave low k d less =
-    let (more, grants, told) = gave.grants in
+pub below : (a b : LaneValue) (clients names : List ℕ) (bound : ℕ) → GaveNames a b clients names → All (λ g. g.name < bound) b.view.grants → All (λ name. name < bound) names
+below a b clients names bound gave low k d less =
+    let (more, grants, (_, told)) = gave.grants in
     let none : Grant = record { client = 0; exit = 0; visit = 0; name = 0 } in
     let long : length names ≡ length more = ap (λ (ns : List ℕ). length ns) told ∙ length-map more (λ (g : Grant). g.name) in
     let all : All (λ (g : Grant). g.name < bound) (a.view.grants ++ more) = subst (λ (gs : List Grant). All (λ (g : Grant). g.name < bound) gs) grants low in
@@ -49,9 +52,14 @@ below a b names bound gave low k d less =
     let name : get_or names k d ≡ (get_or more k none).name = ap (λ (ns : List ℕ). get_or ns k d) told ∙ get_or-map (λ (g : Grant). g.name) more k none d (omega (arith, less, long)) in
     omega (arith, name, this)
 
--- the first and the rest of a list
-pub All-left : {X : Type 0} (P : X → Type 0) (xs ys : List X) → All P (xs ++ ys) → All P xs
-All-left P xs ys all k d less = subst P (get_or_append_left xs ys d k less) (all k d (omega (arith, less, length-append xs ys)))
+-- each client has a name
+pub as-many : (a b : LaneValue) (clients names : List ℕ) → GaveNames a b clients names → length names ≡ length clients
+as-many a b clients names gave =
+    let (more, _, (who, told)) = gave.grants in
+    ap (λ (ns : List ℕ). length ns) told ∙ length-map more (λ (g : Grant). g.name) ∙ sym (length-map more (λ (g : Grant). g.client)) ∙ ap (λ (cs : List ℕ). length cs) (sym who)
 
-pub All-right : {X : Type 0} (P : X → Type 0) (xs ys : List X) → All P (xs ++ ys) → All P ys
-All-right P xs ys all k d less = subst P (get_or-append-add xs ys k d) (all (length xs + k) d (omega (arith, less, length-append xs ys)))
+-- a lane that was looked at since gave the same names
+pub gave-still : (a b c : LaneValue) (clients names : List ℕ) → GaveNames a b clients names → c.home ≡ b.home → c.yard.lists ≡ b.yard.lists → c.view.grants ≡ b.view.grants → GaveNames a c clients names
+gave-still a b c clients names gave home lists grants =
+    let (more, was, which) = gave.grants in
+    record { home = home ∙ gave.home; lists = lists ∙ gave.lists; grants = (more, grants ∙ was, which) }

@@ -8,11 +8,19 @@ use Rattle.cn_floor.specs.Lane.{LaneValue}
 abbrev pub names_in : List Grant → List ℕ
 names_in grants = map (λ g. g.name) grants
 
--- a lane gave names: these are of its newest grants, in their order, and nobody is inside
-pub record GaveNames (old new : LaneValue) (names : List ℕ) : Type 0 where
+-- the clients that grants name, in their order
+abbrev pub clients_in : List Grant → List ℕ
+clients_in grants = map (λ g. g.client) grants
+
+-- grants of these clients with these names, in their order
+abbrev pub AreGrantsOf : List ℕ → List ℕ → List Grant → Type 0
+AreGrantsOf clients names grants = (clients ≡ clients_in grants) × (names ≡ names_in grants)
+
+-- a lane named these clients, one after the other: its newest grants are theirs, and nobody is inside
+pub record GaveNames (old new : LaneValue) (clients names : List ℕ) : Type 0 where
   pub home : new.home ≡ old.home
   pub lists : new.yard.lists ≡ old.yard.lists
-  pub grants : (more : List Grant) × (new.view.grants ≡ old.view.grants ++ more) × (names ≡ names_in more)
+  pub grants : (more : List Grant) × (new.view.grants ≡ old.view.grants ++ more) × AreGrantsOf clients names more
 
 -- no name stands twice in two lists, or in both
 abbrev pub AreApart : List ℕ → List ℕ → Type 0

@@ -16,16 +16,21 @@ written f = (f.name, f.client)
 abbrev pub given : Grant → ℕ × ℕ
 given g = (g.name, g.client)
 
+-- the clients that slots were filled with
+abbrev pub clients_of : List Filled → List ℕ
+clients_of filled = map (λ f. f.client) filled
+
 -- what was filled is the slot of the name among these
 abbrev pub AreSlotsOf : List Named → List Filled → Type 0
 AreSlotsOf slots filled =
     All (λ f. (f.name < length slots) × (f.slot.now ≡ get_or slots f.name f.slot.now)) filled
 
--- a lane gave names, and the slot of each was filled with the client that got the name: they are those of the lane's newest
--- grants, in their order, and nobody is inside
-pub record FilledBy (slots : List Named) (old new : LaneValue) (filled : List Filled) : Type 0 where
+-- a lane named these clients, and the slot of each name was filled with the client that got it: they are those of the lane's
+-- newest grants, in their order, and nobody is inside
+pub record FilledBy (slots : List Named) (old new : LaneValue) (clients : List ℕ) (filled : List Filled) : Type 0 where
   pub home : new.home ≡ old.home
   pub lists : new.yard.lists ≡ old.yard.lists
   pub grants : (more : List Grant) × (new.view.grants ≡ old.view.grants ++ more)
       × (map written filled ≡ map given more)
+  pub all : clients_of filled ≡ clients
   pub own : AreSlotsOf slots filled

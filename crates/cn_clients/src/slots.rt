@@ -4,7 +4,7 @@
 ghost use Rattle.std.specs.Prelude.{◌≡◌, ◌+◌, ◌≤◌, ◌++◌, [], IfSome, length};
 ghost use Rattle.cn_spec.specs.Step.{IsEachBelow};
 ghost use Rattle.cn_yard.specs.Lists.{tokens_in};
-ghost use Rattle.cn_clients.specs.Slots.{AreSlotsOf, FilledBy, names_of};
+ghost use Rattle.cn_clients.specs.Slots.{AreSlotsOf, FilledBy, clients_of, names_of};
 
 use crate::filled::Filled;
 use cn_floor::{Floor, Lane};
@@ -25,7 +25,7 @@ fn fill_all<'s>(
     requires own { lane.home ≡ floor.now }
     requires out { tokens_in lane.yard.lists ≡ 0 }
     requires slots { floor.now.start.quota ≤ length slots.now }
-    ensures { IfSome result (λ r. FilledBy slots.now lane r.0 r.1.items) }
+    ensures { IfSome result (λ r. FilledBy slots.now lane r.0 clients.now r.1.items) }
 {
     let mut filled = Vec::new(alloc);
     for client in clients {
@@ -65,7 +65,7 @@ trait Shared {
         requires own { lane.home ≡ Self.home self.now }
         requires out { tokens_in lane.yard.lists ≡ 0 }
         requires slots { (Self.home self.now).start.quota ≤ length slots.now }
-        ensures { IfSome result (λ r. FilledBy slots.now lane r.0 r.1.items) };
+        ensures { IfSome result (λ r. FilledBy slots.now lane r.0 clients.now r.1.items) };
 }
 
 impl<'a> Shared for Floor<'a> {
@@ -97,20 +97,20 @@ fn fill_in_threads<'s, G: Shared + Sync, R: Threads>(
     requires own { (lane.home ≡ G.home floor.now) × (other.home ≡ G.home floor.now) }
     requires out { (tokens_in lane.yard.lists ≡ 0) × (tokens_in other.yard.lists ≡ 0) }
     requires slots { (G.home floor.now).start.quota ≤ length slots.now }
-    ensures { IfSome result (λ r. FilledBy slots.now lane r.0 r.2.items
-        × FilledBy slots.now other r.1 r.3.items) }
+    ensures { IfSome result (λ r. FilledBy slots.now lane r.0 first.now r.2.items
+        × FilledBy slots.now other r.1 second.now r.3.items) }
 {
     let (one, two) = thread::join(
         rt,
         move || -> Option<(Lane, Vec<Filled<'_>>)>
             requires { (lane.home ≡ G.home floor.now) × (tokens_in lane.yard.lists ≡ 0)
                 × ((G.home floor.now).start.quota ≤ length slots.now) }
-            ensures { IfSome result (λ r. FilledBy slots.entry.now lane r.0 r.1.items) }
+            ensures { IfSome result (λ r. FilledBy slots.entry.now lane r.0 first.entry.now r.1.items) }
         { floor.fill_all(alloc, lane, first, slots) },
         move || -> Option<(Lane, Vec<Filled<'_>>)>
             requires { (other.home ≡ G.home floor.now) × (tokens_in other.yard.lists ≡ 0)
                 × ((G.home floor.now).start.quota ≤ length slots.now) }
-            ensures { IfSome result (λ r. FilledBy slots.entry.now other r.0 r.1.items) }
+            ensures { IfSome result (λ r. FilledBy slots.entry.now other r.0 second.entry.now r.1.items) }
         { floor.fill_all(alloc, other, second, slots) },
     );
     match (one, two) {
@@ -120,8 +120,8 @@ fn fill_in_threads<'s, G: Shared + Sync, R: Threads>(
 }
 
 /// Two threads fill slots at once, on a floor that gave no name yet, and the floor is closed: the slots that each filled. The
-/// second thread has as many names as it has clients. The slots that were filled are the first ones, each once, and each
-/// holds the client whose name it is. `None` if a client is refused, a list gets no memory, or a slot was written before.
+/// second thread has as many names as it has clients. Each client fills a slot, in the order of its list. The slots that were
+/// filled are the first ones, each once, and each holds the client whose name it is. `None` if a client is refused, a list gets no memory, or a slot was written before.
 pub fn fill_by_two<'s, R: Threads>(
     rt: &R,
     alloc: Global,
@@ -135,6 +135,8 @@ pub fn fill_by_two<'s, R: Threads>(
     requires out { tokens_in lane.yard.lists ≡ 0 }
     requires fresh { lane.view.grants ≡ [] }
     requires slots { floor.start.quota ≤ length slots.now }
+    ensures all { IfSome result (λ r. (clients_of r.0.items ≡ first.now)
+        × (clients_of r.1.items ≡ second.now)) }
     ensures full { IfSome result (λ r. IsEachBelow (length r.0.items + length r.1.items)
         (names_of r.0.items ++ names_of r.1.items)) }
     ensures own { IfSome result (λ r. AreSlotsOf slots.now r.0.items × AreSlotsOf slots.now r.1.items) }

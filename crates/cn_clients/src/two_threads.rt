@@ -1,7 +1,7 @@
-//! Two threads name clients on one floor. Before it is closed no name is given twice, and each is below the number of clients
-//! that came in.
+//! Two threads name clients on one floor. Before it is closed each client has a name, no name is given twice, and each is below
+//! the number of clients that came in.
 
-ghost use Rattle.std.specs.Prelude.{◌≡◌, ◌<◌, ◌≤◌, All, IfSome};
+ghost use Rattle.std.specs.Prelude.{◌≡◌, ◌<◌, ◌≤◌, All, IfSome, length};
 ghost use Rattle.cn_yard.specs.Lists.{tokens_in};
 ghost use Rattle.cn_clients.specs.Naming.{AreApart, GaveNames};
 ghost use denote.Param.Send.{IsSync};
@@ -20,7 +20,7 @@ fn name_all(
 ) -> Option<(Lane, Vec<u64>)>
     requires own { lane.home ≡ floor.now }
     requires out { tokens_in lane.yard.lists ≡ 0 }
-    ensures { IfSome result (λ r. GaveNames lane r.0 r.1.items) }
+    ensures { IfSome result (λ r. GaveNames lane r.0 clients.now r.1.items) }
 {
     let mut names = Vec::new(alloc);
     for client in clients {
@@ -44,7 +44,7 @@ trait Shared {
     fn name_all(&self, alloc: Global, lane: Lane, clients: &[u64]) -> Option<(Lane, Vec<u64>)>
         requires own { lane.home ≡ Self.home self.now }
         requires out { tokens_in lane.yard.lists ≡ 0 }
-        ensures { IfSome result (λ r. GaveNames lane r.0 r.1.items) };
+        ensures { IfSome result (λ r. GaveNames lane r.0 clients.now r.1.items) };
 }
 
 impl<'a> Shared for Floor<'a> {
@@ -68,17 +68,18 @@ fn name_in_threads<G: Shared + Sync, R: Threads>(
 ) -> Option<(Lane, Lane, Vec<u64>, Vec<u64>)>
     requires own { (lane.home ≡ G.home floor.now) × (other.home ≡ G.home floor.now) }
     requires out { (tokens_in lane.yard.lists ≡ 0) × (tokens_in other.yard.lists ≡ 0) }
-    ensures { IfSome result (λ r. GaveNames lane r.0 r.2.items × GaveNames other r.1 r.3.items) }
+    ensures { IfSome result (λ r. GaveNames lane r.0 first.now r.2.items
+        × GaveNames other r.1 second.now r.3.items) }
 {
     let (one, two) = thread::join(
         rt,
         move || -> Option<(Lane, Vec<u64>)>
             requires { (lane.home ≡ G.home floor.now) × (tokens_in lane.yard.lists ≡ 0) }
-            ensures { IfSome result (λ r. GaveNames lane r.0 r.1.items) }
+            ensures { IfSome result (λ r. GaveNames lane r.0 first.entry.now r.1.items) }
         { floor.name_all(alloc, lane, first) },
         move || -> Option<(Lane, Vec<u64>)>
             requires { (other.home ≡ G.home floor.now) × (tokens_in other.yard.lists ≡ 0) }
-            ensures { IfSome result (λ r. GaveNames other r.0 r.1.items) }
+            ensures { IfSome result (λ r. GaveNames other r.0 second.entry.now r.1.items) }
         { floor.name_all(alloc, other, second) },
     );
     match (one, two) {
@@ -94,12 +95,13 @@ pub struct Named {
     pub first: Vec<u64>,
     /// The names of the second thread's clients, in their order.
     pub second: Vec<u64>,
-    /// How many clients came in.
+    /// How many clients came in, as far as these lanes can see.
     pub entered: u64,
 }
 
-/// Two threads name clients at once, each by a lane of its own. When they are done the floor is still open, and other lanes
-/// of it may go on. `None` if a client is refused, or memory.
+/// Two threads name clients at once, each by a lane of its own: the lanes, and what their clients were given. The floor is still
+/// open, and these lanes and others may go on; each later answer of either of how many came in is no less than `entered`.
+/// `None` if a client is refused, or memory.
 pub fn name_by_two<R: Threads>(
     rt: &R,
     alloc: Global,
@@ -108,30 +110,28 @@ pub fn name_by_two<R: Threads>(
     other: Lane,
     first: &[u64],
     second: &[u64],
-) -> Option<(Lane, Named)>
+) -> Option<(Lane, Lane, Named)>
     requires own { (lane.home ≡ floor.now) × (other.home ≡ floor.now) }
     requires out { (tokens_in lane.yard.lists ≡ 0) × (tokens_in other.yard.lists ≡ 0) }
-    ensures differ { IfSome result (λ r. AreApart r.1.first.items r.1.second.items) }
-    ensures low { IfSome result (λ r. All (λ name. name < r.1.entered) r.1.first.items
-        × All (λ name. name < r.1.entered) r.1.second.items) }
-    ensures few { IfSome result (λ r. r.1.entered ≤ floor.now.start.quota) }
-    ensures home { IfSome result (λ r. r.0.home ≡ floor.now) }
+    ensures many { IfSome result (λ r. (length r.2.first.items ≡ length first.now)
+        × (length r.2.second.items ≡ length second.now)) }
+    ensures all { IfSome result (λ r. GaveNames lane r.0 first.now r.2.first.items
+        × GaveNames other r.1 second.now r.2.second.items) }
+    ensures differ { IfSome result (λ r. AreApart r.2.first.items r.2.second.items) }
+    ensures low { IfSome result (λ r. All (λ name. name < r.2.entered) r.2.first.items
+        × All (λ name. name < r.2.entered) r.2.second.items) }
+    ensures few { IfSome result (λ r. r.2.entered ≤ floor.now.start.quota) }
+    ensures later { IfSome result (λ r. (r.0.view.seen ≡ r.2.entered) × (r.1.view.seen ≡ r.2.entered)) }
 {
     let named = name_in_threads(rt, alloc, floor, lane, other, first, second);
     let Some((lane, other, first, second)) = named else {
         return None;
     };
-    let (lane, other) = floor.look_at_both(lane, other);
-    let Ok(mut lane) = floor.join(lane, other) else {
-        return None;
+    let (lane, other, entered) = floor.look_at_both(lane, other);
+    let named = Named {
+        first,
+        second,
+        entered,
     };
-    let entered = floor.entered(&mut lane);
-    Some((
-        lane,
-        Named {
-            first,
-            second,
-            entered,
-        },
-    ))
+    Some((lane, other, named))
 }

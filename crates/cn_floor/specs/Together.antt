@@ -3,10 +3,11 @@ use Rattle.std.specs.Prelude.{ℕ, ◌+◌, ◌≤◌, ◌++◌, length, map, ma
 use Rattle.std.specs.List.{range_with_len}
 use Rattle.cn_spec.specs.Sums.{times}
 use Rattle.cn_yard.specs.Lists.{on}
+use Rattle.cn_floor.specs.declared.view.Start.{Start}
 use Rattle.cn_floor.specs.declared.view.View.{View}
-use Rattle.cn_floor.specs.Views.{nobody}
+use Rattle.cn_floor.specs.Views.{after_entered, nobody}
 
--- two views as one: on each wire the tokens of the first, and then those of the second
+-- two views as one, in one step: on each wire the tokens of the first, and then those of the second
 abbrev pub both_of : View → View → View
 both_of v w = record v {
   quota = v.quota + w.quota;
@@ -15,6 +16,7 @@ both_of v w = record v {
   passages = v.passages ++ w.passages;
   grants = v.grants ++ w.grants;
   seen = max v.seen w.seen;
+  steps = v.steps + 1;
 }
 
 -- the two views of which one was made
@@ -25,6 +27,13 @@ pub record Pair : Type 0 where
 abbrev pub no_pair : Pair
 no_pair = record { first = nobody; second = nobody }
 
+-- one view cut in these two again, in one step; both have its answer of how many came in
+abbrev pub cut_first : Pair → View → View
+cut_first pair both = record pair.first { seen = both.seen; steps = both.steps + 1 }
+
+abbrev pub cut_second : Pair → View → View
+cut_second pair both = record pair.second { seen = both.seen }
+
 -- no name stands in both lanes, or twice in one
 abbrev pub NamesApart : View → View → Type 0
 NamesApart v w =
@@ -33,3 +42,11 @@ NamesApart v w =
 -- a lane looked so many times
 abbrev pub after_looks : ℕ → View → View
 after_looks n v = record v { steps = v.steps + n }
+
+-- what two lanes are after a look at both, which gives this answer of how many came in: the first loads the word of each
+-- entry once
+abbrev pub first_after : Start → ℕ → View → View
+first_after start entered v = after_looks 3 (after_entered start entered v)
+
+abbrev pub second_after : ℕ → View → View
+second_after entered w = record w { seen = entered; steps = w.steps + 1 }

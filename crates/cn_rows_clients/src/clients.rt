@@ -26,7 +26,7 @@ fn named_on(
         return None;
     }
     let (first, second) = clients.split_at_checked(EACH as usize)?;
-    let (_lane, named) = name_by_two(rt, alloc, floor, lane, other, first, second)?;
+    let (_lane, _other, named) = name_by_two(rt, alloc, floor, lane, other, first, second)?;
     Some(named)
 }
 

@@ -6,8 +6,8 @@ use cn_bitonic::bitonic;
 use cn_walk::{Floor, Grant, Lane, LaneFault};
 use std::alloc::Global;
 
-/// The grants of two lanes, and what each refused client was told.
-type Told = (Option<Grant>, Option<Grant>, [Option<LaneFault>; 2]);
+/// The grants of two lanes, how many came in, and what each refused client was told.
+type Told = (Option<Grant>, Option<Grant>, u64, [Option<LaneFault>; 2]);
 
 /// Names a client, if nobody of the lane is inside.
 fn name(
@@ -35,10 +35,10 @@ fn by_two_lanes(alloc: Global) -> Option<Told> {
     name(&floor, &mut first, 7, 1).ok()?;
     name(&floor, &mut second, 8, 0).ok()?;
     let spent = name(&floor, &mut second, 9, 0).err()?;
-    let (first, second) = floor.look_at_both(first, second);
+    let (first, second, entered) = floor.look_at_both(first, second);
     let one = first.grants().first().copied();
     let two = second.grants().first().copied();
-    Some((one, two, [refused, spent]))
+    Some((one, two, entered, [refused, spent]))
 }
 
 #[test]
@@ -58,6 +58,6 @@ fn two_lanes_are_named_and_looked_at(rt: HostRuntime) {
     let faults = [Some(LaneFault::NoSuchEntry), Some(LaneFault::QuotaSpent)];
     assert_eq!(rt;
         by_two_lanes(rt.alloc()),
-        Some((Some(first), Some(second), faults))
+        Some((Some(first), Some(second), 2, faults))
     );
 }

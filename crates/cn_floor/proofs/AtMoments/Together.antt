@@ -16,7 +16,7 @@ use Rattle.cn_floor.specs.declared.view.Passage.{Passage}
 use Rattle.cn_floor.specs.declared.view.Start.{Start}
 use Rattle.cn_floor.specs.declared.view.View.{View}
 use Rattle.cn_floor.specs.Rule.{HoldsAt, IsAccounted, IsFresh, load_bound}
-use Rattle.cn_floor.specs.Steps.{HasMoment}
+use Rattle.cn_floor.specs.Steps.{HasMoment, IsAnswer}
 use Rattle.cn_floor.specs.Together.{NamesApart, both_of}
 use Rattle.cn_floor.specs.Views.{base, given_in, granted_in, nobody, on_in, standing_in}
 use Rattle.cn_floor.specs.Words.{clients_in}
@@ -155,32 +155,50 @@ cuts-apart start id v w both is idle idle' accounted accounted' s kept at =
     (λ y. subst (λ (u : View). IsFresh start s.words u) y fresh-second)
     (at_snoc (set s.views id v) w x j e))
 
--- how many steps views count is nothing to what they add up to, nor to what each is by itself
-pub sum-counted : (m : ℕ) (network : Network) (v w both : View) (i j k : ℕ) → IsSum m network v w both → IsSum m network (record v { steps = i }) (record w { steps = j }) (record both { steps = k })
-sum-counted m network v w both i j k is = record {
+-- what answer views have, and how many steps they count, is nothing to what they add up to, nor to what each is by itself
+pub sum-answered : (m : ℕ) (network : Network) (v w both : View) (e i j k : ℕ) → IsSum m network v w both → IsSum m network (record v { seen = e; steps = i }) (record w { seen = e; steps = j }) (record both { seen = e; steps = k })
+sum-answered m network v w both e i j k is = record {
   on = is.on;
   standing = is.standing;
-  given = given-counted;
+  given = given-answered;
   quota = is.quota;
   entries = is.entries;
   grants = is.grants;
-  seen = is.seen;
+  seen = omega arith;
   loads = is.loads;
   accounted = λ f g.
       let a = is.accounted (record { all = f.all; entries = f.entries; walked = f.walked }) (record { all = g.all; entries = g.entries; walked = g.walked }) in
       record { all = a.all; entries = a.entries; walked = a.walked };
 }
   where
-    given-counted : (end : End) (n : ℕ) → given_in end n (record both { steps = k }) ≡ given_in end n (record v { steps = i }) + given_in end n (record w { steps = j })
-    given-counted (Balancer b) n = is.given (Balancer b) n
-    given-counted (Exit e) n = is.given (Exit e) n
+    given-answered : (end : End) (n : ℕ) → given_in end n (record both { seen = e; steps = k }) ≡ given_in end n (record v { seen = e; steps = i }) + given_in end n (record w { seen = e; steps = j })
+    given-answered (Balancer b) n = is.given (Balancer b) n
+    given-answered (Exit x) n = is.given (Exit x) n
 
-pub accounted-counted : (network : Network) (v : View) (k : ℕ) → IsAccounted network v → IsAccounted network (record v { steps = k })
-accounted-counted network v k a = record { all = a.all; entries = a.entries; walked = a.walked }
+pub accounted-answered : (network : Network) (v : View) (e k : ℕ) → IsAccounted network v → IsAccounted network (record v { seen = e; steps = k })
+accounted-answered network v e k a = record { all = a.all; entries = a.entries; walked = a.walked }
 
 -- what a lane that looked is by itself
 pub accounted-seen : (start : Start) (v : View) → HasMoment start v → IsAccounted start.network v
 accounted-seen start v (s, moment) = moment.kept.accounted moment.id v moment.here
+
+-- an answer to one lane that has what two had is one to each
+pub answers-both : (start : Start) (v w : View) (answer : ℕ) → IsAnswer start (both_of v w) answer → IsAnswer start v answer × IsAnswer start w answer
+answers-both start v w answer is =
+    let many : length (v.entries ++ w.entries) ≡ length v.entries + length w.entries = length-append v.entries w.entries in (
+      record {
+        own = omega (arith, is.own, many);
+        seen = omega (arith, is.seen);
+        names = All-left (λ (g : Grant). g.name < answer) v.grants w.grants is.names;
+        quota = is.quota;
+      },
+      record {
+        own = omega (arith, is.own, many);
+        seen = omega (arith, is.seen);
+        names = All-right (λ (g : Grant). g.name < answer) v.grants w.grants is.names;
+        quota = is.quota;
+      },
+    )
 
 -- at the moment at which one lane has the grants of two, no name stands in both
 pub names-apart : (start : Start) (v w both : View) → both.grants ≡ v.grants ++ w.grants → HasMoment start both → NamesApart v w

@@ -1,28 +1,29 @@
 //! The shared words of a floor, and the atomic steps on them. No other module reaches the table: each step of a lane on the
-//! word of an entry, a balancer or an exit is a call of a function of this file, and the lane's view counts it.
+//! word of an entry, a balancer or an exit is a call of a function of this folder, and the lane's view counts it.
+
+mod looking;
 
 ghost use Rattle.std.specs.Prelude.{◌≡◌, ◌+◌, ◌<◌, ◌≤◌, ℕ, [], length, vec_capacity, IfOk};
 ghost use Rattle.std.specs.Mem.Slots.{slots_items, slots_len, IsFull};
 ghost use Rattle.cn_wiring.specs.Table.{Stands, end_of};
 ghost use Rattle.cn_yard.specs.Lists.{IsThere, on, times_in};
 ghost use Rattle.cn_floor.specs.Closing.{IsEnding};
-ghost use Rattle.cn_floor.specs.Plays.{ComesIn, GoesOn, Loads, Looks};
+ghost use Rattle.cn_floor.specs.Plays.{ComesIn, GoesOn};
 ghost use Rattle.cn_floor.specs.Rule.{IsStart};
 ghost use Rattle.cn_floor.specs.Sweeps.{AllGoOn};
-ghost use Rattle.cn_floor.specs.Together.{NamesApart, after_looks};
 ghost use Rattle.cn_floor.specs.Views.{after_join, after_split, empty_view, on_in, split_off};
 ghost use Rattle.cn_floor.specs.Words.{end_word, word_count};
 
 use super::plays::{
-    CutApart, EnterOf, EnterPlay, FloorRule, JoinSeats, LoadOf, LoadPlay, LookPlay, PairOf,
-    Portion, SplitSeat, StepOf, StepPlay, SweepOf, SweepPlay, TakeTogether,
+    EnterOf, EnterPlay, FloorRule, JoinSeats, Portion, SplitSeat, StepOf, StepPlay, SweepOf,
+    SweepPlay,
 };
 use crate::view::{Opening, View};
 use atomic_table::{Closed, Seat, Table};
 use cn_wiring::{Counting, End};
 use cn_yard::Token;
 use std::alloc::{AllocError, Global};
-use std::marker::{Brand, Model};
+use std::marker::Model;
 use std::snapshot::Snapshot;
 
 /// One word for the lanes, and then one for each entry, each balancer and each exit.
@@ -185,21 +186,6 @@ impl Counters {
             .fetch_add::<SweepPlay<T>>(seat, word, tokens)
     }
 
-    /// Loads the next entry's word, in one atomic step.
-    pub(super) fn load_next<T: LoadOf>(&self, seat: &mut Seat<(), View>, entry: u32) -> u64
-        requires own { seat.old.table_id ≡ self.now.table }
-        requires hears { T.start ≡ self.now.start }
-        requires slots { seat.old.me.1 ≡ [] }
-        requires next { length seat.old.me.0.loads ≡ entry }
-        requires entry { entry < self.now.start.network.table.entries }
-        ensures seat { (seat.new.table_id ≡ seat.old.table_id) × (seat.new.me.1 ≡ []) }
-        ensures loads { Loads T.start seat.old.me.0 result seat.new.me.0 }
-    {
-        self.table
-            .shared
-            .load::<LoadPlay<T>>(seat, 1 + entry as usize)
-    }
-
     /// The seat's view is cut in two. The quota is only for the proof.
     pub(super) fn split<T: Portion>(&self, seat: &mut Seat<(), View>, _quota: u64) -> Seat<(), View>
         requires own { (seat.old.table_id ≡ self.now.table)
@@ -214,18 +200,6 @@ impl Counters {
         self.table.shared.split_seat::<SplitSeat<T>>(seat)
     }
 
-    /// Looks once, in one atomic step: a load of the lanes' word, which nobody changes. It shows a moment at which the lane has
-    /// its view.
-    pub(super) fn look<T: LoadOf>(&self, seat: &mut Seat<(), View>)
-        requires own { seat.old.table_id ≡ self.now.table }
-        requires hears { T.start ≡ self.now.start }
-        requires slots { seat.old.me.1 ≡ [] }
-        ensures seat { (seat.new.table_id ≡ seat.old.table_id) × (seat.new.me.1 ≡ []) }
-        ensures looks { Looks self.now.start seat.old.me.0 seat.new.me.0 }
-    {
-        self.table.shared.load::<LookPlay<T>>(seat, 0);
-    }
-
     /// The second seat's view is taken into the first's.
     pub(super) fn join(&self, seat: &mut Seat<(), View>, other: Seat<(), View>)
         requires own { (seat.old.table_id ≡ self.now.table) × (other.table_id ≡ self.now.table) }
@@ -236,32 +210,6 @@ impl Counters {
             × (seat.new.me ≡ (after_join seat.old.me.0 other.me.0, [])) }
     {
         self.table.shared.join_seat::<JoinSeats>(seat, other);
-    }
-
-    /// Looks at both seats at one moment, for which the second's view is taken to the first's. Gives the second back.
-    pub(super) fn look_at_both<T: PairOf>(
-        &self,
-        seat: &mut Seat<(), View>,
-        mut other: Seat<(), View>,
-    ) -> Seat<(), View>
-        requires own { (seat.old.table_id ≡ self.now.table) × (other.table_id ≡ self.now.table) }
-        requires start { (seat.old.me.0.start ≡ self.now.start) × (other.me.0.start ≡ self.now.start) }
-        requires slots { (seat.old.me.1 ≡ []) × (seat.old.me.0.loads ≡ []) × (other.me.1 ≡ [])
-            × (other.me.0.loads ≡ []) }
-        requires wires { length other.me.0.tokens ≡ length seat.old.me.0.tokens }
-        requires pair { T.pair
-            ≡ record { first = after_looks 4 seat.old.me.0; second = after_looks 1 other.me.0 } }
-        ensures first { (seat.new.table_id ≡ seat.old.table_id)
-            × (seat.new.me ≡ (after_looks 4 seat.old.me.0, [])) }
-        ensures second { (result.table_id ≡ seat.old.table_id)
-            × (result.me ≡ (after_looks 1 other.me.0, [])) }
-        ensures apart { NamesApart seat.old.me.0 other.me.0 }
-    {
-        self.look::<Brand>(seat);
-        self.look::<Brand>(&mut other);
-        self.table.shared.join_seat::<TakeTogether>(seat, other);
-        self.look::<Brand>(seat);
-        self.table.shared.split_seat::<CutApart<T>>(seat)
     }
 
     /// The words at the end, as the view of the last seat records them. They are put into the list, which has room for

@@ -1,22 +1,28 @@
 //! Two lanes of one floor, looked at together.
 
-ghost use Rattle.std.specs.Prelude.{◌≡◌, ◌+◌};
-ghost use Rattle.cn_floor.specs.Together.{NamesApart, after_looks};
+ghost use Rattle.std.specs.Prelude.{◌≡◌};
+ghost use Rattle.cn_floor.specs.Steps.{IsAnswer};
+ghost use Rattle.cn_floor.specs.Together.{NamesApart, first_after, second_after};
 
 use super::Floor;
 use super::lane::Lane;
 use std::marker::Brand;
 
 impl<'a> Floor<'a> {
-    /// Looks at two lanes at one moment, and gives them back: no name of one lane is a name of the other, and none stands
-    /// twice. It takes no memory, and loads the lanes' word, which nobody changes, five times.
+    /// Looks at two lanes at one moment, and gives them back, with how many clients came in since the floor began, as far as
+    /// one lane can see. No name of one lane is a name of the other, and none stands twice; each is below that answer, and so
+    /// below every later one of either lane ([`Floor::entered`]). It takes no memory, and loads the word of each entry once
+    /// and the lanes' word, which nobody changes, four times.
     ///
     /// Both lanes are taken into one seat for a moment, so it wants both; threads that walk other lanes go on meanwhile.
-    pub fn look_at_both(&self, mut lane: Lane, mut other: Lane) -> (Lane, Lane)
+    pub fn look_at_both(&self, mut lane: Lane, other: Lane) -> (Lane, Lane, u64)
         requires own { (lane.home ≡ self.now) × (other.home ≡ self.now) }
-        ensures first { result.0 ≡ record lane { view = after_looks 4 lane.view } }
-        ensures second { result.1 ≡ record other { view = after_looks 1 other.view } }
+        ensures first { result.0
+            ≡ record lane { view = first_after self.now.start result.2 lane.view } }
+        ensures second { result.1 ≡ record other { view = second_after result.2 other.view } }
         ensures apart { NamesApart result.0.view result.1.view }
+        ensures answer { IsAnswer self.now.start lane.view result.2
+            × IsAnswer self.now.start other.view result.2 }
     {
         lane.lane_laws();
         other.lane_laws();
@@ -27,9 +33,9 @@ impl<'a> Floor<'a> {
             quota,
             room,
         } = other;
-        let other_seat = self
+        let (other_seat, entered) = self
             .counters
-            .look_at_both::<Brand>(&mut lane.seat, other_seat);
+            .look_at_both::<Brand>(&mut lane.seat, other_seat, self.base);
         let other = Lane {
             seat: other_seat,
             yard,
@@ -37,6 +43,6 @@ impl<'a> Floor<'a> {
             quota,
             room,
         };
-        (lane, other)
+        (lane, other, entered)
     }
 }

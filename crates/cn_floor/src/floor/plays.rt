@@ -182,9 +182,11 @@ pub struct CutApart<T> {
 }
 
 impl<T: PairOf> Split<View> for CutApart<T> {
-    ghost left = { λ _. T.pair.first };
+    ghost use Rattle.cn_floor.specs.Together.{cut_first, cut_second};
 
-    ghost right = { λ _. T.pair.second };
+    ghost left = { cut_first T.pair };
+
+    ghost right = { cut_second T.pair };
 }
 
 /// A look at the lanes' word, which shows a moment at which the lane has its view.

@@ -1,6 +1,6 @@
 //! The atomic steps of a lane on a floor, one at a time.
 
-ghost use Rattle.std.specs.Prelude.{◌≡◌, ℕ, ◌+◌, ◌-◌, ◌<◌, ◌≤◌, ◌↔◌, [], IfOk, IsErrOf, IsSome, OnErr};
+ghost use Rattle.std.specs.Prelude.{◌≡◌, ℕ, ◌+◌, ◌-◌, ◌<◌, ◌≤◌, ◌↔◌, IfOk, IsErrOf, IsSome, OnErr};
 ghost use Rattle.cn_yard.specs.Lists.{standing};
 ghost use Rattle.cn_floor.specs.Lane.{LetsIn, StepsOn};
 ghost use Rattle.cn_floor.specs.Steps.{HasMoment, IsAnswer};
@@ -9,8 +9,7 @@ ghost use Rattle.cn_floor.specs.Views.{after_entered};
 use super::Floor;
 use super::lane::Lane;
 use crate::fault::LaneFault;
-use crate::view::{Grant, View};
-use atomic_table::Seat;
+use crate::view::Grant;
 use cn_balancer::output_of;
 use cn_exit::name_of;
 use cn_ledger::Moved;
@@ -100,22 +99,6 @@ impl<'a> Floor<'a> {
         }
     }
 
-    /// Loads the word of each entry once, in order.
-    fn load_all(&self, seat: &mut Seat<(), View>) -> u64
-        requires own { seat.old.table_id ≡ self.now.table }
-        requires slots { (seat.old.me.1 ≡ []) × (seat.old.me.0.loads ≡ []) }
-        ensures seat { (seat.new.table_id ≡ seat.old.table_id) × (seat.new.me.1 ≡ []) }
-        ensures told { seat.new.me.0 ≡ after_entered self.now.start result seat.old.me.0 }
-        ensures answer { IsAnswer self.now.start seat.old.me.0 result }
-        ensures moment { HasMoment self.now.start seat.new.me.0 }
-    {
-        let mut total = 0;
-        for entry in 0..self.network().entries() {
-            total += self.counters.load_next::<Brand>(seat, entry);
-        }
-        total - self.base
-    }
-
     /// How many clients came in since the floor began, by all lanes, as far as one lane can see: it loads the word of
     /// each entry once, in order, and adds. It takes no memory.
     ///
@@ -127,6 +110,6 @@ impl<'a> Floor<'a> {
             ≡ record lane.old { view = after_entered self.now.start result lane.old.view } }
         ensures moment { HasMoment self.now.start lane.new.view }
     {
-        self.load_all(&mut lane.seat)
+        self.counters.load_all(&mut lane.seat, self.base)
     }
 }

@@ -1,6 +1,6 @@
 use Rattle.std.proofs.Common.{◌≡◌, []}
 use Rattle.cn_floor.proofs.AtMoments.Loading.{Loaded}
-use Rattle.cn_floor.proofs.floor.Floor.load_all.Given as goal
+use Rattle.cn_floor.proofs.floor.counters.Counters.load_all.Given as goal
 
 abbrev pub ghosts-load_next : goal.ghosts-load_next
 ghosts-load_next a = record { start = a.self.now.start }

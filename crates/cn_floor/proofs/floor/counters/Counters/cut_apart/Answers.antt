@@ -1,0 +1,31 @@
+use Rattle.std.proofs.Common.{◌≡◌, ◌+◌, rules, sym, ap, subst, arith}
+use Rattle.atomic_table.specs.Table.{Splits}
+use Rattle.cn_floor.specs.declared.view.Start.{Start}
+use Rattle.cn_floor.specs.declared.view.View.{View}
+use Rattle.cn_floor.specs.Lane.{FloorValue}
+use Rattle.cn_floor.specs.Rule.{HoldsAt, IsAccounted, start_of}
+use Rattle.cn_floor.specs.Together.{Pair, both_of, cut_first, cut_second}
+use Rattle.cn_floor.specs.Views.{base}
+use Rattle.cn_floor.proofs.AtMoments.Sharing.{IsSum}
+use Rattle.cn_floor.proofs.AtMoments.Together.{accounted-answered, accounted-seen, cuts-apart, sum-answered, sum-both}
+use Rattle.cn_floor.proofs.floor.counters.Counters.cut_apart.Goals as goal
+
+pub split_seat-requires : goal.split_seat-requires
+split_seat-requires g c =
+    let start : Start = start_of c.self.inside.table.shared.key in
+    let about : c.args.self.now.start ≡ start = sym (ap (λ (h : FloorValue). h.start) c.self.view_is) in
+    let p : Pair = g.T.PairOf.pair in
+    let both : View = c.args.seat.now.me.0 in
+    let e = c.args._entered in
+    let k = p.first.steps + 1 + c.args.self.now.start.network.table.entries in
+    let cut-sum : IsSum (base start) start.network (record p.first { seen = e; steps = k + 1 }) (record p.second { seen = e; steps = p.second.steps }) (record (both_of p.first p.second) { seen = e; steps = k }) =
+    sum-answered (base start) start.network p.first p.second (both_of p.first p.second) e (k + 1) p.second.steps k (sum-both p.first p.second c.requires.idle.0 c.requires.wires (base start) start.network) in
+    let first : IsAccounted start.network (record p.first { seen = e; steps = k + 1 }) =
+    subst (λ (s : Start). IsAccounted s.network (record p.first { seen = e; steps = k + 1 })) about (accounted-answered c.args.self.now.start.network p.first e (k + 1) (accounted-seen c.args.self.now.start _ c.requires.first)) in
+    let second : IsAccounted start.network (record p.second { seen = e; steps = p.second.steps }) =
+    subst (λ (s : Start). IsAccounted s.network (record p.second { seen = e; steps = p.second.steps })) about (accounted-answered c.args.self.now.start.network p.second e p.second.steps (accounted-seen c.args.self.now.start _ c.requires.second)) in
+    let cuts = cuts-apart start c.args.seat.now.id _ _ _ cut-sum c.requires.idle.0 c.requires.idle.1 first second in (
+      search rules,
+      omega (arith, c.self.invariant.words),
+      subst (λ (x : View). Splits (HoldsAt start) c.args.seat.now.id x (cut_first p x) (cut_second p x)) (sym c.requires.pair) cuts,
+    )
