@@ -11,7 +11,7 @@ use Rattle.cn_wiring.specs.declared.end.End.TheVariants.{Balancer, Exit}
 use Rattle.cn_wiring.specs.Table.{Stands, is_end, sum_at}
 use Rattle.cn_core.specs.declared.event.Event.{Event}
 use Rattle.cn_core.specs.State.{State, after_carry, inside_in, past}
-use Rattle.cn_core.specs.SinceCleared.{AgreesAfter, Carried, carried_by}
+use Rattle.cn_core.specs.History.{AgreesAfter, Carried, carried_by}
 use Rattle.cn_core.specs.StateLedger.{IsCore, given_before, ledger_of}
 use Rattle.cn_ledger.specs.Ledger.{IsSound, Ledger, put}
 use Rattle.cn_core.proofs.HistoryLemmas.{Agrees-after_carry}

@@ -14,12 +14,12 @@ use Rattle.cn_core.specs.declared.event.Event.TheVariants.{Enter, Step}
 use Rattle.cn_core.specs.declared.reply.EnterFault.TheVariants.{NoSuchEntry, AlreadyIn, EpochFull}
 use Rattle.cn_core.specs.declared.reply.Reply.TheVariants.{Entered, EnterRefused}
 use Rattle.cn_core.specs.State.{State, name_at, name_in, after_carry, after_enter, after_step, inside_in, position_in, start}
-use Rattle.cn_core.specs.SinceCleared.{Agrees, HasOneHolder, AreEpochs, ByHistories, Carried, IsHistory, carried_by, enters_of, is_accepted, position_after, step_answer}
+use Rattle.cn_core.specs.History.{Agrees, HasOneHolder, AreEpochs, ByHistories, Carried, IsHistory, carried_by, enters_of, is_accepted, position_after, step_answer}
 use Rattle.cn_core.specs.StateLedger.{IsCore}
 use Rattle.cn_core.specs.Tight.{HasShares}
 use Rattle.cn_core.proofs.CarryLemmas.{IsCore-after_carry, visits-after_carry}
 use Rattle.cn_core.proofs.HistoryLemmas.{Agrees-after_carry, Agrees-after_step, Agrees-start, AgreesAfter-after_enter, inside-by_history, inside_or_named, network-after_step}
-use Rattle.cn_core.proofs.TightLemmas.{bounded-state}
+use Rattle.cn_core.proofs.OneHolder.{one-holder}
 use Rattle.cn_core.proofs.LedgerLemmas.{IsCore-after_enter, IsCore-after_step, IsCore-start}
 
 -- a core of the network that agrees with a history and the earlier epochs
@@ -110,22 +110,18 @@ shares-at s earlier is (epochs, a) i within =
     let came : s.base + length s.clients ≡ (carried_by s.network.table earlier).enters = omega (arith, a.base, a.total) in
     sym (a.counts (Exit i)) ∙ visits-after_carry s is nobody i within ∙ ap (λ m. share m s.network.table.width i) came
 
--- the earlier epochs of a core let out by each exit its share of their clients
-pub shares-by_history : (s : State) → IsCore s → ByHistories s (λ history carried. HasShares s.network.table.width carried)
-shares-by_history s is h earlier (epochs, a) =
-    let few : (carried_by s.network.table earlier).enters ≤ MOST_CARRIED = omega (arith, a.base, is.state.carried) in
-    let r : Reaches s.network [] earlier = reached s.network is.state.network earlier epochs few in
+-- epochs that were accepted let out by each exit its share of their clients
+pub shares-of : (network : Network) (earlier : List (List Event)) → IsNetwork network → AreEpochs network.table earlier → (carried_by network.table earlier).enters ≤ MOST_CARRIED → HasShares network.table.width (carried_by network.table earlier)
+shares-of network earlier is epochs few =
+    let r : Reaches network [] earlier = reached network is earlier epochs few in
     subst (λ (n : Network). HasShares n.table.width (carried_by n.table earlier)) r.same (shares-at r.state earlier r.is r.agrees)
 
--- ---- after accepted epochs and an accepted history no two clients hold one name
+-- so did the earlier epochs of a core
+pub shares-by_history : (s : State) → IsCore s → ByHistories s (λ history carried. HasShares s.network.table.width carried)
+shares-by_history s is h earlier (epochs, a) =
+    shares-of s.network earlier is.state.network epochs (omega (arith, a.base, is.state.carried))
 
+-- after them no two clients hold one name
 pub one-holder-after : (network : Network) (h : List Event) (earlier : List (List Event)) → IsNetwork network → AreEpochs network.table earlier → (carried_by network.table earlier).enters ≤ MOST_CARRIED
-    → IsHistory network.table h (carried_by network.table earlier) → HasOneHolder network.table h (carried_by network.table earlier)
-one-holder-after network h earlier is epochs few accepted client other name holds also =
-    let r : Reaches network h earlier = goes network is earlier h (reached network is earlier epochs few) accepted in
-    let a = r.agrees.1 in
-    let here : position_in r.state.clients client ≡ Some (Holds name) = a.positions client ∙ rw r.same holds in
-    let there : position_in r.state.clients other ≡ Some (Holds name) = a.positions other ∙ rw r.same also in
-    let named : name_in r.state client ≡ Some name = ap name_at here in
-    let too : name_in r.state other ≡ Some name = ap name_at there in
-    (bounded-state r.state r.is).distinct client other name named too
+    → HasOneHolder network.table h (carried_by network.table earlier)
+one-holder-after network h earlier is epochs few = one-holder network (carried_by network.table earlier) is (shares-of network earlier is epochs few) h

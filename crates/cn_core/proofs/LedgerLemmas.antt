@@ -17,7 +17,7 @@ use Rattle.cn_core.specs.declared.position.Position.TheVariants.{On}
 use Rattle.cn_core.specs.declared.event.Event.{Event}
 use Rattle.cn_core.specs.declared.event.Event.TheVariants.{Enter, Step}
 use Rattle.cn_core.specs.State.{State, IsState, position_in, with_position, position_past, past, after_enter, after_step, start}
-use Rattle.cn_core.specs.SinceCleared.{AgreesAfter, ByHistories, Carried, carried_by, position_after, steps_before, end_at, moved_past, nothing}
+use Rattle.cn_core.specs.History.{AgreesAfter, ByHistories, Carried, carried_by, position_after, steps_before, end_at, moved_past, nothing}
 use Rattle.cn_core.specs.Passages.{passages_of, times_passed, with_passage}
 use Rattle.cn_ledger.specs.Ledger.{IsSound}
 use Rattle.cn_ledger.specs.Events.{Enters, Passes, Leaves, one_number}

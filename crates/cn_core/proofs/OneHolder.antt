@@ -1,25 +1,39 @@
--- No two clients hold one name: by any history, whether its events were accepted or not.
-use Rattle.std.proofs.Common.{◌≡◌, ℕ, ◌-◌, ◌%◌, ◌/◌, ◌<◌, inl, inr, List, [], ◌∷◌, length, refl, ap, arith, sym, ◌∙◌, Option, Some, None}
+-- No two clients hold one name: by any history, whether its events were accepted or not, after what is carried.
+use Rattle.std.proofs.Common.{◌≡◌, ℕ, ◌+◌, ◌-◌, ◌%◌, ◌/◌, ◌<◌, ◌≤◌, inl, inr, List, [], ◌∷◌, length, refl, ap, arith, sym, ◌∙◌, Option, Some, None}
 use Rattle.std.specs.Option.{option_map}
 use Rattle.std.proofs.lemmas.Bool.{cases_eq, cases_lt, eq-eqb, ne_eqb}
 use Rattle.std.proofs.lemmas.List.{get_or_past}
 use Rattle.cn_spec.specs.Step.{name_of}
-use Rattle.cn_spec.proofs.CallerLemmas.{exit_of-name_of}
+use Rattle.cn_spec.proofs.CallerLemmas.{exit_of-name_of, name-below}
 use Rattle.cn_wiring.specs.declared.end.End.{End}
 use Rattle.cn_wiring.specs.declared.end.End.TheVariants.{Balancer, Exit}
 use Rattle.cn_wiring.specs.Network.{Network, IsNetwork}
-use Rattle.cn_wiring.specs.Table.{end_of}
+use Rattle.cn_wiring.specs.Table.{Table, end_of}
 use Rattle.cn_core.specs.declared.event.Event.{Event}
 use Rattle.cn_core.specs.declared.event.Event.TheVariants.{Enter, Step}
 use Rattle.cn_core.specs.declared.position.Position.{Position}
 use Rattle.cn_core.specs.declared.position.Position.TheVariants.{On, Holds}
-use Rattle.cn_core.specs.History.{position_after}
-use Rattle.cn_core.specs.SinceCleared as since
-use Rattle.cn_core.specs.SinceCleared.{end_at, nothing}
+use Rattle.cn_core.specs.History.{Carried, HasOneHolder, end_at, position_after, steps_before}
 use Rattle.cn_core.specs.State.{position_past}
+use Rattle.cn_core.specs.Tight.{HasShares}
 use Rattle.cn_core.proofs.StateLemmas.{stands-at}
 
-module _ (network : Network) (is : IsNetwork network) where
+-- the steps that are carried were made before
+steps-rise : (table : Table) (h : List Event) (carried : Carried) (end : End) → carried.steps end ≤ steps_before table h carried end
+steps-rise table [] carried end = omega arith
+steps-rise table (Enter c entry ∷ h) carried end = steps-rise table h carried end
+steps-rise table (Step c ∷ h) carried end = omega (arith, steps-rise table h carried end)
+
+module _ (network : Network) (carried : Carried) (is : IsNetwork network) (shares : HasShares network.table.width carried) where
+  -- the name of a visit that comes now is not below those that are carried
+  late : (h : List Event) (i : ℕ) → i < network.table.width → carried.enters ≤ name_of network.table.width i (steps_before network.table h carried (Exit i))
+  late h i within =
+      let v : ℕ = steps_before network.table h carried (Exit i) in
+      elim (cases_lt (name_of network.table.width i v) carried.enters) [
+        | inl less ↦ absurd (let early = (name-below carried.enters network.table.width i v within).1 less in omega (arith, shares i within, steps-rise network.table h carried (Exit i)))
+        | inr beyond ↦ beyond
+      ]
+
   exit-below : (wire i : ℕ) → end_of network.table wire ≡ Exit i → i < network.table.width
   exit-below wire i e = elim (cases_lt wire (length network.table.ends)) [
     | inl within ↦ stands-at network is wire (Exit i) within e
@@ -31,24 +45,24 @@ module _ (network : Network) (is : IsNetwork network) where
     exit : ℕ
     below : exit < network.table.width
     from : end_at network.table p ≡ Some (Exit exit)
-    named : name ≡ name_of network.table.width exit (since.steps_before network.table h nothing (Exit exit))
+    named : name + carried.enters ≡ name_of network.table.width exit (steps_before network.table h carried (Exit exit))
 
   left : (h : List Event) (p : Option Position) (name : ℕ)
-      → option_map (λ end. position_past network.table 0 end (since.steps_before network.table h nothing end)) (end_at network.table p) ≡ Some (Holds name) → Left h p name
+      → option_map (λ end. position_past network.table carried.enters end (steps_before network.table h carried end)) (end_at network.table p) ≡ Some (Holds name) → Left h p name
   left h None name e = absurd (cc)
   left h (Some (Holds other)) name e = absurd (cc)
   left h (Some (On wire)) name e = by (end_of network.table wire) refl e
     where
-      by : (end : End) → end_of network.table wire ≡ end → Some (position_past network.table 0 end (since.steps_before network.table h nothing end)) ≡ Some (Holds name) → Left h (Some (On wire)) name
+      by : (end : End) → end_of network.table wire ≡ end → Some (position_past network.table carried.enters end (steps_before network.table h carried end)) ≡ Some (Holds name) → Left h (Some (On wire)) name
       by (Balancer b) ends past = absurd (cc)
-      by (Exit i) ends past = record { exit = i; below = exit-below wire i ends; from = ap Some ends; named = let told : name_of network.table.width i (since.steps_before network.table h nothing (Exit i)) - 0 ≡ name = cc in omega arith }
+      by (Exit i) ends past = record { exit = i; below = exit-below wire i ends; from = ap Some ends; named = let told : name_of network.table.width i (steps_before network.table h carried (Exit i)) - carried.enters ≡ name = cc in omega (arith, late h i (exit-below wire i ends)) }
 
   -- what a step does to the positions: it changes its client's alone
-  mine : (h : List Event) (b name : ℕ) → position_after network.table (Step b ∷ h) b ≡ Some (Holds name) → Left h (position_after network.table h b) name
-  mine h b name e = left h (position_after network.table h b) name (rw (eq-eqb b b refl) at e)
+  mine : (h : List Event) (b name : ℕ) → position_after network.table (Step b ∷ h) carried b ≡ Some (Holds name) → Left h (position_after network.table h carried b) name
+  mine h b name e = left h (position_after network.table h carried b) name (rw (eq-eqb b b refl) at e)
 
   -- the visit of a name was made before
-  given : (h : List Event) (c name : ℕ) → position_after network.table h c ≡ Some (Holds name) → name / network.table.width < since.steps_before network.table h nothing (Exit (name % network.table.width))
+  given : (h : List Event) (c name : ℕ) → position_after network.table h carried c ≡ Some (Holds name) → (name + carried.enters) / network.table.width < steps_before network.table h carried (Exit ((name + carried.enters) % network.table.width))
   given [] c name e = absurd (cc)
   given (Enter b entry ∷ h) c name e = elim (cases_eq c b) [
     | inl same ↦ absurd (let z = eq-eqb c b same in cc)
@@ -57,20 +71,20 @@ module _ (network : Network) (is : IsNetwork network) where
   given (Step b ∷ h) c name e = elim (cases_eq c b) [
     | inl same ↦
         let l = mine h b name (rw same at e) in
-        let (exit, visit) = exit_of-name_of network.table.width l.exit (since.steps_before network.table h nothing (Exit l.exit)) l.below in
+        let (exit, visit) = exit_of-name_of network.table.width l.exit (steps_before network.table h carried (Exit l.exit)) l.below in
         grind (arith, l.from, l.named)
     | inr other ↦ let before = given h c name (rw (ne_eqb c b other) at e) in omega arith
   ]
 
   -- who leaves now has a name that nobody holds
-  fresh : (h : List Event) (b c name : ℕ) → Left h (position_after network.table h b) name → position_after network.table h c ≡ Some (Holds name) → ⊥
+  fresh : (h : List Event) (b c name : ℕ) → Left h (position_after network.table h carried b) name → position_after network.table h carried c ≡ Some (Holds name) → ⊥
   fresh h b c name l held =
-      let (exit, visit) = exit_of-name_of network.table.width l.exit (since.steps_before network.table h nothing (Exit l.exit)) l.below in
+      let (exit, visit) = exit_of-name_of network.table.width l.exit (steps_before network.table h carried (Exit l.exit)) l.below in
       let before = given h c name held in
-      let now : name / network.table.width ≡ since.steps_before network.table h nothing (Exit (name % network.table.width)) = rw (l.named, exit, visit) refl in
+      let now : (name + carried.enters) / network.table.width ≡ steps_before network.table h carried (Exit ((name + carried.enters) % network.table.width)) = rw (l.named, exit, visit) refl in
       omega arith
 
-  pub one-holder : (h : List Event) (c d name : ℕ) → position_after network.table h c ≡ Some (Holds name) → position_after network.table h d ≡ Some (Holds name) → c ≡ d
+  pub one-holder : (h : List Event) → HasOneHolder network.table h carried
   one-holder [] c d name e f = absurd (cc)
   one-holder (Enter b entry ∷ h) c d name e f = elim (cases_eq c b) [
     | inl same ↦ absurd (let z = eq-eqb c b same in cc)

@@ -9,7 +9,7 @@ use Rattle.cn_wiring.specs.declared.end.End.TheVariants.{Balancer, Exit}
 use Rattle.cn_wiring.specs.Table.{Table}
 use Rattle.cn_core.specs.declared.event.Event.{Event}
 use Rattle.cn_core.specs.declared.event.Event.TheVariants.{Enter, Step}
-use Rattle.cn_core.specs.SinceCleared.{Carried, position_after, steps_before, end_at, is_same_end}
+use Rattle.cn_core.specs.History.{Carried, position_after, steps_before, end_at, is_same_end}
 use Rattle.cn_core.specs.Passages.{with_passage, passages_of, times_passed}
 
 times-with_passage : (table : Table) (history : List Event) (carried : Carried) (end : Option End) (ps : List (ℕ × ℕ)) (b n : ℕ)

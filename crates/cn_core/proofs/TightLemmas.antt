@@ -15,7 +15,7 @@ use Rattle.cn_core.specs.declared.position.Position.{Position}
 use Rattle.cn_core.specs.declared.position.Position.TheVariants.{On, Holds}
 use Rattle.cn_core.specs.State.{State, IsState, came_in, past, position_in, name_at, name_in, times_entered, is_inside, is_named, inside_in}
 use Rattle.cn_ledger.specs.Ledger.{IsQuiescent, Ledger, times_given}
-use Rattle.cn_core.specs.SinceCleared.{carried_by}
+use Rattle.cn_core.specs.History.{carried_by}
 use Rattle.cn_core.specs.StateLedger.{is_on, holds, given_before, granted_in, ledger_of, IsCore}
 use Rattle.cn_core.specs.Tight.{grants_in, IsTightState, IsBoundedState}
 use Rattle.cn_ledger.proofs.CallerLemmas.{bounded, counts-few, names-differ, tight}

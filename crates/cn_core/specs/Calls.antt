@@ -16,7 +16,7 @@ use Rattle.cn_ledger.specs.Events.{Enters}
 use Rattle.cn_ledger.specs.Moves.{IsMoveOf}
 use Rattle.cn_core.specs.StateLedger.{ledger_of}
 use Rattle.cn_core.specs.State.{State, position_in, past, after_enter, after_step}
-use Rattle.cn_core.specs.SinceCleared.{Agrees, ByHistories, carried_by, MayAnswer, MayAnswerAll, history_after, history_by, moved_past}
+use Rattle.cn_core.specs.History.{Agrees, ByHistories, carried_by, MayAnswer, MayAnswerAll, history_after, history_by, moved_past}
 
 -- the reply of an enter
 abbrev pub entered_reply : {U : Type 0} → Result U EnterFault → Reply

@@ -1,5 +1,4 @@
 pub mod State
-pub mod SinceCleared
 pub mod History
 pub mod Passages
 pub mod StateLedger

@@ -5,7 +5,7 @@ use Rattle.cn_wiring.specs.declared.end.End.TheVariants.{Balancer, Exit}
 use Rattle.cn_wiring.specs.Table.{Table}
 use Rattle.cn_core.specs.declared.event.Event.{Event}
 use Rattle.cn_core.specs.declared.event.Event.TheVariants.{Enter, Step}
-use Rattle.cn_core.specs.SinceCleared.{Carried, position_after, steps_before, end_at}
+use Rattle.cn_core.specs.History.{Carried, position_after, steps_before, end_at}
 
 -- a step from a wire that ends at a balancer is a passage of it, with the number that the history gives
 abbrev pub with_passage : Table → List Event → Carried → Option End → List (ℕ × ℕ) → List (ℕ × ℕ)

@@ -10,7 +10,7 @@ use Rattle.cn_core.specs.declared.event.Event.{Event}
 use Rattle.cn_core.specs.declared.position.Position.{Position}
 use Rattle.cn_core.specs.declared.position.Position.TheVariants.{On, Holds}
 use Rattle.cn_core.specs.State.{State, IsState, past}
-use Rattle.cn_core.specs.SinceCleared.{Agrees, Carried, carried_by}
+use Rattle.cn_core.specs.History.{Agrees, Carried, carried_by}
 use Rattle.cn_core.specs.Passages.{passages_of, times_passed}
 use Rattle.cn_ledger.specs.Ledger.{Ledger, IsSound}
 

@@ -10,7 +10,7 @@ use Rattle.cn_wiring.specs.declared.end.End.TheVariants.{Balancer, Exit}
 use Rattle.cn_wiring.specs.Table.{IsFullFlow, Stands, sum_at}
 use Rattle.cn_core.specs.declared.position.Position.{Position}
 use Rattle.cn_core.specs.declared.position.Position.TheVariants.{On, Holds}
-use Rattle.cn_core.specs.SinceCleared.{Carried}
+use Rattle.cn_core.specs.History.{Carried}
 use Rattle.cn_core.specs.State.{State, came_in, name_in, past}
 
 -- the name and the client of each client that holds a name, in the order in which they entered

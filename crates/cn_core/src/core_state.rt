@@ -70,7 +70,7 @@ impl<'a> Core<'a> {
     ghost use Rattle.cn_core.specs.declared.event.Event.{Event};
     ghost use Rattle.cn_core.specs.declared.event.Event.TheVariants.{Enter, Step};
     ghost use Rattle.cn_core.specs.State.{after_carry, came_in, inside_in, name_in, start};
-    ghost use Rattle.cn_core.specs.SinceCleared.{Agrees, ByHistories, enters_of, inside_of};
+    ghost use Rattle.cn_core.specs.History.{Agrees, ByHistories, enters_of, inside_of};
     ghost use Rattle.cn_core.specs.StateLedger.{HasSoundLedger};
     ghost use Rattle.cn_core.specs.Tight.{BringsAll, HasShares, IsBoundedState, IsTightState, ListsHolders};
     ghost use Rattle.cn_core.specs.Calls.{AnswersByHistory, CarriesByHistory, EntersLedger, EntersTo, MovesLedger, StepsTo, entered_reply, stepped_reply};

@@ -10,8 +10,8 @@ use Rattle.cn_core.specs.declared.position.Position.TheVariants.{On, Holds}
 use Rattle.std.specs.Prelude.{IfOk}
 use Rattle.cn_ledger.specs.declared.moved.Moved.{Moved}
 use Rattle.cn_core.specs.declared.reply.StepFault.{StepFault}
-use Rattle.cn_core.specs.SinceCleared as core
-use Rattle.cn_core.specs.SinceCleared.{AgreesAfter, Carried, inside_of}
+use Rattle.cn_core.specs.History as core
+use Rattle.cn_core.specs.History.{AgreesAfter, Carried, inside_of}
 use Rattle.cn_core.specs.Calls.{IsLedgerEvent, MovesLedger, stepped_reply}
 use Rattle.cn_core.specs.State.{State, came_in, inside_in, name_at, position_in}
 use Rattle.cn_core.specs.Tight.{HasShares, IsTightState}
@@ -23,7 +23,7 @@ use Rattle.cn_epoch.specs.declared.command.Command.{Command}
 use Rattle.cn_epoch.specs.declared.command.Command.TheVariants.{Enter, Step, Turn}
 use Rattle.cn_epoch.specs.declared.record.EpochRecord.{EpochRecord}
 use Rattle.cn_epoch.specs.Calls.{AnswersByHistory, TellsEpoch, RunsTo, TakesTo, RunsByHistory}
-use Rattle.cn_epoch.specs.SinceCleared.{Agrees, ByHistories, Epochs, IsRecordOf, carried_in, earlier_after, earlier_in, kept_after, next}
+use Rattle.cn_epoch.specs.History.{Agrees, ByHistories, Epochs, IsRecordOf, carried_in, earlier_after, earlier_in, kept_after, next}
 use Rattle.cn_epoch.specs.Turns.{IsTightRecord}
 
 -- ---- a turn

@@ -1,68 +1,135 @@
--- Commands have one list of answers, want of memory apart.
-use Rattle.std.proofs.Common.{◌≡◌, ℕ, ◌<◌, inl, inr, List, [], ◌∷◌, refl, sym, ap, ◌∙◌, arith, All, slice_index}
+-- Commands have one list of answers, want of memory apart, also if the counts are carried.
+use Rattle.std.proofs.Common.{◌≡◌, ℕ, ◌<◌, ◌≤◌, Bool, true, false, inl, inr, Option, Some, None, List, [], ◌∷◌, refl, sym, ap, ◌∙◌, arith, All, slice_index}
+use Rattle.std.specs.Prelude.{if◌then◌else◌}
 use Rattle.std.specs.List.{AllZip}
+use Rattle.cn_spec.specs.declared.limits.TheConstants.{MOST_CARRIED}
 use Rattle.std.proofs.lemmas.List.{ext_get_or}
 use Rattle.std.proofs.lemmas.List.Elements.{All-head, All-tail}
 use Rattle.cn_wiring.specs.Network.{Network, IsNetwork}
+use Rattle.cn_wiring.specs.Table.{Table}
 use Rattle.cn_core.specs.declared.event.Event.{Event}
 use Rattle.cn_core.specs.declared.event.Event.TheVariants.{Enter as EnterEvent, Step as StepEvent}
 use Rattle.cn_core.specs.declared.reply.Reply.{Reply}
 use Rattle.cn_core.specs.History as core
-use Rattle.cn_core.specs.SinceCleared.{nothing}
-use Rattle.cn_core.proofs.CallerLemmas.{one-holder}
+use Rattle.cn_core.specs.History.{AreEpochs, Carried, HasOneHolder, IsHistory, answer_to, carried_by, is_accepted}
+use Rattle.cn_core.proofs.CallerLemmas.{one-holder-after}
 use Rattle.cn_epoch.specs.declared.answer.Answer.{Answer}
 use Rattle.cn_epoch.specs.declared.answer.Answer.TheVariants.{Replied, Turned, TurnRefused}
 use Rattle.cn_epoch.specs.declared.answer.TurnFault.TheVariants.{NotQuiet, Memory}
 use Rattle.cn_epoch.specs.declared.command.Command.{Command}
 use Rattle.cn_epoch.specs.declared.command.Command.TheVariants.{Enter, Step, Turn}
 use Rattle.cn_epoch.specs.declared.record.EpochRecord.{EpochRecord}
-use Rattle.cn_epoch.specs.SinceCleared as since
-use Rattle.cn_epoch.specs.SinceCleared.{cut_by, history_after, history_by, replied_to, turns_after, turns_by}
-use Rattle.cn_epoch.specs.Turns.{HadMemory, IsRecordOf, IsSameAnswer, IsSameRecord, MayAnswerAll, MayAnswer}
+use Rattle.cn_epoch.specs.History.{IsRecordOf, MayAnswer, MayAnswerAll, MayReply, MayTurn, carried_in, cut_by, earlier_after, earlier_by, earlier_in, history_after, history_by, kept_after, kept_by, replied_to, turns_after, turns_by}
+use Rattle.cn_epoch.specs.Turns.{HadMemory, HasOneRecord, HaveOneAnswer, IsSameAnswer, IsSameRecord}
 
 module _ (network : Network) (is : IsNetwork network) where
-  pub one-record : (turns : ℕ) (history : List Event) (r s : EpochRecord) → IsRecordOf network.table turns history r → IsRecordOf network.table turns history s → IsSameRecord r s
-  one-record turns history r s one other = record {
+  abbrev t : Table
+  t = network.table
+
+  one-record : (turns : ℕ) (history : List Event) (carried : Carried) → HasOneHolder t history carried → HasOneRecord t turns history carried
+  one-record turns history carried holder r s one other = record {
     number = one.number ∙ sym other.number;
     clients = one.clients ∙ sym other.clients;
     counts = ext_get_or 0 r.counts.items s.counts.items (one.exits ∙ sym other.exits) (λ i below.
-        let within : i < network.table.width = omega (arith, one.exits) in
+        let within : i < t.width = omega (arith, one.exits) in
         omega (arith, one.counts i within, other.counts i within));
     holders = ext_get_or 0 r.holders.items s.holders.items (one.names ∙ sym other.names) (λ name below.
         let within = one.names in
-        one-holder network is history (slice_index r.holders.items name) (slice_index s.holders.items name) name (one.holders name (omega arith)) (other.holders name (omega arith)));
+        holder (slice_index r.holders.items name) (slice_index s.holders.items name) name (one.holders name (omega arith)) (other.holders name (omega arith)));
   }
 
-  one-reply : (history : List Event) (event : Event) (reply other : Reply) → core.MayAnswer network.table history event reply → core.MayAnswer network.table history event other
+  pub one-record-after : (turns : ℕ) (history : List Event) (earlier : List (List Event)) → AreEpochs t earlier → (carried_by t earlier).enters ≤ MOST_CARRIED → HasOneRecord t turns history (carried_by t earlier)
+  one-record-after turns history earlier epochs few = one-record turns history (carried_by t earlier) (one-holder-after network history earlier is epochs few)
+
+  -- ---- one answer
+
+  one-reply : (history : List Event) (carried : Carried) (event : Event) (reply other : Reply) → core.MayAnswer t history carried event reply → core.MayAnswer t history carried event other
       → HadMemory (Replied reply) → HadMemory (Replied other) → reply ≡ other
-  one-reply history event reply other (inl e) (inl f) told also = e ∙ sym f
-  one-reply history event reply other (inr (accepted, memory)) may told also = absurd (told memory)
-  one-reply history event reply other (inl e) (inr (accepted, memory)) told also = absurd (also memory)
+  one-reply history carried event reply other (inl e) (inl f) told also = e ∙ sym f
+  one-reply history carried event reply other (inr (accepted, memory)) may told also = absurd (told memory)
+  one-reply history carried event reply other (inl e) (inr (accepted, memory)) told also = absurd (also memory)
 
-  same-reply : (history : List Event) (event : Event) (answer other : Answer) → since.MayReply network.table history nothing event answer → since.MayReply network.table history nothing event other
+  same-reply : (history : List Event) (carried : Carried) (event : Event) (answer other : Answer) → MayReply t history carried event answer → MayReply t history carried event other
       → HadMemory answer → HadMemory other → IsSameAnswer answer other
-  same-reply history event (Replied reply) (Replied other) may might told also = one-reply history event reply other may might told also
-  same-reply history event (Turned r) other may might told also = absurd may
-  same-reply history event (TurnRefused fault) other may might told also = absurd may
-  same-reply history event (Replied reply) (Turned r) may might told also = absurd might
-  same-reply history event (Replied reply) (TurnRefused fault) may might told also = absurd might
+  same-reply history carried event (Replied reply) (Replied other) may might told also = one-reply history carried event reply other may might told also
+  same-reply history carried event (Turned r) other may might told also = absurd may
+  same-reply history carried event (TurnRefused fault) other may might told also = absurd may
+  same-reply history carried event (Replied reply) (Turned r) may might told also = absurd might
+  same-reply history carried event (Replied reply) (TurnRefused fault) may might told also = absurd might
 
-  same-turn : (turns : ℕ) (history : List Event) (answer other : Answer) → since.MayTurn network.table turns history nothing answer → since.MayTurn network.table turns history nothing other
+  same-turn : (turns : ℕ) (history : List Event) (carried : Carried) (answer other : Answer) → HasOneHolder t history carried → MayTurn t turns history carried answer → MayTurn t turns history carried other
       → HadMemory answer → HadMemory other → IsSameAnswer answer other
-  same-turn turns history (Turned r) (Turned s) (quiet, one) (_, another) told also = one-record turns history r s one another
-  same-turn turns history (TurnRefused (NotQuiet s)) (TurnRefused (NotQuiet t)) (some, is) (more, also) _ _ = ap (λ n. NotQuiet n) (is ∙ sym also)
-  same-turn turns history (Turned r) (TurnRefused (NotQuiet s)) (quiet, one) (some, inside) told also = absurd (omega arith)
-  same-turn turns history (TurnRefused (NotQuiet s)) (Turned r) (some, inside) (quiet, one) told also = absurd (omega arith)
-  same-turn turns history (TurnRefused Memory) other may might told also = absurd (told refl)
-  same-turn turns history answer (TurnRefused Memory) may might told also = absurd (also refl)
-  same-turn turns history (Replied reply) other may might told also = absurd may
-  same-turn turns history answer (Replied reply) may might told also = absurd might
+  same-turn turns history carried (Turned r) (Turned s) holder (quiet, one) (_, another) told also = one-record turns history carried holder r s one another
+  same-turn turns history carried (TurnRefused (NotQuiet s)) (TurnRefused (NotQuiet u)) holder (some, is) (more, also) _ _ = ap (λ n. NotQuiet n) (is ∙ sym also)
+  same-turn turns history carried (Turned r) (TurnRefused (NotQuiet s)) holder (quiet, one) (some, inside) told also = absurd (omega arith)
+  same-turn turns history carried (TurnRefused (NotQuiet s)) (Turned r) holder (some, inside) (quiet, one) told also = absurd (omega arith)
+  same-turn turns history carried (TurnRefused Memory) other holder may might told also = absurd (told refl)
+  same-turn turns history carried answer (TurnRefused Memory) holder may might told also = absurd (also refl)
+  same-turn turns history carried (Replied reply) other holder may might told also = absurd may
+  same-turn turns history carried answer (Replied reply) holder may might told also = absurd might
 
-  same-answer : (turns : ℕ) (history : List Event) (command : Command) (answer other : Answer) → MayAnswer network.table turns history command answer → MayAnswer network.table turns history command other
+  same-answer : (turns : ℕ) (history : List Event) (carried : Carried) (command : Command) (answer other : Answer) → HasOneHolder t history carried → MayAnswer t turns history carried command answer → MayAnswer t turns history carried command other
       → HadMemory answer → HadMemory other → IsSameAnswer answer other
-  same-answer turns history (Enter client entry) answer other may might told also = same-reply history (EnterEvent client entry) answer other may might told also
-  same-answer turns history (Step client) answer other may might told also = same-reply history (StepEvent client) answer other may might told also
-  same-answer turns history Turn answer other may might told also = same-turn turns history answer other may might told also
+  same-answer turns history carried (Enter client entry) answer other holder may might told also = same-reply history carried (EnterEvent client entry) answer other may might told also
+  same-answer turns history carried (Step client) answer other holder may might told also = same-reply history carried (StepEvent client) answer other may might told also
+  same-answer turns history carried Turn answer other holder may might told also = same-turn turns history carried answer other holder may might told also
+
+  -- ---- what an answer leaves was accepted
+
+  accepted-after : (h : List Event) (carried : Carried) (event : Event) (reply : Reply) → core.MayAnswer t h carried event reply → IsHistory t h carried → IsHistory t (core.history_after h event reply) carried
+  accepted-after h carried event reply may was = by (is_accepted reply) refl
+    where
+      so : core.MayAnswer t h carried event reply → is_accepted reply ≡ true → is_accepted (answer_to t h carried event) ≡ true
+      so (inl same) e = ap is_accepted (sym same) ∙ e
+      so (inr (entered, memory)) e = ap is_accepted entered
+
+      by : (b : Bool) → is_accepted reply ≡ b → IsHistory t (if b then event ∷ h else h) carried
+      by false e = was
+      by true e = (so may e, was)
+
+  -- the earlier epochs, and the history after what they left
+  abbrev AreAccepted : Option (List (List Event)) → List Event → Type 0
+  AreAccepted kept h = AreEpochs t (earlier_in kept) × IsHistory t h (carried_in t kept)
+
+  replied : (h : List Event) (kept : Option (List (List Event))) (event : Event) (answer : Answer) → MayReply t h (carried_in t kept) event answer → AreAccepted kept h → AreAccepted (kept_after kept h answer) (replied_to h event answer)
+  replied h None event (Replied reply) may (epochs, was) = (epochs, accepted-after h (carried_by t []) event reply may was)
+  replied h (Some earlier) event (Replied reply) may (epochs, was) = (epochs, accepted-after h (carried_by t earlier) event reply may was)
+  replied h kept event (Turned r) may was = absurd may
+  replied h kept event (TurnRefused fault) may was = absurd may
+
+  turned : (turns : ℕ) (h : List Event) (kept : Option (List (List Event))) (answer : Answer) → MayTurn t turns h (carried_in t kept) answer → AreAccepted kept h → AreAccepted (kept_after kept h answer) (cut_by h answer)
+  turned turns h None (Turned r) (quiet, _) (epochs, was) = (epochs, tt)
+  turned turns h (Some earlier) (Turned r) (quiet, _) (epochs, was) = ((was, quiet, epochs), tt)
+  turned turns h None (TurnRefused fault) may was = was
+  turned turns h (Some earlier) (TurnRefused fault) may was = was
+  turned turns h kept (Replied reply) may was = absurd may
+
+  left : (turns : ℕ) (h : List Event) (kept : Option (List (List Event))) (command : Command) (answer : Answer) → MayAnswer t turns h (carried_in t kept) command answer → AreAccepted kept h
+      → AreAccepted (kept_after kept h answer) (history_after h command answer)
+  left turns h kept (Enter client entry) answer may was = replied h kept (EnterEvent client entry) answer may was
+  left turns h kept (Step client) answer may was = replied h kept (StepEvent client) answer may was
+  left turns h kept Turn answer may was = turned turns h kept answer may was
+
+  -- and what is carried never falls
+  one-more : (earlier : List (List Event)) (h : List Event) (answer : Answer) → (carried_by t earlier).enters ≤ (carried_by t (earlier_after earlier h answer)).enters
+  one-more earlier h (Turned r) = omega arith
+  one-more earlier h (Replied reply) = omega arith
+  one-more earlier h (TurnRefused fault) = omega arith
+
+  all-more : (earlier : List (List Event)) (h : List Event) (commands : List Command) (answers : List Answer) → (carried_by t earlier).enters ≤ (carried_by t (earlier_by earlier h commands answers)).enters
+  all-more earlier h [] answers = omega arith
+  all-more earlier h (command ∷ commands) [] = omega arith
+  all-more earlier h (command ∷ commands) (answer ∷ answers) =
+      omega (arith, one-more earlier h answer, all-more (earlier_after earlier h answer) (history_after h command answer) commands answers)
+
+  grows : (kept : Option (List (List Event))) (h : List Event) (commands : List Command) (answers : List Answer) → (carried_in t kept).enters ≤ (carried_in t (kept_by kept h commands answers)).enters
+  grows None h commands answers = omega arith
+  grows (Some earlier) h commands answers = all-more earlier h commands answers
+
+  kept_by-next : (kept : Option (List (List Event))) (h : List Event) (command : Command) (commands : List Command) (answer : Answer) (answers : List Answer)
+      → kept_by kept h (command ∷ commands) (answer ∷ answers) ≡ kept_by (kept_after kept h answer) (history_after h command answer) commands answers
+  kept_by-next None h command commands answer answers = refl
+  kept_by-next (Some earlier) h command commands answer answers = refl
 
   -- answers that tell the same leave the same
   left-same : (turns : ℕ) (history : List Event) (event : Event) (answer other : Answer) → IsSameAnswer answer other
@@ -85,20 +152,38 @@ module _ (network : Network) (is : IsNetwork network) where
   history-same history (Step client) answer other same = (left-same 0 history (StepEvent client) answer other same).1
   history-same history Turn answer other same = (left-same 0 history (StepEvent 0) answer other same).2
 
-  pub one-list : (turns : ℕ) (history : List Event) (commands : List Command) (answers others : List Answer)
-      → MayAnswerAll network.table turns history commands answers → MayAnswerAll network.table turns history commands others → All HadMemory answers → All HadMemory others
-      → AllZip IsSameAnswer answers others
-  one-list turns history [] [] [] may might told also = tt
-  one-list turns history (command ∷ commands) (answer ∷ answers) (other ∷ others) (may, rest) (might, remaining) told also =
-      let same = same-answer turns history command answer other may might (All-head HadMemory answer answers told) (All-head HadMemory other others also) in (
+  earlier-same : (earlier : List (List Event)) (h : List Event) (answer other : Answer) → IsSameAnswer answer other → earlier_after earlier h answer ≡ earlier_after earlier h other
+  earlier-same earlier h (Replied reply) (Replied other) same = refl
+  earlier-same earlier h (Turned r) (Turned s) same = refl
+  earlier-same earlier h (TurnRefused fault) (TurnRefused other) same = refl
+  earlier-same earlier h (Replied reply) (Turned s) same = absurd same
+  earlier-same earlier h (Replied reply) (TurnRefused other) same = absurd same
+  earlier-same earlier h (Turned r) (Replied other) same = absurd same
+  earlier-same earlier h (Turned r) (TurnRefused other) same = absurd same
+  earlier-same earlier h (TurnRefused fault) (Replied other) same = absurd same
+  earlier-same earlier h (TurnRefused fault) (Turned s) same = absurd same
+
+  kept-same : (kept : Option (List (List Event))) (h : List Event) (answer other : Answer) → IsSameAnswer answer other → kept_after kept h answer ≡ kept_after kept h other
+  kept-same None h answer other same = refl
+  kept-same (Some earlier) h answer other same = ap Some (earlier-same earlier h answer other same)
+
+  pub one-list : (turns : ℕ) (history : List Event) (kept : Option (List (List Event))) (commands : List Command) → AreEpochs t (earlier_in kept) → IsHistory t history (carried_in t kept)
+      → HaveOneAnswer t turns history kept commands
+  one-list turns history kept [] epochs was [] [] told also may might few = tt
+  one-list turns history kept (command ∷ commands) epochs was (answer ∷ answers) (other ∷ others) told also (may, rest) (might, remaining) few =
+      let now : (carried_in t kept).enters ≤ MOST_CARRIED = omega (arith, few, grows kept history (command ∷ commands) (answer ∷ answers)) in
+      let holder : HasOneHolder t history (carried_in t kept) = one-holder-after network history (earlier_in kept) is epochs now in
+      let same = same-answer turns history (carried_in t kept) command answer other holder may might (All-head HadMemory answer answers told) (All-head HadMemory other others also) in
+      let (before, accepted) = left turns history kept command answer may (epochs, was) in (
         same,
-        one-list (turns_after turns answer) (history_after history command answer) commands answers others rest
-            (rw (turns-same turns answer other same, history-same history command answer other same) remaining) (All-tail HadMemory answer answers told) (All-tail HadMemory other others also),
+        one-list (turns_after turns answer) (history_after history command answer) (kept_after kept history answer) commands before accepted answers others (All-tail HadMemory answer answers told) (All-tail HadMemory other others also) rest
+            (rw (turns-same turns answer other same, history-same history command answer other same, kept-same kept history answer other same) remaining)
+            (rw (kept_by-next kept history command commands answer answers) at few),
       )
-  one-list turns history [] [] (other ∷ others) may might told also = absurd might
-  one-list turns history [] (answer ∷ answers) others may might told also = absurd may
-  one-list turns history (command ∷ commands) [] others may might told also = absurd may
-  one-list turns history (command ∷ commands) (answer ∷ answers) [] may might told also = absurd might
+  one-list turns history kept [] epochs was [] (other ∷ others) told also may might few = absurd might
+  one-list turns history kept [] epochs was (answer ∷ answers) others told also may might few = absurd may
+  one-list turns history kept (command ∷ commands) epochs was [] others told also may might few = absurd may
+  one-list turns history kept (command ∷ commands) epochs was (answer ∷ answers) [] told also may might few = absurd might
 
   -- the turns that a list of answers tells, and the history that it leaves
   pub turns_by-same : (turns : ℕ) (answers others : List Answer) → AllZip IsSameAnswer answers others → turns_by turns answers ≡ turns_by turns others

@@ -14,7 +14,7 @@ use Rattle.cn_epoch.specs.declared.answer.TurnFault.TheVariants.{NotQuiet, Memor
 use Rattle.cn_epoch.specs.declared.command.Command.{Command}
 use Rattle.cn_epoch.specs.declared.command.Command.TheVariants.{Enter, Step, Turn}
 use Rattle.cn_epoch.specs.declared.record.EpochRecord.{EpochRecord}
-use Rattle.cn_epoch.specs.SinceCleared.{Agrees, Epochs, MayAnswerAll, MayAnswer, carried_in, history_after, history_by, kept_after, kept_by, next, turns_after, turns_by}
+use Rattle.cn_epoch.specs.History.{Agrees, Epochs, MayAnswerAll, MayAnswer, carried_in, history_after, history_by, kept_after, kept_by, next, turns_after, turns_by}
 use Rattle.cn_epoch.specs.Turns.{IsTightRecord}
 
 -- the answer of a turn

@@ -1,9 +1,9 @@
 -- What epochs hold.
 use Rattle.std.specs.Prelude.{◌≡◌, false, List, []}
 use Rattle.cn_core.specs.declared.event.Event.{Event}
-use Rattle.cn_core.specs.SinceCleared as core
+use Rattle.cn_core.specs.History as core
 use Rattle.cn_epoch.specs.declared.epochs.Epochs.TheInside.{Inside}
-use Rattle.cn_epoch.specs.SinceCleared.{Epochs}
+use Rattle.cn_epoch.specs.History.{Epochs}
 
 -- the epochs that contracts see
 abbrev pub epochs_of : Inside → Epochs

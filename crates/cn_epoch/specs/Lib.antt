@@ -1,4 +1,4 @@
-pub mod SinceCleared
+pub mod History
 pub mod Turns
 pub mod Calls
 pub mod InsideEpochs

@@ -6,13 +6,13 @@ ghost use Rattle.std.specs.Prelude.{◌≡◌, ℕ, ◌+◌, ◌<◌, ◌≤◌,
 ghost use Rattle.cn_spec.specs.Step.{share};
 ghost use Rattle.cn_spec.specs.declared.limits.TheConstants.{MOST_CARRIED, MOST_CLIENTS};
 ghost use Rattle.cn_core.specs.Calls.{entered_reply, stepped_reply};
-ghost use Rattle.cn_core.specs.SinceCleared as core;
-ghost use Rattle.cn_core.specs.SinceCleared.{enters_of, inside_of};
+ghost use Rattle.cn_core.specs.History as core;
+ghost use Rattle.cn_core.specs.History.{enters_of, inside_of};
 ghost use Rattle.cn_core.specs.State.{came_in, inside_in, start};
 ghost use Rattle.cn_core.specs.StateLedger.{HasSoundLedger};
 ghost use Rattle.cn_core.specs.Tight.{HasShares, IsBoundedState};
 ghost use Rattle.cn_epoch.specs.Calls.{AnswersByHistory, TakesTo, turned_answer};
-ghost use Rattle.cn_epoch.specs.SinceCleared.{Agrees, ByHistories, next};
+ghost use Rattle.cn_epoch.specs.History.{Agrees, ByHistories, next};
 
 use crate::answer::{Answer, TurnFault};
 use crate::record::EpochRecord;
@@ -35,7 +35,7 @@ pub struct Epochs<'a> {
 }
 
 impl<'a> Model for Epochs<'a> {
-    ghost use Rattle.cn_epoch.specs.SinceCleared.{Epochs};
+    ghost use Rattle.cn_epoch.specs.History.{Epochs};
     ghost use Rattle.cn_epoch.specs.InsideEpochs.{epochs_of, IsEpochs};
 
     ghost Value = { Epochs };

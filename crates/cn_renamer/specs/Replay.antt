@@ -1,10 +1,11 @@
 -- The text of a replay, and which fault is given if it is not written.
-use Rattle.std.specs.Prelude.{ℕ, ◌≡◌, ◌≢◌, All, IfSome, List, [], Option}
+use Rattle.std.specs.Prelude.{ℕ, ◌≡◌, ◌≢◌, All, IfSome, List, [], None, Option}
 use Rattle.cn_wiring.specs.Network.{Network}
-use Rattle.cn_core.specs.History.{enters_of, inside_of}
+use Rattle.cn_core.specs.History.{enters_of, inside_of, nothing}
 use Rattle.cn_epoch.specs.declared.answer.Answer.{Answer}
 use Rattle.cn_epoch.specs.declared.command.Command.{Command}
-use Rattle.cn_epoch.specs.Turns.{HadMemory, MayAnswerAll, history_by, turns_by}
+use Rattle.cn_epoch.specs.History.{MayAnswerAll, history_by, turns_by}
+use Rattle.cn_epoch.specs.Turns.{HadMemory}
 use Rattle.cn_report.specs.Reading.Records.{records_of}
 use Rattle.cn_report.specs.Writing.Replay.{replay_text}
 use Rattle.cn_report.specs.Reading.Schedule.{IsSchedule, IsScheduleFault}
@@ -22,10 +23,10 @@ use Rattle.cn_renamer.specs.declared.replaying.ReplayFault.TheVariants.{Schedule
 -- want of memory
 pub record IsReplayText (network : Network) (commands : List Command) (text : List ℕ) : Type 0 where
   pub answers : List Answer
-  pub by_history : MayAnswerAll network.table 0 [] commands answers
+  pub by_history : MayAnswerAll network.table 0 [] None commands answers
   pub memory : All HadMemory answers
   -- the end line gives the number of epochs that ended, and how many entered the open one and are inside
-  pub replayed : text ≡ replay_text network commands answers (turns_by 0 answers) (enters_of (history_by [] commands answers)) (inside_of network.table (history_by [] commands answers))
+  pub replayed : text ≡ replay_text network commands answers (turns_by 0 answers) (enters_of (history_by [] commands answers)) (inside_of network.table (history_by [] commands answers) nothing)
 
 -- this text is that of a replay of the commands on a network of this kind and width
 pub record IsReplayOfCommands (net : Description) (commands : List Command) (text : List ℕ) : Type 0 where

@@ -3,7 +3,7 @@
 ghost use Rattle.std.specs.Prelude.{◌≡◌, ◌↔◌, [], false, IfErr, IfOk, IsTrue, None};
 ghost use Rattle.std.specs.List.{All};
 ghost use Rattle.cn_core.specs.State.{start};
-ghost use Rattle.cn_epoch.specs.SinceCleared.{Agrees};
+ghost use Rattle.cn_epoch.specs.History.{Agrees};
 ghost use Rattle.cn_epoch.specs.Turns.{HadMemory};
 ghost use Rattle.cn_report.specs.Writing.Written.{HasWritten, written_by};
 ghost use Rattle.cn_renamer.specs.Outputs.{until_output};

@@ -12,18 +12,18 @@ use Rattle.cn_core.specs.declared.reply.EnterFault.TheVariants.{NoSuchEntry, Alr
 use Rattle.cn_core.specs.declared.reply.Reply.{Reply}
 use Rattle.cn_core.specs.declared.reply.Reply.TheVariants.{Entered, EnterRefused}
 use Rattle.cn_core.specs.History as core
-use Rattle.cn_core.specs.History.{answer_to, enters_of, position_after, step_answer}
+use Rattle.cn_core.specs.History.{Carried, answer_to, enters_of, position_after, step_answer}
 use Rattle.cn_epoch.specs.declared.answer.Answer.{Answer}
 use Rattle.cn_epoch.specs.declared.answer.Answer.TheVariants.{Replied, Turned, TurnRefused}
 use Rattle.cn_epoch.specs.declared.command.Command.{Command}
 use Rattle.cn_epoch.specs.declared.command.Command.TheVariants.{Enter, Step, Turn}
-use Rattle.cn_epoch.specs.Turns.{MayAnswerAll, MayAnswer, history_after, turns_after}
+use Rattle.cn_epoch.specs.History.{MayAnswer, MayAnswerAll, carried_in, history_after, kept_after, turns_after}
 use Rattle.cn_report.specs.Writing.Replay.{AreAnswers, Fits, IsEnterReply, IsStepReply, IsWhole}
 
 -- ---- a reply by history fits its event
 
-enter-replied : (table : Table) (h : List Event) (client entry : ℕ) → IsEnterReply (answer_to table h (EnterEvent client entry))
-enter-replied table h client entry = by (nat_le table.entries entry) (is_some (position_after table h client)) (nat_le MOST_CLIENTS (enters_of h))
+enter-replied : (table : Table) (h : List Event) (k : Carried) (client entry : ℕ) → IsEnterReply (answer_to table h k (EnterEvent client entry))
+enter-replied table h k client entry = by (nat_le table.entries entry) (is_some (position_after table h k client)) (nat_le MOST_CLIENTS (enters_of h))
   where
     by : (beyond there full : Bool)
         → IsEnterReply (if beyond then EnterRefused NoSuchEntry else if there then EnterRefused AlreadyIn else if full then EnterRefused EpochFull else Entered)
@@ -32,55 +32,55 @@ enter-replied table h client entry = by (nat_le table.entries entry) (is_some (p
     by false false true = tt
     by false false false = tt
 
-step-replied : (table : Table) (h : List Event) (client : ℕ) → IsStepReply (answer_to table h (StepEvent client))
-step-replied table h client = by (position_after table h client)
+step-replied : (table : Table) (h : List Event) (k : Carried) (client : ℕ) → IsStepReply (answer_to table h k (StepEvent client))
+step-replied table h k client = by (position_after table h k client)
   where
-    by : (position : Option Position) → IsStepReply (step_answer table h position)
+    by : (position : Option Position) → IsStepReply (step_answer table h k position)
     by None = tt
     by (Some (On wire)) = tt
     by (Some (Holds name)) = tt
 
-enter-may : (table : Table) (h : List Event) (client entry : ℕ) (reply : Reply) → core.MayAnswer table h (EnterEvent client entry) reply → IsEnterReply reply
-enter-may table h client entry reply (inl e) = subst IsEnterReply (sym e) (enter-replied table h client entry)
-enter-may table h client entry reply (inr (entered, e)) = subst IsEnterReply (sym e) tt
+enter-may : (table : Table) (h : List Event) (k : Carried) (client entry : ℕ) (reply : Reply) → core.MayAnswer table h k (EnterEvent client entry) reply → IsEnterReply reply
+enter-may table h k client entry reply (inl e) = subst IsEnterReply (sym e) (enter-replied table h k client entry)
+enter-may table h k client entry reply (inr (entered, e)) = subst IsEnterReply (sym e) tt
 
-step-may : (table : Table) (h : List Event) (client : ℕ) (reply : Reply) → core.MayAnswer table h (StepEvent client) reply → IsStepReply reply
-step-may table h client reply (inl e) = subst IsStepReply (sym e) (step-replied table h client)
-step-may table h client reply (inr (entered, e)) = absurd (subst IsStepReply entered (step-replied table h client))
+step-may : (table : Table) (h : List Event) (k : Carried) (client : ℕ) (reply : Reply) → core.MayAnswer table h k (StepEvent client) reply → IsStepReply reply
+step-may table h k client reply (inl e) = subst IsStepReply (sym e) (step-replied table h k client)
+step-may table h k client reply (inr (entered, e)) = absurd (subst IsStepReply entered (step-replied table h k client))
 
 -- ---- an answer fits its command, and its record is whole
 
-fits-may : (table : Table) (turns : ℕ) (h : List Event) (command : Command) (answer : Answer) → MayAnswer table turns h command answer → Fits command answer
-fits-may table turns h (Enter client entry) (Replied reply) may = enter-may table h client entry reply may
-fits-may table turns h (Enter client entry) (Turned r) may = may
-fits-may table turns h (Enter client entry) (TurnRefused fault) may = may
-fits-may table turns h (Step client) (Replied reply) may = step-may table h client reply may
-fits-may table turns h (Step client) (Turned r) may = may
-fits-may table turns h (Step client) (TurnRefused fault) may = may
-fits-may table turns h Turn (Replied reply) may = may
-fits-may table turns h Turn (Turned r) may = tt
-fits-may table turns h Turn (TurnRefused fault) may = tt
+fits-may : (table : Table) (turns : ℕ) (h : List Event) (k : Carried) (command : Command) (answer : Answer) → MayAnswer table turns h k command answer → Fits command answer
+fits-may table turns h k (Enter client entry) (Replied reply) may = enter-may table h k client entry reply may
+fits-may table turns h k (Enter client entry) (Turned r) may = may
+fits-may table turns h k (Enter client entry) (TurnRefused fault) may = may
+fits-may table turns h k (Step client) (Replied reply) may = step-may table h k client reply may
+fits-may table turns h k (Step client) (Turned r) may = may
+fits-may table turns h k (Step client) (TurnRefused fault) may = may
+fits-may table turns h k Turn (Replied reply) may = may
+fits-may table turns h k Turn (Turned r) may = tt
+fits-may table turns h k Turn (TurnRefused fault) may = tt
 
-whole-may : (table : Table) (turns : ℕ) (h : List Event) (command : Command) (answer : Answer) → MayAnswer table turns h command answer → IsWhole table.width answer
-whole-may table turns h command (Replied reply) may = tt
-whole-may table turns h command (TurnRefused fault) may = tt
-whole-may table turns h (Enter client entry) (Turned r) may = absurd may
-whole-may table turns h (Step client) (Turned r) may = absurd may
-whole-may table turns h Turn (Turned r) (quiet, told) = (told.exits, told.names ∙ sym told.clients)
+whole-may : (table : Table) (turns : ℕ) (h : List Event) (k : Carried) (command : Command) (answer : Answer) → MayAnswer table turns h k command answer → IsWhole table.width answer
+whole-may table turns h k command (Replied reply) may = tt
+whole-may table turns h k command (TurnRefused fault) may = tt
+whole-may table turns h k (Enter client entry) (Turned r) may = absurd may
+whole-may table turns h k (Step client) (Turned r) may = absurd may
+whole-may table turns h k Turn (Turned r) (quiet, told) = (told.exits, told.names ∙ sym told.clients)
 
 -- ---- so do all
 
-pub fits_all : (table : Table) (turns : ℕ) (h : List Event) (commands : List Command) (answers : List Answer) → MayAnswerAll table turns h commands answers → AreAnswers commands answers
-fits_all table turns h [] [] may = tt
-fits_all table turns h [] (a ∷ rest) may = may
-fits_all table turns h (c ∷ cs) [] may = may
-fits_all table turns h (c ∷ cs) (a ∷ rest) may = (fits-may table turns h c a may.0, fits_all table (turns_after turns a) (history_after h c a) cs rest may.1)
+pub fits_all : (table : Table) (turns : ℕ) (h : List Event) (kept : Option (List (List Event))) (commands : List Command) (answers : List Answer) → MayAnswerAll table turns h kept commands answers → AreAnswers commands answers
+fits_all table turns h kept [] [] may = tt
+fits_all table turns h kept [] (a ∷ rest) may = may
+fits_all table turns h kept (c ∷ cs) [] may = may
+fits_all table turns h kept (c ∷ cs) (a ∷ rest) may = (fits-may table turns h (carried_in table kept) c a may.0, fits_all table (turns_after turns a) (history_after h c a) (kept_after kept h a) cs rest may.1)
 
-pub whole_all : (table : Table) (turns : ℕ) (h : List Event) (commands : List Command) (answers : List Answer) → MayAnswerAll table turns h commands answers → All (IsWhole table.width) answers
-whole_all table turns h [] [] may = λ k d l. absurd (omega arith)
-whole_all table turns h [] (a ∷ rest) may = absurd may
-whole_all table turns h (c ∷ cs) [] may = absurd may
-whole_all table turns h (c ∷ cs) (a ∷ rest) may = by (whole-may table turns h c a may.0) (whole_all table (turns_after turns a) (history_after h c a) cs rest may.1)
+pub whole_all : (table : Table) (turns : ℕ) (h : List Event) (kept : Option (List (List Event))) (commands : List Command) (answers : List Answer) → MayAnswerAll table turns h kept commands answers → All (IsWhole table.width) answers
+whole_all table turns h kept [] [] may = λ k d l. absurd (omega arith)
+whole_all table turns h kept [] (a ∷ rest) may = absurd may
+whole_all table turns h kept (c ∷ cs) [] may = absurd may
+whole_all table turns h kept (c ∷ cs) (a ∷ rest) may = by (whole-may table turns h (carried_in table kept) c a may.0) (whole_all table (turns_after turns a) (history_after h c a) (kept_after kept h a) cs rest may.1)
   where
     by : IsWhole table.width a → All (IsWhole table.width) rest → All (IsWhole table.width) (a ∷ rest)
     by here later zero d l = here

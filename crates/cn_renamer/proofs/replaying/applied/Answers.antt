@@ -2,8 +2,9 @@ use Rattle.std.proofs.Common.{◌≡◌, List, [], None, rules, ◌∙◌, ap}
 use Rattle.std.specs.List.{All}
 use Rattle.cn_wiring.specs.Network.{Network}
 use Rattle.cn_core.specs.declared.event.Event.{Event}
-use Rattle.cn_core.specs.History.{enters_of, inside_of}
-use Rattle.cn_epoch.specs.Turns.{HadMemory, history_by, turns_by}
+use Rattle.cn_core.specs.History.{enters_of, inside_of, nothing}
+use Rattle.cn_epoch.specs.History.{history_by, turns_by}
+use Rattle.cn_epoch.specs.Turns.{HadMemory}
 use Rattle.cn_report.specs.Writing.Replay.{IsWhole}
 use Rattle.cn_report.proofs.CallerLemmas.{fits_all, whole_all}
 use Rattle.cn_renamer.proofs.replaying.applied.Goals as goal
@@ -11,14 +12,14 @@ use Rattle.cn_renamer.proofs.replaying.applied.Goals as goal
 pub render_replay-requires-clause-fit : goal.render_replay-requires-clause-fit
 render_replay-requires-clause-fit c =
     let may = (c.in_ok-answers.ensures.history 0 [] None c.requires.agrees).0 in
-    rw c.deref-2.ensures.value (fits_all c.args.epochs.now.core.network.table 0 [] c.args.commands.now c.in_ok-answers.answers.items may)
+    rw c.deref-2.ensures.value (fits_all c.args.epochs.now.core.network.table 0 [] None c.args.commands.now c.in_ok-answers.answers.items may)
 
 pub render_replay-requires-clause-whole : goal.render_replay-requires-clause-whole
 render_replay-requires-clause-whole c =
     let may = (c.in_ok-answers.ensures.history 0 [] None c.requires.agrees).0 in
     let network : c.args.epochs.now.core.network ≡ c.args.network.now = ap (λ e. e.core.network) c.requires.begun in
     let whole : All (IsWhole c.args.network.now.table.width) c.in_ok-answers.answers.items =
-    rw network at (whole_all c.args.epochs.now.core.network.table 0 [] c.args.commands.now c.in_ok-answers.answers.items may) in
+    rw network at (whole_all c.args.epochs.now.core.network.table 0 [] None c.args.commands.now c.in_ok-answers.answers.items may) in
     rw c.deref-2.ensures.value whole
 
 pub returns-clause-text : goal.returns-clause-text
@@ -30,8 +31,8 @@ returns-clause-text c =
     let history : List Event = history_by [] c.args.commands.now answers in
     let number : c.number.result ≡ turns_by 0 answers = c.number.ensures.by_turns (turns_by 0 answers) history None agrees in
     let entered : c.entered.result ≡ enters_of history = c.entered.ensures.by_history (turns_by 0 answers) history None agrees in
-    let inside : c.inside.result ≡ inside_of c.args.network.now.table history =
-    c.inside.ensures.by_history (turns_by 0 answers) history None agrees ∙ ap (λ (n : Network). inside_of n.table history) same in
+    let inside : c.inside.result ≡ inside_of c.args.network.now.table history nothing =
+    c.inside.ensures.by_history (turns_by 0 answers) history None agrees ∙ ap (λ (n : Network). inside_of n.table history nothing) same in
     let memory : All HadMemory answers = search rules in
     record {
       answers = answers;

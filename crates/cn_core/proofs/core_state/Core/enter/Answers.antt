@@ -2,7 +2,7 @@ use Rattle.std.proofs.Common.{◌∙◌, rules, ◌≡◌, arith, None, ◌++◌
 use Rattle.cn_core.proofs.LedgerLemmas.{IsCore-after_enter, ledger-enters}
 use Rattle.cn_core.proofs.TightLemmas.{room-entered}
 use Rattle.cn_core.proofs.HistoryLemmas.{history-enter}
-use Rattle.cn_core.specs.SinceCleared.{carried_by}
+use Rattle.cn_core.specs.History.{carried_by}
 use Rattle.cn_core.specs.InsideClients.{positions}
 use Rattle.cn_core.specs.InsideCore.{state_of}
 use Rattle.cn_core.specs.State.{State, position_in}

@@ -1,7 +1,7 @@
 use Rattle.std.proofs.Common.{rules, ◌≡◌, ◌+◌, ◌*◌, [], List, ℕ, refl, subst, sym, ap, arith, ◌∙◌}
 use Rattle.std.specs.Prelude.{replicate, length}
 use Rattle.std.proofs.lemmas.List.{length-replicate}
-use Rattle.cn_core.specs.SinceCleared.{Agrees}
+use Rattle.cn_core.specs.History.{Agrees}
 use Rattle.cn_core.specs.InsideClients.{Clients, positions}
 use Rattle.cn_core.specs.State.{State, start}
 use Rattle.cn_core.specs.StateLedger.{IsCore}

@@ -1,6 +1,6 @@
 use Rattle.std.proofs.Common.{◌∙◌, []}
 use Rattle.cn_core.specs.Calls.{entered_reply}
-use Rattle.cn_core.specs.SinceCleared as core
+use Rattle.cn_core.specs.History as core
 use Rattle.cn_core.specs.declared.event.Event.TheVariants.{Enter}
 use Rattle.cn_epoch.proofs.epochs.Epochs.enter.Goals as goal
 

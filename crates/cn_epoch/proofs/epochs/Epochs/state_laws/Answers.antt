@@ -1,7 +1,7 @@
 use Rattle.std.proofs.Common.{◌≡◌, Bool, true, false, List, Option, None, Some, refl}
 use Rattle.cn_core.specs.declared.event.Event.{Event}
 use Rattle.cn_epoch.specs.InsideEpochs.{epochs_of}
-use Rattle.cn_epoch.specs.SinceCleared.{Agrees, earlier_in}
+use Rattle.cn_epoch.specs.History.{Agrees, earlier_in}
 use Rattle.cn_epoch.proofs.epochs.Epochs.state_laws.Goals as goal
 
 pub returns-clause-reached : goal.returns-clause-reached

@@ -1,6 +1,6 @@
 use Rattle.std.proofs.Common.{◌∙◌, [], refl}
 use Rattle.cn_core.specs.Calls.{stepped_reply}
-use Rattle.cn_core.specs.SinceCleared as core
+use Rattle.cn_core.specs.History as core
 use Rattle.cn_core.specs.declared.event.Event.TheVariants.{Step}
 use Rattle.cn_epoch.proofs.Answering.{moved-event}
 use Rattle.cn_epoch.proofs.epochs.Epochs.step.Goals as goal

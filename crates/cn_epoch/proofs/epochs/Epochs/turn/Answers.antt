@@ -2,7 +2,7 @@ use Rattle.std.proofs.Common.{◌≡◌, ◌+◌, refl, rules}
 use Rattle.cn_core.specs.State.{inside_in}
 use Rattle.cn_core.specs.Tight.{IsTightState}
 use Rattle.cn_epoch.specs.Calls.{TellsEpoch}
-use Rattle.cn_epoch.specs.SinceCleared.{next}
+use Rattle.cn_epoch.specs.History.{next}
 use Rattle.cn_epoch.specs.InsideEpochs.{epochs_of}
 use Rattle.cn_epoch.proofs.Answering.{memory-after, told-tight, turned-after}
 use Rattle.cn_epoch.proofs.epochs.Epochs.turn.Goals as goal

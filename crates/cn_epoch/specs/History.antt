@@ -7,8 +7,8 @@ use Rattle.cn_wiring.specs.declared.end.End.TheVariants.{Exit}
 use Rattle.cn_core.specs.declared.event.Event.{Event}
 use Rattle.cn_core.specs.declared.event.Event.TheVariants.{Enter as EnterEvent, Step as StepEvent}
 use Rattle.cn_core.specs.declared.position.Position.TheVariants.{Holds}
-use Rattle.cn_core.specs.SinceCleared as core
-use Rattle.cn_core.specs.SinceCleared.{Carried, carried_by, enters_of, inside_of, position_after, steps_before}
+use Rattle.cn_core.specs.History as core
+use Rattle.cn_core.specs.History.{Carried, carried_by, enters_of, inside_of, position_after, steps_before}
 use Rattle.cn_core.specs.State.{State, after_carry, start}
 use Rattle.cn_epoch.specs.declared.answer.Answer.{Answer}
 use Rattle.cn_epoch.specs.declared.answer.Answer.TheVariants.{Replied, Turned, TurnRefused}
