@@ -13,6 +13,7 @@ names_of filled = map (λ f. f.name) filled
 abbrev pub written : Filled → ℕ × ℕ
 written f = (f.name, f.client)
 
+-- the name and the client of a grant
 abbrev pub given : Grant → ℕ × ℕ
 given g = (g.name, g.client)
 

@@ -12,10 +12,10 @@ use Rattle.cn_wiring.specs.Table.{Stands, is_end, sum_at}
 use Rattle.cn_core.specs.declared.event.Event.{Event}
 use Rattle.cn_core.specs.State.{State, after_carry, inside_in, past}
 use Rattle.cn_core.specs.History.{AgreesAfter, Carried, carried_by}
-use Rattle.cn_core.specs.StateLedger.{IsCore, given_before, ledger_of}
+use Rattle.cn_core.specs.StateLedger.{IsCore, ledger_of}
 use Rattle.cn_ledger.specs.Ledger.{IsSound, Ledger, put}
 use Rattle.cn_core.proofs.HistoryLemmas.{Agrees-after_carry}
-use Rattle.cn_core.proofs.StateLemmas.{IsState-after_carry}
+use Rattle.cn_core.proofs.StateLemmas.{given_before, IsState-after_carry}
 use Rattle.cn_core.proofs.TightLemmas.{on-inside, tight-state}
 
 -- ---- client 0 stands for each client that is carried

@@ -12,9 +12,9 @@ use Rattle.cn_names.specs.declared.standing.Standing.TheVariants.{Walking, Holds
 use Rattle.cn_names.specs.Names.{is_walking, standing_in, with_standing}
 use Rattle.cn_core.specs.declared.position.Position.{Position}
 use Rattle.cn_core.specs.declared.position.Position.TheVariants.{On, Holds}
-use Rattle.cn_core.specs.State.{is_inside, position_in, with_position}
+use Rattle.cn_core.specs.State.{is_inside, position_in}
 use Rattle.cn_yard.proofs.CallerLemmas.{count-push, count-set, times-absent, times-push, times-set}
-use Rattle.cn_core.specs.InsideClients.{IsPlaced, StandsFor, position_by}
+use Rattle.cn_core.specs.InsideClients.{IsPlaced, StandsFor, position_by, with_position}
 
 -- the table's entries with their positions in the yard
 abbrev pub placed : Lists → List (ℕ × Standing) → List (ℕ × Position)

@@ -19,7 +19,8 @@ use Rattle.cn_core.specs.declared.reply.EnterFault.TheVariants.{NoSuchEntry, Alr
 use Rattle.cn_core.specs.declared.reply.StepFault.TheVariants.{Stranger, HasName}
 use Rattle.cn_core.specs.declared.reply.Reply.{Reply}
 use Rattle.cn_core.specs.declared.reply.Reply.TheVariants.{Entered, EnterRefused, Stepped, StepRefused}
-use Rattle.cn_core.specs.State.{State, IsState, position_in, with_position, position_past, past, after_carry, after_enter, after_step, start, is_named, is_inside, inside_in}
+use Rattle.cn_core.specs.State.{State, IsState, position_in, position_past, past, after_carry, after_enter, after_step, start, is_named, is_inside, inside_in}
+use Rattle.cn_core.specs.InsideClients.{with_position}
 use Rattle.cn_core.specs.History.{Carried, position_after, leaves_of, inside_of, end_at, is_leave, IsHistory, Agrees, AgreesAfter, MayAnswerAll, carried_by, history_after, steps_before}
 use Rattle.cn_core.specs.Calls.{EntersTo, StepsTo, TakesTo, IsLedgerEvent, AnswersByHistory, RunsByHistory, RunsTo}
 use Rattle.cn_yard.proofs.CallerLemmas.{lookup-push, lookup-set, count-push, count-set}

@@ -1,9 +1,8 @@
 -- Each event of a core is an event of its ledger, and so its ledger is sound.
-use Rattle.std.proofs.Common.{◌≡◌, ℕ, ◌+◌, ◌-◌, ◌%◌, ◌/◌, ◌<◌, Bool, true, false, cond, nat_eq, List, [], ◌∷◌, length, refl, ap, arith, Some, None, sym, ◌∙◌, slice_index, inl, inr, ◌&&◌, eqb, ap₂, add-zero, add_comm}
+use Rattle.std.proofs.Common.{◌≡◌, ℕ, ◌+◌, ◌-◌, ◌%◌, ◌/◌, ◌<◌, Bool, true, false, cond, nat_eq, List, [], ◌∷◌, length, refl, ap, arith, Option, Some, None, sym, ◌∙◌, slice_index, inl, inr, ◌&&◌, eqb, ap₂, add-zero}
 use Rattle.std.specs.Prelude.{count_by, nat_lt, ◌==◌}
 use Rattle.std.specs.Map.{values_of}
 use Rattle.std.proofs.lemmas.Bool.{cases_eq, cases_lt, eq-eqb, ne_eqb, lt-ltb, le-ltb}
-use Rattle.std.proofs.lemmas.List.Sums.{sum_by-cons}
 use Rattle.cn_spec.specs.Step.{name_of, share}
 use Rattle.cn_spec.specs.Sums.{when, once_below}
 use Rattle.cn_spec.specs.declared.limits.TheConstants.{MOST_CLIENTS}
@@ -16,18 +15,18 @@ use Rattle.cn_core.specs.declared.position.Position.{Position}
 use Rattle.cn_core.specs.declared.position.Position.TheVariants.{On}
 use Rattle.cn_core.specs.declared.event.Event.{Event}
 use Rattle.cn_core.specs.declared.event.Event.TheVariants.{Enter, Step}
-use Rattle.cn_core.specs.State.{State, IsState, position_in, with_position, position_past, past, after_enter, after_step, start}
-use Rattle.cn_core.specs.History.{AgreesAfter, ByHistories, Carried, carried_by, position_after, steps_before, end_at, moved_past, nothing}
-use Rattle.cn_core.specs.Passages.{passages_of, times_passed, with_passage}
+use Rattle.cn_core.specs.State.{State, IsState, position_in, position_past, past, after_enter, after_step, start}
+use Rattle.cn_core.specs.InsideClients.{with_position}
+use Rattle.cn_core.specs.History.{AgreesAfter, ByHistories, Carried, carried_by, position_after, steps_before, end_at, is_same_end, moved_past, times_passed}
 use Rattle.cn_ledger.specs.Ledger.{IsSound}
-use Rattle.cn_ledger.specs.Events.{Enters, Passes, Leaves, one_number}
+use Rattle.cn_ledger.specs.Events.{Enters, Passes, Leaves}
 use Rattle.cn_ledger.specs.declared.moved.Moved.{Moved}
 use Rattle.cn_core.specs.declared.reply.Reply.TheVariants.{Stepped}
 use Rattle.cn_ledger.specs.Moves.{IsMoveOf}
-use Rattle.cn_core.specs.Calls.{MovesLedger, StepsTo}
-use Rattle.cn_core.specs.StateLedger.{is_on, holds, given_before, given_in, ledger_of, HasSoundLedger, IsCore}
+use Rattle.cn_core.specs.Calls.{IsLedgerEvent, StepsTo}
+use Rattle.cn_core.specs.StateLedger.{is_on, holds, given_in, ledger_of, HasSoundLedger, IsCore}
 use Rattle.cn_yard.proofs.CallerLemmas.{count-push, count-set, count_pair-push, count_pair-set}
-use Rattle.cn_core.proofs.StateLemmas.{name-later, share-zero, stands-at, IsState-start, IsState-after_enter, IsState-after_step}
+use Rattle.cn_core.proofs.StateLemmas.{given_before, name-later, share-zero, stands-at, IsState-start, IsState-after_enter, IsState-after_step}
 use Rattle.cn_core.proofs.HistoryLemmas.{past-after_step, Agrees-start, AgreesAfter-after_enter, AgreesAfter-after_step}
 use Rattle.cn_core.proofs.PassageLemmas.{sound_passages}
 use Rattle.cn_ledger.proofs.CallerLemmas.{eqb-sym, is_end-sym, sound-enters, sound-leaves, sound-nothing, sound-passes}
@@ -77,12 +76,12 @@ standing-after s client wire to u d on =
     both true b = refl
     both false b = refl
 
--- where the passages of a history are, once a client steps off a wire with this end
-passages-after : (s : State) (h : List Event) (k : Carried) (client wire : ℕ) (end : End) → position_in s.clients client ≡ Some (On wire) → end_of s.network.table wire ≡ end → AgreesAfter s h k
-    → passages_of s.network.table (Step client ∷ h) k ≡ with_passage s.network.table h k (Some end) (passages_of s.network.table h k)
-passages-after s h k client wire end on ends a =
+-- how often a passage was made, once a client steps off a wire with this end
+passed-after : (s : State) (h : List Event) (k : Carried) (client wire : ℕ) (end : End) → position_in s.clients client ≡ Some (On wire) → end_of s.network.table wire ≡ end → AgreesAfter s h k
+    → (b n : ℕ) → times_passed s.network.table (Step client ∷ h) k b n ≡ times_passed s.network.table h k b n + cond (is_end (Balancer b) end && eqb (steps_before s.network.table h k (Balancer b)) n) 1 0
+passed-after s h k client wire end on ends a b n =
     let here : end_at s.network.table (position_after s.network.table h k client) ≡ Some end = rw (← a.positions client, on) (ap Some ends) in
-    ap (λ e. with_passage s.network.table h k e (passages_of s.network.table h k)) here
+    ap (λ (e : Option End). times_passed s.network.table h k b n + cond (is_same_end (Balancer b) e && eqb (steps_before s.network.table h k (Balancer b)) n) 1 0) here
 
 -- a change of position between two that hold no name, or hold another
 held-after : (s : State) (name client wire : ℕ) (to : Position) → position_in s.clients client ≡ Some (On wire)
@@ -120,16 +119,17 @@ ledger-passes s h k client wire b is on ends a = record {
     to : Position
     to = position_past s.network.table s.base (Balancer b) (slice_index s.passes b)
 
-    given : (other : End) (n : ℕ) → given_in (after_step s client (Balancer b)) (Step client ∷ h) k other n ≡ given_in s h k other n + one_number (Balancer b) (slice_index s.passes b) other n
+    given : (other : End) (n : ℕ) → given_in (after_step s client (Balancer b)) (Step client ∷ h) k other n ≡ given_in s h k other n + when (is_end (Balancer b) other && (slice_index s.passes b == n)) 1
     given (Balancer c) n =
-        let m : ℕ = steps_before s.network.table h k (Balancer b) in
-        let same : slice_index s.passes b ≡ m = a.counts (Balancer b) in
-        ap (λ (t : ℕ). once_below (k.steps (Balancer c)) n + t)
-        (ap (times_passed c n) (passages-after s h k client wire (Balancer b) on ends a)
-        ∙ sum_by-cons (λ (p : ℕ × ℕ). cond ((c == p.0) && (n == p.1)) 1 0) (b, m) (passages_of s.network.table h k)
-        ∙ add_comm (cond ((c == b) && (n == m)) 1 0) (times_passed c n (passages_of s.network.table h k))
-        ∙ ap (λ (q : Bool). times_passed c n (passages_of s.network.table h k) + cond ((c == b) && q) 1 0) (eqb-sym n m ∙ ap (λ (i : ℕ). i == n) (sym same)))
-        ∙ omega arith
+        let passed = passed-after s h k client wire (Balancer b) on ends a c n in
+        let m : ℕ = steps_before s.network.table h k (Balancer c) in
+        let here : ((b == c) && eqb m n) ≡ ((c == b) && (slice_index s.passes b == n)) =
+        elim (cases_eq b c) [
+          | inl same ↦ λ i. eqb-sym b c i && eqb ((sym (a.counts (Balancer c)) ∙ ap (λ (x : ℕ). slice_index s.passes x) (sym same)) i) n
+          | inr other ↦
+              ap (λ (q : Bool). q && eqb m n) (ne_eqb b c other) ∙ sym (ap (λ (q : Bool). q && (slice_index s.passes b == n)) (eqb-sym c b ∙ ne_eqb b c other))
+        ] in
+        omega (arith, passed, ap {B = ℕ} (λ (q : Bool). cond q 1 0) here)
     given (Exit i) v =
         ap (λ (n : ℕ). when (nat_lt i s.network.table.width) (given_before s i v + n)) (held-after s (name_of s.network.table.width i v) client wire to on ∙ add-zero (count_by (holds s.base (name_of s.network.table.width i v)) (values_of s.clients)))
         ∙ sym (add-zero (given_in s h k (Exit i) v))
@@ -232,9 +232,9 @@ ledger-leaves s h k client wire i is on ends a = record {
     whole : name_of w i (slice_index s.visits i) - s.base + s.base ≡ name_of w i (slice_index s.visits i)
     whole = omega (arith, name-later s is i below)
 
-    given : (other : End) (n : ℕ) → given_in (after_step s client (Exit i)) (Step client ∷ h) k other n ≡ given_in s h k other n + one_number (Exit i) (slice_index s.visits i) other n
+    given : (other : End) (n : ℕ) → given_in (after_step s client (Exit i)) (Step client ∷ h) k other n ≡ given_in s h k other n + when (is_end (Exit i) other && (slice_index s.visits i == n)) 1
     given (Balancer b) n =
-        ap (λ (t : List (ℕ × ℕ)). once_below (k.steps (Balancer b)) n + times_passed b n t) (passages-after s h k client wire (Exit i) on ends a)
+        ap (λ (t : ℕ). once_below (k.steps (Balancer b)) n + t) (passed-after s h k client wire (Exit i) on ends a b n ∙ add-zero (times_passed s.network.table h k b n))
         ∙ sym (add-zero (given_in s h k (Balancer b) n))
     given (Exit j) v =
         given-leave w i j (slice_index s.visits i) v
@@ -275,7 +275,7 @@ IsCore-start network is = record {
     [],
     [],
     Agrees-start network,
-    sound-nothing network.table (ledger_of (start network) [] nothing)
+    sound-nothing network.table (ledger_of (start network) [] (carried_by network.table []))
         (record { entered = zero_at network.table.entries; count = count; on = λ u. refl; standing = λ u c. refl; given = given; granted = granted }),
   );
 }
@@ -290,7 +290,7 @@ IsCore-start network is = record {
     before : (i v : ℕ) → i < network.table.width → given_before (start network) i v ≡ 0
     before i v within = none-below (share 0 network.table.width i) v (share-zero network.table.width i within)
 
-    given : (end : End) (n : ℕ) → given_in (start network) [] nothing end n ≡ 0
+    given : (end : End) (n : ℕ) → given_in (start network) [] (carried_by network.table []) end n ≡ 0
     given (Balancer b) n = omega (arith, none-below 0 n refl)
     given (Exit i) v = elim (cases_lt i network.table.width) [
       | inl within ↦ rw (lt-ltb i network.table.width within) (omega (arith, before i v within))
@@ -352,7 +352,7 @@ IsCore-after_step s client wire (Exit i) is on ends =
 
 -- ---- each accepted call is one event on the ledger
 
-pub ledger-step : (old : State) (client : ℕ) (moved : Moved) (new : State) → IsState old → StepsTo old client (Stepped moved) new → MovesLedger old client moved new
+pub ledger-step : (old : State) (client : ℕ) (moved : Moved) (new : State) → IsState old → StepsTo old client (Stepped moved) new → IsLedgerEvent old (Step client) (Stepped moved) new
 ledger-step old client moved new is (wire, on, m, e) h earlier (epochs, a) = rw (m, e) (by (end_of old.network.table wire) refl)
   where
     k : Carried

@@ -8,7 +8,7 @@ use Rattle.std.proofs.lemmas.Map.{length-set_value}
 use Rattle.cn_spec.specs.declared.limits.TheConstants.{MOST_CARRIED, MOST_CLIENTS}
 use Rattle.cn_spec.proofs.CallerLemmas.{name-below, one_more_at, sum_below-change, sum_below-zero, zero_at}
 use Rattle.cn_spec.specs.Step.{name_of, share}
-use Rattle.cn_spec.specs.Sums.{one_more}
+use Rattle.cn_spec.specs.Sums.{once_below, one_more}
 use Rattle.cn_wiring.specs.declared.end.End.{End}
 use Rattle.cn_wiring.specs.declared.end.End.TheVariants.{Balancer, Exit}
 use Rattle.cn_wiring.specs.Table.{end_of, Stands, LeadsOn}
@@ -17,6 +17,10 @@ use Rattle.cn_core.specs.declared.position.Position.{Position}
 use Rattle.cn_core.specs.declared.position.Position.TheVariants.{On}
 use Rattle.cn_core.specs.State.{State, IsState, came_in, position_in, position_past, after_carry, after_enter, after_step, start, times_entered}
 use Rattle.cn_yard.proofs.CallerLemmas.{lookup-push, lookup-set, times-push, times-absent, times-set}
+
+-- how often the name of a visit of an exit was given in earlier epochs: they gave each exit its share of the base
+abbrev pub given_before : State → ℕ → ℕ → ℕ
+given_before s i v = once_below (share s.base s.network.table.width i) v
 
 -- what a table says of the end of a wire
 pub stands-at : (network : Network) → IsNetwork network → (wire : ℕ) (end : End) → wire < length network.table.ends → end_of network.table wire ≡ end → Stands network.table end

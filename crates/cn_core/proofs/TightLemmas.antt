@@ -16,11 +16,12 @@ use Rattle.cn_core.specs.declared.position.Position.TheVariants.{On, Holds}
 use Rattle.cn_core.specs.State.{State, IsState, came_in, past, position_in, name_at, name_in, times_entered, is_inside, is_named, inside_in}
 use Rattle.cn_ledger.specs.Ledger.{IsQuiescent, Ledger, times_given}
 use Rattle.cn_core.specs.History.{carried_by}
-use Rattle.cn_core.specs.StateLedger.{is_on, holds, given_before, granted_in, ledger_of, IsCore}
+use Rattle.cn_core.specs.StateLedger.{is_on, holds, granted_in, ledger_of, IsCore}
 use Rattle.cn_core.specs.Tight.{grants_in, IsTightState, IsBoundedState}
 use Rattle.cn_ledger.proofs.CallerLemmas.{bounded, counts-few, names-differ, tight}
 use Rattle.cn_yard.proofs.CallerLemmas.{count_pair-found}
 use Rattle.cn_core.proofs.HistoryLemmas.{inside_or_named}
+use Rattle.cn_core.proofs.StateLemmas.{given_before}
 
 named-position : (p : Option Position) (name : ℕ) → name_at p ≡ Some name → p ≡ Some (Holds name)
 named-position None name e = absurd (cc)

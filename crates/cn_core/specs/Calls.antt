@@ -84,22 +84,14 @@ CarriesByHistory old new =
     (history : List Event) (earlier : List (List Event)) → Agrees old history earlier
     → Agrees new [] (history ∷ earlier)
 
--- an accepted enter is one event on the ledger
-abbrev pub EntersLedger : State → ℕ → ℕ → State → Type 0
-EntersLedger old client entry new =
-    ByHistories old (λ history carried.
-    Enters old.network.table (ledger_of old history carried) (ledger_of new (Enter client entry ∷ history) carried) client entry)
-
--- an accepted step is one event on the ledger
-abbrev pub MovesLedger : State → ℕ → Moved → State → Type 0
-MovesLedger old client moved new =
-    ByHistories old (λ history carried.
-    IsMoveOf old.network.table old.base (ledger_of old history carried) (ledger_of new (Step client ∷ history) carried) client moved)
-
 -- if the event is accepted, it is one event on the ledger
 abbrev pub IsLedgerEvent : State → Event → Reply → State → Type 0
-IsLedgerEvent old (Enter client entry) Entered new = EntersLedger old client entry new
-IsLedgerEvent old (Step client) (Stepped moved) new = MovesLedger old client moved new
+IsLedgerEvent old (Enter client entry) Entered new =
+    ByHistories old (λ history carried.
+    Enters old.network.table (ledger_of old history carried) (ledger_of new (Enter client entry ∷ history) carried) client entry)
+IsLedgerEvent old (Step client) (Stepped moved) new =
+    ByHistories old (λ history carried.
+    IsMoveOf old.network.table old.base (ledger_of old history carried) (ledger_of new (Step client ∷ history) carried) client moved)
 IsLedgerEvent old event reply new = Unit {0}
 
 -- events with these replies take the old state to the new one, one after another, each accepted one by one event on the ledger

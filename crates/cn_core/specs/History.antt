@@ -2,7 +2,7 @@
 -- those of the earlier epochs whose counts it carries. The newest event stands first, and so does the newest epoch. They are
 -- one sequential execution of the network (Aspnes, Herlihy, Shavit, JACM 1994, section 2.1); this way to state it is
 -- this project's own.
-use Rattle.std.specs.Prelude.{◌≡◌, ℕ, ◌+◌, ◌-◌, ◌%◌, ◌==◌, nat_le, Bool, true, false, List, ◌∷◌, [], Option, None, Some, is_some, slice_index, if◌then◌else◌, ◌⊎◌, length, count_by}
+use Rattle.std.specs.Prelude.{◌≡◌, ℕ, ◌+◌, ◌-◌, ◌%◌, ◌==◌, ◌&&◌, nat_le, Bool, true, false, List, ◌∷◌, [], Option, None, Some, is_some, slice_index, if◌then◌else◌, ◌⊎◌, length, count_by}
 use Rattle.std.specs.Map.{values_of}
 use Rattle.std.specs.Option.{option_map}
 use Rattle.cn_spec.specs.Step.{name_of}
@@ -40,10 +40,6 @@ pub record Carried : Type 0 where
   pub entered : ℕ → ℕ
   pub steps : End → ℕ
 
--- no epoch came before
-abbrev pub nothing : Carried
-nothing = record { enters = 0; entered = λ _. 0; steps = λ _. 0 }
-
 abbrev mutual
   -- the position of a client: its enter puts it on the entry's wire, and each of its steps takes it past the end of its
   -- wire; a name is that of its exit and visit minus the enters of the earlier epochs
@@ -62,6 +58,15 @@ abbrev mutual
   steps_before table (Enter c entry ∷ history) carried end = steps_before table history carried end
   steps_before table (Step c ∷ history) carried end =
       steps_before table history carried end + (if is_same_end end (end_at table (position_after table history carried c)) then 1 else 0)
+
+-- how often the steps of the history are passage n of balancer b: a step from a wire that ends at the balancer is a passage,
+-- with the number that the history gives
+abbrev pub times_passed : Table → List Event → Carried → ℕ → ℕ → ℕ
+times_passed table [] carried b n = 0
+times_passed table (Enter c entry ∷ history) carried b n = times_passed table history carried b n
+times_passed table (Step c ∷ history) carried b n =
+    times_passed table history carried b n
+    + (if is_same_end (Balancer b) (end_at table (position_after table history carried c)) && (steps_before table history carried (Balancer b) == n) then 1 else 0)
 
 -- how many enters of the earlier epochs and of the history were on this entry
 abbrev pub enters_on : List Event → Carried → ℕ → ℕ
@@ -98,14 +103,6 @@ abbrev pub moved_past : Table → ℕ → End → ℕ → Moved
 moved_past table base (Balancer b) n = Passed b n (output_wire table b (n % 2))
 moved_past table base (Exit i) n = Out i n (name_of table.width i n - base)
 
--- the answer to an enter
-abbrev pub enter_answer : Table → List Event → Carried → ℕ → ℕ → Reply
-enter_answer table history carried client entry =
-    if nat_le table.entries entry then EnterRefused NoSuchEntry
-    else if is_some (position_after table history carried client) then EnterRefused AlreadyIn
-    else if nat_le MOST_CLIENTS (enters_of history) then EnterRefused EpochFull
-    else Entered
-
 -- the answer to a step of a client at this position
 abbrev pub step_answer : Table → List Event → Carried → Option Position → Reply
 step_answer table history carried None = StepRefused Stranger
@@ -115,7 +112,11 @@ step_answer table history carried (Some (On wire)) =
 
 -- the answer to an event after a history
 abbrev pub answer_to : Table → List Event → Carried → Event → Reply
-answer_to table history carried (Enter client entry) = enter_answer table history carried client entry
+answer_to table history carried (Enter client entry) =
+    if nat_le table.entries entry then EnterRefused NoSuchEntry
+    else if is_some (position_after table history carried client) then EnterRefused AlreadyIn
+    else if nat_le MOST_CLIENTS (enters_of history) then EnterRefused EpochFull
+    else Entered
 answer_to table history carried (Step client) = step_answer table history carried (position_after table history carried client)
 
 -- was the event accepted?
@@ -168,9 +169,9 @@ HasOneHolder table history carried =
     (client other name : ℕ) → position_after table history carried client ≡ Some (Holds name)
     → position_after table history carried other ≡ Some (Holds name) → client ≡ other
 
--- what these epochs leave
+-- what these epochs leave: nothing if there are none
 abbrev pub carried_by : Table → List (List Event) → Carried
-carried_by table [] = nothing
+carried_by table [] = record { enters = 0; entered = λ _. 0; steps = λ _. 0 }
 carried_by table (epoch ∷ earlier) = record {
   enters = (carried_by table earlier).enters + enters_of epoch;
   entered = enters_on epoch (carried_by table earlier);

@@ -1,6 +1,6 @@
 -- The clients of an epoch, as a yard and a table of names keep them.
 use Rattle.std.specs.Prelude.{◌≡◌, ℕ, ◌≤◌, nat_eq, All, List, Option, None, Some, map, count_by}
-use Rattle.std.specs.Map.{values_of}
+use Rattle.std.specs.Map.{set_value, values_of}
 use Rattle.cn_yard.specs.Lists.{Lists, Yard, standing, tokens_in}
 use Rattle.cn_names.specs.declared.standing.Standing.{Standing}
 use Rattle.cn_names.specs.declared.standing.Standing.TheVariants.{Walking, Holds as Named}
@@ -39,6 +39,10 @@ pub record IsPlaced (c : Clients) : Type 0 where
   pub stand : All (λ e. StandsFor c.yard.lists e.0 e.1) c.names
   pub once : (client : ℕ) → count_by (λ e. nat_eq client e.0) c.names ≤ 1
   pub walking : tokens_in c.yard.lists ≡ count_by is_walking (values_of c.names)
+
+-- the clients, one of them at another position
+abbrev pub with_position : List (ℕ × Position) → ℕ → Position → List (ℕ × Position)
+with_position clients client position = set_value (nat_eq client) clients position
 
 -- the position of a client that was found
 abbrev pub position_found : Found → Position

@@ -1,6 +1,5 @@
 pub mod State
 pub mod History
-pub mod Passages
 pub mod StateLedger
 pub mod Tight
 pub mod Calls

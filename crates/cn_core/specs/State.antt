@@ -28,10 +28,6 @@ pub record State : Type 0 where
 abbrev pub position_in : List (ℕ × Position) → ℕ → Option Position
 position_in clients client = lookup (nat_eq client) clients
 
--- the clients, one of them at another position
-abbrev pub with_position : List (ℕ × Position) → ℕ → Position → List (ℕ × Position)
-with_position clients client position = set_value (nat_eq client) clients position
-
 -- where the n-th token, from 0, comes to that goes past an end; a name is that of its exit and visit minus the base
 abbrev pub position_past : Table → ℕ → End → ℕ → Position
 position_past table base (Balancer b) n = On (output_wire table b (n % 2))
@@ -65,7 +61,7 @@ after_step s client (Balancer b) = record {
   entered = s.entered;
   passes = one_more s.passes b;
   visits = s.visits;
-  clients = with_position s.clients client (position_past s.network.table s.base (Balancer b) (slice_index s.passes b));
+  clients = set_value (nat_eq client) s.clients (position_past s.network.table s.base (Balancer b) (slice_index s.passes b));
 }
 after_step s client (Exit i) = record {
   network = s.network;
@@ -73,7 +69,7 @@ after_step s client (Exit i) = record {
   entered = s.entered;
   passes = s.passes;
   visits = one_more s.visits i;
-  clients = with_position s.clients client (position_past s.network.table s.base (Exit i) (slice_index s.visits i));
+  clients = set_value (nat_eq client) s.clients (position_past s.network.table s.base (Exit i) (slice_index s.visits i));
 }
 
 -- a network that nobody has entered

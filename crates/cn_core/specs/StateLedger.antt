@@ -10,8 +10,7 @@ use Rattle.cn_core.specs.declared.event.Event.{Event}
 use Rattle.cn_core.specs.declared.position.Position.{Position}
 use Rattle.cn_core.specs.declared.position.Position.TheVariants.{On, Holds}
 use Rattle.cn_core.specs.State.{State, IsState, past}
-use Rattle.cn_core.specs.History.{Agrees, Carried, carried_by}
-use Rattle.cn_core.specs.Passages.{passages_of, times_passed}
+use Rattle.cn_core.specs.History.{Agrees, Carried, carried_by, times_passed}
 use Rattle.cn_ledger.specs.Ledger.{Ledger, IsSound}
 
 -- does the token stand on this wire?
@@ -24,27 +23,20 @@ abbrev pub holds : ℕ → ℕ → Position → Bool
 holds base name (On wire) = false
 holds base name (Holds other) = other + base == name
 
--- how often the name of a visit of an exit was given in earlier epochs: they gave each exit its share of the base
-abbrev pub given_before : State → ℕ → ℕ → ℕ
-given_before s i v = once_below (share s.base s.network.table.width i) v
-
--- how many clients hold the name of a visit of an exit
-abbrev pub held_in : State → ℕ → ℕ → ℕ
-held_in s i v = count_by (holds s.base (name_of s.network.table.width i v)) (values_of s.clients)
-
--- how often a number was given: before the epoch; and a passage's in the history, a visit's to the clients that hold its
--- name
+-- how often a number was given: a passage's in earlier epochs and in the history; a visit's in earlier epochs, which gave
+-- each exit its share of the base, and to the clients that hold its name
 abbrev pub given_in : State → List Event → Carried → End → ℕ → ℕ
 given_in s history carried (Balancer b) n =
-    once_below (carried.steps (Balancer b)) n + times_passed b n (passages_of s.network.table history carried)
+    once_below (carried.steps (Balancer b)) n + times_passed s.network.table history carried b n
 given_in s history carried (Exit i) v =
-    when (nat_lt i s.network.table.width) (given_before s i v + held_in s i v)
+    when (nat_lt i s.network.table.width)
+    (once_below (share s.base s.network.table.width i) v + count_by (holds s.base (name_of s.network.table.width i v)) (values_of s.clients))
 
 -- how often a client was granted a visit of an exit and its name
 abbrev pub granted_in : State → ℕ → ℕ → ℕ → ℕ → ℕ
 granted_in s c i v name =
     when (nat_lt i s.network.table.width && (name_of s.network.table.width i v == name))
-    (when (0 == c) (given_before s i v) + count_by (λ e. nat_eq c e.0 && holds s.base name e.1) s.clients)
+    (when (0 == c) (once_below (share s.base s.network.table.width i) v) + count_by (λ e. nat_eq c e.0 && holds s.base name e.1) s.clients)
 
 -- the ledger of a state, with the passages of a history after what is carried
 abbrev pub ledger_of : State → List Event → Carried → Ledger

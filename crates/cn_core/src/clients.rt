@@ -6,8 +6,8 @@ ghost use Rattle.cn_spec.specs.declared.limits.TheConstants.{MOST_CLIENTS};
 ghost use Rattle.cn_yard.specs.Lists.{empty};
 ghost use Rattle.cn_names.specs.Names.{standing_in};
 ghost use Rattle.cn_names.specs.Grants.{ListsByName};
-ghost use Rattle.cn_core.specs.State.{is_inside, position_in, with_position};
-ghost use Rattle.cn_core.specs.InsideClients.{IsFound, position_found, positions};
+ghost use Rattle.cn_core.specs.State.{is_inside, position_in};
+ghost use Rattle.cn_core.specs.InsideClients.{IsFound, position_found, positions, with_position};
 
 use cn_names::{Names, Standing};
 use cn_yard::{Token, Yard};

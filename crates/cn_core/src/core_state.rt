@@ -73,7 +73,7 @@ impl<'a> Core<'a> {
     ghost use Rattle.cn_core.specs.History.{Agrees, ByHistories, enters_of, inside_of};
     ghost use Rattle.cn_core.specs.StateLedger.{HasSoundLedger};
     ghost use Rattle.cn_core.specs.Tight.{BringsAll, HasShares, IsBoundedState, IsTightState, ListsHolders};
-    ghost use Rattle.cn_core.specs.Calls.{AnswersByHistory, CarriesByHistory, EntersLedger, EntersTo, MovesLedger, StepsTo, entered_reply, stepped_reply};
+    ghost use Rattle.cn_core.specs.Calls.{AnswersByHistory, CarriesByHistory, EntersTo, IsLedgerEvent, StepsTo, entered_reply, stepped_reply};
 
     /// A network that nobody has entered. The table of its clients hashes by `state`.
     ///
@@ -239,7 +239,7 @@ impl<'a> Core<'a> {
         ensures event { EntersTo self.old client entry (entered_reply result) self.new }
         ensures history { AnswersByHistory self.old (Enter client entry)
             (entered_reply result) self.new }
-        ensures ledger { OnOk result (EntersLedger self.old client entry self.new) }
+        ensures ledger { IsLedgerEvent self.old (Enter client entry) (entered_reply result) self.new }
         ensures network { self.new.network ≡ self.old.network }
     {
         if entry >= u64::from(self.network.entries()) {
@@ -266,7 +266,7 @@ impl<'a> Core<'a> {
     pub fn step(&mut self, client: u64) -> Result<Moved, StepFault>
         ensures event { StepsTo self.old client (stepped_reply result) self.new }
         ensures history { AnswersByHistory self.old (Step client) (stepped_reply result) self.new }
-        ensures ledger { IfOk result (λ moved. MovesLedger self.old client moved self.new) }
+        ensures ledger { IsLedgerEvent self.old (Step client) (stepped_reply result) self.new }
         ensures network { self.new.network ≡ self.old.network }
     {
         let Some(found) = self.clients.find(client) else {

@@ -1,5 +1,5 @@
 -- The answers of epochs by their turns and history.
-use Rattle.std.proofs.Common.{◌≡◌, ℕ, ◌+◌, ◌<◌, ◌≤◌, Bool, true, false, refl, subst, List, [], ◌∷◌, length, get_or, drop, sym, ap, ◌∙◌, arith, Option, Some, None, slice_index, Result, Ok, Err}
+use Rattle.std.proofs.Common.{◌≡◌, ℕ, ◌+◌, ◌<◌, ◌≤◌, Bool, true, false, refl, subst, List, [], ◌∷◌, length, get_or, drop, sym, ap, ◌∙◌, arith, Option, Some, None, slice_index}
 use Rattle.std.proofs.lemmas.List.{drop_more}
 use Rattle.cn_spec.specs.Step.{share}
 use Rattle.cn_wiring.specs.declared.end.End.TheVariants.{Exit}
@@ -7,12 +7,10 @@ use Rattle.cn_core.specs.declared.event.Event.{Event}
 use Rattle.cn_core.specs.declared.event.Event.TheVariants.{Enter as EnterEvent, Step as StepEvent}
 use Rattle.cn_core.specs.declared.position.Position.{Position}
 use Rattle.cn_core.specs.declared.position.Position.TheVariants.{On, Holds}
-use Rattle.std.specs.Prelude.{IfOk}
-use Rattle.cn_ledger.specs.declared.moved.Moved.{Moved}
-use Rattle.cn_core.specs.declared.reply.StepFault.{StepFault}
+use Rattle.cn_core.specs.declared.reply.Reply.{Reply}
 use Rattle.cn_core.specs.History as core
-use Rattle.cn_core.specs.History.{AgreesAfter, Carried, inside_of}
-use Rattle.cn_core.specs.Calls.{IsLedgerEvent, MovesLedger, stepped_reply}
+use Rattle.cn_core.specs.History.{AgreesAfter, Carried, inside_of, carried_by}
+use Rattle.cn_core.specs.Calls.{AnswersByHistory as EventByHistory}
 use Rattle.cn_core.specs.State.{State, came_in, inside_in, name_at, position_in}
 use Rattle.cn_core.specs.Tight.{HasShares, IsTightState}
 use Rattle.cn_core.proofs.CallerLemmas.{came-after as event-after, Agrees-after_carry, Agrees-start, inside-by_history}
@@ -22,8 +20,8 @@ use Rattle.cn_epoch.specs.declared.answer.TurnFault.TheVariants.{Memory, NotQuie
 use Rattle.cn_epoch.specs.declared.command.Command.{Command}
 use Rattle.cn_epoch.specs.declared.command.Command.TheVariants.{Enter, Step, Turn}
 use Rattle.cn_epoch.specs.declared.record.EpochRecord.{EpochRecord}
-use Rattle.cn_epoch.specs.Calls.{AnswersByHistory, TellsEpoch, RunsTo, TakesTo, RunsByHistory}
-use Rattle.cn_epoch.specs.History.{Agrees, ByHistories, Epochs, IsRecordOf, carried_in, earlier_after, earlier_in, kept_after, next}
+use Rattle.cn_epoch.specs.Calls.{AnswersByHistory, RepliesByHistory, RunsByHistory, RunsTo, TakesTo, TellsEpoch}
+use Rattle.cn_epoch.specs.History.{Agrees, ByHistories, Epochs, IsRecordOf, earlier_after, earlier_in, kept_after, next}
 use Rattle.cn_epoch.specs.Turns.{IsTightRecord}
 
 -- ---- a turn
@@ -68,7 +66,7 @@ told-record old r told turns history carried number agrees shares = record {
 
 -- nobody is inside by history
 quiet-by_history : (old : Epochs) → inside_in old.core ≡ 0 → ByHistories old (λ turns history carried. inside_of old.core.network.table history carried ≡ 0)
-quiet-by_history old quiet turns history kept agrees = sym (inside-by_history old.core history (carried_in old.core.network.table kept) agrees.core.1) ∙ quiet
+quiet-by_history old quiet turns history kept agrees = sym (inside-by_history old.core history (carried_by old.core.network.table (earlier_in kept)) agrees.core.1) ∙ quiet
 
 next-by : (core : State) (carries is : Bool) → carries ≡ is → next carries core ≡ next is core
 next-by core carries is same = ap (λ carries. next carries core) same
@@ -90,7 +88,7 @@ begun-after old turns history (Some earlier) r quiet agrees = record {
 pub turned-after : (old new : Epochs) (r : EpochRecord) → TellsEpoch old r → core.ByHistories old.core (λ history carried. HasShares old.core.network.table.width carried) → inside_in old.core ≡ 0
     → new ≡ record { number = old.number + 1; carries = old.carries; core = next old.carries old.core } → AnswersByHistory old Turn (Turned r) new
 turned-after old new r told shares quiet is turns history kept agrees = (
-  (quiet-by_history old quiet turns history kept agrees, told-record old r told turns history (carried_in old.core.network.table kept) agrees.number agrees.core.1 (shares history (earlier_in kept) agrees.core)),
+  (quiet-by_history old quiet turns history kept agrees, told-record old r told turns history (carried_by old.core.network.table (earlier_in kept)) agrees.number agrees.core.1 (shares history (earlier_in kept) agrees.core)),
   rw is (begun-after old turns history kept r quiet agrees),
 )
 
@@ -142,7 +140,17 @@ pub runs_to-at : (old mid new : Epochs) (cs : List Command) (i : ℕ) (d : Comma
     → TakesTo old (get_or cs i d) a mid → RunsTo mid (drop (i + 1) cs) rest new → RunsTo old (drop i cs) (a ∷ rest) new
 runs_to-at old mid new cs i d a rest within goes runs = rw (drop_more cs i d within) (mid, goes, runs)
 
--- an accepted step is one event on the ledger
-pub moved-event : (old new : State) (client : ℕ) (r : Result Moved StepFault) → IfOk r (λ moved. MovesLedger old client moved new) → IsLedgerEvent old (StepEvent client) (stepped_reply r) new
-moved-event old new client (Ok moved) h = h
-moved-event old new client (Err fault) h = tt
+-- ---- the reply to an event, as the answer to a command
+
+pub replied : (old new : Epochs) (event : Event) (reply : Reply) → EventByHistory old.core event reply new.core → (new.number ≡ old.number) × (new.carries ≡ old.carries) → RepliesByHistory old event reply new
+replied old new event reply by (number, carries) turns history kept agrees =
+    let (may, after) = by history (earlier_in kept) agrees.core in
+    (may, record { number = number ∙ agrees.number; carries = carries ∙ agrees.carries; core = after })
+
+pub entered-by : (old new : Epochs) (client entry : ℕ) (reply : Reply) → RepliesByHistory old (EnterEvent client entry) reply new → AnswersByHistory old (Enter client entry) (Replied reply) new
+entered-by old new client entry reply by turns history None agrees = by turns history None agrees
+entered-by old new client entry reply by turns history (Some earlier) agrees = by turns history (Some earlier) agrees
+
+pub stepped-by : (old new : Epochs) (client : ℕ) (reply : Reply) → RepliesByHistory old (StepEvent client) reply new → AnswersByHistory old (Step client) (Replied reply) new
+stepped-by old new client reply by turns history None agrees = by turns history None agrees
+stepped-by old new client reply by turns history (Some earlier) agrees = by turns history (Some earlier) agrees

@@ -1,5 +1,5 @@
 -- Commands have one list of answers, want of memory apart, also if the counts are carried.
-use Rattle.std.proofs.Common.{◌≡◌, ℕ, ◌<◌, ◌≤◌, Bool, true, false, inl, inr, Option, Some, None, List, [], ◌∷◌, refl, sym, ap, ◌∙◌, arith, All, slice_index}
+use Rattle.std.proofs.Common.{◌≡◌, ℕ, ◌<◌, ◌≤◌, Bool, true, false, inl, inr, Option, Some, None, List, [], ◌∷◌, refl, sym, ap, ◌∙◌, arith, slice_index}
 use Rattle.std.specs.Prelude.{if◌then◌else◌}
 use Rattle.std.specs.List.{AllZip}
 use Rattle.cn_spec.specs.declared.limits.TheConstants.{MOST_CARRIED}
@@ -18,9 +18,8 @@ use Rattle.cn_epoch.specs.declared.answer.Answer.TheVariants.{Replied, Turned, T
 use Rattle.cn_epoch.specs.declared.answer.TurnFault.TheVariants.{NotQuiet, Memory}
 use Rattle.cn_epoch.specs.declared.command.Command.{Command}
 use Rattle.cn_epoch.specs.declared.command.Command.TheVariants.{Enter, Step, Turn}
-use Rattle.cn_epoch.specs.declared.record.EpochRecord.{EpochRecord}
-use Rattle.cn_epoch.specs.History.{IsRecordOf, MayAnswer, MayAnswerAll, MayReply, MayTurn, carried_in, cut_by, earlier_after, earlier_by, earlier_in, history_after, history_by, kept_after, kept_by, replied_to, turns_after, turns_by}
-use Rattle.cn_epoch.specs.Turns.{HadMemory, HasOneRecord, HaveOneAnswer, IsSameAnswer, IsSameRecord}
+use Rattle.cn_epoch.specs.History.{MayAnswer, MayReply, MayTurn, cut_by, earlier_after, earlier_by, earlier_in, history_after, history_by, kept_after, kept_by, replied_to, turns_after, turns_by}
+use Rattle.cn_epoch.specs.Turns.{HadMemory, HasOneRecord, HaveOneAnswer, IsSameAnswer}
 
 module _ (network : Network) (is : IsNetwork network) where
   abbrev t : Table
@@ -89,22 +88,22 @@ module _ (network : Network) (is : IsNetwork network) where
 
   -- the earlier epochs, and the history after what they left
   abbrev AreAccepted : Option (List (List Event)) → List Event → Type 0
-  AreAccepted kept h = AreEpochs t (earlier_in kept) × IsHistory t h (carried_in t kept)
+  AreAccepted kept h = AreEpochs t (earlier_in kept) × IsHistory t h (carried_by t (earlier_in kept))
 
-  replied : (h : List Event) (kept : Option (List (List Event))) (event : Event) (answer : Answer) → MayReply t h (carried_in t kept) event answer → AreAccepted kept h → AreAccepted (kept_after kept h answer) (replied_to h event answer)
+  replied : (h : List Event) (kept : Option (List (List Event))) (event : Event) (answer : Answer) → MayReply t h (carried_by t (earlier_in kept)) event answer → AreAccepted kept h → AreAccepted (kept_after kept h answer) (replied_to h event answer)
   replied h None event (Replied reply) may (epochs, was) = (epochs, accepted-after h (carried_by t []) event reply may was)
   replied h (Some earlier) event (Replied reply) may (epochs, was) = (epochs, accepted-after h (carried_by t earlier) event reply may was)
   replied h kept event (Turned r) may was = absurd may
   replied h kept event (TurnRefused fault) may was = absurd may
 
-  turned : (turns : ℕ) (h : List Event) (kept : Option (List (List Event))) (answer : Answer) → MayTurn t turns h (carried_in t kept) answer → AreAccepted kept h → AreAccepted (kept_after kept h answer) (cut_by h answer)
+  turned : (turns : ℕ) (h : List Event) (kept : Option (List (List Event))) (answer : Answer) → MayTurn t turns h (carried_by t (earlier_in kept)) answer → AreAccepted kept h → AreAccepted (kept_after kept h answer) (cut_by h answer)
   turned turns h None (Turned r) (quiet, _) (epochs, was) = (epochs, tt)
   turned turns h (Some earlier) (Turned r) (quiet, _) (epochs, was) = ((was, quiet, epochs), tt)
   turned turns h None (TurnRefused fault) may was = was
   turned turns h (Some earlier) (TurnRefused fault) may was = was
   turned turns h kept (Replied reply) may was = absurd may
 
-  left : (turns : ℕ) (h : List Event) (kept : Option (List (List Event))) (command : Command) (answer : Answer) → MayAnswer t turns h (carried_in t kept) command answer → AreAccepted kept h
+  left : (turns : ℕ) (h : List Event) (kept : Option (List (List Event))) (command : Command) (answer : Answer) → MayAnswer t turns h (carried_by t (earlier_in kept)) command answer → AreAccepted kept h
       → AreAccepted (kept_after kept h answer) (history_after h command answer)
   left turns h kept (Enter client entry) answer may was = replied h kept (EnterEvent client entry) answer may was
   left turns h kept (Step client) answer may was = replied h kept (StepEvent client) answer may was
@@ -122,7 +121,7 @@ module _ (network : Network) (is : IsNetwork network) where
   all-more earlier h (command ∷ commands) (answer ∷ answers) =
       omega (arith, one-more earlier h answer, all-more (earlier_after earlier h answer) (history_after h command answer) commands answers)
 
-  grows : (kept : Option (List (List Event))) (h : List Event) (commands : List Command) (answers : List Answer) → (carried_in t kept).enters ≤ (carried_in t (kept_by kept h commands answers)).enters
+  grows : (kept : Option (List (List Event))) (h : List Event) (commands : List Command) (answers : List Answer) → (carried_by t (earlier_in kept)).enters ≤ (carried_by t (earlier_in (kept_by kept h commands answers))).enters
   grows None h commands answers = omega arith
   grows (Some earlier) h commands answers = all-more earlier h commands answers
 
@@ -167,13 +166,13 @@ module _ (network : Network) (is : IsNetwork network) where
   kept-same None h answer other same = refl
   kept-same (Some earlier) h answer other same = ap Some (earlier-same earlier h answer other same)
 
-  pub one-list : (turns : ℕ) (history : List Event) (kept : Option (List (List Event))) (commands : List Command) → AreEpochs t (earlier_in kept) → IsHistory t history (carried_in t kept)
+  pub one-list : (turns : ℕ) (history : List Event) (kept : Option (List (List Event))) (commands : List Command) → AreEpochs t (earlier_in kept) → IsHistory t history (carried_by t (earlier_in kept))
       → HaveOneAnswer t turns history kept commands
   one-list turns history kept [] epochs was [] [] told also may might few = tt
   one-list turns history kept (command ∷ commands) epochs was (answer ∷ answers) (other ∷ others) told also (may, rest) (might, remaining) few =
-      let now : (carried_in t kept).enters ≤ MOST_CARRIED = omega (arith, few, grows kept history (command ∷ commands) (answer ∷ answers)) in
-      let holder : HasOneHolder t history (carried_in t kept) = one-holder-after network history (earlier_in kept) is epochs now in
-      let same = same-answer turns history (carried_in t kept) command answer other holder may might (All-head HadMemory answer answers told) (All-head HadMemory other others also) in
+      let now : (carried_by t (earlier_in kept)).enters ≤ MOST_CARRIED = omega (arith, few, grows kept history (command ∷ commands) (answer ∷ answers)) in
+      let holder : HasOneHolder t history (carried_by t (earlier_in kept)) = one-holder-after network history (earlier_in kept) is epochs now in
+      let same = same-answer turns history (carried_by t (earlier_in kept)) command answer other holder may might (All-head HadMemory answer answers told) (All-head HadMemory other others also) in
       let (before, accepted) = left turns history kept command answer may (epochs, was) in (
         same,
         one-list (turns_after turns answer) (history_after history command answer) (kept_after kept history answer) commands before accepted answers others (All-tail HadMemory answer answers told) (All-tail HadMemory other others also) rest

@@ -5,7 +5,9 @@ use Rattle.cn_core.specs.declared.event.Event.{Event}
 use Rattle.cn_core.specs.declared.event.Event.TheVariants.{Enter as EnterEvent, Step as StepEvent}
 use Rattle.cn_core.specs.Calls as core
 use Rattle.cn_core.specs.Calls.{IsLedgerEvent}
+use Rattle.cn_core.specs.History.{MayAnswer as MayAnswerEvent, history_after as history_after_event, carried_by}
 use Rattle.cn_core.specs.State.{inside_in}
+use Rattle.cn_core.specs.declared.reply.Reply.{Reply}
 use Rattle.cn_core.specs.Tight.{ListsHolders}
 use Rattle.cn_epoch.specs.declared.answer.Answer.{Answer}
 use Rattle.cn_epoch.specs.declared.answer.Answer.TheVariants.{Replied, Turned, TurnRefused}
@@ -14,7 +16,7 @@ use Rattle.cn_epoch.specs.declared.answer.TurnFault.TheVariants.{NotQuiet, Memor
 use Rattle.cn_epoch.specs.declared.command.Command.{Command}
 use Rattle.cn_epoch.specs.declared.command.Command.TheVariants.{Enter, Step, Turn}
 use Rattle.cn_epoch.specs.declared.record.EpochRecord.{EpochRecord}
-use Rattle.cn_epoch.specs.History.{Agrees, Epochs, MayAnswerAll, MayAnswer, carried_in, history_after, history_by, kept_after, kept_by, next, turns_after, turns_by}
+use Rattle.cn_epoch.specs.History.{Agrees, Epochs, MayAnswerAll, MayAnswer, MayTurn, cut_by, history_after, history_by, kept_after, kept_by, next, turns_after, turns_by, earlier_in}
 use Rattle.cn_epoch.specs.Turns.{IsTightRecord}
 
 -- the answer of a turn
@@ -51,6 +53,21 @@ RepliesTo old event (Replied reply) new =
 RepliesTo old event (Turned r) new = ⊥
 RepliesTo old event (TurnRefused fault) new = ⊥
 
+-- by every number of turns, history and earlier epochs that the old epochs agree with this is a reply to the event, and the
+-- new epochs agree with those after it: no epoch ends
+abbrev pub RepliesByHistory : Epochs → Event → Reply → Epochs → Type 0
+RepliesByHistory old event reply new =
+    (turns : ℕ) (history : List Event) (kept : Option (List (List Event))) → Agrees old turns history kept
+    → MayAnswerEvent old.core.network.table history (carried_by old.core.network.table (earlier_in kept)) event reply
+    × Agrees new turns (history_after_event history event reply) kept
+
+-- and of a turn
+abbrev pub TurnsByHistory : Epochs → Answer → Epochs → Type 0
+TurnsByHistory old answer new =
+    (turns : ℕ) (history : List Event) (kept : Option (List (List Event))) → Agrees old turns history kept
+    → MayTurn old.core.network.table turns history (carried_by old.core.network.table (earlier_in kept)) answer
+    × Agrees new (turns_after turns answer) (cut_by history answer) (kept_after kept history answer)
+
 -- a command with this answer takes the old epochs to the new ones
 abbrev pub TakesTo : Epochs → Command → Answer → Epochs → Type 0
 TakesTo old (Enter client entry) answer new = RepliesTo old (EnterEvent client entry) answer new
@@ -62,7 +79,7 @@ TakesTo old Turn answer new = TurnsTo old answer new
 abbrev pub AnswersByHistory : Epochs → Command → Answer → Epochs → Type 0
 AnswersByHistory old command answer new =
     (turns : ℕ) (history : List Event) (kept : Option (List (List Event))) → Agrees old turns history kept
-    → MayAnswer old.core.network.table turns history (carried_in old.core.network.table kept) command answer
+    → MayAnswer old.core.network.table turns history (carried_by old.core.network.table (earlier_in kept)) command answer
     × Agrees new (turns_after turns answer) (history_after history command answer) (kept_after kept history answer)
 
 -- commands with these answers take the old epochs to the new ones, one after another

@@ -34,10 +34,6 @@ abbrev pub earlier_in : Option (List (List Event)) → List (List Event)
 earlier_in None = []
 earlier_in (Some earlier) = earlier
 
--- what they left
-abbrev pub carried_in : Table → Option (List (List Event)) → Carried
-carried_in table kept = carried_by table (earlier_in kept)
-
 -- epochs agree with a number of turns done, the history since the last of them and, if turns carry, the earlier epochs
 pub record Agrees (epochs : Epochs) (turns : ℕ) (history : List Event) (kept : Option (List (List Event))) : Type 0 where
   pub number : epochs.number ≡ turns
@@ -48,7 +44,7 @@ pub record Agrees (epochs : Epochs) (turns : ℕ) (history : List Event) (kept :
 abbrev pub ByHistories : Epochs → (ℕ → List Event → Carried → Type 0) → Type 0
 ByHistories epochs P =
     (turns : ℕ) (history : List Event) (kept : Option (List (List Event))) → Agrees epochs turns history kept
-    → P turns history (carried_in epochs.core.network.table kept)
+    → P turns history (carried_by epochs.core.network.table (earlier_in kept))
 
 -- the record of a history: its enters, its leaves by exit, and the client of each name
 pub record IsRecordOf (table : Table) (turns : ℕ) (history : List Event) (carried : Carried) (r : EpochRecord) : Type 0 where
@@ -120,7 +116,7 @@ kept_after kept history answer = option_map (λ earlier. earlier_after earlier h
 abbrev pub MayAnswerAll : Table → ℕ → List Event → Option (List (List Event)) → List Command → List Answer → Type 0
 MayAnswerAll table turns history kept [] [] = Unit {0}
 MayAnswerAll table turns history kept (command ∷ commands) (answer ∷ answers) =
-    MayAnswer table turns history (carried_in table kept) command answer
+    MayAnswer table turns history (carried_by table (earlier_in kept)) command answer
     × MayAnswerAll table (turns_after turns answer) (history_after history command answer) (kept_after kept history answer) commands answers
 MayAnswerAll table turns history kept [] (answer ∷ answers) = ⊥
 MayAnswerAll table turns history kept (command ∷ commands) [] = ⊥

@@ -7,13 +7,13 @@ use Rattle.cn_wiring.specs.Table.{Table}
 use Rattle.cn_core.specs.declared.event.Event.{Event}
 use Rattle.cn_core.specs.declared.reply.EnterFault.TheVariants.{Memory as EnterMemory}
 use Rattle.cn_core.specs.declared.reply.Reply.TheVariants.{EnterRefused}
-use Rattle.cn_core.specs.History.{Carried}
+use Rattle.cn_core.specs.History.{Carried, carried_by}
 use Rattle.cn_epoch.specs.declared.answer.Answer.{Answer}
 use Rattle.cn_epoch.specs.declared.answer.Answer.TheVariants.{Replied, Turned, TurnRefused}
 use Rattle.cn_epoch.specs.declared.answer.TurnFault.TheVariants.{Memory}
 use Rattle.cn_epoch.specs.declared.command.Command.{Command}
 use Rattle.cn_epoch.specs.declared.record.EpochRecord.{EpochRecord}
-use Rattle.cn_epoch.specs.History.{IsRecordOf, MayAnswerAll, carried_in, kept_by}
+use Rattle.cn_epoch.specs.History.{IsRecordOf, MayAnswerAll, kept_by, earlier_in}
 
 -- what a record says is tight after so many clients: each exit has let out what its share has grown by, and each name below
 -- the number of clients has a holder of its own
@@ -58,5 +58,5 @@ HaveOneAnswer table turns history kept commands =
     (answers others : List Answer) → All HadMemory answers → All HadMemory others
     → MayAnswerAll table turns history kept commands answers
     → MayAnswerAll table turns history kept commands others
-    → (carried_in table (kept_by kept history commands answers)).enters ≤ MOST_CARRIED
+    → (carried_by table (earlier_in (kept_by kept history commands answers))).enters ≤ MOST_CARRIED
     → AllZip IsSameAnswer answers others

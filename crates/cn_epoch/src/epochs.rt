@@ -5,13 +5,13 @@ mod running;
 ghost use Rattle.std.specs.Prelude.{◌≡◌, ℕ, ◌+◌, ◌<◌, ◌≤◌, ◌^◌, true, false, List, [], None, Option, Some, length, slice_index, IfOk};
 ghost use Rattle.cn_spec.specs.Step.{share};
 ghost use Rattle.cn_spec.specs.declared.limits.TheConstants.{MOST_CARRIED, MOST_CLIENTS};
-ghost use Rattle.cn_core.specs.Calls.{entered_reply, stepped_reply};
+ghost use Rattle.cn_core.specs.Calls.{EntersTo, IsLedgerEvent, StepsTo, entered_reply, stepped_reply};
 ghost use Rattle.cn_core.specs.History as core;
 ghost use Rattle.cn_core.specs.History.{enters_of, inside_of};
 ghost use Rattle.cn_core.specs.State.{came_in, inside_in, start};
 ghost use Rattle.cn_core.specs.StateLedger.{HasSoundLedger};
 ghost use Rattle.cn_core.specs.Tight.{HasShares, IsBoundedState};
-ghost use Rattle.cn_epoch.specs.Calls.{AnswersByHistory, TakesTo, turned_answer};
+ghost use Rattle.cn_epoch.specs.Calls.{RepliesByHistory, TurnsByHistory, TurnsTo, turned_answer};
 ghost use Rattle.cn_epoch.specs.History.{Agrees, ByHistories, next};
 
 use crate::answer::{Answer, TurnFault};
@@ -65,8 +65,7 @@ fn exit_counts(alloc: Global, core: &Core, network: &Counting) -> Result<Vec<u64
 
 impl<'a> Epochs<'a> {
     ghost use Rattle.cn_core.specs.declared.event.Event.{Event};
-    ghost use Rattle.cn_epoch.specs.declared.answer.Answer.TheVariants.{Replied};
-    ghost use Rattle.cn_epoch.specs.declared.command.Command.TheVariants.{Enter, Step, Turn};
+    ghost use Rattle.cn_core.specs.declared.event.Event.TheVariants.{Enter, Step};
 
     /// The first epoch of a network, that nobody has entered.
     fn begin(
@@ -179,10 +178,12 @@ impl<'a> Epochs<'a> {
     /// # Errors
     /// As there.
     pub fn enter(&mut self, client: u64, entry: u64) -> Result<(), EnterFault>
-        ensures event { TakesTo self.old (Enter client entry)
-            (Replied (entered_reply result)) self.new }
-        ensures history { AnswersByHistory self.old (Enter client entry)
-            (Replied (entered_reply result)) self.new }
+        ensures event { EntersTo self.old.core client entry (entered_reply result) self.new.core }
+        ensures history { RepliesByHistory self.old (Enter client entry)
+            (entered_reply result) self.new }
+        ensures ledger { IsLedgerEvent self.old.core (Enter client entry)
+            (entered_reply result) self.new.core }
+        ensures same { (self.new.number ≡ self.old.number) × (self.new.carries ≡ self.old.carries) }
         ensures network { self.new.core.network ≡ self.old.core.network }
     {
         self.core.enter(client, entry)
@@ -193,9 +194,11 @@ impl<'a> Epochs<'a> {
     /// # Errors
     /// As there.
     pub fn step(&mut self, client: u64) -> Result<Moved, StepFault>
-        ensures event { TakesTo self.old (Step client) (Replied (stepped_reply result)) self.new }
-        ensures history { AnswersByHistory self.old (Step client)
-            (Replied (stepped_reply result)) self.new }
+        ensures event { StepsTo self.old.core client (stepped_reply result) self.new.core }
+        ensures history { RepliesByHistory self.old (Step client) (stepped_reply result) self.new }
+        ensures ledger { IsLedgerEvent self.old.core (Step client)
+            (stepped_reply result) self.new.core }
+        ensures same { (self.new.number ≡ self.old.number) × (self.new.carries ≡ self.old.carries) }
         ensures network { self.new.core.network ≡ self.old.core.network }
     {
         self.core.step(client)
@@ -232,8 +235,8 @@ impl<'a> Epochs<'a> {
         requires number { self.old.number + 1 < 2 ^ 64 }
         requires carried { self.old.carries ≡ true
             → self.old.core.base + length self.old.core.clients ≤ MOST_CARRIED }
-        ensures event { TakesTo self.old Turn (turned_answer result) self.new }
-        ensures history { AnswersByHistory self.old Turn (turned_answer result) self.new }
+        ensures event { TurnsTo self.old (turned_answer result) self.new }
+        ensures history { TurnsByHistory self.old (turned_answer result) self.new }
         ensures network { self.new.core.network ≡ self.old.core.network }
     {
         if !self.core.is_quiet() {

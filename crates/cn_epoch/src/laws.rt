@@ -6,7 +6,7 @@ ghost use Rattle.cn_wiring.specs.Network.{Network, IsNetwork};
 ghost use Rattle.cn_core.specs.History.{AreEpochs, IsHistory, carried_by};
 ghost use Rattle.cn_core.specs.declared.event.Event.{Event};
 ghost use Rattle.cn_epoch.specs.declared.command.Command.{Command};
-ghost use Rattle.cn_epoch.specs.History.{carried_in, earlier_in};
+ghost use Rattle.cn_epoch.specs.History.{earlier_in};
 ghost use Rattle.cn_epoch.specs.Turns.{HasOneRecord, HaveOneAnswer};
 
 /// A history has one record: it fixes each count, and the holder of each name. The earlier epochs whose counts are carried, if
@@ -24,6 +24,6 @@ pub fn commands_have_one_list_of_answers()
     ensures { (network : Network) (turns : ℕ) (history : List Event)
         (kept : Option (List (List Event))) (commands : List Command)
         → IsNetwork network → AreEpochs network.table (earlier_in kept)
-        → IsHistory network.table history (carried_in network.table kept)
+        → IsHistory network.table history (carried_by network.table (earlier_in kept))
         → HaveOneAnswer network.table turns history kept commands }
 {}

@@ -8,7 +8,6 @@ use Rattle.std.proofs.lemmas.List.Sums.{sum_by-append, sum_by-cons}
 use Rattle.cn_spec.specs.Sums.{when}
 use Rattle.cn_yard.specs.Lists.{IsThere, last_on, without}
 use Rattle.cn_yard.proofs.CallerLemmas.{last_on-sum}
-use Rattle.cn_floor.specs.Views.{lists_after}
 
 pub ones : {X : Type 0} (xs : List X) → sum_by (λ (_ : X). 1) xs ≡ length xs
 ones [] = refl
@@ -37,6 +36,10 @@ weigh-come lists token client wire inside u f =
       | inl l ↦ ap (λ es. sum_by f es) (made_at lists make u l) ∙ sum_by-append f (get_or lists u []) (last_on token client wire u) ∙ omega (arith, last_on-sum token client wire u f)
       | inr l ↦ rw (made_beyond lists make u l, get_or_past lists u [] l, ne_eqb wire u (λ e. omega arith)) refl
     ]
+
+-- the lists, from which a token is taken, and to which `more` is added at each wire
+abbrev pub lists_after : ℕ → (ℕ → List (ℕ × ℕ)) → List (List (ℕ × ℕ)) → List (List (ℕ × ℕ))
+lists_after token more lists = map (λ u. without token (get_or lists u []) ++ more u) (range_with_len 0 (length lists))
 
 -- who goes to a wire, which is among these, leaves the other
 pub weigh-pass : (lists : List (List (ℕ × ℕ))) (token client wire to : ℕ) → IsThere lists token client wire → to < length lists → (u : ℕ) (f : ℕ × ℕ → ℕ)

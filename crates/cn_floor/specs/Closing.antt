@@ -9,7 +9,7 @@ use Rattle.cn_floor.specs.Ends.{IsClosedFloor}
 use Rattle.cn_floor.specs.Lane.{FloorValue, LaneValue}
 use Rattle.cn_floor.specs.Rule.{FloorState}
 use Rattle.cn_floor.specs.Steps.{IsMoment}
-use Rattle.cn_floor.specs.Views.{base, inside_in}
+use Rattle.cn_floor.specs.Views.{base}
 use Rattle.cn_floor.specs.Words.{clients_in, word_count}
 
 -- what the words at the end are, if the last seat has the view v
@@ -25,7 +25,7 @@ pub record IsEnding (start : Start) (v : View) (words : List ℕ) : Type 0 where
   pub sole : v.quota + length v.entries ≡ start.quota
       → clients_in start.network.table words ≡ base start + length v.entries
   pub within : v.quota + length v.entries ≤ start.quota
-  pub quiet : inside_in v ≡ 0 → clients_in start.network.table words ≡ base start + length v.grants
+  pub quiet : tokens_in v.tokens ≡ 0 → clients_in start.network.table words ≡ base start + length v.grants
       → IsClosedFloor start v words
 
 -- more came in than the lane has grants: this number, by the words of a moment at which the lane has this view

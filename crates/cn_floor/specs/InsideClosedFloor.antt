@@ -3,6 +3,7 @@ use Rattle.std.specs.Prelude.{◌≡◌}
 use Rattle.cn_floor.specs.declared.floor.closed_floor.ClosedFloor.TheInside.{Inside}
 use Rattle.cn_floor.specs.Ends.{IsClosedFloor, QuietValue}
 
+-- a closed floor as contracts see it
 abbrev pub closed_of : Inside → QuietValue
 closed_of e = record { start = e.lane.value.home.start; did = e.lane.value.view; words = e.words.words }
 

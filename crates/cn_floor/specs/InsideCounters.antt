@@ -5,6 +5,7 @@ use Rattle.cn_floor.specs.Lane.{FloorValue}
 use Rattle.cn_floor.specs.Rule.{IsStart, start_of}
 use Rattle.cn_floor.specs.Words.{word_count}
 
+-- the shared words as contracts see them: which table they are, and what it began with
 abbrev pub floor_of : Inside → FloorValue
 floor_of c = record { table = c.table.shared.table_id; start = start_of c.table.shared.key }
 

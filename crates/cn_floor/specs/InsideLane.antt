@@ -5,6 +5,7 @@ use Rattle.cn_yard.specs.Lists.{tokens_in}
 use Rattle.cn_floor.specs.declared.floor.lane.Lane.TheInside.{Inside}
 use Rattle.cn_floor.specs.Lane.{LaneValue}
 
+-- a lane as contracts see it
 abbrev pub lane_of : Inside → LaneValue
 lane_of l = record {
   home = record { table = l.seat.table_id; start = l.seat.me.0.start };

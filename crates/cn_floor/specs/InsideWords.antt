@@ -3,6 +3,7 @@ use Rattle.std.specs.Prelude.{◌≡◌}
 use Rattle.cn_floor.specs.declared.floor.words.Words.TheInside.{Inside}
 use Rattle.cn_floor.specs.Carried.{IsClosed, WordsValue, client_count}
 
+-- closed words as contracts see them
 abbrev pub words_of : Inside → WordsValue
 words_of w = record { network = w.network; words = w.words.items }
 

@@ -9,10 +9,11 @@ use Rattle.cn_wiring.specs.declared.end.End.TheVariants.{Exit}
 use Rattle.cn_wiring.specs.Levels.{IsLevel}
 use Rattle.cn_wiring.specs.Table.{Stands}
 use Rattle.cn_ledger.specs.Ledger.{Ledger}
+use Rattle.cn_yard.specs.Lists.{tokens_in}
 use Rattle.cn_floor.specs.declared.view.Start.{Start}
 use Rattle.cn_floor.specs.declared.view.View.{View}
 use Rattle.cn_floor.specs.Rule.{FloorState, KeepsRule, ledger_of}
-use Rattle.cn_floor.specs.Views.{base, given_in, inside_in, levels_in}
+use Rattle.cn_floor.specs.Views.{base, given_in, levels_in}
 use Rattle.cn_floor.specs.Words.{clients_in, count_in}
 
 -- each state that keeps the rule of a floor has this property
@@ -66,5 +67,5 @@ HasWalked start v =
 -- if nobody is inside, each client came in, passed as many balancers as the network is deep, and left
 abbrev pub TakesItsSteps : Start → View → Type 0
 TakesItsSteps start v =
-    inside_in v ≡ 0
+    tokens_in v.tokens ≡ 0
     → length v.entries + length v.passages + length v.grants ≡ (start.network.depth + 2) * length v.grants

@@ -2,13 +2,14 @@
 use Rattle.std.specs.Prelude.{◌≡◌, ℕ, ◌+◌, ◌<◌, ◌++◌, ◌∷◌, [], List, max}
 use Rattle.cn_wiring.specs.declared.end.End.TheVariants.{Exit}
 use Rattle.cn_wiring.specs.Table.{end_of}
+use Rattle.cn_ledger.specs.Events.{Enters}
 use Rattle.cn_floor.specs.declared.view.Start.{Start}
 use Rattle.cn_floor.specs.declared.view.View.{View}
 use Rattle.cn_floor.specs.Lane.{LaneValue}
-use Rattle.cn_floor.specs.Lone.{OnlyPassed, PassesOn}
-use Rattle.cn_floor.specs.Plays.{ComesIn, IsLetBy}
-use Rattle.cn_floor.specs.Steps.{HasMoment}
-use Rattle.cn_floor.specs.Views.{after_step}
+use Rattle.cn_floor.specs.Lone.{PassesOn}
+use Rattle.cn_floor.specs.Plays.{IsLetBy}
+use Rattle.cn_floor.specs.Steps.{HasMoment, IsAtomicStep}
+use Rattle.cn_floor.specs.Views.{after_enter, after_step}
 
 -- a client comes in by an entry, passes balancers, and leaves by an exit with this visit: by one event each
 pub record WalksThrough (start : Start) (client entry exit visit : ℕ) (v w : View) : Type 0 where
@@ -18,9 +19,9 @@ pub record WalksThrough (start : Start) (client entry exit visit : ℕ) (v w : V
   -- the view once it is in, and once it stands before the exit
   pub inside : View
   pub before : View
-  pub comes : ComesIn (record { start = start; token = token; client = client; entry = entry }) v inside
+  pub came : inside ≡ after_enter token client entry v
+  pub comes : IsAtomicStep start v inside (λ l m. Enters start.network.table l m client entry)
   pub passes : PassesOn start token client numbers entry inside wire before
-  pub only : OnlyPassed inside before
   pub ends : end_of start.network.table wire ≡ Exit exit
   pub leaves : IsLetBy start before w client (Exit exit) visit
   pub after : w ≡ after_step token client (Exit exit) visit before

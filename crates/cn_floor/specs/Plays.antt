@@ -5,10 +5,11 @@ use Rattle.cn_wiring.specs.declared.end.End.{End}
 use Rattle.cn_wiring.specs.declared.end.End.TheVariants.{Exit}
 use Rattle.cn_ledger.specs.Moves.{IsMoveOf}
 use Rattle.cn_ledger.specs.Events.{Enters}
+use Rattle.cn_yard.specs.Lists.{tokens_in}
 use Rattle.cn_floor.specs.declared.view.Start.{Start}
 use Rattle.cn_floor.specs.declared.view.View.{View}
 use Rattle.cn_floor.specs.Steps.{HasMoment, IsAnswer, IsAtomicStep, answer_at}
-use Rattle.cn_floor.specs.Views.{after_enter, after_load, after_look, after_step, base, inside_in, no_start, own_count}
+use Rattle.cn_floor.specs.Views.{after_enter, after_load, after_look, after_step, base, no_start, own_count}
 use Rattle.cn_floor.specs.Words.{count_in}
 
 -- who comes in by which entry, on which floor
@@ -18,6 +19,7 @@ pub record Coming : Type 0 where
   pub client : ℕ
   pub entry : ℕ
 
+-- nobody, for a step of which nothing is asked
 abbrev pub nobody_comes : Coming
 nobody_comes = record { start = no_start; token = 0; client = 0; entry = 0 }
 
@@ -35,6 +37,7 @@ pub record Going : Type 0 where
   pub wire : ℕ
   pub end : End
 
+-- nobody, for a step of which nothing is asked
 abbrev pub nobody_goes : Going
 nobody_goes = record { start = no_start; token = 0; client = 0; wire = 0; end = Exit 0 }
 
@@ -47,6 +50,7 @@ pub record IsLetBy (start : Start) (v w : View) (client : ℕ) (end : End) (n : 
   pub sole : v.quota + length v.entries ≡ start.quota
       → n ≡ count_in start.network.table start.words end + own_count end v
 
+-- the client goes on with the number n, and that is one event
 abbrev pub GoesOn : Going → View → ℕ → View → Type 0
 GoesOn g v n w = (w ≡ after_step g.token g.client g.end n v) × IsLetBy g.start v w g.client g.end n
 
@@ -56,10 +60,11 @@ pub record IsLoad (start : Start) (v : View) (n : ℕ) : Type 0 where
   pub last : length v.loads + 1 ≡ start.network.table.entries
       → (base start ≤ sum (v.loads ++ n ∷ [])) × IsAnswer start v (sum (v.loads ++ n ∷ []) - base start)
 
+-- the number n is loaded, and the lane then stands at a moment
 abbrev pub Loads : Start → View → ℕ → View → Type 0
 Loads start v n w = (w ≡ after_load start n v) × IsLoad start v n × HasMoment start w
 
 -- a look, at a moment at which the lane has its view
 abbrev pub Looks : Start → View → View → Type 0
 Looks start v w =
-    (w ≡ after_look v) × HasMoment start w × (inside_in v + v.quota ≤ MOST_CLIENTS)
+    (w ≡ after_look v) × HasMoment start w × (tokens_in v.tokens + v.quota ≤ MOST_CLIENTS)

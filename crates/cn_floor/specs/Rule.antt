@@ -11,10 +11,11 @@ use Rattle.cn_wiring.specs.Levels.{IsLevel}
 use Rattle.cn_wiring.specs.Network.{Network, IsNetwork}
 use Rattle.cn_wiring.specs.Table.{Table}
 use Rattle.cn_ledger.specs.Ledger.{Ledger, IsSound}
+use Rattle.cn_yard.specs.Lists.{on, tokens_in}
 use Rattle.cn_floor.specs.declared.view.Opening.{Opening}
 use Rattle.cn_floor.specs.declared.view.Start.{Start}
 use Rattle.cn_floor.specs.declared.view.View.{View}
-use Rattle.cn_floor.specs.Views.{base, given_in, granted_in, inside_in, levels_in, on_in, standing_in}
+use Rattle.cn_floor.specs.Views.{base, given_in, granted_in, levels_in, standing_in}
 use Rattle.cn_floor.specs.Words.{clients_in, count_in, entered_in, word_count}
 
 -- The ledger of all that came, went and was given since the words were zero: what the carried words record, and what
@@ -23,7 +24,7 @@ abbrev pub ledger_of : Table → List ℕ → List ℕ → List View → Ledger
 ledger_of t carried words views = record {
   entered = entered_in t words;
   count = count_in t words;
-  on = λ u. sum_by (on_in u) views;
+  on = λ u. sum_by (λ v. length (on v.tokens u)) views;
   standing = λ u c. sum_by (standing_in u c) views;
   given = λ end n. once_below (count_in t carried end) n + sum_by (given_in end n) views;
   granted = λ c i v name.
@@ -47,7 +48,7 @@ pub record IsStart (start : Start) : Type 0 where
 -- what each view is by itself
 pub record IsAccounted (network : Network) (v : View) : Type 0 where
   -- who came in is inside or has a grant
-  pub all : length v.entries ≡ inside_in v + length v.grants
+  pub all : length v.entries ≡ tokens_in v.tokens + length v.grants
   pub entries : All (λ u. u < network.table.entries) v.entries
   -- each has passed as many balancers as its wire is deep, or as the network is
   pub walked : (level : ℕ → ℕ) → IsLevel network.table network.depth level

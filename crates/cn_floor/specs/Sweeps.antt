@@ -6,7 +6,7 @@ use Rattle.cn_wiring.specs.declared.end.End.TheVariants.{Balancer, Exit}
 use Rattle.cn_wiring.specs.Table.{Table, end_of, output_wire}
 use Rattle.cn_ledger.specs.Events.{Leaves, Passes}
 use Rattle.cn_ledger.specs.Ledger.{Ledger}
-use Rattle.cn_yard.specs.Deals.{Frees, IsDealt}
+use Rattle.cn_yard.specs.Deals.{IsCleared, IsDealt}
 use Rattle.cn_yard.specs.Lists.{Yard, on}
 use Rattle.cn_floor.specs.declared.view.Grant.{Grant}
 use Rattle.cn_floor.specs.declared.view.Start.{Start}
@@ -44,6 +44,7 @@ pub record Sweeping : Type 0 where
   pub wire : ℕ
   pub end : End
 
+-- nobody, for a sweep of which nothing is asked
 abbrev pub nobody_sweeps : Sweeping
 nobody_sweeps = record { start = no_start; wire = 0; end = Exit 0 }
 
@@ -58,6 +59,7 @@ pub record AreLetBy (start : Start) (v w : View) (wire : ℕ) (end : End) (n : �
   pub sole : v.quota + length v.entries ≡ start.quota
       → n ≡ count_in start.network.table start.words end + own_count end v
 
+-- all tokens of the wire go on with the numbers from n on, by one step
 abbrev pub AllGoOn : Sweeping → View → ℕ → View → Type 0
 AllGoOn s v n w = (w ≡ after_sweep s.wire s.end n v) × AreLetBy s.start v w s.wire s.end n
 
@@ -78,7 +80,7 @@ sweep_at (Exit i) n tokens = Out i n tokens
 abbrev pub PutsAll : Start → ℕ → End → ℕ → Yard → Yard → Type 0
 PutsAll start wire (Balancer b) n old new =
     IsDealt wire (n % 2) (output_wire start.network.table b 0) (output_wire start.network.table b 1) old new
-PutsAll start wire (Exit i) n old new = Frees (on old.lists wire) old new
+PutsAll start wire (Exit i) n old new = IsCleared wire old new
 
 -- all tokens of a wire go by its end, in their order, with the numbers from n on
 pub record SweepsOn (old new : LaneValue) (wire n : ℕ) (answer : Sweep) : Type 0 where

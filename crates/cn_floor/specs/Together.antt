@@ -24,6 +24,7 @@ pub record Pair : Type 0 where
   pub first : View
   pub second : View
 
+-- no views, for a cut of which nothing is asked
 abbrev pub no_pair : Pair
 no_pair = record { first = nobody; second = nobody }
 
@@ -31,6 +32,7 @@ no_pair = record { first = nobody; second = nobody }
 abbrev pub cut_first : Pair → View → View
 cut_first pair both = record pair.first { seen = both.seen; steps = both.steps + 1 }
 
+-- and the second of the two
 abbrev pub cut_second : Pair → View → View
 cut_second pair both = record pair.second { seen = both.seen }
 
@@ -48,5 +50,6 @@ after_looks n v = record v { steps = v.steps + n }
 abbrev pub first_after : Start → ℕ → View → View
 first_after start entered v = after_looks 3 (after_entered start entered v)
 
+-- and the second looked once
 abbrev pub second_after : ℕ → View → View
 second_after entered w = record w { seen = entered; steps = w.steps + 1 }

@@ -7,7 +7,7 @@ use Rattle.cn_wiring.specs.declared.end.End.{End}
 use Rattle.cn_wiring.specs.declared.end.End.TheVariants.{Balancer, Exit}
 use Rattle.cn_wiring.specs.declared.kind.Kind.TheVariants.{Tree}
 use Rattle.cn_wiring.specs.Table.{output_wire}
-use Rattle.cn_yard.specs.Lists.{Lists, last_on, on, without}
+use Rattle.cn_yard.specs.Lists.{last_on, on, without}
 use Rattle.cn_floor.specs.declared.view.Start.{Start}
 use Rattle.cn_floor.specs.declared.view.View.{View}
 use Rattle.cn_floor.specs.Words.{clients_in}
@@ -54,13 +54,9 @@ abbrev pub own_count : End → View → ℕ
 own_count (Balancer b) v = count_by (λ p. b == p.balancer) v.passages
 own_count (Exit i) v = count_by (λ g. i == g.exit) v.grants
 
--- how many are inside
-abbrev pub inside_in : View → ℕ
-inside_in v = sum_below (length v.tokens) (λ u. on_in u v)
-
 -- the levels of those inside, added up
 abbrev pub levels_in : (ℕ → ℕ) → View → ℕ
-levels_in level v = sum_below (length v.tokens) (λ u. level u * on_in u v)
+levels_in level v = sum_below (length v.tokens) (λ u. level u * length (on v.tokens u))
 
 -- ---- what steps make of it
 
@@ -73,20 +69,17 @@ after_enter token client entry v = record v {
   steps = v.steps + 1;
 }
 
--- the lists, from which a token is taken, and to which `more` is added at each wire
-abbrev pub lists_after : ℕ → (ℕ → List (ℕ × ℕ)) → Lists → Lists
-lists_after token more lists = map (λ u. without token (on lists u) ++ more u) (range_with_len 0 (length lists))
-
 -- a token of a client goes by an end, and gets the number n, in one step: it stands last on the next output, or is
 -- gone with a grant
 abbrev pub after_step : ℕ → ℕ → End → ℕ → View → View
 after_step token client (Balancer b) n v = record v {
-  tokens = lists_after token (last_on token client (output_wire v.start.network.table b (n % 2))) v.tokens;
+  tokens = map (λ u. without token (on v.tokens u) ++ last_on token client (output_wire v.start.network.table b (n % 2)) u)
+      (range_with_len 0 (length v.tokens));
   passages = v.passages ++ record { balancer = b; number = n } ∷ [];
   steps = v.steps + 1;
 }
 after_step token client (Exit i) n v = record v {
-  tokens = lists_after token (λ _. []) v.tokens;
+  tokens = map (λ u. without token (on v.tokens u) ++ []) (range_with_len 0 (length v.tokens));
   grants = v.grants ++ record { client = client; exit = i; visit = n; name = name_of v.start.network.table.width i n - base v.start } ∷ [];
   steps = v.steps + 1;
 }
@@ -96,6 +89,7 @@ abbrev pub after_load_by : Bool → Start → List ℕ → View → View
 after_load_by true start ls v = record v { seen = sum ls - base start; loads = []; steps = v.steps + 1 }
 after_load_by false start ls v = record v { loads = ls; steps = v.steps + 1 }
 
+-- the number n is loaded from the word of the next entry, of which the last one gives the answer
 abbrev pub after_load : Start → ℕ → View → View
 after_load start n v = after_load_by (nat_eq (length v.loads + 1) start.network.table.entries) start (v.loads ++ n ∷ []) v
 
@@ -130,5 +124,6 @@ after_join v w = record v {
 abbrev pub no_start : Start
 no_start = record { network = record { table = record { entries = 0; width = 0; balancers = 0; ends = [] }; kind = Tree; depth = 0 }; quota = 0; words = [] }
 
+-- the view that is left where one was taken into another
 abbrev pub nobody : View
 nobody = empty_view no_start 0

@@ -9,7 +9,7 @@ use Rattle.cn_spec.specs.Sums.{sum_below, when, total_where, once_below}
 use Rattle.cn_wiring.specs.Table.{Table, IsWellFormed, Stands, is_end, sum_at, end_of, output_wire}
 use Rattle.cn_spec.proofs.CallerLemmas.{once-next, sum_below-pick, sum_below-same, total_where-agree, total_where-shift, total_where-zero}
 use Rattle.cn_wiring.proofs.CallerLemmas.{older}
-use Rattle.cn_ledger.specs.Ledger.{Ledger, IsSound, AddsUpTo, put}
+use Rattle.cn_ledger.specs.Ledger.{Ledger, IsSound, put}
 use Rattle.cn_ledger.specs.Events.{Enters, Goes, Passes, Leaves, one_at}
 
 -- ---- sums at an end, where the numbers change
@@ -181,6 +181,10 @@ one_more-sum c v k f g h same =
 -- the two ways to say that client c stands once more on wire u
 once_there : (u w c d : ℕ) → when (eqb u w && eqb c d) 1 ≡ when (eqb c d) (one_at u w)
 once_there u w c d = grind (arith, nat_tests)
+
+-- numbers f 0, f 1, f 2 .. add up to m: each sum of enough of them is m
+abbrev AddsUpTo : (ℕ → ℕ) → ℕ → Type 0
+AddsUpTo f m = (n : ℕ) × ((k : ℕ) → n ≤ k → sum_below k f ≡ m)
 
 clients-enter : (t : Table) (old new : Ledger) (c u : ℕ) → Enters t old new c u → (w : ℕ) → AddsUpTo (old.standing w) (old.on w) → AddsUpTo (new.standing w) (new.on w)
 clients-enter t old new c u ev w (n, sums) = (

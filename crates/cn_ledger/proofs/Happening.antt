@@ -9,7 +9,7 @@ use Rattle.cn_wiring.specs.declared.end.End.{End}
 use Rattle.cn_wiring.specs.declared.end.End.TheVariants.{Balancer, Exit}
 use Rattle.cn_wiring.specs.Table.{Table, is_end, end_of, output_wire}
 use Rattle.cn_ledger.specs.Ledger.{Ledger, IsSound}
-use Rattle.cn_ledger.specs.Events.{Enters, Goes, Passes, Leaves, one_at, one_number}
+use Rattle.cn_ledger.specs.Events.{Enters, Goes, Passes, Leaves, one_at}
 
 pub standing-le-on : (t : Table) (l : Ledger) → IsSound t l → (u c : ℕ) → l.standing u c ≤ l.on u
 standing-le-on t l sound u c =
@@ -44,7 +44,7 @@ after old c u end to granted = record {
   count = λ other. old.count other + when (is_end end other) 1;
   on = λ w. old.on w + to w - one_at u w;
   standing = λ w d. old.standing w d + when (eqb c d) (to w) - when (eqb u w && eqb c d) 1;
-  given = λ other n. old.given other n + one_number end (old.count end) other n;
+  given = λ other n. old.given other n + when (is_end end other && eqb (old.count end) n) 1;
   granted = granted;
 }
 

@@ -12,10 +12,6 @@ use Rattle.cn_ledger.specs.Ledger.{Ledger}
 abbrev pub one_at : ℕ → ℕ → ℕ
 one_at w u = when (w == u) 1
 
--- 1 at an end and a number, and otherwise 0
-abbrev pub one_number : End → ℕ → End → ℕ → ℕ
-one_number end n other k = when (is_end end other && (n == k)) 1
-
 -- client c comes in by entry u
 pub record Enters (t : Table) (old new : Ledger) (c u : ℕ) : Type 0 where
   pub inside : u < t.entries
@@ -37,7 +33,7 @@ pub record Goes (t : Table) (old new : Ledger) (c u : ℕ) (end : End) (to : ℕ
   pub standing : (wire d : ℕ) → new.standing wire d + when ((u == wire) && (c == d)) 1
       ≡ old.standing wire d + when (c == d) (to wire)
   -- the count is the number that is given
-  pub given : (other : End) (n : ℕ) → new.given other n ≡ old.given other n + one_number end (old.count end) other n
+  pub given : (other : End) (n : ℕ) → new.given other n ≡ old.given other n + when (is_end end other && (old.count end == n)) 1
 
 -- client c passes balancer b from wire u, and stands on the balancer's next output
 pub record Passes (t : Table) (old new : Ledger) (c u b : ℕ) : Type 0 where

@@ -28,17 +28,13 @@ abbrev pub put : Table → Ledger → ℕ → ℕ
 put t l u =
     cond (nat_lt u t.entries) (l.entered u) (half (l.count (Balancer ((u - t.entries) / 2))) ((u - t.entries) % 2))
 
--- f 0, f 1, f 2 .. add up to m: each sum of enough of them is m
-abbrev pub AddsUpTo : (ℕ → ℕ) → ℕ → Type 0
-AddsUpTo f m = (n : ℕ) × ((k : ℕ) → n ≤ k → sum_below k f ≡ m)
-
 -- the counts, the clients, the numbers and the grants of a ledger agree with one another
 pub record IsSound (t : Table) (l : Ledger) : Type 0 where
   -- who was put on the wires that end at an end went by there, or stands there
   pub balanced : (end : End) → Stands t end
       → l.count end + sum_at t end l.on ≡ sum_at t end (put t l)
-  -- those that stand on a wire are clients: how often each stands there adds up to how many do
-  pub clients : (u : ℕ) → AddsUpTo (l.standing u) (l.on u)
+  -- those that stand on a wire are clients: how often each stands there adds up to how many do, over enough of them
+  pub clients : (u : ℕ) → (n : ℕ) × ((k : ℕ) → n ≤ k → sum_below k (l.standing u) ≡ l.on u)
   -- the numbers given there are those below the count, each once
   pub numbered : (end : End) (n : ℕ) → Stands t end → l.given end n ≡ once_below (l.count end) n
   -- each grant has the name of its exit and visit

@@ -1,7 +1,7 @@
 -- What jobs write has one text.
 use Rattle.std.proofs.Common.{◌≡◌, ℕ, List, [], None, ◌++◌, sym, ap, subst, arith, ◌∙◌}
 use Rattle.cn_wiring.specs.Network.{Network, IsNetwork}
-use Rattle.cn_core.specs.History.{enters_of, inside_of, nothing}
+use Rattle.cn_core.specs.History.{carried_by, enters_of, inside_of}
 use Rattle.cn_epoch.specs.declared.command.Command.{Command}
 use Rattle.cn_epoch.specs.History.{history_by, turns_by}
 use Rattle.cn_epoch.proofs.CallerLemmas.{history_by-same, one-list, turns_by-same}
@@ -21,7 +21,7 @@ module _ (network : Network) (is : IsNetwork network) where
       let same = one-list network is 0 [] None commands tt tt one.answers another.answers one.memory another.memory one.by_history another.by_history (omega arith) in
       one.replayed
       ∙ rw (turns_by-same network is 0 one.answers another.answers same, history_by-same network is [] commands one.answers another.answers same)
-      (ap (λ (lines : List ℕ). heading network ++ lines ++ end_line (turns_by 0 another.answers) (enters_of (history_by [] commands another.answers)) (inside_of network.table (history_by [] commands another.answers) nothing))
+      (ap (λ (lines : List ℕ). heading network ++ lines ++ end_line (turns_by 0 another.answers) (enters_of (history_by [] commands another.answers)) (inside_of network.table (history_by [] commands another.answers) (carried_by network.table [])))
       (lines-same network.table.width commands one.answers another.answers same))
       ∙ sym another.replayed
 

@@ -1,7 +1,7 @@
 -- The text of a replay, and which fault is given if it is not written.
 use Rattle.std.specs.Prelude.{ℕ, ◌≡◌, ◌≢◌, All, IfSome, List, [], None, Option}
 use Rattle.cn_wiring.specs.Network.{Network}
-use Rattle.cn_core.specs.History.{enters_of, inside_of, nothing}
+use Rattle.cn_core.specs.History.{carried_by, enters_of, inside_of}
 use Rattle.cn_epoch.specs.declared.answer.Answer.{Answer}
 use Rattle.cn_epoch.specs.declared.command.Command.{Command}
 use Rattle.cn_epoch.specs.History.{MayAnswerAll, history_by, turns_by}
@@ -26,7 +26,7 @@ pub record IsReplayText (network : Network) (commands : List Command) (text : Li
   pub by_history : MayAnswerAll network.table 0 [] None commands answers
   pub memory : All HadMemory answers
   -- the end line gives the number of epochs that ended, and how many entered the open one and are inside
-  pub replayed : text ≡ replay_text network commands answers (turns_by 0 answers) (enters_of (history_by [] commands answers)) (inside_of network.table (history_by [] commands answers) nothing)
+  pub replayed : text ≡ replay_text network commands answers (turns_by 0 answers) (enters_of (history_by [] commands answers)) (inside_of network.table (history_by [] commands answers) (carried_by network.table []))
 
 -- this text is that of a replay of the commands on a network of this kind and width
 pub record IsReplayOfCommands (net : Description) (commands : List Command) (text : List ℕ) : Type 0 where
@@ -68,6 +68,7 @@ fault_of_cause fault cause.ClientNumber = Schedule fault
 fault_of_cause fault cause.WireNumber = Schedule fault
 fault_of_cause fault cause.ScheduleFull = Schedule fault
 
+-- the fault of a replay by that of its schedule
 abbrev pub fault_of_schedule : ScheduleFault → ReplayFault
 fault_of_schedule fault = fault_of_cause fault fault.cause
 

@@ -41,6 +41,7 @@ fault_of_cause fault cause.Duplicate = Batch fault
 fault_of_cause fault cause.EpochFull = Batch fault
 fault_of_cause fault cause.BatchFull = Batch fault
 
+-- the fault of a run by that of its batch
 abbrev pub fault_of_batch : BatchFault → ServeFault
 fault_of_batch fault = fault_of_cause fault fault.cause
 

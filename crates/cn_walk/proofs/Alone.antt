@@ -1,5 +1,5 @@
 -- What the way of a lane's only token is to a walk.
-use Rattle.std.proofs.Common.{◌≡◌, ℕ, ◌+◌, ◌*◌, ◌-◌, ◌≤◌, inl, inr, eqb, [], length, sum_by, sym, ap, ◌∙◌, arith, append-nil}
+use Rattle.std.proofs.Common.{◌≡◌, ℕ, ◌*◌, ◌-◌, ◌≤◌, inl, inr, eqb, [], length, sum_by, sym, ap, ◌∙◌, arith, append-nil}
 use Rattle.std.proofs.lemmas.Bool.{cases_eq, eq-eqb, ne_eqb}
 use Rattle.cn_spec.specs.Sums.{when}
 use Rattle.cn_spec.proofs.CallerLemmas.{sum_below-one, sum_below-same}
@@ -7,7 +7,7 @@ use Rattle.cn_yard.specs.Lists.{last_on, on}
 use Rattle.cn_yard.proofs.CallerLemmas.{last_on-sum}
 use Rattle.cn_floor.specs.declared.view.View.{View}
 use Rattle.cn_floor.specs.Lane.{LaneValue}
-use Rattle.cn_floor.specs.Lone.{GoesAlone, IsAlone, OnlyPassed}
+use Rattle.cn_floor.specs.Lone.{IsAlone, OnlyPassed}
 use Rattle.cn_floor.proofs.InLane.Lone.{off-own, on-own}
 use Rattle.cn_walk.specs.Walks.{Walks, inside_by, steps_left}
 

@@ -1,12 +1,10 @@
 -- Two walks side by side, and their lanes taken together.
-use Rattle.std.proofs.Common.{rules, Option, Some, None, IfSome, ◌≡◌, ℕ, ◌+◌, ◌-◌, ◌*◌, ◌/◌, ◌<◌, ◌≤◌, inl, inr, replicate, subst, eqb, cond, List, [], ◌++◌, length, map, max, sym, refl, ap, ◌∙◌, arith, append-nil}
+use Rattle.std.proofs.Common.{rules, Option, Some, None, IfSome, ◌≡◌, ℕ, ◌+◌, ◌-◌, ◌*◌, ◌/◌, ◌<◌, ◌≤◌, subst, eqb, cond, List, [], ◌++◌, length, map, max, sym, refl, ap, ◌∙◌, arith, append-nil}
 use Rattle.std.proofs.Math.Nat.{div-mul-le_self, mul-le-mul_right}
-use Rattle.std.proofs.lemmas.Bool.{cases_lt}
-use Rattle.std.proofs.lemmas.List.{append_assoc, get_or-replicate, get_or_past, length-replicate, map-append}
+use Rattle.std.proofs.lemmas.List.{append_assoc, map-append}
 use Rattle.std.proofs.lemmas.Nat.{le-div}
 use Rattle.std.proofs.lemmas.List.Sums.{sum_by-append}
 use Rattle.cn_ledger.specs.declared.client.Client.{Client}
-use Rattle.cn_yard.specs.Lists.{empty, on, tokens_in}
 use Rattle.cn_walk.specs.declared.forking.Lanes.{Lanes}
 use Rattle.cn_walk.specs.declared.forking.Lanes.TheVariants.{One, Halves'}
 use Rattle.cn_floor.specs.declared.view.Grant.{Grant}

@@ -1,7 +1,7 @@
 -- A quiet floor on which nobody but these clients walked.
 use Rattle.std.proofs.Common.{◌≡◌, ℕ, ◌+◌, ◌-◌, ◌*◌, ◌/◌, ◌<◌, List, ◌++◌, length, get_or, map, sym, refl, ap, ◌∙◌, subst, arith}
 use Rattle.std.proofs.lemmas.Nat.{div-mul-add}
-use Rattle.cn_spec.specs.Step.{IsEachBelow, shares, shares_after}
+use Rattle.cn_spec.specs.Step.{IsEachBelow, shares_after}
 use Rattle.cn_spec.specs.Sums.{Agree, times}
 use Rattle.cn_spec.proofs.CallerLemmas.{first_shares}
 use Rattle.cn_wiring.specs.declared.end.End.TheVariants.{Balancer}
@@ -20,7 +20,7 @@ use Rattle.cn_floor.specs.Lane.{FloorValue, IsIdle, LaneValue, empty_lane}
 use Rattle.cn_walk.specs.Runs.{IsRun, IsRunAfter}
 use Rattle.cn_floor.specs.Views.{base}
 use Rattle.cn_walk.specs.Walks.{AreFor, WalksAll}
-use Rattle.cn_floor.specs.Words.{clients_in, count_in, entered_in}
+use Rattle.cn_floor.specs.Words.{count_in, entered_in}
 use Rattle.cn_floor.proofs.AtClose.Closings.{map-same}
 use Rattle.cn_floor.proofs.InLane.Yards.{nobody-in}
 use Rattle.cn_floor.proofs.AtMoments.Openings.{none-came, none-counted, none-entered}

@@ -7,8 +7,7 @@ use Rattle.cn_wiring.specs.declared.end.End.{End}
 use Rattle.cn_wiring.specs.declared.end.End.TheVariants.{Balancer, Exit}
 use Rattle.cn_wiring.specs.Table.{IsWellFormed, LeadsOn, Stands, Table, end_of, output_wire}
 use Rattle.cn_ledger.specs.declared.client.Client.{Client}
-use Rattle.cn_yard.specs.Deals.{Frees}
-use Rattle.cn_yard.specs.Lists.{IsThere, Yard, on, times_in, without}
+use Rattle.cn_yard.specs.Lists.{IsThere, on, times_in}
 use Rattle.cn_floor.specs.declared.view.Grant.{Grant}
 use Rattle.cn_floor.specs.declared.view.Start.{Start}
 use Rattle.cn_floor.specs.declared.view.Sweep.{Sweep}
@@ -117,12 +116,6 @@ module _ (start : Start) (wire : ℕ) (end : End) (formed : IsWellFormed start.n
         no-more rest (after_step token client end n v) (n + 1) (rest-may start wire end formed low ends stands n v token client rest may),
       )
 
--- where nobody stands, nobody stands once others are gone
-freed-clear : (tokens : List (ℕ × ℕ)) (y z : Yard) (u : ℕ) → Frees tokens y z → on y.lists u ≡ [] → on z.lists u ≡ []
-unfolding Frees
-freed-clear [] y z u same clear = ap (λ (x : Yard). on x.lists u) same ∙ clear
-freed-clear (e ∷ rest) y z u (between, one, more) clear = freed-clear rest between z u more (one.lists u ∙ ap (without e.0) clear)
-
 -- a sweep is a part of a walk, and less is left after it
 module _ (a b : LaneValue) (wire n : ℕ) (answer : Sweep) (formed : IsWellFormed a.home.start.network.table) (is : SweepsOn a b wire n answer) (held : IsHeld a) (some : 0 < length (on a.yard.lists wire)) where
   abbrev v : View
@@ -193,4 +186,4 @@ module _ (a b : LaneValue) (wire n : ℕ) (answer : Sweep) (formed : IsWellForme
       by (Balancer c) ends dealt =
           let forward : wire < a.home.start.network.table.entries + 2 * c = subst (LeadsOn a.home.start.network.table wire) ends (formed.forward wire inside) in
           dealt.others u (λ same. omega (arith, same, low)) (λ same. omega (arith, same, low, forward)) (λ same. omega (arith, same, low, forward)) ∙ clear u low
-      by (Exit i) ends freed = freed-clear (on a.yard.lists wire) a.yard b.yard u freed (clear u low)
+      by (Exit i) ends cleared = cleared.others u (λ same. omega (arith, same, low)) ∙ clear u low

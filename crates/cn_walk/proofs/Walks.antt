@@ -1,26 +1,19 @@
 -- Walks one after the other, and what one step is to a walk.
-use Rattle.std.proofs.Common.{rules, ◌≡◌, ℕ, zero, suc, ◌+◌, ◌-◌, ◌*◌, ◌%◌, ◌<◌, ◌≤◌, inl, inr, cond, eqb, List, [], ◌∷◌, ◌++◌, length, get_or, map, sum_by, take, Option, Some, None, sym, refl, ap, ◌∙◌, subst, arith, append-nil}
-use Rattle.std.specs.Prelude.{IsSome}
-use Rattle.std.specs.Map.{lookup}
-use Rattle.std.proofs.lemmas.Bool.{cases_eq, cases_lt, eq-eqb}
-use Rattle.std.proofs.lemmas.List.{append_assoc, get_or_past, map-append, take_more}
+use Rattle.std.proofs.Common.{◌≡◌, ℕ, ◌+◌, ◌-◌, ◌*◌, ◌%◌, ◌<◌, ◌≤◌, cond, eqb, List, [], ◌∷◌, ◌++◌, length, get_or, map, sum_by, take, Some, sym, refl, ap, ◌∙◌, subst, arith, append-nil}
+use Rattle.std.proofs.lemmas.List.{append_assoc, map-append, take_more}
 use Rattle.std.proofs.lemmas.List.FromFn.{length-map-range_with_len}
-use Rattle.std.proofs.lemmas.Nat.{mod_below}
 use Rattle.std.proofs.lemmas.List.Sums.{sum_by-append}
-use Rattle.cn_spec.specs.Step.{name_of}
 use Rattle.cn_spec.specs.Sums.{sum_below, when}
 use Rattle.cn_spec.proofs.CallerLemmas.{sum_below-one, sum_below-plus, sum_below-same, sum_below-shift, sum_below-zero}
 use Rattle.cn_wiring.specs.declared.end.End.{End}
 use Rattle.cn_wiring.specs.declared.end.End.TheVariants.{Balancer, Exit}
-use Rattle.cn_wiring.specs.Table.{IsWellFormed, LeadsOn, Stands, Table, end_of, output_wire}
+use Rattle.cn_wiring.specs.Table.{IsWellFormed, output_wire}
 use Rattle.cn_ledger.specs.declared.client.Client.{Client}
-use Rattle.cn_ledger.specs.declared.moved.Moved.{Moved}
-use Rattle.cn_yard.specs.Lists.{IsLowest, IsThere, Lists, first_of, here_or, last_on, on, standing, standing_below, times_in, tokens_in, without}
+use Rattle.cn_yard.specs.Lists.{IsThere, last_on, on, standing, times_in, tokens_in, without}
 use Rattle.cn_floor.specs.declared.view.Grant.{Grant}
-use Rattle.cn_floor.specs.declared.view.Start.{Start}
 use Rattle.cn_floor.specs.declared.view.View.{View}
-use Rattle.cn_floor.specs.Lane.{LaneValue, LetsIn, StepsOn}
-use Rattle.cn_floor.specs.Views.{after_enter, after_step, base, on_in}
+use Rattle.cn_floor.specs.Lane.{LaneValue, LetsIn}
+use Rattle.cn_floor.specs.Views.{after_enter, after_step, on_in}
 use Rattle.cn_walk.specs.Walks.{WalksAll, Walks, inside_by, steps_left}
 use Rattle.cn_floor.proofs.AtClose.Closings.{inside-yard, none-on}
 use Rattle.cn_floor.proofs.AtMoments.Accounts.{at-none, at-one, weighed-went}

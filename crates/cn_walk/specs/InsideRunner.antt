@@ -2,5 +2,6 @@
 use Rattle.cn_walk.specs.declared.runner.Runner.TheInside.{Inside}
 use Rattle.cn_walk.specs.Runner.{RunnerValue}
 
+-- a runner as contracts see it
 abbrev pub runner_of : Inside → RunnerValue
 runner_of r = record { words = r.leftovers; carries = r.carries }

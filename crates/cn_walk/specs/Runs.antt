@@ -20,13 +20,15 @@ use Rattle.cn_floor.specs.Words.{clients_in, count_in, entered_in}
 abbrev pub ComesByOne : ℕ → List Client → ℕ → Type 0
 ComesByOne entries clients k = (d : Client) → (slice_index_or clients k d).entry < entries
 
--- the numbers of workers, of clients in hand and of clients are within the limits
+-- the number of workers is within its limits
 abbrev pub WorkersFit : ℕ → Type 0
 WorkersFit workers = IsWithin 1 MOST_WORKERS workers
 
+-- so is the number of clients in hand
 abbrev pub HandFits : ℕ → Type 0
 HandFits hand = IsWithin 1 MOST_HAND hand
 
+-- and the number of clients
 abbrev pub AreFew : List Client → Type 0
 AreFew clients = length clients ≤ MOST_CLIENTS
 

@@ -32,3 +32,11 @@ pub record IsDealt (wire output out0 out1 : ℕ) (old new : Yard) : Type 0 where
   pub others : (u : ℕ) → u ≢ wire → u ≢ out0 → u ≢ out1 → on new.lists u ≡ on old.lists u
   pub spare : new.spare ≡ old.spare
   pub tokens : tokens_in new.lists ≡ tokens_in old.lists
+
+-- the tokens of a wire are gone, and their records are free; all others stand as they stood
+pub record IsCleared (wire : ℕ) (old new : Yard) : Type 0 where
+  pub wires : length new.lists ≡ length old.lists
+  pub empty : on new.lists wire ≡ []
+  pub others : (u : ℕ) → u ≢ wire → on new.lists u ≡ on old.lists u
+  pub spare : new.spare ≡ old.spare + length (on old.lists wire)
+  pub tokens : tokens_in new.lists + length (on old.lists wire) ≡ tokens_in old.lists

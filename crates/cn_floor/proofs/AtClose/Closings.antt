@@ -22,7 +22,7 @@ use Rattle.cn_ledger.specs.Grants.{Grant as Listed, ListsGrants, is_grant}
 use Rattle.cn_floor.specs.Closing.{IsEnding}
 use Rattle.cn_floor.specs.Ends.{IsClosedFloor, NobodyInside, counts_of}
 use Rattle.cn_floor.specs.Rule.{HoldsAt, ledger_of}
-use Rattle.cn_floor.specs.Views.{base, given_in, granted_in, inside_in, on_in, standing_in}
+use Rattle.cn_floor.specs.Views.{base, given_in, granted_in, on_in, standing_in}
 use Rattle.cn_floor.specs.Words.{clients_in, count_in, entered_in}
 use Rattle.cn_floor.proofs.AtMoments.Bounds.{all_came, few_came}
 use Rattle.cn_floor.proofs.AtClose.Ends.{carried-after, tight-after, tight-before}
@@ -39,7 +39,7 @@ at_get (y ∷ ys) zero x e = (omega arith, some-injective y x e)
 at_get (y ∷ ys) (suc i) x e = let r = at_get ys i x e in (omega (arith, r.0), r.1)
 
 -- nobody inside is nobody on each wire
-pub none-on : (v : View) → inside_in v ≡ 0 → (u : ℕ) → on_in u v ≡ 0
+pub none-on : (v : View) → tokens_in v.tokens ≡ 0 → (u : ℕ) → on_in u v ≡ 0
 none-on v none u = elim (cases_lt u (length v.tokens)) [
   | inl l ↦ omega (arith, sum_below-part (length v.tokens) u (λ x. on_in x v) l)
   | inr l ↦ ap (λ (es : List (ℕ × ℕ)). length es) (get_or_past v.tokens u [] l)
@@ -126,7 +126,7 @@ module _ (start : Start) (s : State (Unit {0}) View) (id : ℕ) (v : View) (kept
       let was : get_or start.words (1 + t.entries + t.balancers + i) 0 ≡ share (base start) t.width i = sym (count-word t start.words (Exit i) (omega arith)) ∙ old.counts i (omega arith) in
       λ x. now x - was x)
 
-  pub quiet : inside_in v ≡ 0 → clients_in start.network.table s.words ≡ base start + length v.grants → IsClosedFloor start v s.words
+  pub quiet : tokens_in v.tokens ≡ 0 → clients_in start.network.table s.words ≡ base start + length v.grants → IsClosedFloor start v s.words
   quiet out all =
       let t = start.network.table in
       let entries : View → ℕ = λ x. length x.entries in
@@ -200,5 +200,5 @@ pub ending : (start : Start) (id : ℕ) (v : View) (ws : List ℕ) (xs : List (U
 ending start id v ws xs f = subst (λ (w : List ℕ). IsEnding start v w) f.2 (ending-at start f.0 id v f.1.0 f.1.1)
 
 -- a lane's yard has as many tokens as its view
-pub inside-yard : (y : Yard) (v : View) → y.lists ≡ v.tokens → inside_in v ≡ tokens_in y.lists
+pub inside-yard : (y : Yard) (v : View) → y.lists ≡ v.tokens → tokens_in v.tokens ≡ tokens_in y.lists
 inside-yard y v same = ap (λ (ls : List (List (ℕ × ℕ))). sum_below (length ls) (λ u. length (get_or ls u []))) (sym same)

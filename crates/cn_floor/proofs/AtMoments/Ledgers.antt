@@ -8,8 +8,8 @@ use Rattle.cn_spec.specs.Step.{name_of}
 use Rattle.cn_spec.specs.Sums.{when}
 use Rattle.cn_wiring.specs.declared.end.End.{End}
 use Rattle.cn_wiring.specs.declared.end.End.TheVariants.{Balancer, Exit}
-use Rattle.cn_wiring.specs.Table.{Table, Stands, end_of, output_wire}
-use Rattle.cn_ledger.specs.Events.{Enters, Goes, Leaves, Passes, one_at, one_number}
+use Rattle.cn_wiring.specs.Table.{Table, Stands, end_of, output_wire, is_end}
+use Rattle.cn_ledger.specs.Events.{Enters, Goes, Leaves, Passes, one_at}
 use Rattle.cn_ledger.specs.Ledger.{Ledger}
 use Rattle.cn_floor.specs.declared.view.Grant.{Grant}
 use Rattle.cn_floor.specs.declared.view.Passage.{Passage}
@@ -17,7 +17,7 @@ use Rattle.cn_floor.specs.declared.view.Start.{Start}
 use Rattle.cn_floor.specs.declared.view.View.{View}
 use Rattle.cn_floor.specs.Rule.{ledger_of}
 use Rattle.cn_floor.specs.Views.{after_enter, after_step, base, given_in, granted_in, on_in, standing_in}
-use Rattle.cn_floor.specs.Words.{count_in, end_word, entry_word, word_count}
+use Rattle.cn_floor.specs.Words.{count_in, end_word, word_count}
 use Rattle.cn_floor.proofs.Lists.{ones, weigh-come, weigh-leave, weigh-pass}
 use Rattle.cn_floor.proofs.AtMoments.Totals.{total_set}
 use Rattle.cn_floor.proofs.AtMoments.Raised.{count-kept, count-raised, entered-kept, entered-raised, raised}
@@ -83,7 +83,7 @@ module _ (token client wire n : ℕ) (v : View) (is : IsThere v.tokens token cli
   standing-after_step (Exit i) lands w d =
       omega (arith, weigh-leave v.tokens token client wire is w (λ e. cond (eqb e.1 d) 1 0), there_once wire w client d, none_turned client d)
 
-  pub given-after_step : (end other : End) (k : ℕ) → given_in other k (after_step token client end n v) ≡ given_in other k v + one_number end n other k
+  pub given-after_step : (end other : End) (k : ℕ) → given_in other k (after_step token client end n v) ≡ given_in other k v + when (is_end end other && eqb n k) 1
   given-after_step (Balancer b) (Balancer c) k = sum_by_push (λ (p : Passage). cond (eqb c p.balancer && eqb p.number k) 1 0) v.passages (record { balancer = b; number = n })
   given-after_step (Balancer b) (Exit j) k = omega arith
   given-after_step (Exit i) (Balancer c) k = omega arith
@@ -103,7 +103,7 @@ module _ (start : Start) (words : List ℕ) (views : List View) (id : ℕ) (v : 
 
   -- a client comes in
   pub enters : (token client entry : ℕ) → entry < t.entries → entry < length v.tokens
-      → Enters t was (ledger_of t start.words (raised words (entry_word entry)) (set views id (after_enter token client entry v))) client entry
+      → Enters t was (ledger_of t start.words (raised words (1 + entry)) (set views id (after_enter token client entry v))) client entry
   enters token client entry low inside =
       let w : View = after_enter token client entry v in record {
         inside = low;

@@ -16,7 +16,7 @@ use Rattle.cn_floor.specs.Plays.{IsLoad, Loads}
 use Rattle.cn_floor.specs.Steps.{HasMoment, IsAnswer}
 use Rattle.cn_floor.specs.Rule.{HoldsAt, IsAccounted, IsFresh, load_bound}
 use Rattle.cn_floor.specs.Views.{after_load, after_load_by, base, given_in, granted_in, on_in, standing_in}
-use Rattle.cn_floor.specs.Words.{clients_in, entered_in, entry_word}
+use Rattle.cn_floor.specs.Words.{clients_in, entered_in}
 use Rattle.cn_floor.proofs.AtMoments.Bounds.{few_came}
 use Rattle.cn_floor.proofs.AtMoments.Fresh.{fresh_load, load_bound-all, load_bound-few, load_bound-more, low_more, sum_few}
 use Rattle.cn_floor.proofs.AtMoments.Kept.{AddUpAlike, kept_alike}
@@ -57,11 +57,11 @@ module _ (start : Start) (ls : List ℕ) (v : View) where
 
 -- a load of the next entry's word
 pub loads : (start : Start) (slots id : ℕ) (me : Me (Unit {0}) View) (is : Start) → is ≡ start → me.1 ≡ [] → length me.0.loads < start.network.table.entries
-    → Allows (HoldsAt start) slots id me (entry_word (length me.0.loads)) (λ n. n) (λ n new. (new.1 ≡ []) × Loads is me.0 n new.0)
+    → Allows (HoldsAt start) slots id me (1 + (length me.0.loads)) (λ n. n) (λ n new. (new.1 ≡ []) × Loads is me.0 n new.0)
 loads start slots id me is same no_slot less s kept homes at fits =
     let t : Table = start.network.table in
     let v : View = me.0 in
-    let i : ℕ = entry_word (length v.loads) in
+    let i : ℕ = 1 + (length v.loads) in
     let n : ℕ = get_or s.words i 0 in
     let word : entered_in t s.words (length v.loads) ≡ n = entered-word t s.words (length v.loads) less in
     let b : Bool = eqb (length v.loads + 1) t.entries in
@@ -119,9 +119,9 @@ loads start slots id me is same no_slot less s kept homes at fits =
     )
 
 pub loads_by : (start : Start) (slots id : ℕ) (me : Me (Unit {0}) View) (is : Start) (entry : ℕ) → is ≡ start → me.1 ≡ [] → length me.0.loads ≡ entry → entry < start.network.table.entries
-    → Allows (HoldsAt start) slots id me (entry_word entry) (λ n. n) (λ n new. (new.1 ≡ []) × Loads is me.0 n new.0)
+    → Allows (HoldsAt start) slots id me (1 + entry) (λ n. n) (λ n new. (new.1 ≡ []) × Loads is me.0 n new.0)
 loads_by start slots id me is entry same no_slot next less =
-    subst (λ (e : ℕ). Allows (HoldsAt start) slots id me (entry_word e) (λ n. n) (λ n new. (new.1 ≡ []) × Loads is me.0 n new.0)) next (loads start slots id me is same no_slot (omega arith))
+    subst (λ (e : ℕ). Allows (HoldsAt start) slots id me (1 + e) (λ n. n) (λ n new. (new.1 ≡ []) × Loads is me.0 n new.0)) next (loads start slots id me is same no_slot (omega arith))
 
 -- after k loads that found total together
 pub record Loaded (start : Start) (was : View) (k total : ℕ) (v : View) : Type 0 where

@@ -12,11 +12,12 @@ use Rattle.cn_wiring.specs.declared.end.End.{End}
 use Rattle.cn_wiring.specs.declared.end.End.TheVariants.{Balancer, Exit}
 use Rattle.cn_wiring.specs.Table.{Table}
 use Rattle.cn_ledger.specs.Ledger.{IsSound}
+use Rattle.cn_yard.specs.Lists.{tokens_in}
 use Rattle.cn_floor.specs.declared.view.Start.{Start}
 use Rattle.cn_floor.specs.declared.view.View.{View}
 use Rattle.cn_floor.specs.Rule.{IsCarried, IsAccounted, IsFresh, HoldsAt, IsStart, ledger_of}
-use Rattle.cn_floor.specs.Views.{base, given_in, granted_in, empty_view, on_in, standing_in, levels_in, inside_in}
-use Rattle.cn_floor.specs.Words.{clients_in, count_in, end_word, entered_in, entry_word, word_count}
+use Rattle.cn_floor.specs.Views.{base, given_in, granted_in, empty_view, on_in, standing_in, levels_in}
+use Rattle.cn_floor.specs.Words.{clients_in, count_in, end_word, entered_in, word_count}
 use Rattle.cn_spec.proofs.CallerLemmas.{sum_below-zero, times-nil, zero_at}
 use Rattle.cn_ledger.proofs.CallerLemmas.{IsNothing, sound-nothing}
 
@@ -31,7 +32,7 @@ module _ (t : Table) where
   zeros = replicate (word_count t) 0
 
   pub none-entered : (u : ℕ) → entered_in t zeros u ≡ 0
-  none-entered u = ap (λ (k : ℕ). when (ltb u t.entries) k) (zero_at (word_count t) (entry_word u)) ∙ nothing (ltb u t.entries)
+  none-entered u = ap (λ (k : ℕ). when (ltb u t.entries) k) (zero_at (word_count t) (1 + u)) ∙ nothing (ltb u t.entries)
 
   pub none-counted : (end : End) → count_in t zeros end ≡ 0
   none-counted (Balancer b) = ap (λ (k : ℕ). when (ltb b t.balancers) k) (zero_at (word_count t) (end_word t (Balancer b))) ∙ nothing (ltb b t.balancers)
@@ -93,7 +94,7 @@ module _ (start : Start) (quota : ℕ) where
   levels-new : (level : ℕ → ℕ) → levels_in level v ≡ 0
   levels-new level = sum_below-zero (length v.tokens) (λ u. level u * on_in u v) (λ u. ap (λ (k : ℕ). level u * k) (on-new u) ∙ omega arith)
 
-  inside-new : inside_in v ≡ 0
+  inside-new : tokens_in v.tokens ≡ 0
   inside-new = sum_below-zero (length v.tokens) (λ u. on_in u v) on-new
 
   pub accounted-new : IsAccounted start.network v

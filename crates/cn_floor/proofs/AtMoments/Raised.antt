@@ -7,7 +7,7 @@ use Rattle.cn_wiring.specs.declared.end.End.{End}
 use Rattle.cn_wiring.specs.declared.end.End.TheVariants.{Balancer, Exit}
 use Rattle.cn_wiring.specs.Table.{Table, Stands, is_end}
 use Rattle.cn_ledger.specs.Events.{one_at}
-use Rattle.cn_floor.specs.Words.{count_in, end_word, entered_in, entry_word, word_count}
+use Rattle.cn_floor.specs.Words.{count_in, end_word, entered_in, word_count}
 use Rattle.cn_spec.proofs.CallerLemmas.{one_more_at}
 
 pub end_there : (t : Table) (end : End) → Stands t end → end_word t end < word_count t
@@ -58,26 +58,26 @@ module _ (t : Table) (words : List ℕ) (long : length words ≡ word_count t) w
   count-raised (Exit i) (Exit j) h = guarded (end_word t (Exit i)) (end_word t (Exit j)) t.width j i (omega (arith, long)) (λ l e. omega arith) (λ e. omega arith) h
 
   pub entered-kept : (end : End) → Stands t end → (u : ℕ) → entered_in t (raised words (end_word t end)) u ≡ entered_in t words u
-  entered-kept (Balancer b) h u = unguarded (end_word t (Balancer b)) (entry_word u) t.entries u (omega (arith, long)) (λ l e. omega arith)
-  entered-kept (Exit i) h u = unguarded (end_word t (Exit i)) (entry_word u) t.entries u (omega (arith, long)) (λ l e. omega arith)
+  entered-kept (Balancer b) h u = unguarded (end_word t (Balancer b)) (1 + u) t.entries u (omega (arith, long)) (λ l e. omega arith)
+  entered-kept (Exit i) h u = unguarded (end_word t (Exit i)) (1 + u) t.entries u (omega (arith, long)) (λ l e. omega arith)
 
   -- an entry's word rises
-  pub entered-raised : (entry : ℕ) → entry < t.entries → (u : ℕ) → entered_in t (raised words (entry_word entry)) u ≡ entered_in t words u + one_at entry u
+  pub entered-raised : (entry : ℕ) → entry < t.entries → (u : ℕ) → entered_in t (raised words (1 + entry)) u ≡ entered_in t words u + one_at entry u
   entered-raised entry h u =
-      guarded (entry_word entry) (entry_word u) t.entries u entry (omega (arith, long)) (λ l e. omega arith) (λ e. omega arith) h
+      guarded (1 + entry) (1 + u) t.entries u entry (omega (arith, long)) (λ l e. omega arith) (λ e. omega arith) h
       ∙ ap (λ b. entered_in t words u + cond b 1 0) (turn u entry)
     where
       turn : (a b : ℕ) → eqb a b ≡ eqb b a
       turn a b = grind (arith, nat_tests)
 
-  pub count-kept : (entry : ℕ) → entry < t.entries → (other : End) → count_in t (raised words (entry_word entry)) other ≡ count_in t words other
-  count-kept entry h (Balancer b) = unguarded (entry_word entry) (end_word t (Balancer b)) t.balancers b (omega (arith, long)) (λ l e. omega arith)
-  count-kept entry h (Exit i) = unguarded (entry_word entry) (end_word t (Exit i)) t.width i (omega (arith, long)) (λ l e. omega arith)
+  pub count-kept : (entry : ℕ) → entry < t.entries → (other : End) → count_in t (raised words (1 + entry)) other ≡ count_in t words other
+  count-kept entry h (Balancer b) = unguarded (1 + entry) (end_word t (Balancer b)) t.balancers b (omega (arith, long)) (λ l e. omega arith)
+  count-kept entry h (Exit i) = unguarded (1 + entry) (end_word t (Exit i)) t.width i (omega (arith, long)) (λ l e. omega arith)
 
 -- the count of an end is its word
 pub count-word : (t : Table) (words : List ℕ) (end : End) → Stands t end → count_in t words end ≡ get_or words (end_word t end) 0
 count-word t words (Balancer b) h = rw (lt-ltb b t.balancers h) refl
 count-word t words (Exit i) h = rw (lt-ltb i t.width h) refl
 
-pub entered-word : (t : Table) (words : List ℕ) (entry : ℕ) → entry < t.entries → entered_in t words entry ≡ get_or words (entry_word entry) 0
+pub entered-word : (t : Table) (words : List ℕ) (entry : ℕ) → entry < t.entries → entered_in t words entry ≡ get_or words (1 + entry) 0
 entered-word t words entry h = rw (lt-ltb entry t.entries h) refl

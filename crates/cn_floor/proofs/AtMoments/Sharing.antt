@@ -12,13 +12,14 @@ use Rattle.cn_spec.specs.Sums.{times}
 use Rattle.cn_wiring.specs.declared.end.End.{End}
 use Rattle.cn_wiring.specs.declared.end.End.TheVariants.{Balancer, Exit}
 use Rattle.cn_wiring.specs.Network.{Network}
+use Rattle.cn_yard.specs.Lists.{tokens_in}
 use Rattle.cn_floor.specs.declared.view.Grant.{Grant}
 use Rattle.cn_floor.specs.declared.view.Passage.{Passage}
 use Rattle.cn_floor.specs.declared.view.Start.{Start}
 use Rattle.cn_floor.specs.declared.view.View.{View}
 use Rattle.cn_floor.specs.Rule.{IsAccounted, IsFresh, HoldsAt, load_bound}
 use Rattle.cn_floor.specs.Plays.{Looks}
-use Rattle.cn_floor.specs.Views.{after_join, after_look, after_split, base, empty_view, given_in, granted_in, inside_in, levels_in, nobody, on_in, split_off, standing_in}
+use Rattle.cn_floor.specs.Views.{after_join, after_look, after_split, base, empty_view, given_in, granted_in, levels_in, nobody, on_in, split_off, standing_in}
 use Rattle.cn_floor.specs.Words.{clients_in}
 use Rattle.cn_floor.proofs.AtMoments.Bounds.{all_came}
 use Rattle.cn_floor.proofs.AtMoments.Kept.{AddUpAlike, kept-recounted, kept_alike}
@@ -160,7 +161,7 @@ module _ (v w : View) (idle : v.loads ≡ []) (out : Empty w) where
 
   accounted-after_join : (network : Network) → IsAccounted network v → IsAccounted network w → IsAccounted network (after_join v w)
   accounted-after_join network f g =
-      let inside : inside_in w ≡ 0 = sum_below-zero (length w.tokens) (λ u. on_in u w) out in
+      let inside : tokens_in w.tokens ≡ 0 = sum_below-zero (length w.tokens) (λ u. on_in u w) out in
       record {
         all = omega (arith, f.all, g.all, length-append v.entries w.entries, length-append v.grants w.grants);
         entries = All-append (λ (u : ℕ). u < network.table.entries) v.entries w.entries f.entries g.entries;

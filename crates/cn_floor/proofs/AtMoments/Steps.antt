@@ -23,7 +23,7 @@ use Rattle.cn_floor.specs.Steps.{IsAtomicStep, answer_at}
 use Rattle.cn_floor.specs.Sweeps.{GoesFrom}
 use Rattle.cn_floor.specs.Rule.{IsAccounted, IsFresh, HoldsAt, ledger_of, load_bound}
 use Rattle.cn_floor.specs.Views.{after_enter, after_step, base}
-use Rattle.cn_floor.specs.Words.{clients_in, count_in, end_word, entered_in, entry_word}
+use Rattle.cn_floor.specs.Words.{clients_in, count_in, end_word, entered_in}
 use Rattle.cn_floor.proofs.AtMoments.Bounds.{count_few, few_came, name_later}
 use Rattle.cn_floor.proofs.AtMoments.Accounts.{accounted-after_enter, accounted-after_step}
 use Rattle.cn_floor.proofs.AtMoments.Fresh.{fresh_grown, names_below}
@@ -53,7 +53,7 @@ module _ (start : Start) (id token client entry : ℕ) (v : View) (s : State (Un
   w = after_enter token client entry v
 
   abbrev after : State (Unit {0}) View
-  after = record { words = raised s.words (entry_word entry); homes = s.homes; views = set s.views id w }
+  after = record { words = raised s.words (1 + entry); homes = s.homes; views = set s.views id w }
 
   came_in : Enters start.network.table (ledger_of start.network.table start.words s.words s.views) (ledger_of start.network.table start.words after.words after.views) client entry
   came_in = enters start s.words s.views id v kept.rule.words here of token client entry low inside
@@ -84,8 +84,8 @@ module _ (start : Start) (id token client entry : ℕ) (v : View) (s : State (Un
   kept-after_enter idle = record {
     began = kept.began;
     rule = record {
-      words = length-set s.words (entry_word entry) (get_or s.words (entry_word entry) 0 + 1) ∙ kept.rule.words;
-      lanes = lanes-raised s.words (entry_word entry) (omega arith) kept.rule.lanes;
+      words = length-set s.words (1 + entry) (get_or s.words (1 + entry) 0 + 1) ∙ kept.rule.words;
+      lanes = lanes-raised s.words (1 + entry) (omega arith) kept.rule.lanes;
       sound = sound-enters start.network.table (ledger_of start.network.table start.words s.words s.views) (ledger_of start.network.table start.words after.words after.views) client entry came_in kept.rule.sound;
       entered = λ u l.
           let more = total_set (λ (x : View). times u x.entries) s.views id v w here in
@@ -120,10 +120,10 @@ module _ (start : Start) (id token client entry : ℕ) (v : View) (s : State (Un
 -- a client may come in
 pub lets_in : (start : Start) (slots id : ℕ) (me : Me (Unit {0}) View) (is : Coming) → is.start ≡ start → me.1 ≡ [] → me.0.loads ≡ [] → me.0.start ≡ start → is.entry < start.network.table.entries
     → is.entry < length me.0.tokens → 0 < me.0.quota
-    → Allows (HoldsAt start) slots id me (entry_word is.entry) (λ n. (n + 1) % 2 ^ 64) (λ n new. (new.1 ≡ []) × ComesIn is me.0 new.0)
+    → Allows (HoldsAt start) slots id me (1 + is.entry) (λ n. (n + 1) % 2 ^ 64) (λ n new. (new.1 ≡ []) × ComesIn is me.0 new.0)
 lets_in start slots id me is same no_slot idle of low inside some_quota s kept homes at fits =
     let v : View = me.0 in
-    let n : ℕ = get_or s.words (entry_word is.entry) 0 in
+    let n : ℕ = get_or s.words (1 + is.entry) 0 in
     let w : View = after_enter is.token is.client is.entry v in
     let few : n ≤ base start + start.quota = omega (arith, entered-word start.network.table s.words is.entry low, sum_below-part start.network.table.entries is.entry (entered_in start.network.table s.words) low, few_came start s kept) in
     let bound = kept.began.quota in
@@ -132,7 +132,7 @@ lets_in start slots id me is same no_slot idle of low inside some_quota s kept h
       w,
       keeps,
       tt,
-      subst (λ (x : ℕ). HoldsAt start (stepped s (entry_word is.entry) x id me.1 w keeps)) no_wrap (kept-after_enter start id is.token is.client is.entry v s kept at of low inside some_quota idle),
+      subst (λ (x : ℕ). HoldsAt start (stepped s (1 + is.entry) x id me.1 w keeps)) no_wrap (kept-after_enter start id is.token is.client is.entry v s kept at of low inside some_quota idle),
       (no_slot, (refl, subst (λ (z : Start). IsAtomicStep z v w (λ old new. Enters z.network.table old new is.client is.entry)) (sym same) (step-after_enter start id is.token is.client is.entry v s kept at of low inside some_quota idle))),
     )
 
@@ -312,9 +312,9 @@ lets_on start slots id me is same no_slot idle of on_it wires ends stands s kept
 -- the same, where the word and the steps' marks are told apart
 pub lets_in_by : (start : Start) (slots id : ℕ) (me : Me (Unit {0}) View) (is : Coming) (entry : ℕ) → is.entry ≡ entry → is.start ≡ start → me.1 ≡ [] → me.0.loads ≡ [] → me.0.start ≡ start → entry < start.network.table.entries
     → entry < length me.0.tokens → 0 < me.0.quota
-    → Allows (HoldsAt start) slots id me (entry_word entry) (λ n. (n + 1) % 2 ^ 64) (λ n new. (new.1 ≡ []) × ComesIn is me.0 new.0)
+    → Allows (HoldsAt start) slots id me (1 + entry) (λ n. (n + 1) % 2 ^ 64) (λ n new. (new.1 ≡ []) × ComesIn is me.0 new.0)
 lets_in_by start slots id me is entry by same no_slot idle of low inside some_quota =
-    subst (λ (e : ℕ). Allows (HoldsAt start) slots id me (entry_word e) (λ n. (n + 1) % 2 ^ 64) (λ n new. (new.1 ≡ []) × ComesIn is me.0 new.0)) by
+    subst (λ (e : ℕ). Allows (HoldsAt start) slots id me (1 + e) (λ n. (n + 1) % 2 ^ 64) (λ n new. (new.1 ≡ []) × ComesIn is me.0 new.0)) by
     (lets_in start slots id me is same no_slot idle of (omega arith) (omega arith) some_quota)
 
 pub lets_on_by : (start : Start) (slots id : ℕ) (me : Me (Unit {0}) View) (is : Going) (token client wire : ℕ) (end : End) (word : ℕ)

@@ -18,11 +18,11 @@ use Rattle.cn_floor.specs.declared.view.Start.{Start}
 use Rattle.cn_floor.specs.declared.view.View.{View}
 use Rattle.cn_floor.specs.Rule.{HoldsAt, ledger_of}
 use Rattle.cn_floor.specs.Sweeps.{AllGoOn, GoInRow, GoesFrom, Sweeping, after_steps, after_sweep}
-use Rattle.cn_floor.specs.Views.{after_step, base, lists_after}
+use Rattle.cn_floor.specs.Views.{after_step, base}
 use Rattle.cn_floor.specs.Words.{clients_in, count_in, end_word}
 use Rattle.cn_floor.proofs.AtMoments.Bounds.{count_few, few_came, name_later}
 use Rattle.cn_floor.proofs.AtMoments.Kept.{counted-alike, kept-recounted, ledger-alike}
-use Rattle.cn_floor.proofs.Lists.{made_at, made_beyond}
+use Rattle.cn_floor.proofs.Lists.{lists_after, made_at, made_beyond}
 use Rattle.cn_floor.proofs.AtMoments.Places.{get-here, set-here}
 use Rattle.cn_floor.proofs.AtMoments.Raised.{count-raised, count-word, end_there, raised}
 use Rattle.cn_floor.proofs.AtMoments.Sole.{sole}

@@ -3,14 +3,15 @@ use Rattle.std.proofs.Common.{◌≡◌, ℕ, ◌+◌, ◌*◌, length, refl, ap
 use Rattle.cn_spec.proofs.CallerLemmas.{sum_below-part, sum_below-same, sum_below-zero}
 use Rattle.cn_wiring.specs.Network.{IsNetwork}
 use Rattle.cn_wiring.proofs.CallerLemmas.{levels}
+use Rattle.cn_yard.specs.Lists.{tokens_in}
 use Rattle.cn_floor.specs.declared.view.Start.{Start}
 use Rattle.cn_floor.specs.declared.view.View.{View}
 use Rattle.cn_floor.specs.Laws.{TakesItsSteps}
 use Rattle.cn_floor.specs.Rule.{IsAccounted}
-use Rattle.cn_floor.specs.Views.{inside_in, levels_in, on_in}
+use Rattle.cn_floor.specs.Views.{levels_in, on_in}
 
 -- where nobody is inside, there are no levels to add up
-pub no-levels : (level : ℕ → ℕ) (v : View) → inside_in v ≡ 0 → levels_in level v ≡ 0
+pub no-levels : (level : ℕ → ℕ) (v : View) → tokens_in v.tokens ≡ 0 → levels_in level v ≡ 0
 no-levels level v none =
     sum_below-same (length v.tokens) (λ u. level u * on_in u v) (λ _. 0) (λ u l.
     let z : on_in u v ≡ 0 = omega (arith, sum_below-part (length v.tokens) u (λ x. on_in x v) l, none) in

@@ -1,14 +1,15 @@
 -- A client that walks through by itself.
-use Rattle.std.proofs.Common.{◌≡◌, ℕ, ◌-◌, ◌<◌, ◌++◌, ◌∷◌, inl, inr, All, List, [], length, replicate, refl, sym, ap, ◌∙◌, arith}
+use Rattle.std.proofs.Common.{◌≡◌, ℕ, ◌-◌, ◌%◌, ◌<◌, ◌++◌, ◌∷◌, inl, inr, All, List, [], get_or, length, replicate, refl, sym, ap, ◌∙◌, arith}
 use Rattle.std.proofs.lemmas.Bool.{cases_lt}
 use Rattle.std.proofs.lemmas.List.FromFn.{length-map-range_with_len}
 use Rattle.cn_spec.specs.Step.{name_of}
-use Rattle.cn_wiring.specs.declared.end.End.TheVariants.{Exit}
+use Rattle.cn_wiring.specs.declared.end.End.TheVariants.{Balancer, Exit}
+use Rattle.cn_wiring.specs.Table.{output_wire}
 use Rattle.cn_ledger.specs.Ledger.{Ledger}
 use Rattle.cn_yard.specs.Lists.{last_on, on, without}
 use Rattle.cn_floor.specs.declared.view.Start.{Start}
 use Rattle.cn_floor.specs.declared.view.View.{View}
-use Rattle.cn_floor.specs.Lone.{IsAlone}
+use Rattle.cn_floor.specs.Lone.{IsAlone, OnlyPassed, PassesOn}
 use Rattle.cn_floor.specs.Named.{WalksThrough}
 use Rattle.cn_floor.specs.Rule.{IsStart}
 use Rattle.cn_floor.specs.Steps.{HasMoment, IsAtomicStep}
@@ -52,6 +53,32 @@ names-low start v began (s, moment) k d less =
     let f = moment.kept.fresh moment.id v moment.here in
     omega (arith, f.names k d less, load_bound-few start.network.table s.words v.loads f.low, few_came start s record { began = began; rule = moment.kept })
 
+-- who passes balancers changes nothing else of a lane
+passed-only : (start : Start) (token client : ℕ) (numbers : List ℕ) (wire : ℕ) (v : View) (to : ℕ) (w : View) → PassesOn start token client numbers wire v to w → OnlyPassed v w
+unfolding PassesOn
+passed-only start token client [] wire v to w (_, same) =
+    record {
+      start = ap (λ (x : View). x.start) same;
+      quota = ap (λ (x : View). x.quota) same;
+      entries = ap (λ (x : View). x.entries) same;
+      wires = ap (λ (x : View). length x.tokens) same;
+      grants = ap (λ (x : View). x.grants) same;
+      seen = ap (λ (x : View). x.seen) same;
+      loads = ap (λ (x : View). x.loads) same;
+    }
+passed-only start token client (n ∷ rest) wire v to w (b, ends, by, on) =
+    let next : View = after_step token client (Balancer b) n v in
+    let only : OnlyPassed next w = passed-only start token client rest (output_wire start.network.table b (n % 2)) next to w on in
+    record {
+      start = only.start;
+      quota = only.quota;
+      entries = only.entries;
+      wires = only.wires ∙ length-map-range_with_len (λ u. without token (get_or v.tokens u []) ++ last_on token client (output_wire v.start.network.table b (n % 2)) u) 0 (length v.tokens);
+      grants = only.grants;
+      seen = only.seen;
+      loads = only.loads;
+    }
+
 -- what a client that walked through made of a view
 pub record Grew (v w : View) (client entry exit visit : ℕ) : Type 0 where
   pub start : w.start ≡ v.start
@@ -63,15 +90,16 @@ pub record Grew (v w : View) (client entry exit visit : ℕ) : Type 0 where
 
 pub grew : (start : Start) (client entry exit visit : ℕ) (v w : View) → WalksThrough start client entry exit visit v w → Grew v w client entry exit visit
 grew start client entry exit visit v w is =
-    let came = is.comes.0 in
-    let begun : is.before.start ≡ v.start = is.only.start ∙ ap (λ (x : View). x.start) came in
-    let had : is.before.grants ≡ v.grants = is.only.grants ∙ ap (λ (x : View). x.grants) came in
+    let came = is.came in
+    let only : OnlyPassed is.inside is.before = passed-only start is.token client is.numbers entry is.inside is.wire is.before is.passes in
+    let begun : is.before.start ≡ v.start = only.start ∙ ap (λ (x : View). x.start) came in
+    let had : is.before.grants ≡ v.grants = only.grants ∙ ap (λ (x : View). x.grants) came in
     record {
       start = ap (λ (x : View). x.start) is.after ∙ begun;
-      quota = ap (λ (x : View). x.quota) is.after ∙ is.only.quota ∙ ap (λ (x : View). x.quota) came;
-      entries = ap (λ (x : View). x.entries) is.after ∙ is.only.entries ∙ ap (λ (x : View). x.entries) came;
+      quota = ap (λ (x : View). x.quota) is.after ∙ only.quota ∙ ap (λ (x : View). x.quota) came;
+      entries = ap (λ (x : View). x.entries) is.after ∙ only.entries ∙ ap (λ (x : View). x.entries) came;
       grants = ap (λ (x : View). x.grants) is.after
           ∙ (λ i. had i ++ record { client = client; exit = exit; visit = visit; name = name_of (begun i).network.table.width exit visit - base (begun i) } ∷ []);
-      seen = ap (λ (x : View). x.seen) is.after ∙ is.only.seen ∙ ap (λ (x : View). x.seen) came;
-      loads = ap (λ (x : View). x.loads) is.after ∙ is.only.loads ∙ ap (λ (x : View). x.loads) came;
+      seen = ap (λ (x : View). x.seen) is.after ∙ only.seen ∙ ap (λ (x : View). x.seen) came;
+      loads = ap (λ (x : View). x.loads) is.after ∙ only.loads ∙ ap (λ (x : View). x.loads) came;
     }

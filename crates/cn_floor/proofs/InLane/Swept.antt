@@ -1,5 +1,5 @@
 -- What a lane holds is what its view tells, also after a sweep.
-use Rattle.std.proofs.Common.{◌≡◌, ℕ, zero, suc, ◌+◌, ◌-◌, ◌*◌, ◌%◌, ◌<◌, List, [], ◌∷◌, ◌++◌, length, get_or, refl, sym, ap, ◌∙◌, subst, arith, append-nil, length-append, inl, inr}
+use Rattle.std.proofs.Common.{◌≡◌, ◌≢◌, ℕ, zero, suc, ◌+◌, ◌-◌, ◌*◌, ◌%◌, ◌<◌, ◌≤◌, List, [], ◌∷◌, ◌++◌, length, get_or, refl, sym, ap, ◌∙◌, subst, arith, append-nil, length-append, inl, inr}
 use Rattle.std.specs.Prelude.{vec_capacity}
 use Rattle.std.proofs.lemmas.Bool.{cases_lt}
 use Rattle.std.proofs.lemmas.List.{append_assoc, get_or_past}
@@ -7,8 +7,9 @@ use Rattle.cn_spec.specs.Step.{name_of}
 use Rattle.cn_wiring.specs.declared.end.End.{End}
 use Rattle.cn_wiring.specs.declared.end.End.TheVariants.{Balancer, Exit}
 use Rattle.cn_wiring.specs.Table.{end_of, output_wire}
-use Rattle.cn_yard.specs.Deals.{Deals, Frees, IsDealt, out_of}
-use Rattle.cn_yard.specs.Lists.{Lists, Moves, Releases, Yard, last_on, on, tokens_in, without}
+use Rattle.cn_yard.specs.Deals.{Deals, Frees, IsCleared, IsDealt, out_of}
+use Rattle.cn_yard.specs.Lists.{Lists, Moves, Releases, Yard, last_on, on, times_in, tokens_in, without}
+use Rattle.cn_yard.proofs.CallerLemmas.{once-gone, others-on, rest-on}
 use Rattle.cn_floor.specs.declared.floor.lane.Lane.TheInside.{Inside}
 use Rattle.cn_floor.specs.declared.view.Grant.{Grant}
 use Rattle.cn_floor.specs.declared.view.Start.{Start}
@@ -116,6 +117,23 @@ freed-all (e ∷ rest) y z (between, released, later) =
       tokens = omega (arith, more.tokens, released.tokens);
       spare = omega (arith, more.spare, released.spare);
     }
+
+-- all tokens of a wire are freed: it is empty, and the others are as they were
+freed-others : (wire : ℕ) (tokens : List (ℕ × ℕ)) (y z : Yard) → ((k : ℕ) → times_in y.lists k ≤ 1) → wire < length y.lists → on y.lists wire ≡ tokens → Frees tokens y z
+    → (on z.lists wire ≡ []) × ((u : ℕ) → u ≢ wire → on z.lists u ≡ on y.lists u)
+unfolding Frees
+freed-others wire [] y z once inside is same = (ap (λ (x : Yard). on x.lists wire) same ∙ is, λ u other. ap (λ (x : Yard). on x.lists u) same)
+freed-others wire (e ∷ rest) y z once inside is (between, one, more) =
+    let left = one.lists wire ∙ rest-on y.lists e.0 e.1 wire rest once inside is in
+    let still : (k : ℕ) → times_in between.lists k ≤ 1 = λ k. once-gone y.lists e.0 e.1 wire rest once inside is between.lists one.wires k one.lists in
+    let (empty, others) = freed-others wire rest between z still (omega (arith, inside, one.wires)) left more in
+    (empty, λ u other. others u other ∙ one.lists u ∙ others-on y.lists e.0 e.1 wire rest once inside is u other)
+
+pub cleared : (wire : ℕ) (y z : Yard) → ((k : ℕ) → times_in y.lists k ≤ 1) → wire < length y.lists → Frees (on y.lists wire) y z → IsCleared wire y z
+cleared wire y z once inside frees =
+    let all = freed-all (on y.lists wire) y z frees in
+    let (empty, others) = freed-others wire (on y.lists wire) y z once inside refl frees in
+    record { wires = all.wires; empty = empty; others = others; spare = all.spare; tokens = all.tokens }
 
 -- a wire with a token is one of the yard's
 pub some-inside : (y : Lists) (wire : ℕ) → 0 < length (on y wire) → wire < length y

@@ -12,12 +12,12 @@ use Rattle.cn_core.specs.declared.reply.EnterFault.TheVariants.{NoSuchEntry, Alr
 use Rattle.cn_core.specs.declared.reply.Reply.{Reply}
 use Rattle.cn_core.specs.declared.reply.Reply.TheVariants.{Entered, EnterRefused}
 use Rattle.cn_core.specs.History as core
-use Rattle.cn_core.specs.History.{Carried, answer_to, enters_of, position_after, step_answer}
+use Rattle.cn_core.specs.History.{Carried, answer_to, enters_of, position_after, step_answer, carried_by}
 use Rattle.cn_epoch.specs.declared.answer.Answer.{Answer}
 use Rattle.cn_epoch.specs.declared.answer.Answer.TheVariants.{Replied, Turned, TurnRefused}
 use Rattle.cn_epoch.specs.declared.command.Command.{Command}
 use Rattle.cn_epoch.specs.declared.command.Command.TheVariants.{Enter, Step, Turn}
-use Rattle.cn_epoch.specs.History.{MayAnswer, MayAnswerAll, carried_in, history_after, kept_after, turns_after}
+use Rattle.cn_epoch.specs.History.{MayAnswer, MayAnswerAll, history_after, kept_after, turns_after, earlier_in}
 use Rattle.cn_report.specs.Writing.Replay.{AreAnswers, Fits, IsEnterReply, IsStepReply, IsWhole}
 
 -- ---- a reply by history fits its event
@@ -74,13 +74,13 @@ pub fits_all : (table : Table) (turns : ℕ) (h : List Event) (kept : Option (Li
 fits_all table turns h kept [] [] may = tt
 fits_all table turns h kept [] (a ∷ rest) may = may
 fits_all table turns h kept (c ∷ cs) [] may = may
-fits_all table turns h kept (c ∷ cs) (a ∷ rest) may = (fits-may table turns h (carried_in table kept) c a may.0, fits_all table (turns_after turns a) (history_after h c a) (kept_after kept h a) cs rest may.1)
+fits_all table turns h kept (c ∷ cs) (a ∷ rest) may = (fits-may table turns h (carried_by table (earlier_in kept)) c a may.0, fits_all table (turns_after turns a) (history_after h c a) (kept_after kept h a) cs rest may.1)
 
 pub whole_all : (table : Table) (turns : ℕ) (h : List Event) (kept : Option (List (List Event))) (commands : List Command) (answers : List Answer) → MayAnswerAll table turns h kept commands answers → All (IsWhole table.width) answers
 whole_all table turns h kept [] [] may = λ k d l. absurd (omega arith)
 whole_all table turns h kept [] (a ∷ rest) may = absurd may
 whole_all table turns h kept (c ∷ cs) [] may = absurd may
-whole_all table turns h kept (c ∷ cs) (a ∷ rest) may = by (whole-may table turns h (carried_in table kept) c a may.0) (whole_all table (turns_after turns a) (history_after h c a) (kept_after kept h a) cs rest may.1)
+whole_all table turns h kept (c ∷ cs) (a ∷ rest) may = by (whole-may table turns h (carried_by table (earlier_in kept)) c a may.0) (whole_all table (turns_after turns a) (history_after h c a) (kept_after kept h a) cs rest may.1)
   where
     by : IsWhole table.width a → All (IsWhole table.width) rest → All (IsWhole table.width) (a ∷ rest)
     by here later zero d l = here

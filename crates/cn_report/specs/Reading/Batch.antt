@@ -43,6 +43,7 @@ abbrev pub cause_of_heading : Option Heading → Option BatchCause
 cause_of_heading (Some heading) = None
 cause_of_heading None = Some Header
 
+-- the cause of record 0 by its fields
 abbrev pub header_cause : Record → Option BatchCause
 header_cause fields = cause_of_heading (heading_of fields)
 

@@ -36,6 +36,7 @@ pub record Holds (g : Granting) (grants : List Granted) : Type 0 where
 abbrev pub latest_number : ℕ → ℕ → List ℕ
 latest_number latest count = if nat_lt 0 count then latest ∷ [] else []
 
+-- its number, clients and counts, if it has grants
 abbrev pub latest_told : ℕ → ℕ → ℕ → List (ℕ × ℕ × List ℕ)
 latest_told width latest count = if nat_lt 0 count then (latest, count, shares count width) ∷ [] else []
 

@@ -36,10 +36,11 @@ last_epoch grants = fold (λ epoch g. g.epoch) 0 grants
 unfoldable pub form_cause : List Granted → Granted → Option GrantCause
 form_cause before g = if nat_lt g.epoch (last_epoch before) then Some Form else if nat_le MOST_RECORDS (length before) then Some Form else None
 
--- whether the client, or the name, stands among these
+-- whether the client stands among these
 abbrev pub has_client : ℕ → List Granted → Bool
 has_client client grants = list_any (λ g. client == g.client) grants
 
+-- whether the name stands among these
 abbrev pub has_name : ℕ → List Granted → Bool
 has_name name grants = list_any (λ g. name == g.name) grants
 

@@ -45,10 +45,11 @@ is_grants_header fields = pointwise bytes_eq fields (codes "epoch" ∷ codes "cl
 abbrev pub header_cause : Record → Option GrantCause
 header_cause fields = if is_grants_header fields then None else Some cause.Form
 
--- what is wrong with the form of a record after those before it, the header first; and its first cause
+-- what is wrong with the form of a record after those before it, the header first
 abbrev pub record_form : List Record → Record → Option GrantCause
 record_form before fields = spelled_form (grants_in (drop 1 before)) (granted_in fields)
 
+-- the first cause of a record after those before it
 abbrev pub record_cause : List Record → Record → Option GrantCause
 record_cause before fields = spelled_cause (grants_in (drop 1 before)) (granted_in fields)
 
@@ -56,6 +57,7 @@ record_cause before fields = spelled_cause (grants_in (drop 1 before)) (granted_
 abbrev pub grants_form : List Record → ℕ → Option GrantCause
 grants_form = cause_by header_cause record_form
 
+-- the first cause of the record with this number, if it has one
 abbrev pub grants_cause : List Record → ℕ → Option GrantCause
 grants_cause = cause_by header_cause record_cause
 

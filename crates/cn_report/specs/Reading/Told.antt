@@ -10,10 +10,11 @@ use Rattle.cn_report.specs.declared.reading.grant.Flaw.{Flaw}
 use Rattle.cn_report.specs.declared.reading.granting.Tight.{Tight}
 use Rattle.cn_report.specs.declared.reading.granting.TightEpoch.{TightEpoch}
 
--- the epochs' numbers, each once, in their order
+-- the numbers, and this one if it is not among them
 abbrev pub with_number : List ℕ → ℕ → List ℕ
 with_number numbers n = if list_any (nat_eq n) numbers then numbers else numbers ++ n ∷ []
 
+-- the epochs' numbers, each once, in the order of the grants
 abbrev pub epoch_numbers : List Granted → List ℕ
 epoch_numbers grants = fold (λ numbers g. with_number numbers g.epoch) [] grants
 

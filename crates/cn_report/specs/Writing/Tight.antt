@@ -8,10 +8,11 @@ abbrev pub tight_line : ℕ × ℕ × List ℕ → List ℕ
 tight_line (number, clients, counts) =
     line (codes "epoch" ∷ decimal number ∷ codes "clients" ∷ decimal clients ∷ codes "counts" ∷ map decimal counts)
 
--- the same in parts: all before the counts, and each count after a space
+-- the same in parts: all before the counts
 unfoldable pub tight_head : ℕ → ℕ → List ℕ
 tight_head number clients = codes "epoch " ++ decimal number ++ codes " clients " ++ decimal clients ++ codes " counts"
 
+-- each count after a space
 abbrev pub tight_counts : List ℕ → List ℕ
 tight_counts counts = flat_map (λ count. 32 ∷ decimal count) counts
 

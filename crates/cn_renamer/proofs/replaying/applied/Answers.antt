@@ -2,7 +2,7 @@ use Rattle.std.proofs.Common.{◌≡◌, List, [], None, rules, ◌∙◌, ap}
 use Rattle.std.specs.List.{All}
 use Rattle.cn_wiring.specs.Network.{Network}
 use Rattle.cn_core.specs.declared.event.Event.{Event}
-use Rattle.cn_core.specs.History.{enters_of, inside_of, nothing}
+use Rattle.cn_core.specs.History.{carried_by, enters_of, inside_of}
 use Rattle.cn_epoch.specs.History.{history_by, turns_by}
 use Rattle.cn_epoch.specs.Turns.{HadMemory}
 use Rattle.cn_report.specs.Writing.Replay.{IsWhole}
@@ -31,8 +31,8 @@ returns-clause-text c =
     let history : List Event = history_by [] c.args.commands.now answers in
     let number : c.number.result ≡ turns_by 0 answers = c.number.ensures.by_turns (turns_by 0 answers) history None agrees in
     let entered : c.entered.result ≡ enters_of history = c.entered.ensures.by_history (turns_by 0 answers) history None agrees in
-    let inside : c.inside.result ≡ inside_of c.args.network.now.table history nothing =
-    c.inside.ensures.by_history (turns_by 0 answers) history None agrees ∙ ap (λ (n : Network). inside_of n.table history nothing) same in
+    let inside : c.inside.result ≡ inside_of c.args.network.now.table history (carried_by c.args.network.now.table []) =
+    c.inside.ensures.by_history (turns_by 0 answers) history None agrees ∙ ap (λ (n : Network). inside_of n.table history (carried_by n.table [])) same in
     let memory : All HadMemory answers = search rules in
     record {
       answers = answers;

@@ -4,9 +4,9 @@ use Rattle.cn_wiring.specs.declared.end.End.TheVariants.{Balancer, Exit}
 use Rattle.cn_wiring.specs.Table.{end_of}
 use Rattle.cn_names.specs.Names.{standing_in}
 use Rattle.cn_names.specs.declared.standing.Standing.TheVariants.{Walking}
-use Rattle.cn_core.specs.InsideClients.{positions}
+use Rattle.cn_core.specs.InsideClients.{positions, with_position}
 use Rattle.cn_core.specs.InsideCore.{state_of}
-use Rattle.cn_core.specs.State.{State, position_in, position_past, with_position}
+use Rattle.cn_core.specs.State.{State, position_in, position_past}
 use Rattle.cn_core.specs.declared.position.Position.TheVariants.{On}
 use Rattle.cn_ledger.specs.declared.moved.Moved.TheVariants.{On as Passed, Out}
 use Rattle.cn_core.proofs.HistoryLemmas.{history-step}

@@ -8,7 +8,7 @@ use Rattle.cn_floor.specs.Carried.{IsClosed, WordsValue, words_before}
 use Rattle.cn_floor.specs.Closing.{IsMissing}
 use Rattle.cn_floor.specs.Ends.{IsClosedFloor}
 use Rattle.cn_floor.specs.Lane.{FloorValue, LaneValue}
-use Rattle.cn_floor.specs.Views.{base, inside_in}
+use Rattle.cn_floor.specs.Views.{base}
 use Rattle.cn_floor.specs.Words.{clients_in}
 use Rattle.cn_floor.proofs.AtClose.Closings.{inside-yard}
 use Rattle.cn_floor.proofs.AtClose.Rises.{all-empty}
@@ -25,7 +25,7 @@ invariant_of-closed c =
     let view : v ≡ c.of-told.result.value.view = ap (λ (l : LaneValue). l.view) (c.lane.view_is ∙ sym lane) in
     let about : start ≡ c.of-told.result.value.home.start = ap (λ (h : FloorValue). h.start) (c.self.view_is ∙ sym c.requires.own ∙ ap (λ (l : LaneValue). l.home) (sym lane)) in
     let nobody : tokens_in c.lane.inside.yard.lists ≡ 0 = search rules in
-    let out : inside_in v ≡ 0 = inside-yard c.lane.inside.yard v c.lane.invariant.tokens ∙ nobody in
+    let out : tokens_in v.tokens ≡ 0 = inside-yard c.lane.inside.yard v c.lane.invariant.tokens ∙ nobody in
     let clients : c.clients_of-clients.result ≡ clients_in start.network.table ws = c.clients_of-clients.ensures ∙ (λ i. clients_in (network i).table (c.as_slice.ensures.value i)) in
     let granted : c.len-granted.result ≡ length v.grants = search rules in
     let came : clients_in start.network.table ws ≡ base start + length v.grants = omega (arith, e.granted, c.self.invariant.base, c.if-entered-granted.false) in
@@ -46,7 +46,7 @@ closed-requires-clause-closed c =
     let began = c.self.invariant.began in
     let network : c.network.result.now ≡ start.network = c.network.ensures ∙ ap (λ (w : WordsValue). w.network) c.self.invariant.before in
     let nobody : tokens_in c.lane.inside.yard.lists ≡ 0 = search rules in
-    let out : inside_in v ≡ 0 = inside-yard c.lane.inside.yard v c.lane.invariant.tokens ∙ nobody in
+    let out : tokens_in v.tokens ≡ 0 = inside-yard c.lane.inside.yard v c.lane.invariant.tokens ∙ nobody in
     let clients : c.clients_of-clients.result ≡ clients_in start.network.table ws = c.clients_of-clients.ensures ∙ (λ i. clients_in (network i).table (c.as_slice.ensures.value i)) in
     let granted : c.len-granted.result ≡ length v.grants = search rules in
     let came : clients_in start.network.table ws ≡ base start + length v.grants = omega (arith, e.granted, c.self.invariant.base, c.if-entered-granted.false) in
@@ -87,7 +87,7 @@ returns-then-entered-granted-clause-refused c =
     let clients : c.clients_of-clients.result ≡ clients_in start.network.table ws = c.clients_of-clients.ensures ∙ (λ i. clients_in (network i).table (c.as_slice.ensures.value i)) in
     let granted : c.len-granted.result ≡ length v.grants = search rules in
     let nobody : tokens_in c.lane.inside.yard.lists ≡ 0 = search rules in
-    let out : inside_in v ≡ 0 = inside-yard c.lane.inside.yard v c.lane.invariant.tokens ∙ nobody in
+    let out : tokens_in v.tokens ≡ 0 = inside-yard c.lane.inside.yard v c.lane.invariant.tokens ∙ nobody in
     let all = (e.moment.kept.accounted e.moment.id v e.moment.here).all in
     let missing : IsMissing start v entered = record {
       state = e.state;

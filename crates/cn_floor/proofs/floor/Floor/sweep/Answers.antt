@@ -1,11 +1,11 @@
-use Rattle.std.proofs.Common.{◌≡◌, ℕ, ◌+◌, ◌*◌, ◌%◌, ◌<◌, length, refl, arith, sym, ap, ◌∙◌, subst}
+use Rattle.std.proofs.Common.{◌≡◌, ℕ, ◌+◌, ◌*◌, ◌%◌, ◌<◌, ◌≤◌, length, refl, arith, sym, ap, ◌∙◌, subst}
 use Rattle.cn_spec.proofs.CallerLemmas.{sum_below-part}
 use Rattle.cn_wiring.specs.declared.end.End.{End}
 use Rattle.cn_wiring.specs.declared.end.End.TheVariants.{Balancer, Exit}
 use Rattle.cn_wiring.specs.Network.{Network}
 use Rattle.cn_wiring.specs.Table.{end_of, output_wire}
 use Rattle.cn_yard.specs.Deals.{IsDealt, out_of}
-use Rattle.cn_yard.specs.Lists.{on}
+use Rattle.cn_yard.specs.Lists.{on, times_in}
 use Rattle.cn_floor.specs.declared.view.Start.{Start}
 use Rattle.cn_floor.specs.declared.view.Sweep.TheVariants.{On, Out}
 use Rattle.cn_floor.specs.declared.view.View.{View}
@@ -13,7 +13,7 @@ use Rattle.cn_floor.specs.InsideLane.{lane_of}
 use Rattle.cn_floor.specs.Lane.{FloorValue, LaneValue}
 use Rattle.cn_floor.specs.Sweeps.{AreLetBy, after_sweep}
 use Rattle.cn_floor.specs.Views.{base}
-use Rattle.cn_floor.proofs.InLane.Swept.{kin-by, lane-dealt, lane-left, outs-are, some-inside, sweeps-on}
+use Rattle.cn_floor.proofs.InLane.Swept.{cleared, kin-by, lane-dealt, lane-left, outs-are, some-inside, sweeps-on}
 use Rattle.cn_floor.proofs.floor.Floor.sweep.Goals as goal
 
 pub leave_all-requires-clause-room : goal.leave_all-requires-clause-room
@@ -85,9 +85,12 @@ returns-in-Exit c =
     let at : end_of v.start.network.table c.args.wire ≡ Exit i = ap (λ (x : Network). end_of x.table c.args.wire) network ∙ c.end-end.ensures.at ∙ c.in-Exit.is in
     let same : c.sweep-first.new.seat.me.0.start ≡ v.start = ap (λ (w : View). w.start) went ∙ (kin-by (Exit i) n (on v.tokens c.args.wire) v).start in
     let many : c.from-tokens.result ≡ length (on c.lane.inside.yard.lists c.args.wire) = c.from-tokens.ensures ∙ c.count.ensures in
+    let lists = c.lane.inside.yard.lists in
+    let inside : c.args.wire < length lists = some-inside lists c.args.wire (rw (← c.lane.view_is) at c.requires.some) in
+    let once : (k : ℕ) → times_in lists k ≤ 1 = λ k. subst (λ (l : LaneValue). times_in l.yard.lists k ≤ 1) (sym c.lane.view_is) (c.lane_laws.ensures.once k) in
     rw (← c.lane.view_is) (
       n,
-      sweeps-on (lane_of c.lane.inside) _ c.args.wire n _ (Exit i) at (λ x. record { table = c.sweep-first.ensures.seat.0 x; start = same x }) went c.leave_all.ensures.freed refl
+      sweeps-on (lane_of c.lane.inside) _ c.args.wire n _ (Exit i) at (λ x. record { table = c.sweep-first.ensures.seat.0 x; start = same x }) went (cleared c.args.wire c.lane.inside.yard _ once inside c.leave_all.ensures.freed) refl
           (ap (λ (k : ℕ). Out i n k) many)
           (subst (λ (e : End). AreLetBy v.start v c.sweep-first.new.seat.me.0 c.args.wire e n) c.in-Exit.is
           (subst (λ (s : Start). AreLetBy s v c.sweep-first.new.seat.me.0 c.args.wire c.end-end.result n) (sym begun) c.sweep-first.ensures.went.1)),

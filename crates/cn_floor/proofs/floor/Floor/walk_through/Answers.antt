@@ -1,7 +1,12 @@
 use Rattle.std.proofs.Common.{◌≡◌, ℕ, ◌<◌, ◌++◌, [], length, replicate, rules, sym, ap, ◌∙◌, subst}
 use Rattle.std.proofs.lemmas.List.FromFn.{length-map-range_with_len}
 use Rattle.cn_yard.specs.Lists.{last_on, on}
+use Rattle.cn_wiring.specs.declared.end.End.TheVariants.{Exit}
+use Rattle.cn_ledger.specs.Events.{Enters}
+use Rattle.cn_floor.specs.declared.view.Start.{Start}
 use Rattle.cn_floor.specs.declared.view.View.{View}
+use Rattle.cn_floor.specs.Plays.{IsLetBy}
+use Rattle.cn_floor.specs.Steps.{IsAtomicStep}
 use Rattle.cn_floor.specs.Lane.{FloorValue}
 use Rattle.cn_floor.specs.Lone.{IsAlone}
 use Rattle.cn_floor.proofs.InLane.Lone.{there-alone}
@@ -42,3 +47,20 @@ returns-clause-gone c =
     ap (λ (x : View). x.tokens) c.step-visit.ensures.went.0
     ∙ gone-alone c.first-token.result c.args.client c.pass_on-wire.result c.in-Exit.exit c.step-visit.result before c.pass_on-wire.ensures.alone
     ∙ ap (λ (n : ℕ). replicate n []) wires
+
+pub returns-clause-walked : goal.returns-clause-walked
+returns-clause-walked c =
+    let same = ap (λ (h : FloorValue). h.start) c.self.view_is in
+    record {
+      token = c.first-token.result;
+      numbers = c.pass_on-wire.ensures.by.0;
+      wire = c.pass_on-wire.result;
+      inside = c.enter.new.seat.me.0;
+      before = c.pass_on-wire.new.seat.me.0;
+      came = c.enter.ensures.came.0;
+      comes = subst (λ (s : Start). IsAtomicStep s c.args.seat.now.me.0 c.enter.new.seat.me.0 (λ l m. Enters s.network.table l m c.args.client c.args.entry)) same c.enter.ensures.came.1;
+      passes = c.pass_on-wire.ensures.by.1;
+      ends = search rules;
+      leaves = subst (λ (s : Start). IsLetBy s c.pass_on-wire.new.seat.me.0 c.step-visit.new.seat.me.0 c.args.client (Exit c.in-Exit.exit) c.step-visit.result) same c.step-visit.ensures.went.1;
+      after = c.step-visit.ensures.went.0;
+    }
