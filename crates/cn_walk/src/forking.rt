@@ -135,7 +135,8 @@ fn pair(alloc: Global, at: u32, left: Lanes, right: Lanes) -> Option<Lanes>
 }
 
 /// Walks the clients through the lanes, the first half in a thread of its own beside the second, and joins the lanes.
-/// If no thread can be had the halves are walked one after the other. A single lane is walked here.
+/// If a half has no clients, or no thread can be had, the halves are walked one after the other. A single lane is walked
+/// here.
 pub(crate) fn walk_lanes<F: LaneWalker + Sync, G: Gate + Sync, R: Threads + Wait + Sync>(
     rt: &R,
     floor: &F,
@@ -156,6 +157,11 @@ pub(crate) fn walk_lanes<F: LaneWalker + Sync, G: Gate + Sync, R: Threads + Wait
             let left = Box::into_inner(left);
             let right = Box::into_inner(right);
             let (first, second) = clients.split_at(at as usize);
+            if first.is_empty() || second.is_empty() {
+                let lane = walk_lanes(rt, floor, left, first, hand, gate);
+                let other = walk_lanes(rt, floor, right, second, hand, gate);
+                return floor.join(lane, other);
+            }
             let (lane, other) = thread::join(
                 rt,
                 move || -> Lane
