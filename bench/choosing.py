@@ -2,8 +2,8 @@
 """What a name takes by network, width, workers and hand: the tables of README.md, *Choosing*.
 
 Four epochs of 262,144 clients with random identities, whose entries follow by rule, as grants: nanoseconds of processor
-time a name by one worker with one client in hand, from reading the batch to writing the list; and for several workers or
-more clients in hand, by the clock too if there are several workers. The least of nine runs each, in turn, since what runs beside only adds.
+time a name, from reading the batch to writing the list, and by the clock too if there are several workers. It is the
+least of nine runs each, in turn, since what runs beside only adds.
 """
 import measure
 
@@ -43,9 +43,11 @@ def rows(bench):
     names = epochs * clients
     for (network, width, workers, hand), runs in zip(forms, bench.in_turn(jobs, bench.size(9, 3))):
         name = f"{network} {width}, {workers} workers, hand {hand}"
-        yield measure.Row(f"{name}, processor time", min(one.processor for one in runs) / names * 1e9, unit=" ns a name")
+        least = min(one.processor for one in runs)
+        yield measure.Row(f"{name}, processor time", least / names * 1e9, unit=" ns a name")
         if workers > 1:
-            yield measure.Row(f"{name}, clock", min(one.clock for one in runs) / names * 1e9, unit=" ns a name")
+            least = min(one.clock for one in runs)
+            yield measure.Row(f"{name}, clock", least / names * 1e9, unit=" ns a name")
 
 
 if __name__ == "__main__":
