@@ -68,7 +68,10 @@ class Reader:
         self.lead = ""
 
     def paragraph(self, lines):
-        if all(line.startswith("    ") for line in lines):
+        if re.match(r" +-|Options:$| {10}", lines[0]):
+            # An option with what it is for, which is prose, as is its default in a paragraph of its own.
+            self.shown.prose += " ".join(" ".join(lines).split()) + "\n"
+        elif all(line.startswith("    ") for line in lines):
             self.block([line[4:] for line in lines])
         elif lines[0] == "Status:":
             found = [re.fullmatch(r" +(\d+) +(.*)", line) for line in lines[1:]]

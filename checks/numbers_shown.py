@@ -29,6 +29,12 @@ def limits():
     return found
 
 
+def widths():
+    """The widths of networks, as a sentence names them."""
+    *narrow, wide = [2**level for level in range(1, limits()["MOST_LEVEL"] + 1)]
+    return f"{', '.join(map(str, narrow))} or {wide}"
+
+
 # ---- what each text is to say
 
 def phrases_of_help(job):
@@ -37,7 +43,7 @@ def phrases_of_help(job):
     epoch = rf"epoch has at most {limit['MOST_CLIENTS']} clients\b"
     records = rf"at most {limit['MOST_RECORDS']} records\b"
     numbers, header = r"numbers below 2\^64", r"count from 0: the header is record 0\b"
-    width = rf"width of the network: a power of two from 2 to {2 ** limit['MOST_LEVEL']}\b"
+    width = rf"width of the network: {widths()}$"
     return {
         "renamer": [],
         "run": [
@@ -49,8 +55,8 @@ def phrases_of_help(job):
             r"have the names 0 to k-1\b",
             header,
             width,
-            rf"How many workers [^:]*: 1 to {limit['MOST_WORKERS']} \[default: 1\]",
-            rf"How many tokens in hand [^:]*: 1 to {limit['MOST_HAND']} \[default: 1\]",
+            rf"How many workers [^:]*: 1 to {limit['MOST_WORKERS']}\s+\[default: 1\]",
+            rf"How many tokens in hand [^:]*: 1 to {limit['MOST_HAND']}\s+\[default: 1\]",
         ],
         "check": [numbers, records, r"have the names 0 to k-1\b", r"remainders 0, 1, 2 and 3\b", header, width],
         "replay": [numbers, epoch, records, header, width],
@@ -88,11 +94,10 @@ def phrases_of_manual():
     """The forms of the phrases with numbers that the manual page is to have, but for its statuses."""
     limit = limits()
     clients, records = limit["MOST_CLIENTS"], limit["MOST_RECORDS"]
-    *narrow, wide = [2**level for level in range(1, limit["MOST_LEVEL"] + 1)]
     return [
         *MANUAL,
         rf'^RENAMER 1 "\d{{4}}-\d\d-\d\d" "renamer {re.escape(VERSION.read_text().strip())}"',
-        rf"width of the network: {', '.join(map(str, narrow))} or {wide}\.",
+        rf"width of the network: {widths()}\.",
         rf"How many workers [^:]*: 1 to {limit['MOST_WORKERS']}\. By default 1\.",
         rf"How many tokens in hand [^:]*: 1 to {limit['MOST_HAND']}\. By default 1\.",
         rf"numbers below 2\^64 in 1 to {limit['MOST_DIGITS']} decimal digits",
@@ -131,20 +136,26 @@ CAUSES = {
     "a schedule": "Read Header FieldCount Op ClientNumber WireNumber ScheduleFull",
     "a grant list": "Read Form",
 }
-FAULT_LINES = [
-    "renamer: record R: CAUSE",
-    "renamer: flaw: DuplicateClient record R",
-    "renamer: flaw: DuplicateName record R",
-    "renamer: flaw: Gap epoch E name M",
-    "renamer: no such network",
-    "renamer: no such width",
-    "renamer: workers out of range",
-    "renamer: hand out of range",
-    "renamer: no such form",
-    "renamer: memory",
-    "renamer: runtime",
-    "renamer: write after B bytes",
-]
+
+
+
+def fault_lines():
+    """The forms of all lines that a fault of the program may have, in the order of the manual page."""
+    limit = limits()
+    return [
+        "renamer: record R: CAUSE",
+        "renamer: flaw: DuplicateClient record R",
+        "renamer: flaw: DuplicateName record R",
+        "renamer: flaw: Gap epoch E name M",
+        "renamer: no such network: bitonic, periodic or tree",
+        f"renamer: no such width: {widths()}",
+        f"renamer: workers out of range: 1 to {limit['MOST_WORKERS']}",
+        f"renamer: hand out of range: 1 to {limit['MOST_HAND']}",
+        "renamer: no such form: report or grants",
+        "renamer: memory",
+        "renamer: runtime",
+        "renamer: write after B bytes",
+    ]
 
 
 # ---- what a text says
@@ -222,10 +233,12 @@ def wrong_in_manual(page):
     pairs = re.findall(r"^(\d+)\n(.*?)(?=^\d+\n|\Z)", status.group(1), re.M | re.S)
     statuses = [(int(number), " ".join(words.split())) for number, words in pairs]
     wrong = wrong_in_statuses(statuses, ENDS["renamer"])
-    if [line for line in lines if line.startswith("renamer: ")] != FAULT_LINES:
-        wrong.append(f"its fault lines are not {FAULT_LINES}")
+    faults = fault_lines()
+    if [line for line in lines if line.startswith("renamer: ")] != faults:
+        wrong.append(f"its fault lines are not {faults}")
     wrong += wrong_in_refusals(text) + wrong_in_causes(status.group(2))
-    prose = " ".join(re.sub(r"^\d$", "", text, flags=re.M).split())
+    prose = " ".join(line for line in re.sub(r"^\d$", "", text, flags=re.M).splitlines() if line not in faults)
+    prose = " ".join(prose.split())
     return wrong + wrong_in_prose(prose, phrases_of_manual())
 
 

@@ -14,7 +14,7 @@ _renamer() {
         --width) words='2 4 8 16 32 64 128 256' ;;
         --workers | --hand) words=$(echo {1..64}) ;;
         --form) words='report grants' ;;
-        renamer | */renamer) words='run replay check show help --help' ;;
+        renamer | */renamer) words='run replay check show help --help --version' ;;
         help) words='run replay check show' ;;
         *)
             case ${COMP_WORDS[1]} in

@@ -4,6 +4,7 @@ set -l jobs run replay check show help
 
 complete -c renamer -f
 complete -c renamer -s h -l help -d 'Print help'
+complete -c renamer -n "not __fish_seen_subcommand_from $jobs" -s V -l version -d 'Print the version'
 
 complete -c renamer -n "not __fish_seen_subcommand_from $jobs" -a run -d 'Read a batch, print the names of its clients'
 complete -c renamer -n "not __fish_seen_subcommand_from $jobs" -a replay -d 'Read a schedule, print its answers'

@@ -2,7 +2,7 @@
 use Rattle.std.proofs.Common.{◌≡◌, ◌⊎◌, List, [], ◌∷◌, Option, Result, Ok, Err, MatchResult, inl, inr, subst, sym, refl, true}
 use Rattle.clap.specs.Words.{App, IsAmong, Kinds, Row, Text, fault_of, is_simple, is_simple_and_free, subcommand_of}
 use Rattle.clap.specs.declared.error.ErrorKind.{ErrorKind}
-use Rattle.clap.specs.declared.error.ErrorKind.TheVariants.{DisplayHelp, OutOfMemory}
+use Rattle.clap.specs.declared.error.ErrorKind.TheVariants.{DisplayHelp, DisplayVersion, OutOfMemory}
 use Rattle.clap.proofs.OnLiterals.{clap_on_literals}
 use Rattle.cn_cli.specs.CommandLine.{command_line}
 use Rattle.cn_cli.specs.Words.{Asks, IsFaultBy, IsFaultOf, IsJobOf, IsRefusalOf, faults_in}
@@ -25,22 +25,27 @@ pub answer_to_taken : (words : List Text) (chosen : Option (Text × List Row)) (
 answer_to_taken words chosen (Ok job) taken read asked = (taken, subst (λ (o : Option (Text × List Row)). Asks o job) read asked)
 answer_to_taken words chosen (Err (Help text)) taken read refused = absurd refused
 answer_to_taken words chosen (Err (Refused text)) taken read refused =
-    (λ job h. refused job (subst (λ (o : Option (Text × List Row)). Asks o job) (sym read) h.1), λ e. cc)
+    (λ job h. refused job (subst (λ (o : Option (Text × List Row)). Asks o job) (sym read) h.1), λ e. cc, λ e. cc)
 answer_to_taken words chosen (Err Memory) taken read refused = tt
 
 among_none : (kind : ErrorKind) (kinds : Kinds) → kinds ≡ [] → IsAmong kind kinds → ⊥
 among_none kind kinds none among = subst (λ (ks : Kinds). IsAmong kind ks) none among
 
-among_one : (kind : ErrorKind) (kinds : Kinds) → kinds ≡ DisplayHelp ∷ [] → IsAmong kind kinds → kind ≡ DisplayHelp
-among_one kind kinds one among = elim (subst (λ (ks : Kinds). IsAmong kind ks) one among) [ inl e ↦ e | inr none ↦ absurd none ]
+among_one : (kind one : ErrorKind) (kinds : Kinds) → kinds ≡ one ∷ [] → IsAmong kind kinds → kind ≡ one
+among_one kind this kinds one among = elim (subst (λ (ks : Kinds). IsAmong kind ks) one among) [ inl e ↦ e | inr none ↦ absurd none ]
 
 answer_to_kind : (words : List Text) (kind : ErrorKind) (fault : WordsFault)
     → (kind ≡ OutOfMemory) ⊎ IsAmong kind (faults_in words) → IsFaultBy kind fault → IsFaultOf words fault
-answer_to_kind words kind (Help text) (inl memory) help = cc
-answer_to_kind words kind (Help text) (inr among) help = subst (λ (k : ErrorKind). IsAmong k (faults_in words)) help among
-answer_to_kind words kind (Refused text) (inl memory) (no_help, no_memory) = absurd (no_memory memory)
-answer_to_kind words kind (Refused text) (inr among) (no_help, no_memory) =
-    (λ job h. among_none kind (faults_in words) h.0 among, λ one. no_help (among_one kind (faults_in words) one among))
+answer_to_kind words kind (Help text) (inl memory) (inl help) = cc
+answer_to_kind words kind (Help text) (inl memory) (inr version) = cc
+answer_to_kind words kind (Help text) (inr among) (inl help) = inl (subst (λ (k : ErrorKind). IsAmong k (faults_in words)) help among)
+answer_to_kind words kind (Help text) (inr among) (inr version) = inr (subst (λ (k : ErrorKind). IsAmong k (faults_in words)) version among)
+answer_to_kind words kind (Refused text) (inl memory) (no_help, no_version, no_memory) = absurd (no_memory memory)
+answer_to_kind words kind (Refused text) (inr among) (no_help, no_version, no_memory) = (
+  λ job h. among_none kind (faults_in words) h.0 among,
+  λ one. no_help (among_one kind DisplayHelp (faults_in words) one among),
+  λ one. no_version (among_one kind DisplayVersion (faults_in words) one among),
+)
 answer_to_kind words kind Memory has by = tt
 
 pub answer_to_fault : (app : App) (words : List Text) (kind : ErrorKind) (fault : WordsFault) → app ≡ command_line

@@ -50,9 +50,13 @@ show_words = network_words (codes "show")
 abbrev pub with_need : App → App
 with_need app = record app { top = record app.top { subcommand_required = true; arg_required_else_help = true } }
 
--- the program's name, which is never one of its words, and a subcommand that has to be given
+-- a command that has a version, which --version and -V ask for
+abbrev pub with_version : App → App
+with_version app = record app { top = record app.top { has_version = true } }
+
+-- the program's name, which is never one of its words, its version, and a subcommand that has to be given
 abbrev pub renamer_words : App
-renamer_words = with_need (new_app (codes "renamer"))
+renamer_words = with_version (with_need (new_app (codes "renamer")))
 
 -- the whole command line
 abbrev pub command_line : App

@@ -1,8 +1,8 @@
 -- What the words of a command line ask for, and what a refusal of them ends with.
-use Rattle.std.specs.Prelude.{◌≡◌, ◌≢◌, ℕ, List, [], ◌∷◌, Option, Some, None, ⊤, codes}
+use Rattle.std.specs.Prelude.{◌≡◌, ◌≢◌, ◌⊎◌, ℕ, List, [], ◌∷◌, Option, Some, None, ⊤, codes}
 use Rattle.clap.specs.Words.{IsAmong, Kinds, Row, Text, fault_of, subcommand_of}
 use Rattle.clap.specs.declared.error.ErrorKind.{ErrorKind}
-use Rattle.clap.specs.declared.error.ErrorKind.TheVariants.{DisplayHelp, OutOfMemory}
+use Rattle.clap.specs.declared.error.ErrorKind.TheVariants.{DisplayHelp, DisplayVersion, OutOfMemory}
 use Rattle.cn_wiring.specs.Widths.{IsWidth}
 use Rattle.cn_cli.specs.Choices.{Names, NamesRun, NamesWidth}
 use Rattle.cn_cli.specs.CommandLine.{command_line}
@@ -45,17 +45,19 @@ faults_in words = fault_of command_line words
 abbrev pub IsJobOf : List Text → Job → Type 0
 IsJobOf words job = (faults_in words ≡ []) × Asks (subcommand_of command_line words) job
 
--- help only if help may be clap's answer, a refusal only if help need not be its answer; and the words ask for no job
+-- help or the version only if that may be clap's answer, a refusal only if neither has to be its answer; and the words
+-- ask for no job
 abbrev pub IsFaultOf : List Text → WordsFault → Type 0
-IsFaultOf words (Help text) = IsAmong DisplayHelp (faults_in words)
+IsFaultOf words (Help text) = IsAmong DisplayHelp (faults_in words) ⊎ IsAmong DisplayVersion (faults_in words)
 IsFaultOf words (Refused text) =
-    ((job : Job) → IsJobOf words job → ⊥) × (faults_in words ≢ DisplayHelp ∷ [])
+    ((job : Job) → IsJobOf words job → ⊥)
+    × (faults_in words ≢ DisplayHelp ∷ []) × (faults_in words ≢ DisplayVersion ∷ [])
 IsFaultOf words Memory = ⊤
 
 -- what answers an error of clap of this kind
 abbrev pub IsFaultBy : ErrorKind → WordsFault → Type 0
-IsFaultBy kind (Help text) = kind ≡ DisplayHelp
-IsFaultBy kind (Refused text) = (kind ≢ DisplayHelp) × (kind ≢ OutOfMemory)
+IsFaultBy kind (Help text) = (kind ≡ DisplayHelp) ⊎ (kind ≡ DisplayVersion)
+IsFaultBy kind (Refused text) = (kind ≢ DisplayHelp) × (kind ≢ DisplayVersion) × (kind ≢ OutOfMemory)
 IsFaultBy kind Memory = ⊤
 
 -- what answers a subcommand with its options that asks for no job

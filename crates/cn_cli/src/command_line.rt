@@ -5,7 +5,9 @@ ghost use Rattle.clap.specs.Words.{app_of, rule_of, with_rule, with_subcommand};
 ghost use Rattle.cn_cli.specs.CommandLine.{check_words, command_line, flag_rule, network_words, option_with};
 ghost use Rattle.cn_cli.specs.CommandLine.{renamer_words, replay_words, required_option};
 ghost use Rattle.cn_cli.specs.CommandLine.{run_with_values, run_words, show_words, with_need};
+ghost use Rattle.cn_cli.specs.CommandLine.{with_version};
 
+use crate::brief::{self, Brief, VERSION};
 use crate::help::HelpTexts;
 use clap::{Arg, ArgAction, Command};
 use std::alloc::{AllocError, Global};
@@ -65,10 +67,14 @@ fn with_arg<'a>(command: Command<'a>, arg: Arg<'a>) -> Result<Command<'a>, Alloc
 }
 
 /// The command with the texts of its help, which change nothing of what it reads.
-fn described<'a>(command: Command<'a>, about: &'a str, after_help: &'a str) -> Command<'a>
+fn described<'a>(command: Command<'a>, brief: Brief, long: &'a str) -> Command<'a>
     ensures { app_of result ≡ app_of command.entry }
 {
-    command.about(about).after_help(after_help)
+    command
+        .override_usage(brief.usage)
+        .about(brief.about)
+        .after_help(brief.end)
+        .after_long_help(long)
 }
 
 /// A subcommand on a network of some width.
@@ -89,9 +95,8 @@ fn network_command<'a>(
 fn run_with_values<'a>(alloc: Global, help: &'a HelpTexts) -> Result<Command<'a>, AllocError>
     ensures { IfOk result (λ command. app_of command ≡ run_with_values) }
 {
-    let about = "Reads a batch, gives the clients of each epoch their names, and prints them";
     let forms = "What is written: report or grants";
-    let command = described(network_command(alloc, "run", help)?, about, &help.run);
+    let command = described(network_command(alloc, "run", help)?, brief::RUN, &help.run);
     let command = with_arg(
         command,
         option_or(alloc, "workers", "K", "1", &help.workers),
@@ -110,23 +115,28 @@ fn run_command<'a>(alloc: Global, help: &'a HelpTexts) -> Result<Command<'a>, Al
 fn replay_command<'a>(alloc: Global, help: &'a HelpTexts) -> Result<Command<'a>, AllocError>
     ensures { IfOk result (λ command. app_of command ≡ replay_words) }
 {
-    let about = "Reads a schedule of enters, steps and turns, and prints what each is answered";
-    Ok(described(network_command(alloc, "replay", help)?, about, &help.replay))
+    Ok(described(
+        network_command(alloc, "replay", help)?,
+        brief::REPLAY,
+        &help.replay,
+    ))
 }
 
 fn check_command<'a>(alloc: Global, help: &'a HelpTexts) -> Result<Command<'a>, AllocError>
     ensures { IfOk result (λ command. app_of command ≡ check_words) }
 {
-    let about = "Reads a grant list, and prints how many names of each epoch fall to each exit";
-    let command = described(Command::new(alloc, "check"), about, &help.check);
+    let command = described(Command::new(alloc, "check"), brief::CHECK, &help.check);
     with_arg(command, width_option(alloc, help))
 }
 
 fn show_command<'a>(alloc: Global, help: &'a HelpTexts) -> Result<Command<'a>, AllocError>
     ensures { IfOk result (λ command. app_of command ≡ show_words) }
 {
-    let about = "Prints where each wire of a network ends";
-    Ok(described(network_command(alloc, "show", help)?, about, &help.show))
+    Ok(described(
+        network_command(alloc, "show", help)?,
+        brief::SHOW,
+        &help.show,
+    ))
 }
 
 /// The command, of which a subcommand has to be given.
@@ -138,14 +148,20 @@ fn with_need<'a>(command: Command<'a>) -> Command<'a>
         .arg_required_else_help(true)
 }
 
-/// The program's name, with no subcommand yet.
+/// The command with the version of the program.
+fn with_version<'a>(command: Command<'a>) -> Command<'a>
+    ensures { app_of result ≡ with_version (app_of command.entry) }
+{
+    command.version(VERSION)
+}
+
+/// The program's name and version, with no subcommand yet.
 fn renamer_command<'a>(alloc: Global, help: &'a HelpTexts) -> Command<'a>
     ensures { app_of result ≡ renamer_words }
 {
-    let about = "Tight renaming by counting networks";
     described(
-        with_need(Command::new(alloc, "renamer")),
-        about,
+        with_version(with_need(Command::new(alloc, "renamer"))),
+        brief::RENAMER,
         &help.renamer,
     )
 }

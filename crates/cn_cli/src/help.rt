@@ -1,7 +1,7 @@
 //! What the help says of the formats of each subcommand, its limits and its statuses.
 
-use cn_spec::limits::{MOST_CLIENTS, MOST_HAND, MOST_LEVEL, MOST_RECORDS, MOST_WORKERS};
-use cn_wiring::width_of;
+use crate::net::Widths;
+use cn_spec::limits::{MOST_CLIENTS, MOST_HAND, MOST_RECORDS, MOST_WORKERS};
 use std::alloc::{AllocError, Global};
 
 /// The texts of help that the command line borrows.
@@ -29,17 +29,11 @@ impl HelpTexts {
             replay: replay_help(alloc)?,
             check: check_help(alloc)?,
             show: String::from_str(alloc, SHOW)?,
-            width: width_help(alloc)?,
+            width: format!(in alloc; "The width of the network: {}", Widths)?,
             workers: format!(in alloc; "How many workers walk each epoch: 1 to {MOST_WORKERS}")?,
             hand: format!(in alloc; "How many tokens in hand each worker has: 1 to {MOST_HAND}")?,
         })
     }
-}
-
-fn width_help(alloc: Global) -> Result<String, AllocError> {
-    let least = width_of(1);
-    let most = width_of(MOST_LEVEL);
-    format!(in alloc; "The width of the network: a power of two from {least} to {most}")
 }
 
 const RENAMER: &str = "\
@@ -80,7 +74,7 @@ Input: a batch, as CSV on standard input. After the header, each record is a
 client: the epoch that it is in, its identity, and the entry that it comes to.
 All are numbers below 2^64 in decimal digits. The records of an epoch stand
 together, and the numbers of epochs rise. Entries are 0 to W-1, and a tree has
-entry 0 alone. An epoch has at most {MOST_CLIENTS} clients, and a batch at most
+only entry 0. An epoch has at most {MOST_CLIENTS} clients, and a batch at most
 {MOST_RECORDS} records besides the header. Under the header `epoch,client` a
 record has no entry: client C comes to entry C modulo the number of entries.
 
@@ -128,7 +122,7 @@ which client gets which name.
 
 With `--carry` the network's counters are not cleared between epochs. The k
 clients of an epoch after m earlier ones have the names 0 to k-1 as ever, and
-each exit tells its share of m + k clients less its share of m.
+each exit has its share of m + k clients less its share of m.
 
 Either form is held whole before it is written: a run prints nothing before its
 last epoch has ended.
@@ -155,7 +149,7 @@ command; client C and wire U are numbers below 2^64 in decimal digits.
 
   enter,C,U  brings client C in on entry U
   step,C,    takes client C past its next balancer, or out with a name
-  turn,,     ends the epoch, where nobody is inside
+  turn,,     ends the epoch, if nobody is inside
 
 An epoch has at most {MOST_CLIENTS} clients, and a schedule at most {MOST_RECORDS}
 records besides the header.
@@ -186,7 +180,7 @@ Output for it of `renamer replay --network bitonic --width 2`:
     name 0 client 7
     end epoch 1 entered 0 inside 0
 
-A command that is refused changes nothing, and the output tells why:
+A command that is refused changes nothing, and the output says why:
 
   NoSuchEntry  an enter on a wire that is no entry
   AlreadyIn    an enter of a client that has entered in this epoch
@@ -203,7 +197,7 @@ first wrong record, by a line on standard error:
 Records count from 0: the header is record 0. An empty line has no number.
 
 Status:
-  0  done, also where commands are refused
+  0  done, also if commands are refused
   1  the schedule is refused
   2  the command line is refused
   3  not finished: no memory, no random numbers, or a write failed";
@@ -217,7 +211,7 @@ Input: a grant list, as CSV on standard input. After the header, each record is
 a grant: an epoch, a client of it, and the name that this client has. All are
 numbers below 2^64 in decimal digits. The records of an epoch stand together,
 and the numbers of epochs rise. A list has at most {MOST_RECORDS} records besides
-the header. It is tight where in each epoch no client and no name stands twice,
+the header. It is tight if in each epoch no client and no name stands twice,
 and the k grants have the names 0 to k-1.
 
     epoch,client,name
@@ -233,7 +227,7 @@ and the k grants have the names 0 to k-1.
 }
 
 const CHECK_OUTPUT: &str = "
-Output for it of `renamer check --width 4`; the counts tell how many names of
+Output for it of `renamer check --width 4`; the counts say how many names of
 the epoch have the remainders 0, 1, 2 and 3 when divided by the width, also of
 a list that `renamer run --carry` printed:
 

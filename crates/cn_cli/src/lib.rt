@@ -1,6 +1,7 @@
 //! What the program is asked for: networks by kind and width, and the command line.
 #![tactic(auto)]
 
+mod brief;
 mod choices;
 mod command_line;
 mod help;

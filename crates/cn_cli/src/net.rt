@@ -6,9 +6,11 @@ ghost use Rattle.cn_cli.specs.Net.{IsNetworkOf};
 
 use cn_bitonic::bitonic;
 use cn_periodic::periodic;
+use cn_spec::limits::MOST_LEVEL;
 use cn_tree::tree;
-use cn_wiring::{BuildFault, Counting, Kind, is_width};
+use cn_wiring::{BuildFault, Counting, Kind, is_width, width_of};
 use std::alloc::Global;
+use std::fmt;
 use std::marker::Model;
 use thiserror::Error;
 
@@ -32,11 +34,27 @@ impl Model for Net {
     ghost inverse = { λ net. record { kind = net.kind; width = net.width } };
 }
 
+/// The widths that are built, as a sentence names them.
+pub(crate) struct Widths;
+
+impl fmt::Display for Widths {
+    fn fmt<W: fmt::Write>(&self, f: &mut fmt::Formatter<W>) -> fmt::Result {
+        let least = width_of(1);
+        write!(f, "{least}")?;
+        for level in 2..MOST_LEVEL {
+            let width = width_of(level);
+            write!(f, ", {width}")?;
+        }
+        let most = width_of(MOST_LEVEL);
+        write!(f, " or {most}")
+    }
+}
+
 /// Why there is no such network.
 #[derive(Clone, Copy, Debug, PartialEq, Eq, Error)]
 pub enum NetFault {
     /// No network of this width is built.
-    #[error("renamer: no such width")]
+    #[error("renamer: no such width: {}", Widths)]
     Width,
 }
 

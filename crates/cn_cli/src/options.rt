@@ -1,6 +1,7 @@
 //! What a run is asked for beside its batch.
 
 ghost use Rattle.std.specs.Prelude.{◌≡◌, ◌↔◌, IfOk, IsErrOf, false, true};
+ghost use Rattle.cn_cli.specs.Choices.{form_word};
 ghost use Rattle.cn_cli.specs.Options.{HandFits, IsWithin, Settings, WorkersFit};
 
 use crate::net::Net;
@@ -15,6 +16,18 @@ pub enum Form {
     Report,
     /// The grant list.
     Grants,
+}
+
+impl Form {
+    /// The word for it on the command line.
+    pub(crate) fn word(self) -> &'static str
+        ensures { result.now ≡ form_word self }
+    {
+        match self {
+            Form::Report => "report",
+            Form::Grants => "grants",
+        }
+    }
 }
 
 /// What a run is asked for beside its batch: a network, how many workers walk each epoch, how many
@@ -64,10 +77,10 @@ impl Model for Options {
 #[derive(Clone, Copy, Debug, PartialEq, Eq, Error)]
 pub enum OptionFault {
     /// There are no workers, or more than [`MOST_WORKERS`].
-    #[error("renamer: workers out of range")]
+    #[error("renamer: workers out of range: 1 to {most}", most = MOST_WORKERS)]
     Workers,
     /// A worker would have no token in hand, or more than [`MOST_HAND`].
-    #[error("renamer: hand out of range")]
+    #[error("renamer: hand out of range: 1 to {most}", most = MOST_HAND)]
     Hand,
 }
 

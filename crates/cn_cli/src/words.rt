@@ -33,7 +33,7 @@ pub enum Job {
 /// Why the words ask for no job. Each is shown by its text.
 #[derive(Debug, Drop, Error)]
 pub enum WordsFault {
-    /// They ask for help, which is the text.
+    /// They ask for help, or for the version, which is the text.
     #[error("{0}")]
     Help(String),
     /// They are no command line of the program, as the text says.
@@ -53,8 +53,8 @@ impl From<AllocError> for WordsFault {
 }
 
 impl WordsFault {
-    /// The status with which the program ends: 0 for help, 2 for words that are refused, 3 for
-    /// want of memory.
+    /// The status with which the program ends: 0 for help and the version, 2 for words that are
+    /// refused, 3 for want of memory.
     pub fn status(&self) -> u8
         ensures { result ≡ status_of self.now }
     {
@@ -70,7 +70,7 @@ impl WordsFault {
     {
         let kind = error.kind();
         match error.to_string(alloc) {
-            Ok(text) if kind == ErrorKind::DisplayHelp => WordsFault::Help(text),
+            Ok(text) if !error.use_stderr() => WordsFault::Help(text),
             Ok(text) if kind != ErrorKind::OutOfMemory => WordsFault::Refused(text),
             _ => WordsFault::Memory,
         }
@@ -129,8 +129,9 @@ fn read_words<'a>(
 /// program's name.
 ///
 /// # Errors
-/// `WordsFault::Help` for a request for help; `WordsFault::Refused` for words that clap does not take, or
-/// that name what is not built or is outside its limits; `WordsFault::Memory` if a growth was refused.
+/// `WordsFault::Help` for a request for help or for the version; `WordsFault::Refused` for words that clap
+/// does not take, or that name what is not built or is outside its limits; `WordsFault::Memory` if a growth
+/// was refused.
 pub fn parse_words(alloc: Global, words: Vec<String>) -> Result<Job, WordsFault>
     ensures ok { IfOk result (IsJobOf (map string_bytes words.items)) }
     ensures err { IfErr result (IsFaultOf (map string_bytes words.items)) }

@@ -33,7 +33,7 @@ pub enum Fault {
     /// The grant list is not tight, or the text of the check was not written whole.
     #[error(transparent)]
     Check(CheckFault),
-    /// The wiring or the help was not written whole, or there was not the memory to read the words.
+    /// The wiring, the help or the version was not written whole, or there was not the memory to read the words.
     #[error(transparent)]
     Output(OutputFault),
 }

@@ -54,7 +54,7 @@ pub fn perform<I: Read + Drop, W: Write, S: RandomSource, R: Threads + Wait + Sy
     }
 }
 
-/// Ends without a job: help is written, and any other fault of the words is returned.
+/// Ends without a job: help or the version is written, and any other fault of the words is returned.
 fn end_without_job<W: Write>(writer: &mut W, fault: WordsFault) -> Result<(), Fault>
     ensures written { (known : Option (List ℕ)) →
         HasWritten W.contents (IsTextAsked (Err fault) known) (written_by until_fault result) writer.old writer.new }
@@ -67,11 +67,12 @@ fn end_without_job<W: Write>(writer: &mut W, fault: WordsFault) -> Result<(), Fa
     }
 }
 
-/// Does what the words of a command line ask for: a job, or to write the help. The first word is the program's name.
+/// Does what the words of a command line ask for: a job, or to write the help or the version. The first word is the
+/// program's name.
 ///
 /// # Errors
-/// `Refused` if the words ask for no job, and then nothing was written; else the fault of the job, or of writing the
-/// help.
+/// `Refused` if the words ask for nothing, and then nothing was written; else the fault of the job, or of writing the
+/// help or the version.
 pub fn run<I: Read + Drop, W: Write, S: RandomSource, R: Threads + Wait + Sync>(
     rt: &R,
     alloc: Global,
