@@ -43,10 +43,12 @@ AreReady home clients (Halves' at p left q right) =
     IsReady home clients (together (whole left) (whole right)) × (at ≤ clients)
     × AreReady home at left × AreReady home (clients - at) right
 
--- they are the lanes of the workers from `from` up to, not including, `to` of w, and the clients that are counted for each
--- half are those of its workers among k
+-- they are the lanes of the workers from `from` up to, not including, `to` of w: a single lane is that of one of them, who has
+-- all their clients; and the clients that are counted for each half are those of its workers among k
 abbrev pub AreOf : ℕ → ℕ → ℕ → ℕ → Lanes → Type 0
-AreOf k w from to (One lane worker) = (worker ≡ from) × (to ≡ from + 1)
+AreOf k w from to (One lane worker) =
+    (from ≤ worker) × (worker < to)
+    × (first_of k w worker ≡ first_of k w from) × (first_of k w (worker + 1) ≡ first_of k w to)
 AreOf k w from to (Halves' at p left q right) =
     (middle : ℕ) × (from < middle) × (middle < to) × (at ≡ first_of k w middle - first_of k w from)
     × AreOf k w from middle left × AreOf k w middle to right

@@ -87,8 +87,8 @@ fn first_of(clients: u32, workers: u32, worker: u32) -> u32
 }
 
 /// Makes the lanes of the workers from `from` up to, not including, `to`, out of one, and reserves their memory: each has
-/// quota and room for its own clients, and the first lane of each half has room for the grants of both. `None` if
-/// memory is refused.
+/// quota and room for its own clients, and the first lane of each half has room for the grants of both. Workers without
+/// clients get no lane; if none of these has clients, the first one has the lane. `None` if memory is refused.
 pub(crate) fn make_lanes<'a>(
     alloc: Global,
     floor: &Floor<'a>,
@@ -112,11 +112,17 @@ pub(crate) fn make_lanes<'a>(
     let Ok(()) = lane.reserve(u64::from(own)) else {
         return None;
     };
-    if to - from == 1 {
+    if own == 0 || to - from == 1 {
         return Some(Lanes::One(lane, from));
     }
     let middle = from + (to - from) / 2;
     let at = first_of(clients, workers, middle) - first;
+    if at == 0 {
+        return make_lanes(alloc, floor, lane, clients, workers, middle, to);
+    }
+    if at == own {
+        return make_lanes(alloc, floor, lane, clients, workers, from, middle);
+    }
     let Ok((lane, other)) = floor.split(lane, u64::from(own - at)) else {
         return None;
     };
@@ -135,8 +141,7 @@ fn pair(alloc: Global, at: u32, left: Lanes, right: Lanes) -> Option<Lanes>
 }
 
 /// Walks the clients through the lanes, the first half in a thread of its own beside the second, and joins the lanes.
-/// If a half has no clients, or no thread can be had, the halves are walked one after the other. A single lane is walked
-/// here.
+/// If no thread can be had the halves are walked one after the other. A single lane is walked here.
 pub(crate) fn walk_lanes<F: LaneWalker + Sync, G: Gate + Sync, R: Threads + Wait + Sync>(
     rt: &R,
     floor: &F,
@@ -157,11 +162,6 @@ pub(crate) fn walk_lanes<F: LaneWalker + Sync, G: Gate + Sync, R: Threads + Wait
             let left = Box::into_inner(left);
             let right = Box::into_inner(right);
             let (first, second) = clients.split_at(at as usize);
-            if first.is_empty() || second.is_empty() {
-                let lane = walk_lanes(rt, floor, left, first, hand, gate);
-                let other = walk_lanes(rt, floor, right, second, hand, gate);
-                return floor.join(lane, other);
-            }
             let (lane, other) = thread::join(
                 rt,
                 move || -> Lane

@@ -1,17 +1,19 @@
-use Rattle.std.proofs.Common.{rules, ◌≡◌, ◌+◌, ◌-◌, ◌/◌, ◌≤◌, arith, ℕ, ap, ◌∙◌, subst}
+use Rattle.std.proofs.Common.{rules, ◌≡◌, ◌+◌, ◌-◌, ◌/◌, ◌<◌, ◌≤◌, arith, ℕ, refl, ap, ◌∙◌, subst}
+use Rattle.std.specs.Prelude.{IfSome}
 use Rattle.cn_walk.specs.declared.forking.Lanes.{Lanes}
 use Rattle.cn_floor.specs.Lane.{LaneValue}
 use Rattle.cn_walk.specs.Halves.{AreOf, AreReady, IsPair, first_of}
-use Rattle.cn_walk.proofs.Halves.{first_later, left_nothing, pair_ready, reserved_nothing, right_nothing, some_so}
+use Rattle.cn_walk.proofs.Halves.{first_later, left_nothing, none_after, none_before, pair_ready, reserved_nothing, right_nothing, some_so}
 use Rattle.cn_walk.proofs.forking.+make_lanes.Goals as goal
+use Rattle.cn_walk.proofs.forking.+make_lanes.Goals.{then-own-eq0-via-then-own-eq0, then-own-eq0-via-else-own-eq0+then-to-from-eq1}
 
 pub overflow_sub-own-2 : goal.overflow_sub-own-2
 overflow_sub-own-2 t c =
     let middle : ℕ = c.args.from + (c.args.to - c.args.from) / 2 in
     omega (arith, c.first_of-2.ensures.value, c.first_of.ensures.value, first_later c.args.clients c.args.workers middle c.args.to (omega (arith, c.requires.range)) (omega (arith, c.requires.range)))
 
-pub make_lanes-requires : goal.make_lanes-requires
-make_lanes-requires t c =
+pub make_lanes-requires-2 : goal.make_lanes-requires-2
+make_lanes-requires-2 t c =
     let middle : ℕ = c.args.from + (c.args.to - c.args.from) / 2 in
     let q : ℕ = c.from-2.result in
     let range = c.requires.range in
@@ -40,8 +42,8 @@ make_lanes-requires t c =
       ),
     )
 
-pub make_lanes-requires-2 : goal.make_lanes-requires-2
-make_lanes-requires-2 t c =
+pub make_lanes-requires-3 : goal.make_lanes-requires-3
+make_lanes-requires-3 t c =
     let middle : ℕ = c.args.from + (c.args.to - c.args.from) / 2 in
     let q : ℕ = c.from-2.result in
     let range = c.requires.range in
@@ -103,3 +105,80 @@ returns-clause-workers t c =
     some_so (λ (lanes : Lanes). IsPair at c.in_ok-left.left c.in_ok-right.right lanes) (λ (lanes : Lanes). AreOf k w c.args.from c.args.to lanes) c.pair.result
     (λ lanes is. is.of k w c.args.from middle c.args.to (omega (arith, c.if-to-from-eq1.false, range)) (omega (arith, c.if-to-from-eq1.false, range)) part c.in_ok-left.ensures.workers c.in_ok-right.ensures.workers)
     c.pair.ensures
+
+pub overflow_sub-at : goal.overflow_sub-at
+overflow_sub-at t c =
+    let middle : ℕ = c.args.from + (c.args.to - c.args.from) / 2 in
+    omega (arith, c.first_of-2.ensures.value, c.first_of-first.ensures.value, first_later c.args.clients c.args.workers c.args.from middle (omega (arith, c.requires.range)) (omega (arith, c.requires.range)))
+
+-- ---- workers without clients
+
+-- the first of workers who have no clients, or a single one
+single : (k w from to : ℕ) → 0 < w → from < to → first_of k w to ≤ first_of k w from → first_of k w (from + 1) ≡ first_of k w to
+single k w from to some less none =
+    omega (arith, none, first_later k w from (from + 1) some (omega arith), first_later k w (from + 1) to some (omega (arith, less)))
+
+pub returns-then-own-eq0-clause-workers : goal.returns-then-own-eq0-clause-workers
+returns-then-own-eq0-clause-workers t c =
+    let k : ℕ = c.args.clients in
+    let w : ℕ = c.args.workers in
+    let range = c.requires.range in
+    let last : first_of k w (c.args.from + 1) ≡ first_of k w c.args.to =
+    elim c.then-own-eq0.branch [
+      | then-own-eq0-via-then-own-eq0 x ↦
+          single k w c.args.from c.args.to (omega (arith, range)) range.0 (omega (arith, x.if-own-eq0.true, c.first_of.ensures.value, c.first_of-first.ensures.value))
+      | then-own-eq0-via-else-own-eq0+then-to-from-eq1 x ↦
+          ap (λ (n : ℕ). first_of k w n) (let one : c.args.from + 1 ≡ c.args.to = omega (arith, x.if-to-from-eq1.true, range) in one)
+    ] in
+    (omega arith, range.0, refl, last)
+
+pub make_lanes-requires : goal.make_lanes-requires
+make_lanes-requires t c =
+    let range = c.requires.range in
+    let middle : ℕ = c.args.from + (c.args.to - c.args.from) / 2 in
+    let low = first_later c.args.clients c.args.workers c.args.from middle (omega (arith, range)) (omega (arith, range)) in
+    let reserved = c.in-Ok.ensures.ok in (
+      search rules,
+      (
+        ap (λ (l : LaneValue). l.home) reserved ∙ c.requires.own,
+        (
+          (omega (arith, c.if-to-from-eq1.false, range), omega (arith, range), range.2),
+          (
+            reserved_nothing _ _ _ c.requires.nothing reserved,
+            omega (arith, low, c.requires.quota, ap (λ (l : LaneValue). l.view.quota) reserved),
+          ),
+        ),
+      ),
+    )
+
+pub returns-then-at-eq0-clause-ready : goal.returns-then-at-eq0-clause-ready
+returns-then-at-eq0-clause-ready t c =
+    let k : ℕ = c.args.clients in
+    let w : ℕ = c.args.workers in
+    let middle : ℕ = c.args.from + (c.args.to - c.args.from) / 2 in
+    let low = first_later k w c.args.from middle (omega (arith, c.requires.range)) (omega (arith, c.requires.range)) in
+    let same : first_of k w c.args.to - first_of k w middle ≡ first_of k w c.args.to - first_of k w c.args.from = omega (arith, c.if-at-eq0.true, low, c.first_of-first.ensures.value, c.first_of-2.ensures.value) in
+    subst (λ (n : ℕ). IfSome c.make_lanes.result (λ lanes. AreReady c.args.floor.now n lanes)) same c.make_lanes.ensures.ready
+
+pub returns-then-at-eq0-clause-workers : goal.returns-then-at-eq0-clause-workers
+returns-then-at-eq0-clause-workers t c =
+    let k : ℕ = c.args.clients in
+    let w : ℕ = c.args.workers in
+    let middle : ℕ = c.args.from + (c.args.to - c.args.from) / 2 in
+    let low = first_later k w c.args.from middle (omega (arith, c.requires.range)) (omega (arith, c.requires.range)) in
+    let same : first_of k w middle ≡ first_of k w c.args.from = omega (arith, c.if-at-eq0.true, low, c.first_of-first.ensures.value, c.first_of-2.ensures.value) in
+    some_so (λ (lanes : Lanes). AreOf k w middle c.args.to lanes) (λ (lanes : Lanes). AreOf k w c.args.from c.args.to lanes) c.make_lanes.result
+    (λ lanes are. none_before k w c.args.from middle c.args.to lanes (omega arith) same are)
+    c.make_lanes.ensures.workers
+
+pub returns-then-at-own-clause-workers : goal.returns-then-at-own-clause-workers
+returns-then-at-own-clause-workers t c =
+    let k : ℕ = c.args.clients in
+    let w : ℕ = c.args.workers in
+    let middle : ℕ = c.args.from + (c.args.to - c.args.from) / 2 in
+    let low = first_later k w c.args.from middle (omega (arith, c.requires.range)) (omega (arith, c.requires.range)) in
+    let high = first_later k w middle c.args.to (omega (arith, c.requires.range)) (omega (arith, c.requires.range)) in
+    let same : first_of k w middle ≡ first_of k w c.args.to = omega (arith, c.if-at-own.true, low, high, c.first_of.ensures.value, c.first_of-first.ensures.value, c.first_of-2.ensures.value) in
+    some_so (λ (lanes : Lanes). AreOf k w c.args.from middle lanes) (λ (lanes : Lanes). AreOf k w c.args.from c.args.to lanes) c.make_lanes-then-at-own.result
+    (λ lanes are. none_after k w c.args.from middle c.args.to lanes (omega (arith, c.requires.range)) same are)
+    c.make_lanes-then-at-own.ensures.workers
