@@ -211,7 +211,11 @@ impl<'a> Epochs<'a> {
         requires carried { self.old.carries ≡ true
             → self.old.core.base + length self.old.core.clients ≤ MOST_CARRIED }
         ensures { self.new
-            ≡ record { number = self.old.number + 1; carries = self.old.carries; core = next self.old.carries self.old.core } }
+            ≡ record {
+              number = self.old.number + 1;
+              carries = self.old.carries;
+              core = next self.old.carries self.old.core;
+            } }
     {
         if self.carries {
             self.core.carry();

@@ -92,7 +92,8 @@ impl From<OutputFault> for CheckFault {
 
 /// Writes the text of the epochs of a tight list.
 fn write_tight<W: Write>(alloc: Global, writer: &mut W, tight: &Tight) -> Result<(), OutputFault>
-    ensures { HasWritten W.contents (IsTightTextOf tight.now.epochs.items) (written_by until_output result) writer.old writer.new }
+    ensures { HasWritten W.contents (IsTightTextOf tight.now.epochs.items)
+        (written_by until_output result) writer.old writer.new }
 {
     let text = render_tight(alloc, tight)?;
     write_text(writer, &text)

@@ -141,7 +141,8 @@ fn replay_commands<W: Write>(
     commands: &[Command],
     state: RandomState,
 ) -> Result<(), OutputFault>
-    ensures { HasWritten W.contents (IsReplayOfCommands net.now commands.now) (written_by until_output result) writer.old writer.new }
+    ensures { HasWritten W.contents (IsReplayOfCommands net.now commands.now)
+        (written_by until_output result) writer.old writer.new }
 {
     let network = net.build(alloc)?;
     let text = replayed(alloc, &network, commands, state)?;

@@ -117,7 +117,8 @@ impl Counting {
             → sum_below self.now.table.width (λ i. sum_at self.now.table (Exit i) f)
             ≡ sum_below self.now.table.entries f }
         ensures few { (f : ℕ → ℕ) → IsFullFlow self.now.table f
-            → (end : End) → Stands self.now.table end → sum_at self.now.table end f ≤ sum_below self.now.table.entries f }
+            → (end : End) → Stands self.now.table end
+            → sum_at self.now.table end f ≤ sum_below self.now.table.entries f }
         ensures paths { (u : ℕ) → u < length self.now.table.ends
             → (us : List ℕ) × IsPath (plan_of_table self.now.table) u us }
     {

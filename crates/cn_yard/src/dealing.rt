@@ -18,7 +18,8 @@ impl Yard {
     /// and to `out1` if it is 1. Each is put last on its wire. The three wires differ, and are below [`Yard::wires`].
     /// It takes no memory.
     pub fn deal(&mut self, wire: u32, output: u32, out0: u32, out1: u32)
-        requires wires { (wire < length self.old.lists) × (out0 < length self.old.lists) × (out1 < length self.old.lists) }
+        requires wires { (wire < length self.old.lists) × (out0 < length self.old.lists)
+            × (out1 < length self.old.lists) }
         requires apart { (wire ≢ out0) × (wire ≢ out1) × (out0 ≢ out1) }
         requires output { output < 2 }
         ensures dealt { IsDealt wire output out0 out1 self.old self.new }
