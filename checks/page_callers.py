@@ -5,13 +5,13 @@ import re
 import apart
 
 FENCE = "```"
-# What a page says after the code of a caller that is a test.
-SAID = re.compile(r"\bIt is a test of `?(cn_\w+)")
+# What a page says after the code of a caller: the crate whose source it is.
+SAID = re.compile(r"\bIt is (?:a test of|proved in) `?(cn_\w+)")
 
 
 @dataclasses.dataclass
 class Caller:
-    """A caller: its crate, its heading, its code, and the crate of tests that its page says it is from, if any."""
+    """A caller: its crate, its heading, its code, and the crate that its page says it is from, if any."""
 
     crate: str
     heading: str
@@ -89,7 +89,7 @@ def find():
                     said += bool(test)
                     callers.append(Caller(crate, heading, code, test and test.group(1)))
         if len(SAID.findall(page.read_text())) != said:
-            wrong.append(f"{crate}/README.md: it says `It is a test of` without the code of one caller before it")
+            wrong.append(f"{crate}/README.md: it says `It is a test of` or `It is proved in` without the code of one caller before it")
     if not callers:
         wrong.append("the pages show no caller")
     return callers, wrong

@@ -1,0 +1,19 @@
+//! The callers that the pages of the crates show, word for word, each in a module of its own.
+#![tactic(auto)]
+
+pub mod of_balancer;
+pub mod of_bitonic;
+pub mod of_cli;
+pub mod of_core;
+pub mod of_embedding;
+pub mod of_epoch;
+pub mod of_exit;
+pub mod of_ledger;
+pub mod of_names;
+pub mod of_periodic;
+pub mod of_renamer;
+pub mod of_report;
+pub mod of_spec;
+pub mod of_tree;
+pub mod of_wiring;
+pub mod of_yard;
