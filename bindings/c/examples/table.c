@@ -1,0 +1,83 @@
+/*
+ * A table with a row for each client of an epoch. Two threads serve clients at once; a client's name is its row, so the
+ * rows of an epoch are the first ones, and the threads write them without a lock. At the end of the epoch the floor is
+ * closed, and says whose row is whose. The next epoch goes on from its counters, and its rows begin at 0 again.
+ */
+#include "renamer.h"
+#include <inttypes.h>
+#include <pthread.h>
+#include <stdio.h>
+#include <stdlib.h>
+
+enum { THREADS = 2, EPOCHS = 3, ROWS = 64 };
+
+static uint64_t rows[ROWS];
+
+struct thread {
+    pthread_t id;
+    renamer_lane lane;
+    uint64_t first;
+    uint64_t clients;
+    uint32_t status;
+};
+
+/* Each client of this thread gets a row, and writes into it what it has: here its identity. */
+static void *serve(void *argument) {
+    struct thread *thread = argument;
+    for (uint64_t client = thread->first; client < thread->first + thread->clients; client++) {
+        uint64_t row;
+        thread->status = renamer_name(&thread->lane, client, client % 4, &row);
+        if (thread->status != RENAMER_DONE)
+            break;
+        rows[row] = client;
+    }
+    return NULL;
+}
+
+static void must(uint32_t status, const char *call) {
+    if (status != RENAMER_DONE) {
+        fprintf(stderr, "table: %s: status %" PRIu32 "\n", call, status);
+        exit(1);
+    }
+}
+
+static void run_epoch(renamer_lane *rest, uint64_t epoch) {
+    static struct thread threads[THREADS];
+    for (uint64_t t = 0; t < THREADS; t++) {
+        threads[t].first = 100 * epoch + 50 * t;
+        threads[t].clients = epoch + 2 * t;
+        must(renamer_split(rest, ROWS / THREADS, &threads[t].lane), "renamer_split");
+        if (pthread_create(&threads[t].id, NULL, serve, &threads[t]) != 0)
+            exit(1);
+    }
+    for (uint64_t t = 0; t < THREADS; t++) {
+        pthread_join(threads[t].id, NULL);
+        must(threads[t].status, "renamer_name");
+        must(renamer_join(rest, &threads[t].lane), "renamer_join");
+    }
+}
+
+static void print_table(renamer_quiet *quiet, uint64_t epoch) {
+    uint64_t clients, holders[ROWS];
+    must(renamer_quiet_clients(quiet, &clients), "renamer_quiet_clients");
+    must(renamer_holders(quiet, holders, clients), "renamer_holders");
+    for (uint64_t row = 0; row < clients; row++)
+        if (rows[row] != holders[row])
+            exit(1);
+    printf("epoch %" PRIu64 ": %" PRIu64 " clients in the first rows\n", epoch, clients);
+}
+
+int main(void) {
+    renamer_lane rest = RENAMER_NO_LANE_YET;
+    renamer_quiet quiet = RENAMER_NO_QUIET_YET;
+    must(renamer_open(&rest, RENAMER_BITONIC, 4, ROWS), "renamer_open");
+    for (uint64_t epoch = 1; epoch <= EPOCHS; epoch++) {
+        run_epoch(&rest, epoch);
+        must(renamer_close(&rest, &quiet), "renamer_close");
+        print_table(&quiet, epoch);
+        must(renamer_open_after(&rest, &quiet, ROWS), "renamer_open_after");
+    }
+    renamer_free(&rest);
+    renamer_free_quiet(&quiet);
+    return 0;
+}
