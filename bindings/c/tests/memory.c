@@ -1,0 +1,106 @@
+/*
+ * Refuses each growth of each call in turn: the call returns RENAMER_MEMORY and has changed nothing, and asked again it is
+ * done. A call that wants no memory asks for none: a step, a sweep, and a name by a lane with room.
+ */
+#include "growths.h"
+#include "seen.h"
+
+/* Makes a call with each of its growths refused, one in turn, until none is left; `same` says that nothing has changed. */
+#define EACH_GROWTH(call, same)                                                                                                \
+    do {                                                                                                                       \
+        long growth = 0;                                                                                                       \
+        for (;;) {                                                                                                             \
+            uint32_t status;                                                                                                   \
+            growths_refuse_after(growth++);                                                                                    \
+            status = (call);                                                                                                   \
+            if (!growths_refused()) {                                                                                          \
+                CHECK(status == RENAMER_DONE);                                                                                 \
+                break;                                                                                                         \
+            }                                                                                                                  \
+            growths_refuse_after(-1);                                                                                          \
+            CHECK(status == RENAMER_MEMORY && (same));                                                                         \
+        }                                                                                                                      \
+        growths_refuse_after(-1);                                                                                              \
+        growths += growth - 1;                                                                                                 \
+    } while (0)
+
+#define NO_GROWTH(call)                                                                                                        \
+    do {                                                                                                                       \
+        long asked = growths_asked();                                                                                          \
+        CHECK((call) == RENAMER_DONE && growths_asked() == asked);                                                             \
+    } while (0)
+
+/* How many growths were refused. */
+static long growths;
+
+/* Opens a floor into a handle that is none, and another into the same handle. */
+static void open_one(renamer_lane *lane, uint32_t kind, uint32_t width, uint64_t quota) {
+    struct seen before;
+    long live = growths_live();
+    EACH_GROWTH(renamer_open(lane, kind, width, quota), !lane->at && growths_live() == live);
+    before = seen_of(lane), live = growths_live();
+    EACH_GROWTH(renamer_open(lane, kind, width, quota), is_as(lane, &before) && growths_live() == live);
+    CHECK(growths_live() == live);
+}
+
+static void name_some(renamer_lane *lane, uint64_t first) {
+    uint64_t name = 0, names[40];
+    renamer_client clients[40];
+    struct seen before = seen_of(lane);
+    for (uint64_t i = 0; i < 40; i++)
+        clients[i].id = first + i, clients[i].entry = 0, names[i] = 77;
+    EACH_GROWTH(renamer_name(lane, first, 0, &name), is_as(lane, &before) && name == 0);
+    before = seen_of(lane);
+    EACH_GROWTH(renamer_name_many(lane, clients, 40, names, 40), is_as(lane, &before) && names[0] == 77);
+    before = seen_of(lane);
+    EACH_GROWTH(renamer_enter(lane, first, 0), is_as(lane, &before));
+    before = seen_of(lane);
+    EACH_GROWTH(renamer_reserve(lane, 1000), is_as(lane, &before));
+}
+
+/* With room, neither a name nor a list of names nor a walk by hand wants memory. */
+static void walk_with_room(renamer_lane *lane) {
+    uint64_t name, names[2];
+    renamer_client clients[2] = {{1, 0}, {2, 0}};
+    renamer_moved moved;
+    renamer_swept swept;
+    uint32_t wire = 0;
+    while (renamer_lowest(lane, &wire) == RENAMER_DONE)
+        NO_GROWTH(renamer_sweep(lane, wire, &swept));
+    NO_GROWTH(renamer_name(lane, 3, 0, &name));
+    NO_GROWTH(renamer_enter(lane, 4, 0));
+    while (renamer_lowest(lane, &wire) == RENAMER_DONE)
+        NO_GROWTH(renamer_step(lane, wire, &moved));
+    CHECK(renamer_name_many(lane, clients, 2, names, 2) == RENAMER_DONE);
+}
+
+static void run_floor(uint32_t kind, uint32_t width) {
+    renamer_lane lane = RENAMER_NO_LANE_YET, other = RENAMER_NO_LANE_YET;
+    renamer_quiet quiet = RENAMER_NO_QUIET_YET;
+    struct seen before, before_other;
+    open_one(&lane, kind, width, 200);
+    before = seen_of(&lane);
+    EACH_GROWTH(renamer_split(&lane, 100, &other), is_as(&lane, &before) && !other.at);
+    name_some(&lane, 1000);
+    walk_with_room(&lane);
+    name_some(&other, 2000);
+    walk_with_room(&other);
+    before = seen_of(&lane), before_other = seen_of(&other);
+    EACH_GROWTH(renamer_join(&lane, &other), is_as(&lane, &before) && is_as(&other, &before_other));
+    before = seen_of(&lane);
+    EACH_GROWTH(renamer_close(&lane, &quiet), is_as(&lane, &before) && !quiet.at);
+    CHECK(!lane.at && !other.at);
+    EACH_GROWTH(renamer_open_after(&lane, &quiet, 200), !lane.at);
+    renamer_free(&lane);
+    renamer_free_quiet(&quiet);
+}
+
+int main(void) {
+    long live = growths_live();
+    for (uint32_t kind = 0; kind < KINDS; kind++)
+        for (uint32_t level = 1; level <= 4; level++)
+            run_floor(kind, (uint32_t)1 << level);
+    CHECK(growths_live() == live);
+    printf("%ld growths were refused\n", growths);
+    return 0;
+}
