@@ -54,6 +54,24 @@ impl Floor {
     }
 
     /// Opens a floor that goes on from the counters of a closed one, over the same network. Its names begin at 0 again.
+    ///
+    /// ```
+    /// use renamer::{Floor, Kind};
+    ///
+    /// let floor = Floor::open(Kind::Tree, 4, 10)?;
+    /// let mut lane = floor.lane(1)?;
+    /// assert_eq!(lane.name(17, 0)?, 0);
+    /// floor.join(lane)?;
+    /// let quiet = floor.close()?;
+    /// assert_eq!(quiet.counts(), [1, 0, 0, 0]);
+    ///
+    /// // The next client leaves by the next exit, and its name is 0 again.
+    /// let next = Floor::open_after(&quiet, 10)?;
+    /// let mut lane = next.lane(1)?;
+    /// assert_eq!(lane.name(5, 0)?, 0);
+    /// assert_eq!(lane.grants()[0].exit, 1);
+    /// # Ok::<(), renamer::Error>(())
+    /// ```
     pub fn open_after(quiet: &Quiet, quota: u64) -> Result<Floor, Error> {
         Ok(Floor::of(quiet.raw.open_after(quota)?))
     }
@@ -88,6 +106,20 @@ impl Floor {
     }
 
     /// Closes the floor, when each lane is joined into it. If lanes are missing, the floor is given back.
+    ///
+    /// ```
+    /// use renamer::{Error, Floor, Kind};
+    ///
+    /// let floor = Floor::open(Kind::Tree, 2, 2)?;
+    /// let lane = floor.lane(1)?;
+    /// let refused = floor.close().unwrap_err();
+    /// assert_eq!(refused.error, Error::LanesMissing);
+    ///
+    /// let floor = refused.value;
+    /// floor.join(lane)?;
+    /// assert!(floor.close()?.holders().is_empty());
+    /// # Ok::<(), Error>(())
+    /// ```
     pub fn close(self) -> Result<Quiet, Refused<Floor>> {
         let mut rest = self.rest.into_inner().unwrap_or_else(PoisonError::into_inner);
         match rest.raw.close() {

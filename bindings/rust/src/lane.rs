@@ -90,11 +90,32 @@ impl Lane {
     ///
     /// It takes memory only if the lane has no room. Identities are not compared: a client that is named twice gets two
     /// names.
+    ///
+    /// ```
+    /// use renamer::{Error, Floor, Kind};
+    ///
+    /// let mut lane = Floor::open(Kind::Tree, 2, 1)?.lane(1)?;
+    /// assert_eq!(lane.name(17, 0), Ok(0));
+    /// assert_eq!(lane.name(5, 0), Err(Error::QuotaSpent));
+    /// # Ok::<(), Error>(())
+    /// ```
     pub fn name(&mut self, client: u64, entry: u64) -> Result<u64, Error> {
         self.raw.name(client, entry)
     }
 
     /// Names all of the clients at once, in the same order. The clients on a wire pass its end by one atomic add.
+    ///
+    /// ```
+    /// use renamer::{Client, Floor, Kind};
+    ///
+    /// let mut lane = Floor::open(Kind::Bitonic, 4, 100)?.lane(100)?;
+    /// let clients: Vec<Client> = (0..100).map(|id| Client { id, entry: id % 4 }).collect();
+    /// let mut names = vec![0; clients.len()];
+    /// lane.name_many(&clients, &mut names)?;
+    /// names.sort();
+    /// assert!(names.into_iter().eq(0..100));
+    /// # Ok::<(), renamer::Error>(())
+    /// ```
     pub fn name_many(&mut self, clients: &[Client], names: &mut [u64]) -> Result<(), Error> {
         self.raw.name_many(clients, names)
     }
@@ -105,6 +126,21 @@ impl Lane {
     }
 
     /// Takes in another lane of the same floor: its quota, and its grants after those of this lane.
+    ///
+    /// ```
+    /// use renamer::{Error, Floor, Kind};
+    ///
+    /// let mut lane = Floor::open(Kind::Tree, 2, 3)?.lane(3)?;
+    /// let other = lane.split(1)?;
+    /// lane.join(other)?;
+    /// assert_eq!(lane.quota(), 3);
+    ///
+    /// let strange = Floor::open(Kind::Tree, 2, 3)?.lane(1)?;
+    /// let refused = lane.join(strange).unwrap_err();
+    /// assert_eq!(refused.error, Error::OtherFloor);
+    /// assert_eq!(refused.value.quota(), 1);
+    /// # Ok::<(), Error>(())
+    /// ```
     pub fn join(&mut self, mut other: Lane) -> Result<(), Refused<Lane>> {
         match self.raw.join(&mut other.raw) {
             Ok(()) => Ok(()),
@@ -118,6 +154,16 @@ impl Lane {
     }
 
     /// Lets a client in by an entry: it stands last on the wire with the entry's number.
+    ///
+    /// ```
+    /// use renamer::{Floor, Kind, Moved};
+    ///
+    /// let mut lane = Floor::open(Kind::Tree, 2, 1)?.lane(1)?;
+    /// lane.enter(17, 0)?;
+    /// assert_eq!(lane.step(0)?, Moved::On { client: 17, balancer: 0, number: 0, wire: 1 });
+    /// assert_eq!(lane.step(1)?, Moved::Out { client: 17, exit: 0, visit: 0, name: 0 });
+    /// # Ok::<(), renamer::Error>(())
+    /// ```
     pub fn enter(&mut self, client: u64, entry: u64) -> Result<(), Error> {
         self.raw.enter(client, entry)
     }
@@ -142,6 +188,20 @@ impl Lane {
 
     /// The least wire on which the lane has a client. Wires rise on each way, so who sweeps it until there is none has
     /// walked all out.
+    ///
+    /// ```
+    /// use renamer::{Floor, Kind};
+    ///
+    /// let mut lane = Floor::open(Kind::Periodic, 8, 40)?.lane(40)?;
+    /// for client in 0..40 {
+    ///     lane.enter(client, client % 8)?;
+    /// }
+    /// while let Some(wire) = lane.lowest() {
+    ///     lane.sweep(wire)?;
+    /// }
+    /// assert_eq!((lane.inside(), lane.grant_count()), (0, 40));
+    /// # Ok::<(), renamer::Error>(())
+    /// ```
     pub fn lowest(&self) -> Option<u32> {
         self.raw.lowest().ok()
     }
