@@ -3,10 +3,13 @@ use Rattle.std.specs.Prelude.{◌≡◌, ℕ, ◌≤◌, Option, Some}
 use Rattle.cn_wiring.specs.declared.kind.Kind.{Kind}
 use Rattle.cn_wiring.specs.declared.kind.Kind.TheVariants.{Bitonic, Periodic, Tree}
 use Rattle.cn_cli.specs.Net.{IsNetworkOf}
-use Rattle.cn_floor.specs.Lane.{LaneValue, empty_lane}
+use Rattle.cn_floor.specs.Carried.{start_after}
+use Rattle.cn_floor.specs.Ends.{IsClosedFloor, ListsHolders, counts_of}
+use Rattle.cn_floor.specs.Lane.{LaneValue, empty_lane, with_room}
 use Rattle.cn_floor.specs.Named.{IsNamed}
 use Rattle.cn_floor.specs.Steps.{HasMoment, IsAnswer}
 use Rattle.cn_floor.specs.Views.{after_entered, after_look, after_split, base, split_off}
+use Rattle.renamer_c.specs.Records.{RecordValue}
 
 -- a lane that has done nothing, with the whole quota of a floor on which nobody came before
 pub record IsOpened (lane : LaneValue) (most : ℕ) : Type 0 where
@@ -50,3 +53,24 @@ abbrev pub Opens : Option LaneValue → ℕ → ℕ → ℕ → Type 0
 Opens new kind width quota =
     (l : LaneValue) × (k : Kind) × (new ≡ Some l) × (number_of k ≡ kind) × IsOpened l quota
     × IsNetworkOf (record { kind = k; width = width }) l.home.start.network
+
+-- a floor was closed by its lane: nobody is inside, the names are those below the number of clients, each once, and this is
+-- what it leaves
+pub record IsClosedBy (l : LaneValue) (r : RecordValue) : Type 0 where
+  pub closed : IsClosedFloor l.home.start l.view r.words.words
+  pub network : r.words.network ≡ l.home.start.network
+  pub counts : r.counts ≡ counts_of l.home.start r.words.words
+  pub holders : ListsHolders l.view.grants r.holders
+
+abbrev pub Closes : Option LaneValue → Option RecordValue → Type 0
+Closes old closed = (l : LaneValue) × (r : RecordValue) × (old ≡ Some l) × (closed ≡ Some r) × IsClosedBy l r
+
+-- a first lane of a floor that goes on from the words of a closed one
+abbrev pub OpensAfter : Option RecordValue → Option LaneValue → ℕ → Type 0
+OpensAfter closed new quota =
+    (r : RecordValue) × (l : LaneValue) × (closed ≡ Some r) × (new ≡ Some l)
+    × (l.home.start ≡ start_after r.words quota) × (l ≡ empty_lane l.home quota)
+
+-- a lane has room for so many clients at least
+abbrev pub Reserves : Option LaneValue → Option LaneValue → ℕ → Type 0
+Reserves old new clients = (l : LaneValue) × (old ≡ Some l) × (new ≡ Some (with_room clients l))

@@ -4,6 +4,7 @@ pub mod Holding
 pub mod InsideFloorShare
 pub mod InsideHeldLane
 pub mod InsideRecord
+pub mod Questions
 pub mod Records
 pub mod Refusals
 pub mod Statuses

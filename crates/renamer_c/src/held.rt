@@ -1,14 +1,15 @@
 //! What a handle has.
 
-ghost use Rattle.std.specs.Prelude.{◌≡◌, Some, IfErr, IfOk, OnErr};
-ghost use Rattle.renamer_c.specs.Calls.{Answers, Names, Splits};
-ghost use Rattle.renamer_c.specs.Handles.{lane_of};
-ghost use Rattle.renamer_c.specs.Refusals.{NotNamed, NotSplit, NotThere, WithLane};
+ghost use Rattle.std.specs.Prelude.{◌≡◌, Some, IfErr, IfOk, OnErr, OnOk};
+ghost use Rattle.renamer_c.specs.Calls.{Answers, Closes, Names, Reserves, Splits};
+ghost use Rattle.renamer_c.specs.Handles.{lane_of, record_of};
+ghost use Rattle.renamer_c.specs.Questions.{answer_to};
+ghost use Rattle.renamer_c.specs.Refusals.{NotClosed, NotNamed, NotReserved, NotSplit, NotThere, WithLane};
 
 use crate::held_lane::HeldLane;
+use crate::question::Question;
 use crate::record_of_floor::Record;
 use crate::refusal::Refusal;
-use cn_floor::Lane;
 use std::alloc::Global;
 use std::mem::replace;
 
@@ -110,17 +111,88 @@ impl Held {
         }
     }
 
-    /// How many clients more the lane may let in.
+    /// The lane that is there.
     ///
     /// # Errors
-    /// `Nothing` if there is no lane.
-    pub(crate) fn quota(&self) -> Result<u64, Refusal>
-        ensures ok { IfOk result (λ quota. WithLane (lane_of self.now) (λ l. quota ≡ l.view.quota)) }
+    /// `Nothing` if there is none.
+    pub(crate) fn lane(&self) -> Result<&HeldLane, Refusal>
+        ensures ok { IfOk result (λ lane. lane_of self.now ≡ Some lane.now) }
         ensures refused { IfErr result (NotThere (lane_of self.now)) }
     {
         match self {
-            Held::Lane(lane) => Ok(lane.lane().quota()),
+            Held::Lane(lane) => Ok(lane),
             _ => Err(Refusal::Nothing),
+        }
+    }
+
+    /// The record of a closed floor that is there.
+    ///
+    /// # Errors
+    /// `Nothing` if there is none.
+    pub(crate) fn record(&self) -> Result<&Record, Refusal>
+        ensures ok { IfOk result (λ closed. record_of self.now ≡ Some closed.now) }
+        ensures refused { IfErr result (NotThere (record_of self.now)) }
+    {
+        match self {
+            Held::Closed(record) => Ok(record),
+            _ => Err(Refusal::Nothing),
+        }
+    }
+
+    /// What the lane answers.
+    ///
+    /// # Errors
+    /// `Nothing` if there is no lane.
+    pub(crate) fn ask(&self, question: Question) -> Result<u64, Refusal>
+        ensures ok { IfOk result (λ n. WithLane (lane_of self.now) (λ l. n ≡ answer_to question l)) }
+        ensures refused { IfErr result (NotThere (lane_of self.now)) }
+    {
+        match self.lane() {
+            Ok(lane) => Ok(lane.ask(question)),
+            Err(refusal) => Err(refusal),
+        }
+    }
+
+    /// Makes room for so many clients.
+    ///
+    /// # Errors
+    /// `Nothing` if there is no lane, else as [`HeldLane::reserve`]. Then nothing has changed.
+    pub(crate) fn reserve(&mut self, clients: u64) -> Result<(), Refusal>
+        ensures ok { OnOk result (Reserves (lane_of self.old) (lane_of self.new) clients) }
+        ensures err { OnErr result (self.new ≡ self.old) }
+        ensures refused { IfErr result (NotReserved (lane_of self.old)) }
+    {
+        match self {
+            Held::Lane(lane) => lane.reserve(clients),
+            _ => Err(Refusal::Nothing),
+        }
+    }
+
+    /// Closes the floor of the lane, and leaves its record.
+    ///
+    /// # Errors
+    /// `Nothing` if there is no lane, else as [`HeldLane::close`]. Then nothing has changed.
+    pub(crate) fn close(&mut self, alloc: Global) -> Result<(), Refusal>
+        ensures ok { OnOk result (Closes (lane_of self.old) (record_of self.new)) }
+        ensures err { OnErr result (self.new ≡ self.old) }
+        ensures refused { IfErr result (NotClosed (lane_of self.old)) }
+    {
+        match replace(self, Held::Nothing) {
+            Held::Lane(lane) => match lane.close(alloc) {
+                Ok(record) => {
+                    *self = Held::Closed(record);
+                    Ok(())
+                }
+                Err((refusal, lane)) => {
+                    *self = Held::Lane(lane);
+                    Err(refusal)
+                }
+            },
+            Held::Nothing => Err(Refusal::Nothing),
+            Held::Closed(record) => {
+                *self = Held::Closed(record);
+                Err(Refusal::Nothing)
+            }
         }
     }
 }
