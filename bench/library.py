@@ -4,11 +4,12 @@
 Floors of 262,144 names on the trees of width 2 and 64 and the bitonic networks of width 8 and 64, in one, two and four
 threads, by single names and by lists of 64; beside one atomic add on one word (`AtomicU64::fetch_add`), a table of clients
 behind a mutex (`Mutex<HashMap>`), a slab behind a mutex (`slab`) and one of shards (`sharded_slab`). Each gives distinct
-numbers; those of all but the last are dense. A floor and a table begin with room for all clients.
+numbers; those of all but the last are dense. All but that begin with room for all clients.
 
 One thread is compared by processor time, in uncontended adds; several by the clock, each way to the add by as many
-threads. A ratio is the median over ten rounds, in which all ways run in turn. A program measures its names only, and
-neither its start nor what is made before. The rows of slabs are left out if the folder of crates has none.
+threads. A ratio is the median over ten rounds, in which all ways run in turn; a run is the median of five epochs after a
+first, in which its memory comes from the system. It measures the names only, and not what is made before. The rows of slabs
+are left out if the folder of crates has none.
 """
 import statistics
 
@@ -36,7 +37,7 @@ def measured(bench, jobs):
     for first in range(bench.size(10, 2)):
         for place in range(len(names)):
             job = names[(first + place) % len(names)]
-            clock, processor = map(float, bench.written([*jobs[job], str(bench.size(2, 1))]).split())
+            clock, processor = map(float, bench.written([*jobs[job], str(bench.size(5, 1))]).split())
             spent[job].append({"clock": clock, "processor": processor})
     return spent
 

@@ -12,7 +12,7 @@ use std::hint::black_box;
 use std::process;
 use std::sync::atomic::{AtomicU64, Ordering};
 use std::sync::Mutex;
-use timing::{in_threads, print_mean, Spent, CLIENTS};
+use timing::{in_threads, print_median, Spent, CLIENTS};
 
 /// How many clients a list has.
 const LIST: usize = 64;
@@ -139,5 +139,5 @@ fn main() {
         _ => usage(),
     };
     let [.., threads, rounds] = words[..] else { usage() };
-    print_mean(number(rounds), CLIENTS, || round(number(threads)));
+    print_median(number(rounds), CLIENTS, || round(number(threads)));
 }

@@ -53,14 +53,15 @@ pub fn in_threads<P: Send>(parts: Vec<P>, run: impl Fn(&mut P) -> u64 + Sync) ->
     (Spent { clock: (ended - began).as_nanos() as f64, processor }, done.iter().map(|one| one.3).sum())
 }
 
-/// Runs a round so many times, and prints what a name took, by the clock and of a processor.
-pub fn print_mean(rounds: u32, calls: u64, mut round: impl FnMut() -> Spent) {
-    let (mut clock, mut processor) = (0.0, 0.0);
-    for _ in 0..rounds {
-        let spent = round();
-        clock += spent.clock;
-        processor += spent.processor;
-    }
-    let all = f64::from(rounds) * calls as f64;
-    println!("{} {}", clock / all, processor / all);
+/// Runs a round so many times, and prints the median of what a name took, by the clock and of a processor. A first round,
+/// in which the memory comes from the system, does not count.
+pub fn print_median(rounds: usize, names: u64, round: impl Fn() -> Spent) {
+    round();
+    let spent: Vec<Spent> = (0..rounds).map(|_| round()).collect();
+    let median = |time: fn(&Spent) -> f64| {
+        let mut times: Vec<f64> = spent.iter().map(time).collect();
+        times.sort_by(f64::total_cmp);
+        times[times.len() / 2] / names as f64
+    };
+    println!("{} {}", median(|spent| spent.clock), median(|spent| spent.processor));
 }

@@ -7,7 +7,7 @@ mod timing;
 use std::env;
 use std::process;
 use std::sync::Mutex;
-use timing::{in_threads, print_mean, Spent, CLIENTS};
+use timing::{in_threads, print_median, Spent, CLIENTS};
 
 fn clients(thread: u64, threads: u64) -> impl Iterator<Item = u64> {
     (0..CLIENTS / threads).map(move |client| (thread << 40) + client)
@@ -35,11 +35,11 @@ fn main() {
     let words: Vec<String> = env::args().skip(1).collect();
     let words: Vec<&str> = words.iter().map(String::as_str).collect();
     let (["slab" | "sharded", _, _], Ok(threads), Ok(rounds)) =
-        (&words[..], words.get(1).unwrap_or(&"").parse::<u64>(), words.get(2).unwrap_or(&"").parse::<u32>())
+        (&words[..], words.get(1).unwrap_or(&"").parse::<u64>(), words.get(2).unwrap_or(&"").parse::<usize>())
     else {
         eprintln!("slabs: slab|sharded THREADS ROUNDS");
         process::exit(2)
     };
     let round = if words[0] == "slab" { slab } else { sharded };
-    print_mean(rounds, CLIENTS, || round(threads));
+    print_median(rounds, CLIENTS, || round(threads));
 }
