@@ -11,15 +11,17 @@ void *__wrap_calloc(size_t count, size_t size);
 void *__wrap_realloc(void *block, size_t size);
 void __wrap_free(void *block);
 
-static long asked, live, others = -1;
-static int refused;
+/* How many growths are granted first, and how many are refused then. */
+static long to_grant, to_refuse;
+static long asked, live, refused;
 
-void growths_refuse_after(long count) {
-    others = count;
+void growths_refuse(long first, long then) {
+    to_grant = first;
+    to_refuse = then;
     refused = 0;
 }
 
-int growths_refused(void) {
+long growths_refused(void) {
     return refused;
 }
 
@@ -31,12 +33,17 @@ long growths_live(void) {
     return live;
 }
 
-/* Whether this growth is the one to refuse. */
 static int is_refused(void) {
     asked++;
-    if (others < 0 || others-- > 0)
+    if (to_grant > 0) {
+        to_grant--;
         return 0;
-    return refused = 1;
+    }
+    if (to_refuse == 0)
+        return 0;
+    to_refuse--;
+    refused++;
+    return 1;
 }
 
 void *__wrap_malloc(size_t size) {

@@ -2,11 +2,11 @@
 #ifndef GROWTHS_H
 #define GROWTHS_H
 
-/* Refuses the growth after so many others from now on, and no more; a negative number refuses none. */
-void growths_refuse_after(long others);
+/* From now on grants so many growths, then refuses so many, and grants all others. */
+void growths_refuse(long granted, long refused);
 
-/* Whether that growth was asked for, and so refused. */
-int growths_refused(void);
+/* How many growths were refused since then. */
+long growths_refused(void);
 
 /* How many growths were asked for so far. */
 long growths_asked(void);

@@ -1,27 +1,27 @@
 /*
- * Refuses each growth of each call in turn: the call returns RENAMER_MEMORY and has changed nothing, and asked again it is
- * done. A call that wants no memory asks for none: a step, a sweep, and a name by a lane with room.
+ * Refuses growths of each call: all from one on, for each of its growths in turn. The call returns RENAMER_MEMORY and has
+ * changed nothing, and asked again with memory at hand it is done. If only one growth is refused, a call may find another
+ * way. A call that wants no memory asks for none: a step, a sweep, and a name by a lane with room.
  */
 #include "growths.h"
 #include "seen.h"
+#include <limits.h>
 
-/* Makes a call with each of its growths refused, one in turn, until none is left; `same` says that nothing has changed. */
+/* How many calls were refused so far. */
+static long refusals;
+
+/* Makes a call with its growths refused from each one in turn on, until none is left; `same`: that nothing has changed. */
 #define EACH_GROWTH(call, same)                                                                                                \
     do {                                                                                                                       \
-        long growth = 0;                                                                                                       \
-        for (;;) {                                                                                                             \
-            uint32_t status;                                                                                                   \
-            growths_refuse_after(growth++);                                                                                    \
+        uint32_t status = RENAMER_MEMORY;                                                                                      \
+        for (long growth = 0; status != RENAMER_DONE; growth++) {                                                              \
+            growths_refuse(growth, LONG_MAX);                                                                                  \
             status = (call);                                                                                                   \
-            if (!growths_refused()) {                                                                                          \
-                CHECK(status == RENAMER_DONE);                                                                                 \
-                break;                                                                                                         \
-            }                                                                                                                  \
-            growths_refuse_after(-1);                                                                                          \
-            CHECK(status == RENAMER_MEMORY && (same));                                                                         \
+            refusals += growths_refused() > 0;                                                                                 \
+            CHECK(status == (growths_refused() > 0 ? RENAMER_MEMORY : RENAMER_DONE));                                          \
+            growths_refuse(0, 0);                                                                                              \
+            CHECK(status == RENAMER_DONE || (same));                                                                           \
         }                                                                                                                      \
-        growths_refuse_after(-1);                                                                                              \
-        growths += growth - 1;                                                                                                 \
     } while (0)
 
 #define NO_GROWTH(call)                                                                                                        \
@@ -30,17 +30,30 @@
         CHECK((call) == RENAMER_DONE && growths_asked() == asked);                                                             \
     } while (0)
 
-/* How many growths were refused. */
-static long growths;
+/* Opens floors into a handle that has one, each with one growth refused. */
+static void open_with_one_refused(renamer_lane *lane, uint32_t kind, uint32_t width, uint64_t quota) {
+    long live = growths_live();
+    int refused = 1;
+    for (long growth = 0; refused; growth++) {
+        struct seen before = seen_of(lane);
+        uint32_t status;
+        growths_refuse(growth, 1);
+        status = renamer_open(lane, kind, width, quota);
+        refused = growths_refused() > 0;
+        growths_refuse(0, 0);
+        CHECK(status == RENAMER_DONE || (refused && status == RENAMER_MEMORY && is_as(lane, &before)));
+        CHECK(growths_live() == live);
+    }
+}
 
-/* Opens a floor into a handle that is none, and another into the same handle. */
+/* Opens a floor into a handle that is none, and others into the same handle. */
 static void open_one(renamer_lane *lane, uint32_t kind, uint32_t width, uint64_t quota) {
     struct seen before;
     long live = growths_live();
     EACH_GROWTH(renamer_open(lane, kind, width, quota), !lane->at && growths_live() == live);
     before = seen_of(lane), live = growths_live();
     EACH_GROWTH(renamer_open(lane, kind, width, quota), is_as(lane, &before) && growths_live() == live);
-    CHECK(growths_live() == live);
+    open_with_one_refused(lane, kind, width, quota);
 }
 
 static void name_some(renamer_lane *lane, uint64_t first) {
@@ -101,6 +114,6 @@ int main(void) {
         for (uint32_t level = 1; level <= 4; level++)
             run_floor(kind, (uint32_t)1 << level);
     CHECK(growths_live() == live);
-    printf("%ld growths were refused\n", growths);
+    printf("%ld calls were refused their memory\n", refusals);
     return 0;
 }
