@@ -123,11 +123,11 @@ def wrong_numbers():
     """The numbers of the header that the proved crate or the Rust crate has otherwise, or has not."""
     header, wrong = statuses_of_header(), []
     crate = {snake(name): int(number) for name, number in re.findall(r"Refusal::(\w+) => (\d+),", crate_code())}
+    crate |= {snake(name): int(number) for number, name in re.findall(r"(\d+) => Kind::(\w+),", crate_code())}
     crate |= {name: int(number) for name, number in re.findall(r"const (\w+): u32 = (\d+);", crate_code())}
     rust = {snake(name): int(number) for name, number in re.findall(r"^    (\w+) = (\d+),", rust_code(), re.M)}
-    kinds = {"BITONIC", "PERIODIC", "TREE"}
     for name, number in header.items():
-        if crate.get({"NONE": "NOTHING"}.get(name, name)) != number and name not in kinds:
+        if crate.get({"NONE": "NOTHING"}.get(name, name)) != number:
             wrong.append(f"{name} is {number} in the header, and {crate.get(name)} in the proved crate")
         if rust.get(name) != number and name not in ("DONE", "NONE", "KIND"):
             wrong.append(f"{name} is {number} in the header, and {rust.get(name)} in the Rust crate")

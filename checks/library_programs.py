@@ -29,11 +29,13 @@ class Wrong(Exception):
 
 @dataclasses.dataclass
 class Program:
-    """A program in C or C++: its source, what else it is made of, and what it prints, if that is one text."""
+    """A program in C or C++: its source, what else it is made of, and what it prints, if that is one text. A long one takes
+    a minute, and is not run under sanitizers."""
 
     source: pathlib.Path
     others: tuple = ()
     prints: str = ""
+    is_long: bool = False
 
     def compiler(self):
         return "c++" if self.source.suffix == ".cpp" else "cc"
@@ -45,6 +47,7 @@ class Program:
 GROWTHS = (C / "tests" / "growths.c", WRAPPED)
 EPOCHS = "".join(f"epoch {epoch}: {2 * epoch + 2} clients in the first rows\n" for epoch in (1, 2, 3))
 PROGRAMS = (
+    Program(C / "tests" / "carried.c", is_long=True),
     Program(C / "examples" / "pool.c", prints="622 workers have the numbers 0 to 621\n"),
     Program(C / "examples" / "table.c", prints=EPOCHS),
     Program(C / "examples" / "lanes.cpp", prints="3000 clients have the names 0 to 2999\n"),
@@ -73,7 +76,7 @@ def run_program(program, folder, sanitizer=None):
     made = folder / f"{program.source.name}-{sanitizer or 'plain'}".replace(" ", "-")
     run([compiler, f"-std={STANDARDS[compiler][0]}", *STRICT, *flags, "-I", OUT / "include", program.source,
          *program.others, "-o", made, "-L", OUT / "lib", "-lrenamer", "-lpthread"])
-    printed = run([made, *program.words(sanitizer)], **environment)
+    printed = run([made, *program.words(sanitizer)], seconds=SECONDS * (2 if program.is_long else 1), **environment)
     if program.prints and printed != program.prints:
         raise Wrong(f"it printed {printed!r}, not {program.prints!r}")
 
@@ -93,7 +96,7 @@ def has_sanitizer(compiler, sanitizer, folder):
 
 def sanitized(compiler, folder):
     """A case for each program of a compiler under each sanitizer; says of each whether it is there."""
-    programs = [program for program in PROGRAMS if program.compiler() == compiler]
+    programs = [program for program in PROGRAMS if program.compiler() == compiler and not program.is_long]
     for sanitizer in SANITIZERS:
         there = has_sanitizer(compiler, sanitizer, folder)
         what = f"{len(programs)} program{'s' * (len(programs) > 1)} of {compiler}"
@@ -105,11 +108,11 @@ def sanitized(compiler, folder):
 
 def cases(compiler, folder):
     """The cases of a compiler: a name, and what raises Wrong."""
-    for standard in STANDARDS[compiler]:
-        yield f"the header, {standard}", lambda standard=standard: header_stands_alone(compiler, standard, folder)
     for program in PROGRAMS:
         if program.compiler() == compiler:
             yield f"{program.source.relative_to(ROOT)}", lambda program=program: run_program(program, folder)
+    for standard in STANDARDS[compiler]:
+        yield f"the header, {standard}", lambda standard=standard: header_stands_alone(compiler, standard, folder)
     yield from sanitized(compiler, folder)
 
 
