@@ -1,4 +1,4 @@
-/* Each status of each call but RENAMER_MEMORY and RENAMER_CARRIED; a refused call changes nothing. */
+/* Each status of each call but RENAMER_MEMORY (memory.c) and RENAMER_CARRIED (carried.c); a refused call changes nothing. */
 #include "seen.h"
 
 /* Handles that are none: never set to something, or freed. */
