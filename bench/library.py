@@ -1,15 +1,15 @@
 #!/usr/bin/env python3
-"""What a name costs by the library for C, C++ and Rust, through the crate in bindings/rust, beside other ways to number.
+"""What a name costs by the library for C, C++ and Rust, through the crate in bindings/rust, beside other numbers.
 
 Floors of 262,144 names on the trees of width 2 and 64 and the bitonic networks of width 8 and 64, in one, two and four
-threads, by single names and by lists of 64; beside one atomic add on one word (`AtomicU64::fetch_add`), a table of clients
-behind a mutex (`Mutex<HashMap>`), a slab behind a mutex (`slab`) and one of shards (`sharded_slab`). Each gives distinct
-numbers; those of all but the last are dense. All but that begin with room for all clients.
+threads, by single names and by lists of 64; beside one atomic add on one word (`AtomicU64::fetch_add`), a table of
+clients behind a mutex (`Mutex<HashMap>`), a slab behind a mutex (`slab`) and one of shards (`sharded_slab`). Each gives
+distinct numbers; those of all but the last are dense. All but that begin with room for all clients.
 
 One thread is compared by processor time, in uncontended adds; several by the clock, each way to the add by as many
-threads. A ratio is the median over ten rounds, in which all ways run in turn; a run is the median of five epochs after a
-first, in which its memory comes from the system. It measures the names only, and not what is made before. The rows of slabs
-are left out if the folder of crates has none.
+threads. A ratio is the median over ten rounds, in which all ways run in turn; a run is the median of five epochs after
+a first, in which its memory comes from the system. It measures the names only, and not what is made before. The rows of
+slabs are left out if the folder of crates has none.
 """
 import statistics
 

@@ -133,7 +133,8 @@ def wrong_numbers():
             wrong.append(f"{name} is {number} in the header, and {rust.get(name)} in the Rust crate")
     wrong += [f"{name} of the Rust crate is not in the header" for name in rust.keys() - header.keys()]
     limits = dict(re.findall(r"#define RENAMER_(MOST_\w+) (\d+)", code(HEADER)))
-    own = {name: number.replace("_", "") for name, number in re.findall(r"const (MOST_\w+): u64 = ([\d_]+);", rust_code())}
+    found = re.findall(r"const (MOST_\w+): u64 = ([\d_]+);", rust_code())
+    own = {name: number.replace("_", "") for name, number in found}
     if limits != own or not limits:
         wrong.append(f"the limits are {limits} in the header, and {own} in the Rust crate")
     return wrong

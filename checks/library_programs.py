@@ -1,4 +1,5 @@
-"""The programs in C and C++ that stand in bindings/c, compiled and run, as they are and under the compilers' sanitizers."""
+"""The programs in C and C++ that stand in bindings/c, compiled and run, as they are and under the compilers'
+sanitizers."""
 import dataclasses
 import os
 import pathlib
@@ -29,8 +30,8 @@ class Wrong(Exception):
 
 @dataclasses.dataclass
 class Program:
-    """A program in C or C++: its source, what else it is made of, and what it prints, if that is one text. A long one takes
-    a minute, and is not run under sanitizers."""
+    """A program in C or C++: its source, what else it is made of, and what it prints, if that is one text. A long one
+    takes a minute, and is not run under sanitizers."""
 
     source: pathlib.Path
     others: tuple = ()

@@ -53,8 +53,8 @@ pub fn in_threads<P: Send>(parts: Vec<P>, run: impl Fn(&mut P) -> u64 + Sync) ->
     (Spent { clock: (ended - began).as_nanos() as f64, processor }, done.iter().map(|one| one.3).sum())
 }
 
-/// Runs a round so many times, and prints the median of what a name took, by the clock and of a processor. A first round,
-/// in which the memory comes from the system, does not count.
+/// Runs a round so many times, and prints the median of what a name took, by the clock and of a processor. A first
+/// round, in which the memory comes from the system, does not count.
 pub fn print_median(rounds: usize, names: u64, round: impl Fn() -> Spent) {
     round();
     let spent: Vec<Spent> = (0..rounds).map(|_| round()).collect();

@@ -1,4 +1,5 @@
-//! What it takes to put a client into a slab and get its key, in so many threads: a slab behind a mutex, or one of shards.
+//! What it takes to put a client into a slab and get its key, in so many threads: a slab behind a mutex, or one of
+//! shards.
 //!
 //!     slabs slab|sharded THREADS ROUNDS
 #[path = "../../library/src/timing.rs"]

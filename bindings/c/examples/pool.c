@@ -1,7 +1,7 @@
 /*
- * A pool of worker numbers. Four threads start workers, each as many as it happens to need. A worker's number is its place
- * in one array, which the threads fill at once and without a lock: no two workers have the same number, and when the
- * threads have ended the numbers have no gap.
+ * A pool of worker numbers. Four threads start workers, each as many as it happens to need. A worker's number is its
+ * place in one array, which the threads fill at once and without a lock: no two workers have the same number, and when
+ * the threads have ended the numbers have no gap.
  */
 #include "renamer.h"
 #include <inttypes.h>

@@ -1,6 +1,6 @@
 /*
- * Floors that go on from one another, each with the most clients, until as many came before as may: one more client, and
- * the next floor is refused.
+ * Floors that go on from one another, each with the most clients, until as many came before as may: one more client,
+ * and the next floor is refused.
  */
 #include "judge.h"
 

@@ -1,4 +1,4 @@
-/* Growths of memory, of the library and of a test: linked by -Wl,--wrap= for each of malloc, calloc, realloc and free. */
+/* Growths of memory, of the library and of a test: linked by -Wl,--wrap= for malloc, calloc, realloc and free. */
 #ifndef GROWTHS_H
 #define GROWTHS_H
 

@@ -1,6 +1,6 @@
 /*
- * Handles that go from thread to thread: a lane that four threads use by turns under a lock, lanes that are split off in
- * one thread, name in a second and are freed or joined in a third, and a closed floor that is read elsewhere.
+ * Handles that go from thread to thread: a lane that four threads use by turns under a lock, lanes that are split off
+ * in one thread, name in a second and are freed or joined in a third, and a closed floor that is read elsewhere.
  */
 #include "judge.h"
 #include <pthread.h>

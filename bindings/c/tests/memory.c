@@ -1,7 +1,7 @@
 /*
- * Refuses growths of each call: all from one on, for each of its growths in turn. The call returns RENAMER_MEMORY and has
- * changed nothing, and asked again with memory at hand it is done. If only one growth is refused, a call may find another
- * way. A call that wants no memory asks for none: a step, a sweep, and a name by a lane with room.
+ * Refuses growths of each call: all from one on, for each of its growths in turn. The call returns RENAMER_MEMORY and
+ * has changed nothing, and asked again with memory at hand it is done. If only one growth is refused, a call may find
+ * another way. A call that wants no memory asks for none: a step, a sweep, and a name by a lane with room.
  */
 #include "growths.h"
 #include "seen.h"
@@ -10,24 +10,24 @@
 /* How many calls were refused so far. */
 static long refusals;
 
-/* Makes a call with its growths refused from each one in turn on, until none is left; `same`: that nothing has changed. */
-#define EACH_GROWTH(call, same)                                                                                                \
-    do {                                                                                                                       \
-        uint32_t status = RENAMER_MEMORY;                                                                                      \
-        for (long growth = 0; status != RENAMER_DONE; growth++) {                                                              \
-            growths_refuse(growth, LONG_MAX);                                                                                  \
-            status = (call);                                                                                                   \
-            refusals += growths_refused() > 0;                                                                                 \
-            CHECK(status == (growths_refused() > 0 ? RENAMER_MEMORY : RENAMER_DONE));                                          \
-            growths_refuse(0, 0);                                                                                              \
-            CHECK(status == RENAMER_DONE || (same));                                                                           \
-        }                                                                                                                      \
+/* Makes a call with its growths refused from each in turn on, until none is left; `same`: that nothing has changed. */
+#define EACH_GROWTH(call, same)                                                                                        \
+    do {                                                                                                               \
+        uint32_t status = RENAMER_MEMORY;                                                                              \
+        for (long growth = 0; status != RENAMER_DONE; growth++) {                                                      \
+            growths_refuse(growth, LONG_MAX);                                                                          \
+            status = (call);                                                                                           \
+            refusals += growths_refused() > 0;                                                                         \
+            CHECK(status == (growths_refused() > 0 ? RENAMER_MEMORY : RENAMER_DONE));                                  \
+            growths_refuse(0, 0);                                                                                      \
+            CHECK(status == RENAMER_DONE || (same));                                                                   \
+        }                                                                                                              \
     } while (0)
 
-#define NO_GROWTH(call)                                                                                                        \
-    do {                                                                                                                       \
-        long asked = growths_asked();                                                                                          \
-        CHECK((call) == RENAMER_DONE && growths_asked() == asked);                                                             \
+#define NO_GROWTH(call)                                                                                                \
+    do {                                                                                                               \
+        long asked = growths_asked();                                                                                  \
+        CHECK((call) == RENAMER_DONE && growths_asked() == asked);                                                     \
     } while (0)
 
 /* Opens floors into a handle that has one, each with one growth refused. */

@@ -1,7 +1,7 @@
 /*
  * Four threads name clients on each network of each width, first each client by a call of its own, and then, on a floor
- * that goes on from the first, by lists: the names are 0 to k-1, each once, each exit has its share, and the holders are
- * the clients.
+ * that goes on from the first, by lists: the names are 0 to k-1, each once, each exit has its share, and the holders
+ * are the clients.
  */
 #include "judge.h"
 #include <pthread.h>

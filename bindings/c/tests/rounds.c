@@ -1,6 +1,6 @@
 /*
- * Opens, splits, names, joins and closes, round after round: after each there are as many blocks of memory as before it.
- * The number of rounds is the argument.
+ * Opens, splits, names, joins and closes, round after round: after each there are as many blocks of memory as before
+ * it. The number of rounds is the argument.
  */
 #include "growths.h"
 #include "judge.h"

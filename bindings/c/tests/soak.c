@@ -1,12 +1,12 @@
 /*
- * Eight threads name 262,144 clients on each of many floors, over random networks: by single names, by lists and by hand,
- * with lanes that are split while others walk. Each floor is judged by its names, its counts and its holders.
+ * Eight threads name 262,144 clients on each of many floors, over random networks: by single names, by lists and by
+ * hand, with lanes that are split while others walk. Each floor is judged by its names, its counts and its holders.
  *
  *     soak FLOORS SECONDS SEED
  *
- * Floor n has the seed SEED + n, and what is drawn for it follows from that; a floor whose number is odd goes on from the
- * one before it. It prints a line for each floor that is wrong, and at the end how many were made and how many of them are
- * wrong. When the seconds are over it makes no more; the status is 0 only if all were made and none is wrong.
+ * Floor n has the seed SEED + n, and what is drawn for it follows from that; a floor whose number is odd goes on from
+ * the one before it. It prints a line for each floor that is wrong, and at the end how many were made and how many of
+ * them are wrong. When the seconds are over it makes no more; the status is 0 only if all were made and none is wrong.
  */
 #include "judge.h"
 #include <inttypes.h>
@@ -84,7 +84,7 @@ static const char *by_hand(struct thread *thread, renamer_lane *lane, uint64_t f
         if (renamer_enter(lane, first + i, draw(&thread->chance) % thread->entries) != RENAMER_DONE)
             return "renamer_enter was refused";
     while (renamer_lowest(lane, &wire) == RENAMER_DONE)
-        if ((draw(&thread->chance) % 2 ? renamer_sweep(lane, wire, &swept) : renamer_step(lane, wire, &moved)) != RENAMER_DONE)
+        if (draw(&thread->chance) % 2 ? renamer_sweep(lane, wire, &swept) : renamer_step(lane, wire, &moved))
             return "a step was refused";
     if (renamer_grants(lane, before, grants, count) != RENAMER_DONE)
         return "renamer_grants was refused";

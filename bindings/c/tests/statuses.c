@@ -1,4 +1,4 @@
-/* Each status of each call but RENAMER_MEMORY (memory.c) and RENAMER_CARRIED (carried.c); a refused call changes nothing. */
+/* Each status of each call but RENAMER_MEMORY (memory.c) and RENAMER_CARRIED (carried.c). A refusal changes nothing. */
 #include "seen.h"
 
 /* Handles that are none: never set to something, or freed. */
@@ -148,7 +148,8 @@ static void walk_by_hand(void) {
     uint32_t wire;
     struct seen before;
     CHECK(renamer_open(&lane, RENAMER_TREE, 2, 3) == RENAMER_DONE);
-    CHECK(renamer_step(&lane, 0, &moved) == RENAMER_NOBODY_THERE && renamer_sweep(&lane, 0, &swept) == RENAMER_NOBODY_THERE);
+    CHECK(renamer_step(&lane, 0, &moved) == RENAMER_NOBODY_THERE);
+    CHECK(renamer_sweep(&lane, 0, &swept) == RENAMER_NOBODY_THERE);
     for (uint64_t client = 11; client <= 13; client++)
         CHECK(renamer_enter(&lane, client, 0) == RENAMER_DONE);
     before = seen_of(&lane);
@@ -156,7 +157,7 @@ static void walk_by_hand(void) {
     CHECK(renamer_step(&lane, 1, &moved) == RENAMER_NOBODY_THERE && is_as(&lane, &before));
     CHECK(renamer_sweep(&lane, UINT32_MAX, &swept) == RENAMER_NOBODY_THERE && is_as(&lane, &before));
     CHECK(renamer_step(&lane, 0, &moved) == RENAMER_DONE);
-    CHECK(moved.client == 11 && !moved.out && moved.end == 0 && moved.number == 0 && moved.wire == 1 && moved.name == 0);
+    CHECK(moved.client == 11 && !moved.out && !moved.end && !moved.number && moved.wire == 1 && !moved.name);
     CHECK(renamer_sweep(&lane, 0, &swept) == RENAMER_DONE);
     CHECK(swept.clients == 2 && !swept.out && swept.end == 0 && swept.first == 1);
     CHECK(renamer_step(&lane, 2, &moved) == RENAMER_DONE);

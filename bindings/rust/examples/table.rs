@@ -1,6 +1,6 @@
-//! A table with a row for each client of an epoch. Two threads serve clients at once; a client's name is its row, so the
-//! rows of an epoch are the first ones. At the end of the epoch the floor is closed, and says whose row is whose. The next
-//! epoch goes on from its counters, and its rows begin at 0 again.
+//! A table with a row for each client of an epoch. Two threads serve clients at once; a client's name is its row, so
+//! the rows of an epoch are the first ones. At the end of the epoch the floor is closed, and says whose row is whose.
+//! The next epoch goes on from its counters, and its rows begin at 0 again.
 use renamer::{Error, Floor, Kind, Quiet};
 use std::sync::atomic::{AtomicU64, Ordering};
 use std::thread;

@@ -4,8 +4,8 @@ use std::fmt;
 
 /// Why a call is refused. A refused call has changed nothing.
 ///
-/// The numbers are those of the library's header. What it refuses with 1 or 3, a handle that is none or a kind that there
-/// is not, does not come here.
+/// The numbers are those of the library's header. What it refuses with 1 or 3, a handle that is none or a kind that
+/// there is not, does not come here.
 #[derive(Clone, Copy, Debug, PartialEq, Eq, Hash)]
 #[non_exhaustive]
 #[repr(u32)]

@@ -18,8 +18,8 @@ pub enum Kind {
 
 /// A floor: a counting network on atomic words, on which threads name clients at once.
 ///
-/// Each thread takes a [`Lane`] of it. The floor keeps what no lane has: the rest of the quota, and the names of the lanes
-/// that were joined into it. These two, and only they, are behind a lock: a lane names clients without one.
+/// Each thread takes a [`Lane`] of it. The floor keeps what no lane has: the rest of the quota, and the names of the
+/// lanes that were joined into it. These two, and only they, are behind a lock: a lane names clients without one.
 ///
 /// ```
 /// use renamer::{Floor, Kind};
@@ -47,8 +47,8 @@ pub struct Floor {
 }
 
 impl Floor {
-    /// Opens a floor over a network, whose width is a power of two from 2 to 256. The quota is how many clients may come
-    /// in, over all lanes: at most [`MOST_CLIENTS`](crate::MOST_CLIENTS).
+    /// Opens a floor over a network, whose width is a power of two from 2 to 256. The quota is how many clients may
+    /// come in, over all lanes: at most [`MOST_CLIENTS`](crate::MOST_CLIENTS).
     pub fn open(kind: Kind, width: u32, quota: u64) -> Result<Floor, Error> {
         Ok(Floor::of(RawLane::open(kind as u32, width, quota)?))
     }

@@ -79,8 +79,9 @@ pub enum Swept {
 
 /// A thread's own part of a [`Floor`](crate::Floor): it lets clients in and gives them their names.
 ///
-/// A lane can be sent to another thread. The floor lives as long as a lane of it. A lane that is dropped takes its quota
-/// and its names with it, and then the floor cannot be closed any more; the names of other lanes stay as good as they were.
+/// A lane can be sent to another thread. The floor lives as long as a lane of it. A lane that is dropped takes its
+/// quota and its names with it, and then the floor cannot be closed any more; the names of other lanes stay as good as
+/// they were.
 pub struct Lane {
     pub(crate) raw: RawLane,
 }

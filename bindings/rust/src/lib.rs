@@ -1,9 +1,9 @@
 //! Names for clients: the numbers 0 to k-1 for k clients, each once, given by many threads at once.
 //!
-//! A [`Floor`] is a counting network on atomic words. Each thread has a [`Lane`] of it, and names clients by that without a
-//! lock: no two clients of a floor get the same name, and each name is below the number of clients that came in. So a name
-//! is an index into a table, a pool or an array. When all lanes are joined the floor is closed, and the [`Quiet`] says who
-//! has which name.
+//! A [`Floor`] is a counting network on atomic words. Each thread has a [`Lane`] of it, and names clients by that
+//! without a lock: no two clients of a floor get the same name, and each name is below the number of clients that came
+//! in. So a name is an index into a table, a pool or an array. When all lanes are joined the floor is closed, and the
+//! [`Quiet`] says who has which name.
 //!
 //! ```
 //! use renamer::{Floor, Kind};
@@ -17,7 +17,8 @@
 //! # Ok::<(), renamer::Error>(())
 //! ```
 //!
-//! Names are given once: a floor lets in at most [`MOST_CLIENTS`] clients, and a name comes back only with the next floor.
+//! Names are given once: a floor lets in at most [`MOST_CLIENTS`] clients, and a name comes back only with the next
+//! floor.
 //!
 //! The calls are those of a library in which each function is proved to meet its contract. What this crate adds is not
 //! proved: that the library's conditions on its callers hold. All that is unsafe stands in one file, `src/raw.rs`.

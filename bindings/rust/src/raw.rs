@@ -1,8 +1,8 @@
 //! The calls of the library, and all that is unsafe in this crate.
 //!
-//! The header leaves to the callers: no pointer is null, what a call writes overlaps nothing else that it is passed, calls
-//! on one handle do not overlap, and no handle is copied. Here each pointer is made from a reference, a slice or a cell,
-//! and a handle lies in a cell that is not `Sync`, so that one thread at a time can reach it.
+//! The header leaves to the callers: no pointer is null, what a call writes overlaps nothing else that it is passed,
+//! calls on one handle do not overlap, and no handle is copied. Here each pointer is made from a reference, a slice or
+//! a cell, and a handle lies in a cell that is not `Sync`, so that one thread at a time can reach it.
 #![allow(unsafe_code)]
 
 use crate::{Client, Error, Grant};
@@ -86,7 +86,7 @@ fn done(status: u32) -> Result<(), Error> {
 /// A number that a call on a handle writes, and that is there as long as the handle is.
 fn number<N: Default>(call: unsafe extern "C" fn(*mut Handle, *mut N) -> u32, handle: &UnsafeCell<Handle>) -> N {
     let mut number = N::default();
-    // SAFETY: the number lies apart from the handle, and no other thread has the cell of the handle, which is not `Sync`.
+    // SAFETY: the number lies apart from the handle, whose cell is not `Sync`, so no other thread has it.
     done(unsafe { call(handle.get(), &mut number) }).expect("a handle that is there has its numbers");
     number
 }
@@ -191,7 +191,7 @@ impl RawLane {
     }
 
     pub(crate) fn grants(&self, first: u64, grants: &mut [Grant]) -> Result<(), Error> {
-        // SAFETY: the array is a slice of this size, and no other thread has the cell of the handle, which is not `Sync`.
+        // SAFETY: the array is a slice of this size; the cell is not `Sync`, so no other thread has the handle.
         done(unsafe { renamer_grants(self.0.get(), first, grants.as_mut_ptr(), grants.len()) })
     }
 
@@ -220,7 +220,7 @@ unsafe impl Send for RawQuiet {}
 impl RawQuiet {
     pub(crate) fn counts(&self) -> Vec<u64> {
         let mut counts = vec![0; number(renamer_quiet_exits, &self.0) as usize];
-        // SAFETY: the array is a slice of this size, and no other thread has the cell of the handle, which is not `Sync`.
+        // SAFETY: the array is a slice of this size; the cell is not `Sync`, so no other thread has the handle.
         done(unsafe { renamer_counts(self.0.get(), counts.as_mut_ptr(), counts.len()) })
             .expect("the size is that of the counts");
         counts

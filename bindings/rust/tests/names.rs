@@ -1,4 +1,5 @@
-//! Four threads name clients on each network of each width: the names are 0 to k-1, each once, and each exit has its share.
+//! Four threads name clients on each network of each width: the names are 0 to k-1, each once, and each exit has its
+//! share.
 use renamer::{Client, Error, Floor, Kind, Lane};
 use std::thread;
 
