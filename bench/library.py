@@ -1,5 +1,5 @@
 #!/usr/bin/env python3
-"""What a name costs by the library for C, C++ and Rust, through the crate in bindings/rust, beside other numbers.
+"""What a name costs by the library, through the crate in bindings/rust, beside other ways to number clients.
 
 Floors of 262,144 names on the trees of width 2 and 64 and the bitonic networks of width 8 and 64, in one, two and four
 threads, by single names and by lists of 64; beside one atomic add on one word (`AtomicU64::fetch_add`), a table of

@@ -82,6 +82,13 @@ pub enum Swept {
 /// A lane can be sent to another thread. The floor lives as long as a lane of it. A lane that is dropped takes its
 /// quota and its names with it, and then the floor cannot be closed any more; the names of other lanes stay as good as
 /// they were.
+///
+/// Threads cannot share a lane:
+///
+/// ```compile_fail
+/// fn shared<T: Sync>() {}
+/// shared::<renamer::Lane>();
+/// ```
 pub struct Lane {
     pub(crate) raw: RawLane,
 }

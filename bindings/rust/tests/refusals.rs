@@ -1,5 +1,5 @@
 //! Each cause for which a call is refused, and that a refused call changes nothing.
-use renamer::{Client, Error, Floor, Grant, Kind, Lane, Moved, Swept};
+use renamer::{Client, Error, Floor, Grant, Kind, Lane, Moved, Quiet, Swept};
 
 fn floor(quota: u64) -> Floor {
     Floor::open(Kind::Bitonic, 4, quota).unwrap()
@@ -93,4 +93,14 @@ fn a_lane_outlives_its_floor_and_goes_from_thread_to_thread() {
     let mut lane = floor(2).lane(2).unwrap();
     let mut lane = std::thread::spawn(move || lane.name(7, 0).map(|_| lane)).join().unwrap().unwrap();
     assert_eq!(lane.name(8, 0), Ok(1));
+}
+
+#[test]
+fn what_may_go_to_other_threads() {
+    fn is_sent<T: Send>() {}
+    fn is_shared<T: Sync>() {}
+    is_sent::<Lane>();
+    is_sent::<Quiet>();
+    is_sent::<Floor>();
+    is_shared::<Floor>();
 }
