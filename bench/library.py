@@ -2,7 +2,7 @@
 """What a name costs by the library, through the crate in bindings/rust, beside other ways to number clients.
 
 Floors of 262,144 names on the trees of width 2 and 64 and the bitonic networks of width 8 and 64, in one, two and four
-threads, by single names and by lists of 64; beside one atomic add on one word (`AtomicU64::fetch_add`), a table of
+threads; beside one atomic add on one word (`AtomicU64::fetch_add`), a table of
 clients behind a mutex (`Mutex<HashMap>`), a slab behind a mutex (`slab`) and one of shards (`sharded_slab`). Each gives
 distinct numbers; those of all but the last are dense. All but that begin with room for all clients.
 
@@ -26,7 +26,6 @@ def ways(namers, slabs):
     found = {ADD: [namers, "add"], TABLE: [namers, "table"]}
     for network, width in NETWORKS:
         found[f"{network} {width}"] = [namers, "name", network, str(width)]
-        found[f"{network} {width}, lists of 64"] = [namers, "list", network, str(width)]
     found |= {name: [slabs, word] for name, word in SLABS.items() if slabs}
     return found
 

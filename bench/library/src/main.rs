@@ -1,11 +1,11 @@
 //! What a name takes by one of these ways, in so many threads: one atomic add on one word, a table of clients behind a
-//! mutex, or a floor of this repository's library, by single names or by lists.
+//! mutex, or a floor of this repository's library.
 //!
 //!     namers add|table|refused THREADS ROUNDS
-//!     namers name|list NETWORK WIDTH THREADS ROUNDS
+//!     namers name NETWORK WIDTH THREADS ROUNDS
 mod timing;
 
-use renamer::{Client, Floor, Kind, Lane};
+use renamer::{Floor, Kind, Lane};
 use std::collections::HashMap;
 use std::env;
 use std::hint::black_box;
@@ -13,9 +13,6 @@ use std::process;
 use std::sync::atomic::{AtomicU64, Ordering};
 use std::sync::Mutex;
 use timing::{in_threads, print_median, Spent, CLIENTS};
-
-/// How many clients a list has.
-const LIST: usize = 64;
 
 /// The identities of a thread's clients: they rise, and are no small numbers.
 fn clients(thread: u64, threads: u64) -> impl Iterator<Item = u64> {
@@ -80,25 +77,6 @@ fn name(kind: Kind, width: u32, threads: u64) -> Spent {
     spent
 }
 
-fn list(kind: Kind, width: u32, threads: u64) -> Spent {
-    let floor = Floor::open(kind, width, CLIENTS).expect("there is memory");
-    let parts = lanes(&floor, threads).into_iter().map(|(thread, lane)| {
-        let asking = clients(thread, threads).zip(entries(&lane, thread, threads));
-        (lane, asking.map(|(id, entry)| Client { id, entry }).collect::<Vec<_>>())
-    });
-    let (spent, sum) = in_threads(parts.collect(), |(lane, clients)| {
-        let mut names = [0; LIST];
-        let mut sum = 0;
-        for part in clients.chunks(LIST) {
-            lane.name_many(part, &mut names[..part.len()]).expect("there is room");
-            sum += names[..part.len()].iter().sum::<u64>();
-        }
-        sum
-    });
-    is_tight(sum);
-    spent
-}
-
 /// A call that is refused: the network has no such entry.
 fn refused(threads: u64) -> Spent {
     let floor = Floor::open(Kind::Tree, 64, CLIENTS).expect("there is memory");
@@ -114,7 +92,7 @@ fn number<N: std::str::FromStr>(word: &str) -> N {
 }
 
 fn usage() -> ! {
-    eprintln!("namers: add|table|refused THREADS ROUNDS, or name|list bitonic|periodic|tree WIDTH THREADS ROUNDS");
+    eprintln!("namers: add|table|refused THREADS ROUNDS, or name bitonic|periodic|tree WIDTH THREADS ROUNDS");
     process::exit(2)
 }
 
@@ -135,7 +113,6 @@ fn main() {
         ["table", ..] => Box::new(table),
         ["refused", ..] => Box::new(refused),
         ["name", network, width, ..] => Box::new(move |threads| name(kind(network), number(width), threads)),
-        ["list", network, width, ..] => Box::new(move |threads| list(kind(network), number(width), threads)),
         _ => usage(),
     };
     let [.., threads, rounds] = words[..] else { usage() };

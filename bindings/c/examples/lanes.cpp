@@ -31,24 +31,10 @@ public:
         return other;
     }
 
-    void join(Lane other) { must(renamer_join(&raw, &other.raw), "renamer_join"); }
-
     std::uint64_t name(std::uint64_t client, std::uint64_t entry) {
         std::uint64_t name;
         must(renamer_name(&raw, client, entry, &name), "renamer_name");
         return name;
-    }
-
-    std::vector<std::uint64_t> close() {
-        renamer_quiet quiet = RENAMER_NO_QUIET_YET;
-        must(renamer_close(&raw, &quiet), "renamer_close");
-        std::uint64_t clients = 0;
-        renamer_quiet_clients(&quiet, &clients);
-        std::vector<std::uint64_t> holders(clients + 1);
-        renamer_holders(&quiet, holders.data(), clients);
-        holders.pop_back();
-        renamer_free_quiet(&quiet);
-        return holders;
     }
 
 private:
@@ -62,20 +48,18 @@ int main() {
     std::vector<Lane> lanes;
     for (std::uint64_t t = 0; t < threads; t++)
         lanes.push_back(rest.split(each));
+    std::vector<std::uint64_t> names(threads * each);
     std::vector<std::thread> running;
     for (std::uint64_t t = 0; t < threads; t++)
-        running.emplace_back([&lanes, t, each] {
-            for (std::uint64_t i = 0; i < each; i++)
-                lanes[t].name(each * t + i, i % 8);
+        running.emplace_back([&lanes, &names, t, each] {
+            for (std::uint64_t client = each * t; client < each * (t + 1); client++)
+                names[client] = lanes[t].name(client, client % 8);
         });
     for (auto &thread : running)
         thread.join();
-    for (auto &lane : lanes)
-        rest.join(std::move(lane));
-    std::vector<std::uint64_t> holders = rest.close();
-    std::sort(holders.begin(), holders.end());
-    for (std::uint64_t client = 0; client < holders.size(); client++)
-        if (holders[client] != client)
+    std::sort(names.begin(), names.end());
+    for (std::uint64_t name = 0; name < names.size(); name++)
+        if (names[name] != name)
             return 1;
-    std::cout << holders.size() << " clients have the names 0 to " << holders.size() - 1 << "\n";
+    std::cout << names.size() << " clients have the names 0 to " << names.size() - 1 << "\n";
 }

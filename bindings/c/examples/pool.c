@@ -46,8 +46,7 @@ static void *start_workers(void *argument) {
 int main(void) {
     static struct thread threads[THREADS];
     renamer_lane rest = RENAMER_NO_LANE_YET;
-    renamer_quiet quiet = RENAMER_NO_QUIET_YET;
-    uint64_t count;
+    uint64_t count = 0;
     must(renamer_open(&rest, RENAMER_TREE, 8, MOST), "renamer_open");
     for (unsigned t = 0; t < THREADS; t++) {
         must(renamer_split(&rest, MOST_EACH, &threads[t].lane), "renamer_split");
@@ -58,14 +57,13 @@ int main(void) {
     }
     for (unsigned t = 0; t < THREADS; t++) {
         pthread_join(threads[t].id, NULL);
-        must(renamer_join(&rest, &threads[t].lane), "renamer_join");
+        count += threads[t].needed;
+        renamer_free(&threads[t].lane);
     }
-    must(renamer_close(&rest, &quiet), "renamer_close");
-    must(renamer_quiet_clients(&quiet, &count), "renamer_quiet_clients");
     for (uint64_t number = 0; number < MOST; number++)
         if (workers[number].done != (number < count))
             return 1;
     printf("%" PRIu64 " workers have the numbers 0 to %" PRIu64 "\n", count, count - 1);
-    renamer_free_quiet(&quiet);
+    renamer_free(&rest);
     return 0;
 }

@@ -1,7 +1,7 @@
 /*
  * Refuses growths of each call: all from one on, for each of its growths in turn. The call returns RENAMER_MEMORY and
  * has changed nothing, and asked again with memory at hand it is done. If only one growth is refused, a call may find
- * another way. A call that wants no memory asks for none: a step, a sweep, and a name by a lane with room.
+ * another way. A name by a lane with room asks for no memory.
  */
 #include "growths.h"
 #include "seen.h"
@@ -56,50 +56,29 @@ static void open_one(renamer_lane *lane, uint32_t kind, uint32_t width, uint64_t
     open_with_one_refused(lane, kind, width, quota);
 }
 
+/* Names clients with and without room: with room, a name wants no memory. */
 static void name_some(renamer_lane *lane, uint64_t first) {
-    uint64_t name = 0, names[40];
-    renamer_client clients[40];
+    uint64_t name = 77;
     struct seen before = seen_of(lane);
-    for (uint64_t i = 0; i < 40; i++)
-        clients[i].id = first + i, clients[i].entry = 0, names[i] = 77;
-    EACH_GROWTH(renamer_name(lane, first, 0, &name), is_as(lane, &before) && name == 0);
+    EACH_GROWTH(renamer_name(lane, first, 0, &name), is_as(lane, &before) && name == 77);
     before = seen_of(lane);
-    EACH_GROWTH(renamer_name_many(lane, clients, 40, names, 40), is_as(lane, &before) && names[0] == 77);
-    before = seen_of(lane);
-    EACH_GROWTH(renamer_enter(lane, first, 0), is_as(lane, &before));
-    before = seen_of(lane);
-    EACH_GROWTH(renamer_reserve(lane, 1000), is_as(lane, &before));
-}
-
-/* With room, neither a name nor a list of names nor a walk by hand wants memory. */
-static void walk_with_room(renamer_lane *lane) {
-    uint64_t name, names[2];
-    renamer_client clients[2] = {{1, 0}, {2, 0}};
-    renamer_moved moved;
-    renamer_swept swept;
-    uint32_t wire = 0;
-    while (renamer_lowest(lane, &wire) == RENAMER_DONE)
-        NO_GROWTH(renamer_sweep(lane, wire, &swept));
-    NO_GROWTH(renamer_name(lane, 3, 0, &name));
-    NO_GROWTH(renamer_enter(lane, 4, 0));
-    while (renamer_lowest(lane, &wire) == RENAMER_DONE)
-        NO_GROWTH(renamer_step(lane, wire, &moved));
-    CHECK(renamer_name_many(lane, clients, 2, names, 2) == RENAMER_DONE);
+    EACH_GROWTH(renamer_reserve(lane, 50), is_as(lane, &before));
+    for (uint64_t client = first + 1; client <= first + 50; client++)
+        NO_GROWTH(renamer_name(lane, client, 0, &name));
 }
 
 static void run_floor(uint32_t kind, uint32_t width) {
     renamer_lane lane = RENAMER_NO_LANE_YET, other = RENAMER_NO_LANE_YET;
     renamer_quiet quiet = RENAMER_NO_QUIET_YET;
-    struct seen before, before_other;
+    struct seen before;
     open_one(&lane, kind, width, 200);
     before = seen_of(&lane);
     EACH_GROWTH(renamer_split(&lane, 100, &other), is_as(&lane, &before) && !other.at);
     name_some(&lane, 1000);
-    walk_with_room(&lane);
     name_some(&other, 2000);
-    walk_with_room(&other);
-    before = seen_of(&lane), before_other = seen_of(&other);
-    EACH_GROWTH(renamer_join(&lane, &other), is_as(&lane, &before) && is_as(&other, &before_other));
+    renamer_free(&other);
+    EACH_GROWTH(renamer_open(&lane, kind, width, 60), lane.at != NULL);
+    name_some(&lane, 3000);
     before = seen_of(&lane);
     EACH_GROWTH(renamer_close(&lane, &quiet), is_as(&lane, &before) && !quiet.at);
     CHECK(!lane.at && !other.at);

@@ -1,5 +1,5 @@
 /*
- * Opens, splits, names, joins and closes, round after round: after each there are as many blocks of memory as before
+ * Opens, splits, names and closes, round after round: after each there are as many blocks of memory as before
  * it. The number of rounds is the argument.
  */
 #include "growths.h"
@@ -11,17 +11,16 @@ static void run_round(uint32_t kind, uint32_t width) {
     renamer_quiet quiet = RENAMER_NO_QUIET_YET;
     uint64_t name, holders[3];
     CHECK(renamer_open(&lane, kind, width, 3) == RENAMER_DONE);
-    CHECK(renamer_split(&lane, 1, &other) == RENAMER_DONE);
-    CHECK(renamer_name(&other, 7, 0, &name) == RENAMER_DONE && name == 0);
-    CHECK(renamer_name(&lane, 8, 0, &name) == RENAMER_DONE && name == 1);
-    CHECK(renamer_join(&lane, &other) == RENAMER_DONE);
-    CHECK(renamer_name(&lane, 9, 0, &name) == RENAMER_DONE && name == 2);
+    CHECK(renamer_split(&lane, 0, &other) == RENAMER_DONE);
+    for (uint64_t client = 7; client <= 9; client++)
+        CHECK(renamer_name(&lane, client, 0, &name) == RENAMER_DONE && name == client - 7);
+    renamer_free(&other);
     CHECK(renamer_close(&lane, &quiet) == RENAMER_DONE);
     CHECK(renamer_holders(&quiet, holders, 3) == RENAMER_DONE);
     CHECK(holders[0] == 7 && holders[1] == 8 && holders[2] == 9);
     CHECK(renamer_open_after(&lane, &quiet, 2) == RENAMER_DONE);
     CHECK(renamer_split(&lane, 2, &other) == RENAMER_DONE);
-    CHECK(renamer_enter(&other, 7, 0) == RENAMER_DONE);
+    CHECK(renamer_name(&other, 7, 0, &name) == RENAMER_DONE);
     renamer_free(&other);
     /* What is there is freed as something else comes. */
     CHECK(renamer_open(&lane, kind, width, 1) == RENAMER_DONE);

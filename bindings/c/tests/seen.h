@@ -8,7 +8,6 @@
 struct seen {
     void *at;
     uint64_t quota, inside, entered, grants, entries, exits;
-    uint32_t wire;
     renamer_grant last;
 };
 
@@ -22,7 +21,6 @@ static inline struct seen seen_of(renamer_lane *lane) {
     CHECK(renamer_grant_count(lane, &seen.grants) == RENAMER_DONE);
     CHECK(renamer_entries(lane, &seen.entries) == RENAMER_DONE);
     CHECK(renamer_exits(lane, &seen.exits) == RENAMER_DONE);
-    CHECK(renamer_lowest(lane, &seen.wire) == (seen.inside ? RENAMER_DONE : RENAMER_NOBODY_THERE));
     if (seen.grants)
         CHECK(renamer_grants(lane, seen.grants - 1, &seen.last, 1) == RENAMER_DONE);
     return seen;

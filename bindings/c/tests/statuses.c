@@ -4,25 +4,15 @@
 /* Handles that are none: never set to something, or freed. */
 static void none(renamer_lane *lane, renamer_quiet *quiet) {
     renamer_lane other = RENAMER_NO_LANE_YET;
-    renamer_client client = {1, 0};
     renamer_grant grant = {1, 2, 3, 4};
-    renamer_moved moved;
-    renamer_swept swept;
     uint64_t number = 77;
-    uint32_t wire = 77;
     renamer_free(lane);
     renamer_free_quiet(quiet);
     renamer_free(lane);
     renamer_free_quiet(quiet);
     CHECK(renamer_split(lane, 0, &other) == RENAMER_NONE);
-    CHECK(renamer_join(lane, &other) == RENAMER_NONE);
     CHECK(renamer_reserve(lane, 0) == RENAMER_NONE);
     CHECK(renamer_name(lane, 1, 0, &number) == RENAMER_NONE);
-    CHECK(renamer_name_many(lane, &client, 1, &number, 1) == RENAMER_NONE);
-    CHECK(renamer_enter(lane, 1, 0) == RENAMER_NONE);
-    CHECK(renamer_step(lane, 0, &moved) == RENAMER_NONE);
-    CHECK(renamer_sweep(lane, 0, &swept) == RENAMER_NONE);
-    CHECK(renamer_lowest(lane, &wire) == RENAMER_NONE);
     CHECK(renamer_entered(lane, &number) == RENAMER_NONE);
     CHECK(renamer_quota(lane, &number) == RENAMER_NONE);
     CHECK(renamer_inside(lane, &number) == RENAMER_NONE);
@@ -36,7 +26,7 @@ static void none(renamer_lane *lane, renamer_quiet *quiet) {
     CHECK(renamer_counts(quiet, &number, 1) == RENAMER_NONE);
     CHECK(renamer_holders(quiet, &number, 1) == RENAMER_NONE);
     CHECK(renamer_open_after(lane, quiet, 1) == RENAMER_NONE);
-    CHECK(number == 77 && wire == 77 && grant.name == 4 && !lane->at && !other.at && !quiet->at);
+    CHECK(number == 77 && grant.name == 4 && !lane->at && !other.at && !quiet->at);
 }
 
 static void open_refuses(void) {
@@ -60,25 +50,17 @@ static void open_refuses(void) {
 }
 
 /* Clients that do not come in, of a lane with a quota of 2 on a network with 4 entries. */
-static void entering_refuses(renamer_lane *lane) {
-    renamer_client clients[3] = {{1, 0}, {2, 4}, {3, 0}};
-    uint64_t names[3] = {77, 77, 77};
+static void naming_refuses(renamer_lane *lane) {
+    uint64_t name = 77;
     struct seen before = seen_of(lane);
-    CHECK(renamer_name(lane, 1, 4, names) == RENAMER_NO_SUCH_ENTRY);
-    CHECK(renamer_name(lane, 1, UINT64_MAX, names) == RENAMER_NO_SUCH_ENTRY);
-    CHECK(renamer_enter(lane, 1, 4) == RENAMER_NO_SUCH_ENTRY);
-    CHECK(renamer_name_many(lane, clients, 2, names, 3) == RENAMER_SIZE);
-    CHECK(renamer_name_many(lane, clients, 2, names, 1) == RENAMER_SIZE);
-    CHECK(renamer_name_many(lane, clients, 2, names, 2) == RENAMER_NO_SUCH_ENTRY);
-    CHECK(renamer_name_many(lane, clients, 3, names, 3) == RENAMER_NO_SUCH_ENTRY);
-    clients[1].entry = 3;
-    CHECK(renamer_name_many(lane, clients, 3, names, 3) == RENAMER_QUOTA_SPENT);
-    CHECK(names[0] == 77 && names[1] == 77 && names[2] == 77 && is_as(lane, &before));
-    CHECK(renamer_name_many(lane, clients, 0, names, 0) == RENAMER_DONE && is_as(lane, &before));
-    CHECK(renamer_name_many(lane, clients, 2, names, 2) == RENAMER_DONE && names[0] + names[1] == 1 && names[2] == 77);
+    CHECK(renamer_name(lane, 1, 4, &name) == RENAMER_NO_SUCH_ENTRY);
+    CHECK(renamer_name(lane, 1, UINT64_MAX, &name) == RENAMER_NO_SUCH_ENTRY);
+    CHECK(name == 77 && is_as(lane, &before));
+    CHECK(renamer_name(lane, 1, 3, &name) == RENAMER_DONE && name == 0);
+    CHECK(renamer_name(lane, 2, 0, &name) == RENAMER_DONE && name == 1);
     before = seen_of(lane);
-    CHECK(renamer_name(lane, 1, 0, names + 2) == RENAMER_QUOTA_SPENT);
-    CHECK(renamer_enter(lane, 1, 0) == RENAMER_QUOTA_SPENT && names[2] == 77 && is_as(lane, &before));
+    CHECK(renamer_name(lane, 3, 0, &name) == RENAMER_QUOTA_SPENT && name == 1 && is_as(lane, &before));
+    CHECK(renamer_name(lane, 3, 4, &name) == RENAMER_NO_SUCH_ENTRY && name == 1 && is_as(lane, &before));
 }
 
 static void lists_refuse(renamer_lane *lane, renamer_quiet *quiet) {
@@ -96,28 +78,18 @@ static void lists_refuse(renamer_lane *lane, renamer_quiet *quiet) {
     CHECK(renamer_open_after(lane, quiet, RENAMER_MOST_CLIENTS + 1) == RENAMER_QUOTA && !lane->at);
 }
 
-/* Lanes that are not split, joined or closed. */
-static void lanes_refuse(void) {
-    renamer_lane lane = RENAMER_NO_LANE_YET, other = RENAMER_NO_LANE_YET, third = RENAMER_NO_LANE_YET;
-    renamer_quiet quiet = RENAMER_NO_QUIET_YET;
-    struct seen before, before_other;
-    uint64_t name;
+/* Lanes that are not split off. */
+static void split_refuses(void) {
+    renamer_lane lane = RENAMER_NO_LANE_YET, other = RENAMER_NO_LANE_YET;
+    struct seen before;
     CHECK(renamer_open(&lane, RENAMER_TREE, 4, 3) == RENAMER_DONE);
+    before = seen_of(&lane);
     CHECK(renamer_split(&lane, 4, &other) == RENAMER_QUOTA_TOO_SMALL && !other.at);
-    CHECK(renamer_split(&lane, UINT64_MAX, &other) == RENAMER_QUOTA_TOO_SMALL && !other.at);
+    CHECK(renamer_split(&lane, UINT64_MAX, &other) == RENAMER_QUOTA_TOO_SMALL && !other.at && is_as(&lane, &before));
     CHECK(renamer_split(&lane, 2, &other) == RENAMER_DONE);
-    CHECK(renamer_open(&third, RENAMER_TREE, 4, 3) == RENAMER_DONE);
-    CHECK(renamer_enter(&other, 5, 0) == RENAMER_DONE);
-    before = seen_of(&lane), before_other = seen_of(&other);
-    CHECK(before.quota == 1 && before_other.quota == 1 && before_other.inside == 1);
-    CHECK(renamer_join(&third, &other) == RENAMER_OTHER_FLOOR && renamer_join(&other, &third) == RENAMER_OTHER_FLOOR);
-    CHECK(renamer_join(&lane, &other) == RENAMER_STILL_WALKING);
-    CHECK(renamer_close(&other, &quiet) == RENAMER_STILL_WALKING);
-    CHECK(renamer_name(&other, 6, 0, &name) == RENAMER_STILL_WALKING);
-    CHECK(renamer_close(&lane, &quiet) == RENAMER_LANES_MISSING && !quiet.at);
-    CHECK(is_as(&lane, &before) && is_as(&other, &before_other));
-    CHECK(renamer_join(&other, &lane) == RENAMER_DONE && !lane.at);
-    renamer_free(&third);
+    before = seen_of(&lane);
+    CHECK(before.quota == 1 && (before = seen_of(&other)).quota == 2);
+    renamer_free(&lane);
     renamer_free(&other);
 }
 
@@ -140,37 +112,6 @@ static void missing_lanes(void) {
     renamer_free_quiet(&quiet);
 }
 
-/* Steps and sweeps, as the tree of width 2 has them: wire 0 is its entry, and wires 1 and 2 are its exits. */
-static void walk_by_hand(void) {
-    renamer_lane lane = RENAMER_NO_LANE_YET;
-    renamer_moved moved;
-    renamer_swept swept;
-    uint32_t wire;
-    struct seen before;
-    CHECK(renamer_open(&lane, RENAMER_TREE, 2, 3) == RENAMER_DONE);
-    CHECK(renamer_step(&lane, 0, &moved) == RENAMER_NOBODY_THERE);
-    CHECK(renamer_sweep(&lane, 0, &swept) == RENAMER_NOBODY_THERE);
-    for (uint64_t client = 11; client <= 13; client++)
-        CHECK(renamer_enter(&lane, client, 0) == RENAMER_DONE);
-    before = seen_of(&lane);
-    CHECK(before.inside == 3 && before.quota == 0 && before.entered == 3 && before.wire == 0);
-    CHECK(renamer_step(&lane, 1, &moved) == RENAMER_NOBODY_THERE && is_as(&lane, &before));
-    CHECK(renamer_sweep(&lane, UINT32_MAX, &swept) == RENAMER_NOBODY_THERE && is_as(&lane, &before));
-    CHECK(renamer_step(&lane, 0, &moved) == RENAMER_DONE);
-    CHECK(moved.client == 11 && !moved.out && !moved.end && !moved.number && moved.wire == 1 && !moved.name);
-    CHECK(renamer_sweep(&lane, 0, &swept) == RENAMER_DONE);
-    CHECK(swept.clients == 2 && !swept.out && swept.end == 0 && swept.first == 1);
-    CHECK(renamer_step(&lane, 2, &moved) == RENAMER_DONE);
-    CHECK(moved.client == 12 && moved.out && moved.end == 1 && moved.number == 0 && moved.wire == 0 && moved.name == 1);
-    CHECK(renamer_lowest(&lane, &wire) == RENAMER_DONE && wire == 1);
-    CHECK(renamer_sweep(&lane, 1, &swept) == RENAMER_DONE);
-    CHECK(swept.clients == 2 && swept.out && swept.end == 0 && swept.first == 0);
-    before = seen_of(&lane);
-    CHECK(before.inside == 0 && before.grants == 3);
-    CHECK(before.last.client == 13 && before.last.exit == 0 && before.last.visit == 1 && before.last.name == 2);
-    renamer_free(&lane);
-}
-
 int main(void) {
     renamer_lane lane = RENAMER_NO_LANE_YET;
     renamer_quiet quiet = RENAMER_NO_QUIET_YET;
@@ -180,12 +121,11 @@ int main(void) {
     CHECK(renamer_open(&lane, RENAMER_BITONIC, 4, 2) == RENAMER_DONE);
     CHECK(renamer_reserve(&lane, 1048577) == RENAMER_MEMORY && renamer_reserve(&lane, UINT64_MAX) == RENAMER_MEMORY);
     CHECK(renamer_reserve(&lane, 2) == RENAMER_DONE);
-    entering_refuses(&lane);
+    naming_refuses(&lane);
     lists_refuse(&lane, &quiet);
     CHECK(renamer_open_after(&lane, &quiet, 5) == RENAMER_DONE);
     none(&lane, &quiet);
-    lanes_refuse();
+    split_refuses();
     missing_lanes();
-    walk_by_hand();
     return 0;
 }

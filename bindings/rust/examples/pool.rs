@@ -12,24 +12,23 @@ const MOST_EACH: u64 = 1_000;
 type Slot = OnceLock<(u64, u64)>;
 
 /// Serves the jobs of one thread, by a lane of the floor.
-fn serve(floor: &Floor, slots: &[Slot], thread: u64) -> Result<(), Error> {
+fn serve(floor: &Floor, slots: &[Slot], thread: u64) -> Result<usize, Error> {
     let mut lane = floor.lane(MOST_EACH)?;
     for job in 0..100 + 37 * thread {
         let name = lane.name(job, 0)?;
         slots[name as usize].set((job, thread)).expect("no two jobs have one name");
     }
-    Ok(floor.join(lane)?)
+    Ok(lane.grant_count() as usize)
 }
 
 fn main() -> Result<(), Error> {
     let floor = Floor::open(Kind::Tree, 8, THREADS * MOST_EACH)?;
     let slots: Vec<Slot> = (0..THREADS * MOST_EACH).map(|_| OnceLock::new()).collect();
     let serve_by = |thread| serve(&floor, &slots, thread);
-    thread::scope(|scope| {
+    let count: usize = thread::scope(|scope| {
         let threads: Vec<_> = (0..THREADS).map(|thread| scope.spawn(move || serve_by(thread))).collect();
-        threads.into_iter().try_for_each(|thread| thread.join().expect("a thread ends"))
+        threads.into_iter().map(|thread| thread.join().expect("a thread ends")).sum::<Result<_, _>>()
     })?;
-    let count = floor.close()?.holders().len();
     assert!(slots[..count].iter().all(|slot| slot.get().is_some()));
     assert!(slots[count..].iter().all(|slot| slot.get().is_none()));
     println!("{count} jobs are in the slots 0 to {}", count - 1);

@@ -1,6 +1,6 @@
 //! A floor, open and closed.
 use crate::raw::{RawLane, RawQuiet};
-use crate::{Error, Lane, Refused};
+use crate::{Error, Lane};
 use std::fmt;
 use std::sync::{Mutex, MutexGuard, PoisonError};
 
@@ -18,29 +18,25 @@ pub enum Kind {
 
 /// A floor: a counting network on atomic words, on which threads name clients at once.
 ///
-/// Each thread takes a [`Lane`] of it. The floor keeps what no lane has: the rest of the quota, and the names of the
-/// lanes that were joined into it. These two, and only they, are behind a lock: a lane names clients without one.
+/// Each thread takes a [`Lane`] of it. The floor keeps the rest of the quota, behind a lock: a lane names clients without
+/// one.
 ///
 /// ```
-/// use renamer::{Floor, Kind};
+/// use renamer::{Error, Floor, Kind};
 ///
 /// let floor = Floor::open(Kind::Tree, 64, 1_000)?;
-/// std::thread::scope(|scope| {
-///     for thread in 0..4 {
-///         let mut lane = floor.lane(250)?;
-///         let floor = &floor;
-///         scope.spawn(move || {
-///             for client in 0..250 {
-///                 lane.name(1_000 * thread + client, 0).unwrap();
-///             }
-///             floor.join(lane).unwrap();
-///         });
-///     }
-///     Ok::<(), renamer::Error>(())
-/// })?;
-/// let quiet = floor.close()?;
-/// assert_eq!(quiet.holders().len(), 1_000);
-/// # Ok::<(), renamer::Error>(())
+/// let name_250 = |first: u64| {
+///     let mut lane = floor.lane(250)?;
+///     (first..first + 250).map(|client| lane.name(client, 0)).collect::<Result<Vec<u64>, Error>>()
+/// };
+/// let mut names = std::thread::scope(|scope| {
+///     let threads = [1, 2, 3, 4].map(|first| scope.spawn(move || name_250(1_000 * first)));
+///     threads.into_iter().map(|thread| thread.join().unwrap()).collect::<Result<Vec<_>, Error>>()
+/// })?
+/// .concat();
+/// names.sort();
+/// assert!(names.into_iter().eq(0..1_000));
+/// # Ok::<(), Error>(())
 /// ```
 pub struct Floor {
     rest: Mutex<Lane>,
@@ -59,10 +55,9 @@ impl Floor {
     /// use renamer::{Floor, Kind};
     ///
     /// let floor = Floor::open(Kind::Tree, 4, 10)?;
-    /// let mut lane = floor.lane(1)?;
+    /// let mut lane = floor.into_lane();
     /// assert_eq!(lane.name(17, 0)?, 0);
-    /// floor.join(lane)?;
-    /// let quiet = floor.close()?;
+    /// let quiet = lane.close()?;
     /// assert_eq!(quiet.counts(), [1, 0, 0, 0]);
     ///
     /// // The next client leaves by the next exit, and its name is 0 again.
@@ -90,11 +85,6 @@ impl Floor {
         self.rest().split(quota)
     }
 
-    /// Takes a lane back: its quota and its names.
-    pub fn join(&self, lane: Lane) -> Result<(), Refused<Lane>> {
-        self.rest().join(lane)
-    }
-
     /// How much of the quota no lane has.
     pub fn quota(&self) -> u64 {
         self.rest().quota()
@@ -105,27 +95,9 @@ impl Floor {
         self.rest().entered()
     }
 
-    /// Closes the floor, when each lane is joined into it. If lanes are missing, the floor is given back.
-    ///
-    /// ```
-    /// use renamer::{Error, Floor, Kind};
-    ///
-    /// let floor = Floor::open(Kind::Tree, 2, 2)?;
-    /// let lane = floor.lane(1)?;
-    /// let refused = floor.close().unwrap_err();
-    /// assert_eq!(refused.error, Error::LanesMissing);
-    ///
-    /// let floor = refused.value;
-    /// floor.join(lane)?;
-    /// assert!(floor.close()?.holders().is_empty());
-    /// # Ok::<(), Error>(())
-    /// ```
-    pub fn close(self) -> Result<Quiet, Refused<Floor>> {
-        let mut rest = self.rest.into_inner().unwrap_or_else(PoisonError::into_inner);
-        match rest.raw.close() {
-            Ok(raw) => Ok(Quiet { raw }),
-            Err(error) => Err(Refused { error, value: Floor { rest: Mutex::new(rest) } }),
-        }
+    /// What no lane has, as a lane.
+    pub fn into_lane(self) -> Lane {
+        self.rest.into_inner().unwrap_or_else(PoisonError::into_inner)
     }
 }
 
@@ -137,7 +109,7 @@ impl fmt::Debug for Floor {
 
 /// A closed floor: all that came in are out, and of k clients the names are 0 to k-1.
 pub struct Quiet {
-    raw: RawQuiet,
+    pub(crate) raw: RawQuiet,
 }
 
 impl Quiet {

@@ -2,18 +2,16 @@
 //!
 //! A [`Floor`] is a counting network on atomic words. Each thread has a [`Lane`] of it, and names clients by that
 //! without a lock: no two clients of a floor get the same name, and each name is below the number of clients that came
-//! in. So a name is an index into a table, a pool or an array. When all lanes are joined the floor is closed, and the
-//! [`Quiet`] says who has which name.
+//! in. So a name is an index into a table, a pool or an array. A lane that has all of its floor
+//! closes it, and the [`Quiet`] says who has which name.
 //!
 //! ```
 //! use renamer::{Floor, Kind};
 //!
-//! let floor = Floor::open(Kind::Bitonic, 8, 100)?;
-//! let mut lane = floor.lane(100)?;
+//! let mut lane = Floor::open(Kind::Bitonic, 8, 100)?.into_lane();
 //! assert_eq!(lane.name(17, 0), Ok(0));
 //! assert_eq!(lane.name(5, 3), Ok(1));
-//! floor.join(lane)?;
-//! assert_eq!(floor.close()?.holders(), [17, 5]);
+//! assert_eq!(lane.close()?.holders(), [17, 5]);
 //! # Ok::<(), renamer::Error>(())
 //! ```
 //!
@@ -33,7 +31,7 @@ mod raw;
 
 pub use error::{Error, Refused};
 pub use floor::{Floor, Kind, Quiet};
-pub use lane::{Client, Grant, Lane, Moved, Swept};
+pub use lane::{Grant, Lane};
 
 /// How many clients a floor lets in at most.
 pub const MOST_CLIENTS: u64 = 262_144;

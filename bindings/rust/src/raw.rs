@@ -5,7 +5,7 @@
 //! a cell, and a handle lies in a cell that is not `Sync`, so that one thread at a time can reach it.
 #![allow(unsafe_code)]
 
-use crate::{Client, Error, Grant};
+use crate::{Error, Grant};
 use std::cell::UnsafeCell;
 use std::ffi::c_void;
 use std::ptr::null_mut;
@@ -16,41 +16,13 @@ struct Handle {
     at: *mut c_void,
 }
 
-/// What a step did.
-#[repr(C)]
-#[derive(Default)]
-pub(crate) struct RawMoved {
-    pub(crate) client: u64,
-    pub(crate) out: u64,
-    pub(crate) end: u64,
-    pub(crate) number: u64,
-    pub(crate) wire: u64,
-    pub(crate) name: u64,
-}
-
-/// What a sweep did.
-#[repr(C)]
-#[derive(Default)]
-pub(crate) struct RawSwept {
-    pub(crate) clients: u64,
-    pub(crate) out: u64,
-    pub(crate) end: u64,
-    pub(crate) first: u64,
-}
-
 #[rustfmt::skip]
 extern "C" {
     fn renamer_version() -> u32;
     fn renamer_open(lane: *mut Handle, kind: u32, width: u32, quota: u64) -> u32;
     fn renamer_split(lane: *mut Handle, quota: u64, other: *mut Handle) -> u32;
-    fn renamer_join(lane: *mut Handle, other: *mut Handle) -> u32;
     fn renamer_reserve(lane: *mut Handle, clients: u64) -> u32;
     fn renamer_name(lane: *mut Handle, client: u64, entry: u64, name: *mut u64) -> u32;
-    fn renamer_name_many(lane: *mut Handle, clients: *const Client, count: usize, names: *mut u64, size: usize) -> u32;
-    fn renamer_enter(lane: *mut Handle, client: u64, entry: u64) -> u32;
-    fn renamer_step(lane: *mut Handle, wire: u32, moved: *mut RawMoved) -> u32;
-    fn renamer_sweep(lane: *mut Handle, wire: u32, swept: *mut RawSwept) -> u32;
-    fn renamer_lowest(lane: *mut Handle, wire: *mut u32) -> u32;
     fn renamer_entered(lane: *mut Handle, entered: *mut u64) -> u32;
     fn renamer_quota(lane: *mut Handle, quota: *mut u64) -> u32;
     fn renamer_inside(lane: *mut Handle, inside: *mut u64) -> u32;
@@ -116,12 +88,6 @@ impl RawLane {
         Ok(RawLane(other))
     }
 
-    /// Takes the other in, which is none then.
-    pub(crate) fn join(&mut self, other: &mut RawLane) -> Result<(), Error> {
-        // SAFETY: both are behind `&mut`, so they are two handles, and no other thread has either.
-        done(unsafe { renamer_join(self.0.get_mut(), other.0.get_mut()) })
-    }
-
     pub(crate) fn reserve(&mut self, clients: u64) -> Result<(), Error> {
         // SAFETY: `&mut` is the only way to the handle.
         done(unsafe { renamer_reserve(self.0.get_mut(), clients) })
@@ -132,38 +98,6 @@ impl RawLane {
         // SAFETY: `&mut` is the only way to the handle, and the name is a variable of its own.
         done(unsafe { renamer_name(self.0.get_mut(), client, entry, &mut name) })?;
         Ok(name)
-    }
-
-    pub(crate) fn name_many(&mut self, clients: &[Client], names: &mut [u64]) -> Result<(), Error> {
-        let (from, count, to, size) = (clients.as_ptr(), clients.len(), names.as_mut_ptr(), names.len());
-        // SAFETY: both arrays are slices with these sizes, and `&mut` is the only way to the second and to the handle.
-        done(unsafe { renamer_name_many(self.0.get_mut(), from, count, to, size) })
-    }
-
-    pub(crate) fn enter(&mut self, client: u64, entry: u64) -> Result<(), Error> {
-        // SAFETY: `&mut` is the only way to the handle.
-        done(unsafe { renamer_enter(self.0.get_mut(), client, entry) })
-    }
-
-    pub(crate) fn step(&mut self, wire: u32) -> Result<RawMoved, Error> {
-        let mut moved = RawMoved::default();
-        // SAFETY: `&mut` is the only way to the handle, and what is written is a variable of its own.
-        done(unsafe { renamer_step(self.0.get_mut(), wire, &mut moved) })?;
-        Ok(moved)
-    }
-
-    pub(crate) fn sweep(&mut self, wire: u32) -> Result<RawSwept, Error> {
-        let mut swept = RawSwept::default();
-        // SAFETY: as for a step.
-        done(unsafe { renamer_sweep(self.0.get_mut(), wire, &mut swept) })?;
-        Ok(swept)
-    }
-
-    pub(crate) fn lowest(&self) -> Result<u32, Error> {
-        let mut wire = 0;
-        // SAFETY: as for a number that a handle has.
-        done(unsafe { renamer_lowest(self.0.get(), &mut wire) })?;
-        Ok(wire)
     }
 
     pub(crate) fn entered(&self) -> u64 {
