@@ -28,6 +28,10 @@ class Wrong(Exception):
     """What is wrong, in one line or more."""
 
 
+class NotTried(Exception):
+    """Why a case was not tried, though nothing that must be there is missing."""
+
+
 @dataclasses.dataclass
 class Program:
     """A program in C or C++: its source, what else it is made of, and what it prints, if that is one text. A long one
