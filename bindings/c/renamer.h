@@ -69,33 +69,6 @@ typedef struct renamer_grant {
     uint64_t name;
 } renamer_grant;
 
-/* A client that asks for a name, and the entry of the network by which it comes in. */
-typedef struct renamer_client {
-    uint64_t id;
-    uint64_t entry;
-} renamer_client;
-
-/* What a step did. If out is 0 the client passed the balancer end, by which number had passed before, and stands last on
-   the wire. If out is 1 it left by the exit end, by which number had left before, with the name. What does not apply
-   is 0. */
-typedef struct renamer_moved {
-    uint64_t client;
-    uint64_t out;
-    uint64_t end;
-    uint64_t number;
-    uint64_t wire;
-    uint64_t name;
-} renamer_moved;
-
-/* What a sweep did. If out is 0 so many clients passed the balancer end, by which first had passed before them. If out is
-   1 they left by the exit end, by which first had left before, and their grants are the lane's last ones. */
-typedef struct renamer_swept {
-    uint64_t clients;
-    uint64_t out;
-    uint64_t end;
-    uint64_t first;
-} renamer_swept;
-
 /* The networks. The width is a power of two from 2 to 256. A tree has one entry, the others as many as their width. */
 enum {
     RENAMER_BITONIC = 0,
@@ -115,9 +88,7 @@ typedef enum renamer_status {
     RENAMER_QUOTA_SPENT = 7,     /* the lane may let in no more, or not so many */
     RENAMER_QUOTA_TOO_SMALL = 8, /* the lane has less quota than is to be split off */
     RENAMER_STILL_WALKING = 9,   /* the lane has clients inside */
-    RENAMER_NOBODY_THERE = 10,   /* the lane has no client on this wire, or none inside */
     RENAMER_LANES_MISSING = 11,  /* other lanes of the floor have quota, grants or clients of it, or are not freed yet */
-    RENAMER_OTHER_FLOOR = 12,    /* the lanes are of two floors */
     RENAMER_SIZE = 13,           /* the array has the wrong size */
     RENAMER_CARRIED = 14         /* more clients came before than RENAMER_MOST_CARRIED */
 } renamer_status;
@@ -134,11 +105,6 @@ uint32_t renamer_open(renamer_lane *lane, uint32_t kind, uint32_t width, uint64_
    RENAMER_NONE, _QUOTA_TOO_SMALL, _MEMORY. */
 uint32_t renamer_split(renamer_lane *lane, uint64_t quota, renamer_lane *other);
 
-/* Takes the other lane into the lane: its quota, and its grants after those of the lane. The other is none then.
-   If the lane has room for as many clients as the other has grants, RENAMER_MEMORY does not come.
-   RENAMER_NONE (the lane or the other), _OTHER_FLOOR, _STILL_WALKING (the other has clients inside), _MEMORY. */
-uint32_t renamer_join(renamer_lane *lane, renamer_lane *other);
-
 /* Makes room for so many clients more: they come in, and get their names, without further memory. At most 1048576.
    RENAMER_NONE, _MEMORY (also if it is more than that). */
 uint32_t renamer_reserve(renamer_lane *lane, uint64_t clients);
@@ -147,30 +113,6 @@ uint32_t renamer_reserve(renamer_lane *lane, uint64_t clients);
    numbers, and are not compared: a client that is named twice gets two names.
    RENAMER_NONE, _STILL_WALKING, _NO_SUCH_ENTRY, _QUOTA_SPENT, _MEMORY. */
 uint32_t renamer_name(renamer_lane *lane, uint64_t client, uint64_t entry, uint64_t *name);
-
-/* Names count clients at once, and writes their names in the same order. The clients on a wire pass its end by one
-   atomic add, so this takes fewer adds a name than renamer_name.
-   RENAMER_NONE, _SIZE (names has not the size count), _STILL_WALKING, _NO_SUCH_ENTRY, _QUOTA_SPENT, _MEMORY. */
-uint32_t renamer_name_many(
-    renamer_lane *lane, const renamer_client *clients, size_t count, uint64_t *names, size_t size);
-
-/* Lets a client in by an entry: it stands last on the wire with the entry's number, and is inside.
-   RENAMER_NONE, _NO_SUCH_ENTRY, _QUOTA_SPENT, _MEMORY. */
-uint32_t renamer_enter(renamer_lane *lane, uint64_t client, uint64_t entry);
-
-/* Lets the lane's first client on a wire go by the wire's end, by one atomic add: on, or out with its name.
-   RENAMER_NONE, _NOBODY_THERE. */
-uint32_t renamer_step(renamer_lane *lane, uint32_t wire, renamer_moved *moved);
-
-/* Lets all of the lane's clients on a wire go by the wire's end, by one atomic add. Those that pass a balancer stand on its
-   two wires by turns; of those that leave, renamer_grants copies the names.
-   RENAMER_NONE, _NOBODY_THERE. */
-uint32_t renamer_sweep(renamer_lane *lane, uint32_t wire, renamer_swept *swept);
-
-/* The least wire on which the lane has a client. Wires rise on each way, so sweeping it until nobody is inside walks all
-   out.
-   RENAMER_NONE, _NOBODY_THERE. */
-uint32_t renamer_lowest(renamer_lane *lane, uint32_t *wire);
 
 /* How many clients came in by all lanes, as far as this one can know: more than each name that it was given, no less
    than its earlier answers, and never more than came in.
@@ -194,7 +136,8 @@ uint32_t renamer_grant_count(renamer_lane *lane, uint64_t *count);
    RENAMER_NONE, _SIZE (there are fewer than first + size). */
 uint32_t renamer_grants(renamer_lane *lane, uint64_t first, renamer_grant *grants, size_t size);
 
-/* Closes the floor. The lane must have all of it: the others are joined into it before. The lane is none then.
+/* Closes the floor. The lane must have all of it: no quota may have been split off, and no other lane of it may be there.
+   Lanes cannot be joined yet, so a floor that was split off quota cannot be closed. The lane is none then.
    RENAMER_NONE, _STILL_WALKING, _LANES_MISSING, _MEMORY. */
 uint32_t renamer_close(renamer_lane *lane, renamer_quiet *quiet);
 
