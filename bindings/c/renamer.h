@@ -88,9 +88,7 @@ typedef enum renamer_status {
     RENAMER_QUOTA_SPENT = 7,     /* the lane may let in no more, or not so many */
     RENAMER_QUOTA_TOO_SMALL = 8, /* the lane has less quota than is to be split off */
     RENAMER_STILL_WALKING = 9,   /* the lane has clients inside */
-    RENAMER_NOBODY_THERE = 10,   /* the lane has no client on this wire, or none inside; no call returns it yet */
     RENAMER_LANES_MISSING = 11,  /* other lanes of the floor have quota, grants or clients of it, or are not freed yet */
-    RENAMER_OTHER_FLOOR = 12,    /* the lanes are of two floors; no call returns it yet */
     RENAMER_SIZE = 13,           /* the array has the wrong size */
     RENAMER_CARRIED = 14         /* more clients came before than RENAMER_MOST_CARRIED */
 } renamer_status;
@@ -138,8 +136,8 @@ uint32_t renamer_grant_count(renamer_lane *lane, uint64_t *count);
    RENAMER_NONE, _SIZE (there are fewer than first + size). */
 uint32_t renamer_grants(renamer_lane *lane, uint64_t first, renamer_grant *grants, size_t size);
 
-/* Closes the floor. The lane must have all of it: no other lane is there, and none took quota or names along. The lane is
-   none then.
+/* Closes the floor. The lane must have all of it: no quota may have been split off, and no other lane of it may be there.
+   Lanes cannot be joined yet, so a floor that was split off quota cannot be closed. The lane is none then.
    RENAMER_NONE, _STILL_WALKING, _LANES_MISSING, _MEMORY. */
 uint32_t renamer_close(renamer_lane *lane, renamer_quiet *quiet);
 

@@ -24,12 +24,8 @@ pub enum Error {
     QuotaTooSmall = 8,
     /// The lane has clients inside.
     StillWalking = 9,
-    /// The lane has no client on this wire, or none inside.
-    NobodyThere = 10,
     /// Other lanes have quota, names or clients of the floor, or are there still.
     LanesMissing = 11,
-    /// The lane is of another floor.
-    OtherFloor = 12,
     /// A slice has the wrong size.
     Size = 13,
     /// More clients came before than [`MOST_CARRIED`](crate::MOST_CARRIED).
@@ -37,7 +33,7 @@ pub enum Error {
 }
 
 impl Error {
-    const ALL: [Error; 12] = [
+    const ALL: [Error; 10] = [
         Error::Memory,
         Error::Width,
         Error::Quota,
@@ -45,9 +41,7 @@ impl Error {
         Error::QuotaSpent,
         Error::QuotaTooSmall,
         Error::StillWalking,
-        Error::NobodyThere,
         Error::LanesMissing,
-        Error::OtherFloor,
         Error::Size,
         Error::Carried,
     ];
@@ -68,9 +62,7 @@ impl fmt::Display for Error {
             Error::QuotaSpent => "the quota of the lane is spent",
             Error::QuotaTooSmall => "there is less quota than is to be split off",
             Error::StillWalking => "the lane has clients inside",
-            Error::NobodyThere => "the lane has no client there",
             Error::LanesMissing => "lanes of the floor are missing",
-            Error::OtherFloor => "the lane is of another floor",
             Error::Size => "a slice has the wrong size",
             Error::Carried => "too many clients came before",
         })
