@@ -1,4 +1,7 @@
-/* Each status of each call but RENAMER_MEMORY (memory.c) and RENAMER_CARRIED (carried.c). A refusal changes nothing. */
+/*
+ * Each status of each call but RENAMER_MEMORY (memory.c), RENAMER_CARRIED (carried.c) and RENAMER_STILL_WALKING, which no
+ * call brings about yet. A refusal changes nothing.
+ */
 #include "seen.h"
 
 /* Handles that are none: never set to something, or freed. */
