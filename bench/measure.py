@@ -106,10 +106,20 @@ class Bench:
 
     @functools.cached_property
     def plain(self):
+        return self.cargo("plain", "plain")
+
+    def cargo(self, folder, name, library=False):
+        """A program in plain Rust of a folder of bench/, with the crates of the peers; one over the library wants that."""
         source = ['source.crates-io.replace-with="folder"', f'source.folder.directory="{self.crates}"']
-        configs = [word for one in source for word in ("--config", one)]
-        self.build(["cargo", "build", "--quiet", "--release", "--offline", *configs], BENCH / "plain")
-        return str(BENCH / "plain" / "target" / "release" / "plain")
+        configs = [] if library else [word for one in source for word in ("--config", one)]
+        if library:
+            self.build([ROOT / "library"])
+        self.build(["cargo", "build", "--quiet", "--release", "--offline", *configs], BENCH / folder)
+        return str(BENCH / folder / "target" / "release" / name)
+
+    def has_crates(self, *names):
+        """Whether the folder of crates has each of these."""
+        return all(any(pathlib.Path(self.crates).glob(f"{name}-[0-9]*")) for name in names)
 
     def apart(self, folder, name, word):
         """A program in Rattle of a folder of bench/, proved in a copy of the crates; the word is one that it takes."""

@@ -1,0 +1,69 @@
+#!/usr/bin/env python3
+"""What a name costs by the library, through the crate in bindings/rust, beside other ways to number clients.
+
+Floors of 262,144 names on the trees of width 2 and 64 and the bitonic networks of width 8 and 64, in one, two and four
+threads; beside one atomic add on one word (`AtomicU64::fetch_add`), a table of
+clients behind a mutex (`Mutex<HashMap>`), a slab behind a mutex (`slab`) and one of shards (`sharded_slab`). Each gives
+distinct numbers; those of all but the last are dense. All but that begin with room for all clients.
+
+One thread is compared by processor time, in uncontended adds; several by the clock, each way to the add by as many
+threads. A ratio is the median over ten rounds, in which all ways run in turn; a run is the median of five epochs after
+a first, in which its memory comes from the system. It measures the names only, and not what is made before. The rows of
+slabs are left out if the folder of crates has none.
+"""
+import statistics
+
+import measure
+
+NETWORKS = (("tree", 2), ("tree", 64), ("bitonic", 8), ("bitonic", 64))
+THREADS = {1: "one thread", 2: "two threads", 4: "four threads"}
+TABLE, ADD, REFUSED = "a mutex and table", "the add", "a refused call"
+SLABS = {"a mutex and slab": "slab", "a sharded slab": "sharded"}
+
+
+def ways(namers, slabs):
+    """The words of each way but those of its threads and rounds."""
+    found = {ADD: [namers, "add"], TABLE: [namers, "table"]}
+    for network, width in NETWORKS:
+        found[f"{network} {width}"] = [namers, "name", network, str(width)]
+    found |= {name: [slabs, word] for name, word in SLABS.items() if slabs}
+    return found
+
+
+def measured(bench, jobs):
+    """What a name takes by each job, in nanoseconds, round by round: by the clock, and of a processor."""
+    names, spent = list(jobs), {job: [] for job in jobs}
+    for first in range(bench.size(10, 2)):
+        for place in range(len(names)):
+            job = names[(first + place) % len(names)]
+            clock, processor = map(float, bench.written([*jobs[job], str(bench.size(5, 1))]).split())
+            spent[job].append({"clock": clock, "processor": processor})
+    return spent
+
+
+def compared(spent, job, other, by):
+    """The median of the ratios of two jobs, and the medians of their times."""
+    first, second = ([one[by] for one in spent[name]] for name in (job, other))
+    ratio = statistics.median(a / b for a, b in zip(first, second))
+    return ratio, f"{statistics.median(first):.1f} ns and {statistics.median(second):.1f} ns"
+
+
+def rows(bench):
+    namers = bench.cargo("library", "namers", library=True)
+    slabs = bench.cargo("slabs", "slabs") if bench.has_crates("slab", "sharded-slab") else None
+    found = ways(namers, slabs)
+    jobs = {(way, threads): [*words, str(threads)] for way, words in found.items() for threads in THREADS}
+    jobs[REFUSED, 1] = [namers, "refused", "1"]
+    spent = measured(bench, jobs)
+    for way, threads in jobs:
+        if way != ADD:
+            by, unit = ("processor", " adds") if threads == 1 else ("clock", "")
+            ratio, times = compared(spent, (way, threads), (ADD, threads), by)
+            yield measure.Row(f"{way}, {THREADS[threads]}", ratio, f"{times}{' by the clock' * (threads > 1)}", unit)
+    for network, width in NETWORKS:
+        ratio, times = compared(spent, (f"{network} {width}", 4), (TABLE, 4), "clock")
+        yield measure.Row(f"{network} {width}, four threads, to {TABLE}", ratio, f"{times} by the clock")
+
+
+if __name__ == "__main__":
+    measure.main(__doc__, rows)

@@ -1,0 +1,120 @@
+//! What a name takes by one of these ways, in so many threads: one atomic add on one word, a table of clients behind a
+//! mutex, or a floor of this repository's library.
+//!
+//!     namers add|table|refused THREADS ROUNDS
+//!     namers name NETWORK WIDTH THREADS ROUNDS
+mod timing;
+
+use renamer::{Floor, Kind, Lane};
+use std::collections::HashMap;
+use std::env;
+use std::hint::black_box;
+use std::process;
+use std::sync::atomic::{AtomicU64, Ordering};
+use std::sync::Mutex;
+use timing::{in_threads, print_median, Spent, CLIENTS};
+
+/// The identities of a thread's clients: they rise, and are no small numbers.
+fn clients(thread: u64, threads: u64) -> impl Iterator<Item = u64> {
+    (0..CLIENTS / threads).map(move |client| (thread << 40) + client)
+}
+
+/// The sum of the names of an epoch, which shows that they are 0 to k-1.
+fn is_tight(sum: u64) {
+    assert_eq!(sum, CLIENTS * (CLIENTS - 1) / 2, "the names are not tight");
+}
+
+fn add(threads: u64) -> Spent {
+    let counter = AtomicU64::new(0);
+    let (spent, sum) = in_threads((0..threads).collect(), |thread| {
+        clients(*thread, threads).map(|_| counter.fetch_add(1, Ordering::SeqCst)).sum()
+    });
+    is_tight(sum);
+    spent
+}
+
+fn table(threads: u64) -> Spent {
+    let names = Mutex::new(HashMap::with_capacity(CLIENTS as usize));
+    let (spent, sum) = in_threads((0..threads).collect(), |thread| {
+        let name = |client| {
+            let mut names = names.lock().expect("no thread panics");
+            let next = names.len() as u64;
+            *names.entry(client).or_insert(next)
+        };
+        clients(*thread, threads).map(name).sum()
+    });
+    is_tight(sum);
+    spent
+}
+
+/// A lane for each thread, with room for its clients.
+fn lanes(floor: &Floor, threads: u64) -> Vec<(u64, Lane)> {
+    let lane = || floor.lane(CLIENTS / threads).expect("there is memory");
+    let mut lanes: Vec<_> = (0..threads).map(|thread| (thread, lane())).collect();
+    for (_, lane) in &mut lanes {
+        lane.reserve(CLIENTS / threads).expect("there is memory");
+    }
+    lanes
+}
+
+/// The entries of a thread's clients: each in turn, from one of its own on.
+fn entries(lane: &Lane, thread: u64, threads: u64) -> impl Iterator<Item = u64> {
+    let entries = lane.entries();
+    (thread * entries / threads..).map(move |entry| entry % entries)
+}
+
+fn name(kind: Kind, width: u32, threads: u64) -> Spent {
+    let floor = Floor::open(kind, width, CLIENTS).expect("there is memory");
+    let (spent, sum) = in_threads(lanes(&floor, threads), |(thread, lane)| {
+        let entries = entries(lane, *thread, threads);
+        let mut sum = 0;
+        for (client, entry) in clients(*thread, threads).zip(entries) {
+            sum += lane.name(client, entry).expect("there is room");
+        }
+        sum
+    });
+    is_tight(sum);
+    spent
+}
+
+/// A call that is refused: the network has no such entry.
+fn refused(threads: u64) -> Spent {
+    let floor = Floor::open(Kind::Tree, 64, CLIENTS).expect("there is memory");
+    let (spent, refusals) = in_threads(lanes(&floor, threads), |(thread, lane)| {
+        clients(*thread, threads).filter(|client| black_box(lane.name(*client, 1)).is_err()).count() as u64
+    });
+    assert_eq!(refusals, CLIENTS / threads * threads);
+    spent
+}
+
+fn number<N: std::str::FromStr>(word: &str) -> N {
+    word.parse().unwrap_or_else(|_| usage())
+}
+
+fn usage() -> ! {
+    eprintln!("namers: add|table|refused THREADS ROUNDS, or name bitonic|periodic|tree WIDTH THREADS ROUNDS");
+    process::exit(2)
+}
+
+fn kind(word: &str) -> Kind {
+    match word {
+        "bitonic" => Kind::Bitonic,
+        "periodic" => Kind::Periodic,
+        "tree" => Kind::Tree,
+        _ => usage(),
+    }
+}
+
+fn main() {
+    let words: Vec<String> = env::args().skip(1).collect();
+    let words: Vec<&str> = words.iter().map(String::as_str).collect();
+    let round: Box<dyn Fn(u64) -> Spent> = match words[..] {
+        ["add", ..] => Box::new(add),
+        ["table", ..] => Box::new(table),
+        ["refused", ..] => Box::new(refused),
+        ["name", network, width, ..] => Box::new(move |threads| name(kind(network), number(width), threads)),
+        _ => usage(),
+    };
+    let [.., threads, rounds] = words[..] else { usage() };
+    print_median(number(rounds), CLIENTS, || round(number(threads)));
+}

@@ -1,0 +1,98 @@
+/*
+ * Refuses growths of each call: all from one on, for each of its growths in turn. The call returns RENAMER_MEMORY and
+ * has changed nothing, and asked again with memory at hand it is done. If only one growth is refused, a call may find
+ * another way. A name by a lane with room asks for no memory.
+ */
+#include "growths.h"
+#include "seen.h"
+#include <limits.h>
+
+/* How many calls were refused so far. */
+static long refusals;
+
+/* Makes a call with its growths refused from each in turn on, until none is left; `same`: that nothing has changed. */
+#define EACH_GROWTH(call, same)                                                                                        \
+    do {                                                                                                               \
+        uint32_t status = RENAMER_MEMORY;                                                                              \
+        for (long growth = 0; status != RENAMER_DONE; growth++) {                                                      \
+            growths_refuse(growth, LONG_MAX);                                                                          \
+            status = (call);                                                                                           \
+            refusals += growths_refused() > 0;                                                                         \
+            CHECK(status == (growths_refused() > 0 ? RENAMER_MEMORY : RENAMER_DONE));                                  \
+            growths_refuse(0, 0);                                                                                      \
+            CHECK(status == RENAMER_DONE || (same));                                                                   \
+        }                                                                                                              \
+    } while (0)
+
+#define NO_GROWTH(call)                                                                                                \
+    do {                                                                                                               \
+        long asked = growths_asked();                                                                                  \
+        CHECK((call) == RENAMER_DONE && growths_asked() == asked);                                                     \
+    } while (0)
+
+/* Opens floors into a handle that has one, each with one growth refused. */
+static void open_with_one_refused(renamer_lane *lane, uint32_t kind, uint32_t width, uint64_t quota) {
+    long live = growths_live();
+    int refused = 1;
+    for (long growth = 0; refused; growth++) {
+        struct seen before = seen_of(lane);
+        uint32_t status;
+        growths_refuse(growth, 1);
+        status = renamer_open(lane, kind, width, quota);
+        refused = growths_refused() > 0;
+        growths_refuse(0, 0);
+        CHECK(status == RENAMER_DONE || (refused && status == RENAMER_MEMORY && is_as(lane, &before)));
+        CHECK(growths_live() == live);
+    }
+}
+
+/* Opens a floor into a handle that is none, and others into the same handle. */
+static void open_one(renamer_lane *lane, uint32_t kind, uint32_t width, uint64_t quota) {
+    struct seen before;
+    long live = growths_live();
+    EACH_GROWTH(renamer_open(lane, kind, width, quota), !lane->at && growths_live() == live);
+    before = seen_of(lane), live = growths_live();
+    EACH_GROWTH(renamer_open(lane, kind, width, quota), is_as(lane, &before) && growths_live() == live);
+    open_with_one_refused(lane, kind, width, quota);
+}
+
+/* Names clients with and without room: with room, a name wants no memory. */
+static void name_some(renamer_lane *lane, uint64_t first) {
+    uint64_t name = 77;
+    struct seen before = seen_of(lane);
+    EACH_GROWTH(renamer_name(lane, first, 0, &name), is_as(lane, &before) && name == 77);
+    before = seen_of(lane);
+    EACH_GROWTH(renamer_reserve(lane, 50), is_as(lane, &before));
+    for (uint64_t client = first + 1; client <= first + 50; client++)
+        NO_GROWTH(renamer_name(lane, client, 0, &name));
+}
+
+static void run_floor(uint32_t kind, uint32_t width) {
+    renamer_lane lane = RENAMER_NO_LANE_YET, other = RENAMER_NO_LANE_YET;
+    renamer_quiet quiet = RENAMER_NO_QUIET_YET;
+    struct seen before;
+    open_one(&lane, kind, width, 200);
+    before = seen_of(&lane);
+    EACH_GROWTH(renamer_split(&lane, 100, &other), is_as(&lane, &before) && !other.at);
+    name_some(&lane, 1000);
+    name_some(&other, 2000);
+    renamer_free(&other);
+    EACH_GROWTH(renamer_open(&lane, kind, width, 60), lane.at != NULL);
+    name_some(&lane, 3000);
+    before = seen_of(&lane);
+    EACH_GROWTH(renamer_close(&lane, &quiet), is_as(&lane, &before) && !quiet.at);
+    CHECK(!lane.at && !other.at);
+    EACH_GROWTH(renamer_open_after(&lane, &quiet, 200), !lane.at);
+    renamer_free(&lane);
+    renamer_free_quiet(&quiet);
+}
+
+int main(void) {
+    long live = growths_live();
+    for (uint32_t kind = 0; kind < KINDS; kind++)
+        for (uint32_t level = 1; level <= 4; level++)
+            run_floor(kind, (uint32_t)1 << level);
+    CHECK(growths_live() == live);
+    printf("%ld calls were refused their memory\n", refusals);
+    return 0;
+}

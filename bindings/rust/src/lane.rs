@@ -1,0 +1,135 @@
+//! A lane: a thread's own part of a floor.
+use crate::raw::RawLane;
+use crate::{Error, Quiet, Refused};
+use std::fmt;
+
+/// A client that got its name.
+#[derive(Clone, Copy, Debug, Default, PartialEq, Eq, Hash)]
+#[repr(C)]
+pub struct Grant {
+    /// The client's identity.
+    pub client: u64,
+    /// The exit by which it left.
+    pub exit: u64,
+    /// How many had left by this exit before.
+    pub visit: u64,
+    /// Its name.
+    pub name: u64,
+}
+
+/// A thread's own part of a [`Floor`](crate::Floor): it lets clients in and gives them their names.
+///
+/// A lane can be sent to another thread. The floor lives as long as a lane of it. A lane that is dropped takes its
+/// quota and its names with it, and then the floor cannot be closed any more; the names of other lanes stay as good as
+/// they were.
+///
+/// Threads cannot share a lane:
+///
+/// ```compile_fail
+/// fn shared<T: Sync>() {}
+/// shared::<renamer::Lane>();
+/// ```
+pub struct Lane {
+    pub(crate) raw: RawLane,
+}
+
+impl Lane {
+    /// Names a client: lets it in by an entry and walks it out.
+    ///
+    /// It takes memory only if the lane has no room. Identities are not compared: a client that is named twice gets two
+    /// names.
+    ///
+    /// ```
+    /// use renamer::{Error, Floor, Kind};
+    ///
+    /// let mut lane = Floor::open(Kind::Tree, 2, 1)?.lane(1)?;
+    /// assert_eq!(lane.name(17, 0), Ok(0));
+    /// assert_eq!(lane.name(5, 0), Err(Error::QuotaSpent));
+    /// # Ok::<(), Error>(())
+    /// ```
+    pub fn name(&mut self, client: u64, entry: u64) -> Result<u64, Error> {
+        self.raw.name(client, entry)
+    }
+
+    /// Splits off another lane of the same floor, with so much of the quota.
+    pub fn split(&mut self, quota: u64) -> Result<Lane, Error> {
+        Ok(Lane { raw: self.raw.split(quota)? })
+    }
+
+    /// Closes the floor. The lane must have all of it: if other lanes have some of the quota or names, or are there still, the
+    /// lane is given back.
+    ///
+    /// ```
+    /// use renamer::{Error, Floor, Kind};
+    ///
+    /// let mut lane = Floor::open(Kind::Tree, 2, 2)?.into_lane();
+    /// lane.name(17, 0)?;
+    /// let other = lane.split(0)?;
+    /// let refused = lane.close().unwrap_err();
+    /// assert_eq!(refused.error, Error::LanesMissing);
+    ///
+    /// drop(other);
+    /// assert_eq!(refused.value.close()?.holders(), [17]);
+    /// # Ok::<(), Error>(())
+    /// ```
+    pub fn close(mut self) -> Result<Quiet, Refused<Lane>> {
+        match self.raw.close() {
+            Ok(raw) => Ok(Quiet { raw }),
+            Err(error) => Err(Refused { error, value: self }),
+        }
+    }
+
+    /// Makes room for so many clients more, at most 1,048,576: they come in and get their names without further memory.
+    pub fn reserve(&mut self, clients: u64) -> Result<(), Error> {
+        self.raw.reserve(clients)
+    }
+
+    /// How many clients came in by all lanes, as far as this one can know: more than each name that it was given, and
+    /// never more than came in.
+    pub fn entered(&self) -> u64 {
+        self.raw.entered()
+    }
+
+    /// How many clients more the lane may let in.
+    pub fn quota(&self) -> u64 {
+        self.raw.quota()
+    }
+
+    /// How many clients of the lane are inside.
+    pub fn inside(&self) -> u64 {
+        self.raw.inside()
+    }
+
+    /// How many entries the network has.
+    pub fn entries(&self) -> u64 {
+        self.raw.entries()
+    }
+
+    /// How many exits the network has: its width.
+    pub fn exits(&self) -> u64 {
+        self.raw.exits()
+    }
+
+    /// How many grants the lane has.
+    pub fn grant_count(&self) -> u64 {
+        self.raw.grant_count()
+    }
+
+    /// The lane's grants, in the order in which they were given.
+    pub fn grants(&self) -> Vec<Grant> {
+        let mut grants = vec![Grant::default(); self.grant_count() as usize];
+        self.raw.grants(0, &mut grants).expect("the size is that of the grants");
+        grants
+    }
+
+    /// Copies the lane's grants from one with an index on, as many as the slice has room for.
+    pub fn copy_grants(&self, first: u64, grants: &mut [Grant]) -> Result<(), Error> {
+        self.raw.grants(first, grants)
+    }
+}
+
+impl fmt::Debug for Lane {
+    fn fmt(&self, out: &mut fmt::Formatter<'_>) -> fmt::Result {
+        out.debug_struct("Lane").finish_non_exhaustive()
+    }
+}

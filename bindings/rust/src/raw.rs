@@ -1,0 +1,184 @@
+//! The calls of the library, and all that is unsafe in this crate.
+//!
+//! The header leaves to the callers: no pointer is null, what a call writes overlaps nothing else that it is passed,
+//! calls on one handle do not overlap, and no handle is copied. Here each pointer is made from a reference, a slice or
+//! a cell, and a handle lies in a cell that is not `Sync`, so that one thread at a time can reach it.
+#![allow(unsafe_code)]
+
+use crate::{Error, Grant};
+use std::cell::UnsafeCell;
+use std::ffi::c_void;
+use std::ptr::null_mut;
+
+/// A handle of the library: a pointer, which is null if it is none.
+#[repr(C)]
+struct Handle {
+    at: *mut c_void,
+}
+
+#[rustfmt::skip]
+extern "C" {
+    fn renamer_version() -> u32;
+    fn renamer_open(lane: *mut Handle, kind: u32, width: u32, quota: u64) -> u32;
+    fn renamer_split(lane: *mut Handle, quota: u64, other: *mut Handle) -> u32;
+    fn renamer_reserve(lane: *mut Handle, clients: u64) -> u32;
+    fn renamer_name(lane: *mut Handle, client: u64, entry: u64, name: *mut u64) -> u32;
+    fn renamer_entered(lane: *mut Handle, entered: *mut u64) -> u32;
+    fn renamer_quota(lane: *mut Handle, quota: *mut u64) -> u32;
+    fn renamer_inside(lane: *mut Handle, inside: *mut u64) -> u32;
+    fn renamer_entries(lane: *mut Handle, entries: *mut u64) -> u32;
+    fn renamer_exits(lane: *mut Handle, exits: *mut u64) -> u32;
+    fn renamer_grant_count(lane: *mut Handle, count: *mut u64) -> u32;
+    fn renamer_grants(lane: *mut Handle, first: u64, grants: *mut Grant, size: usize) -> u32;
+    fn renamer_close(lane: *mut Handle, quiet: *mut Handle) -> u32;
+    fn renamer_quiet_exits(quiet: *mut Handle, exits: *mut u64) -> u32;
+    fn renamer_quiet_clients(quiet: *mut Handle, clients: *mut u64) -> u32;
+    fn renamer_counts(quiet: *mut Handle, counts: *mut u64, size: usize) -> u32;
+    fn renamer_holders(quiet: *mut Handle, holders: *mut u64, size: usize) -> u32;
+    fn renamer_open_after(lane: *mut Handle, quiet: *mut Handle, quota: u64) -> u32;
+    fn renamer_free(lane: *mut Handle);
+    fn renamer_free_quiet(quiet: *mut Handle);
+}
+
+/// The version of the library.
+pub(crate) fn version() -> u32 {
+    // SAFETY: it takes nothing.
+    unsafe { renamer_version() }
+}
+
+/// What a status says.
+fn done(status: u32) -> Result<(), Error> {
+    if status == 0 {
+        return Ok(());
+    }
+    Err(Error::of(status)
+        .unwrap_or_else(|| panic!("the library returned the status {status}, which this crate does not know")))
+}
+
+/// A number that a call on a handle writes, and that is there as long as the handle is.
+fn number<N: Default>(call: unsafe extern "C" fn(*mut Handle, *mut N) -> u32, handle: &UnsafeCell<Handle>) -> N {
+    let mut number = N::default();
+    // SAFETY: the number lies apart from the handle, whose cell is not `Sync`, so no other thread has it.
+    done(unsafe { call(handle.get(), &mut number) }).expect("a handle that is there has its numbers");
+    number
+}
+
+fn none() -> UnsafeCell<Handle> {
+    UnsafeCell::new(Handle { at: null_mut() })
+}
+
+/// A lane, or none.
+pub(crate) struct RawLane(UnsafeCell<Handle>);
+
+// SAFETY: that what a lane owns may go to another thread is proved in the library, and only its owner reaches it.
+unsafe impl Send for RawLane {}
+
+impl RawLane {
+    pub(crate) fn open(kind: u32, width: u32, quota: u64) -> Result<RawLane, Error> {
+        let mut lane = none();
+        // SAFETY: the handle is new, and none.
+        done(unsafe { renamer_open(lane.get_mut(), kind, width, quota) })?;
+        Ok(RawLane(lane))
+    }
+
+    pub(crate) fn split(&mut self, quota: u64) -> Result<RawLane, Error> {
+        let mut other = none();
+        // SAFETY: the second handle is new, and none; `&mut` is the only way to the first.
+        done(unsafe { renamer_split(self.0.get_mut(), quota, other.get_mut()) })?;
+        Ok(RawLane(other))
+    }
+
+    pub(crate) fn reserve(&mut self, clients: u64) -> Result<(), Error> {
+        // SAFETY: `&mut` is the only way to the handle.
+        done(unsafe { renamer_reserve(self.0.get_mut(), clients) })
+    }
+
+    pub(crate) fn name(&mut self, client: u64, entry: u64) -> Result<u64, Error> {
+        let mut name = 0;
+        // SAFETY: `&mut` is the only way to the handle, and the name is a variable of its own.
+        done(unsafe { renamer_name(self.0.get_mut(), client, entry, &mut name) })?;
+        Ok(name)
+    }
+
+    pub(crate) fn entered(&self) -> u64 {
+        number(renamer_entered, &self.0)
+    }
+
+    pub(crate) fn quota(&self) -> u64 {
+        number(renamer_quota, &self.0)
+    }
+
+    pub(crate) fn inside(&self) -> u64 {
+        number(renamer_inside, &self.0)
+    }
+
+    pub(crate) fn entries(&self) -> u64 {
+        number(renamer_entries, &self.0)
+    }
+
+    pub(crate) fn exits(&self) -> u64 {
+        number(renamer_exits, &self.0)
+    }
+
+    pub(crate) fn grant_count(&self) -> u64 {
+        number(renamer_grant_count, &self.0)
+    }
+
+    pub(crate) fn grants(&self, first: u64, grants: &mut [Grant]) -> Result<(), Error> {
+        // SAFETY: the array is a slice of this size; the cell is not `Sync`, so no other thread has the handle.
+        done(unsafe { renamer_grants(self.0.get(), first, grants.as_mut_ptr(), grants.len()) })
+    }
+
+    /// Closes the floor: the lane is none then.
+    pub(crate) fn close(&mut self) -> Result<RawQuiet, Error> {
+        let mut quiet = none();
+        // SAFETY: the second handle is new, and none; `&mut` is the only way to the first.
+        done(unsafe { renamer_close(self.0.get_mut(), quiet.get_mut()) })?;
+        Ok(RawQuiet(quiet))
+    }
+}
+
+impl Drop for RawLane {
+    fn drop(&mut self) {
+        // SAFETY: `&mut` is the only way to the handle; one that is none may be freed.
+        unsafe { renamer_free(self.0.get_mut()) }
+    }
+}
+
+/// A closed floor.
+pub(crate) struct RawQuiet(UnsafeCell<Handle>);
+
+// SAFETY: as for a lane.
+unsafe impl Send for RawQuiet {}
+
+impl RawQuiet {
+    pub(crate) fn counts(&self) -> Vec<u64> {
+        let mut counts = vec![0; number(renamer_quiet_exits, &self.0) as usize];
+        // SAFETY: the array is a slice of this size; the cell is not `Sync`, so no other thread has the handle.
+        done(unsafe { renamer_counts(self.0.get(), counts.as_mut_ptr(), counts.len()) })
+            .expect("the size is that of the counts");
+        counts
+    }
+
+    pub(crate) fn holders(&self) -> Vec<u64> {
+        let mut holders = vec![0; number(renamer_quiet_clients, &self.0) as usize];
+        // SAFETY: as for the counts.
+        done(unsafe { renamer_holders(self.0.get(), holders.as_mut_ptr(), holders.len()) })
+            .expect("the size is that of the holders");
+        holders
+    }
+
+    pub(crate) fn open_after(&self, quota: u64) -> Result<RawLane, Error> {
+        let mut lane = none();
+        // SAFETY: the lane's handle is new, and none; no other thread has the cell of the other, which is not `Sync`.
+        done(unsafe { renamer_open_after(lane.get_mut(), self.0.get(), quota) })?;
+        Ok(RawLane(lane))
+    }
+}
+
+impl Drop for RawQuiet {
+    fn drop(&mut self) {
+        // SAFETY: `&mut` is the only way to the handle.
+        unsafe { renamer_free_quiet(self.0.get_mut()) }
+    }
+}

@@ -1,0 +1,66 @@
+//! Each cause for which a call is refused, and that a refused call changes nothing.
+use renamer::{Error, Floor, Grant, Kind, Lane, Quiet};
+
+fn floor(quota: u64) -> Floor {
+    Floor::open(Kind::Bitonic, 4, quota).unwrap()
+}
+
+/// What a lane says of itself.
+fn seen(lane: &Lane) -> (u64, u64, u64, Vec<Grant>) {
+    (lane.quota(), lane.inside(), lane.entered(), lane.grants())
+}
+
+#[test]
+fn floors_that_are_not_opened() {
+    for width in [0, 1, 3, 257, 512, u32::MAX] {
+        assert_eq!(Floor::open(Kind::Tree, width, 1).err(), Some(Error::Width));
+    }
+    for quota in [renamer::MOST_CLIENTS + 1, u64::MAX] {
+        assert_eq!(Floor::open(Kind::Tree, 2, quota).err(), Some(Error::Quota));
+    }
+    assert!(Floor::open(Kind::Tree, 2, renamer::MOST_CLIENTS).is_ok());
+}
+
+#[test]
+fn clients_that_do_not_come_in() {
+    let floor = floor(3);
+    let mut lane = floor.lane(2).unwrap();
+    assert_eq!(lane.name(7, 0), Ok(0));
+    let before = seen(&lane);
+    assert_eq!(lane.name(8, 4), Err(Error::NoSuchEntry));
+    assert_eq!(lane.name(8, u64::MAX), Err(Error::NoSuchEntry));
+    assert_eq!(lane.split(2).err(), Some(Error::QuotaTooSmall));
+    assert_eq!(lane.reserve(1_048_577), Err(Error::Memory));
+    assert_eq!(lane.copy_grants(1, &mut [Grant::default()]), Err(Error::Size));
+    assert_eq!(seen(&lane), before);
+    assert_eq!(lane.name(8, 3), Ok(1));
+    assert_eq!(lane.name(9, 0), Err(Error::QuotaSpent));
+    assert_eq!(floor.lane(2).err(), Some(Error::QuotaTooSmall));
+}
+
+#[test]
+fn a_lane_that_is_dropped_is_missed() {
+    let floor = floor(2);
+    drop(floor.lane(1).unwrap());
+    let refused = floor.into_lane().close().unwrap_err();
+    assert_eq!(refused.error, Error::LanesMissing);
+    assert_eq!(refused.to_string(), "lanes of the floor are missing");
+    assert_eq!(refused.value.quota(), 1);
+}
+
+#[test]
+fn a_lane_outlives_its_floor_and_goes_from_thread_to_thread() {
+    let mut lane = floor(2).lane(2).unwrap();
+    let mut lane = std::thread::spawn(move || lane.name(7, 0).map(|_| lane)).join().unwrap().unwrap();
+    assert_eq!(lane.name(8, 0), Ok(1));
+}
+
+#[test]
+fn what_may_go_to_other_threads() {
+    fn is_sent<T: Send>() {}
+    fn is_shared<T: Sync>() {}
+    is_sent::<Lane>();
+    is_sent::<Quiet>();
+    is_sent::<Floor>();
+    is_shared::<Floor>();
+}

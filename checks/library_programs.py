@@ -1,0 +1,128 @@
+"""The programs in C and C++ that stand in bindings/c, compiled and run, as they are and under the compilers'
+sanitizers."""
+import dataclasses
+import os
+import pathlib
+import subprocess
+
+ROOT = pathlib.Path(__file__).resolve().parent.parent
+C, RUST, OUT = ROOT / "bindings" / "c", ROOT / "bindings" / "rust", ROOT / "out"
+STRICT = ["-Wall", "-Wextra", "-Werror", "-O1", "-g"]
+# The standards that the header is to compile by; programs are compiled by the first.
+STANDARDS = {"cc": ["c99", "c11", "c17"], "c++": ["c++11", "c++14", "c++17", "c++20"]}
+WRAPPED = "-Wl,--wrap=malloc,--wrap=calloc,--wrap=realloc,--wrap=free"
+# What a sanitizer wants of the compiler, and of the program that runs.
+SANITIZERS = {
+    "thread": (["-fsanitize=thread"], {"TSAN_OPTIONS": "halt_on_error=1"}),
+    "address and leak": (["-fsanitize=address"], {"ASAN_OPTIONS": "detect_leaks=1"}),
+    "undefined": (["-fsanitize=undefined", "-fno-sanitize-recover=all"], {}),
+}
+ROUNDS = {None: "100000", "undefined": "10000"}
+FEWER_ROUNDS = "2000"
+SECONDS = 120
+# How much is shown of what a command printed that failed.
+MOST_SAID = 600
+
+
+class Wrong(Exception):
+    """What is wrong, in one line or more."""
+
+
+class NotTried(Exception):
+    """Why a case was not tried, though nothing that must be there is missing."""
+
+
+@dataclasses.dataclass
+class Program:
+    """A program in C or C++: its source, what else it is made of, and what it prints, if that is one text. A long one
+    takes a minute, and is not run under sanitizers."""
+
+    source: pathlib.Path
+    others: tuple = ()
+    prints: str = ""
+    is_long: bool = False
+
+    def compiler(self):
+        return "c++" if self.source.suffix == ".cpp" else "cc"
+
+    def words(self, sanitizer):
+        return [ROUNDS.get(sanitizer, FEWER_ROUNDS)] if self.source.name == "rounds.c" else []
+
+
+GROWTHS = (C / "tests" / "growths.c", WRAPPED)
+EPOCHS = "".join(f"epoch {epoch}: {2 * epoch + 2} clients in the first rows\n" for epoch in (1, 2, 3))
+PROGRAMS = (
+    Program(C / "tests" / "carried.c", is_long=True),
+    Program(C / "examples" / "pool.c", prints="622 workers have the numbers 0 to 621\n"),
+    Program(C / "examples" / "table.c", prints=EPOCHS),
+    Program(C / "examples" / "lanes.cpp", prints="3000 clients have the names 0 to 2999\n"),
+    Program(C / "tests" / "names.c"),
+    Program(C / "tests" / "statuses.c"),
+    Program(C / "tests" / "handed.c"),
+    Program(C / "tests" / "memory.c", GROWTHS),
+    Program(C / "tests" / "rounds.c", GROWTHS),
+)
+
+
+def run(words, folder=ROOT, seconds=SECONDS, **environment):
+    """Runs a command to its end, and returns what it printed; it is wrong if it fails."""
+    done = subprocess.run(list(map(str, words)), cwd=folder, env={**os.environ, **environment}, timeout=seconds,
+                          stdin=subprocess.DEVNULL, capture_output=True, text=True)
+    if done.returncode != 0:
+        said = " ".join((done.stdout + done.stderr).split())
+        raise Wrong(f"{pathlib.Path(words[0]).name}: status {done.returncode}: {said[-MOST_SAID:]}")
+    return done.stdout
+
+
+def run_program(program, folder, sanitizer=None):
+    """Compiles and runs a program, under a sanitizer if one is named."""
+    flags, environment = SANITIZERS[sanitizer] if sanitizer else ([], {})
+    compiler = program.compiler()
+    made = folder / f"{program.source.name}-{sanitizer or 'plain'}".replace(" ", "-")
+    run([compiler, f"-std={STANDARDS[compiler][0]}", *STRICT, *flags, "-I", OUT / "include", program.source,
+         *program.others, "-o", made, "-L", OUT / "lib", "-lrenamer", "-lpthread"])
+    printed = run([made, *program.words(sanitizer)], seconds=SECONDS * (2 if program.is_long else 1), **environment)
+    if program.prints and printed != program.prints:
+        raise Wrong(f"it printed {printed!r}, not {program.prints!r}")
+
+
+def has_sanitizer(compiler, sanitizer, folder):
+    """Whether a program runs that was compiled with the sanitizer."""
+    source = folder / f"none-{compiler}.{'cpp' if compiler == 'c++' else 'c'}"
+    source.write_text("int main(void) { return 0; }\n")
+    made = folder / f"none-{compiler}-{sanitizer.split()[0]}"
+    try:
+        run([compiler, *SANITIZERS[sanitizer][0], source, "-o", made])
+        run([made], **SANITIZERS[sanitizer][1])
+    except Wrong:
+        return False
+    return True
+
+
+def sanitized(compiler, folder):
+    """A case for each program of a compiler under each sanitizer; says of each whether it is there."""
+    programs = [program for program in PROGRAMS if program.compiler() == compiler and not program.is_long]
+    for sanitizer in SANITIZERS:
+        there = has_sanitizer(compiler, sanitizer, folder)
+        what = f"{len(programs)} program{'s' * (len(programs) > 1)} of {compiler}"
+        print(f"sanitizer {sanitizer}: {'ran' if there else 'not here, so it did not run'} {what}", flush=True)
+        for program in programs if there else ():
+            name = f"{program.source.relative_to(ROOT)}, sanitizer {sanitizer}"
+            yield name, lambda program=program, sanitizer=sanitizer: run_program(program, folder, sanitizer)
+
+
+def cases(compiler, folder):
+    """The cases of a compiler: a name, and what raises Wrong."""
+    for program in PROGRAMS:
+        if program.compiler() == compiler:
+            yield f"{program.source.relative_to(ROOT)}", lambda program=program: run_program(program, folder)
+    for standard in STANDARDS[compiler]:
+        yield f"the header, {standard}", lambda standard=standard: header_stands_alone(compiler, standard, folder)
+    yield from sanitized(compiler, folder)
+
+
+def header_stands_alone(compiler, standard, folder):
+    """The header needs no other before it, and can be included twice."""
+    source = folder / f"header-{standard}.{'cpp' if compiler == 'c++' else 'c'}"
+    source.write_text('#include "renamer.h"\n#include "renamer.h"\nint main(void) { return !renamer_version(); }\n')
+    run([compiler, f"-std={standard}", "-pedantic", *STRICT, "-I", C, "-fsyntax-only", source])

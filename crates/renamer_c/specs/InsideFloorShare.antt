@@ -1,0 +1,13 @@
+-- What a share of a floor is to contracts: the floor, however it is owned.
+use Rattle.std.specs.Arc.{arc_value}
+use Rattle.cn_floor.specs.Lane.{FloorValue}
+use Rattle.renamer_c.specs.declared.floor_share.Owners.{Owners}
+use Rattle.renamer_c.specs.declared.floor_share.Owners.TheVariants.{One, Many}
+use Rattle.renamer_c.specs.declared.floor_share.FloorShare.TheInside.{Inside}
+
+abbrev pub owned_by : Owners → FloorValue
+owned_by (One floor) = floor
+owned_by (Many floor) = arc_value floor
+
+abbrev pub floor_of : Inside → FloorValue
+floor_of s = owned_by s.owners

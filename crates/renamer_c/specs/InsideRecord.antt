@@ -1,0 +1,6 @@
+-- What the record of a closed floor is to contracts.
+use Rattle.renamer_c.specs.declared.record_of_floor.Record.TheInside.{Inside}
+use Rattle.renamer_c.specs.Records.{RecordValue}
+
+abbrev pub record_of : Inside → RecordValue
+record_of r = record { words = r.words; counts = r.counts.items; holders = r.holders.items }

@@ -1,0 +1,10 @@
+pub mod Calls
+pub mod Handles
+pub mod Holding
+pub mod InsideFloorShare
+pub mod InsideHeldLane
+pub mod InsideRecord
+pub mod Questions
+pub mod Records
+pub mod Refusals
+pub mod Statuses

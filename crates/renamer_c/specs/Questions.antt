@@ -1,0 +1,25 @@
+-- What is asked of lanes and of the records of closed floors.
+use Rattle.std.specs.Prelude.{◌≡◌, ℕ, ◌+◌, ◌<◌, ◌≤◌, List, get_or, length}
+use Rattle.cn_yard.specs.Lists.{tokens_in}
+use Rattle.cn_floor.specs.declared.view.Grant as floor
+use Rattle.cn_floor.specs.Lane.{LaneValue}
+use Rattle.renamer_c.specs.declared.question.Question.{Question}
+use Rattle.renamer_c.specs.declared.question.Question.TheVariants.{Quota, Inside, Entries, Exits, Grants}
+use Rattle.renamer_c.specs.declared.granting.Grant.{Grant}
+
+-- what a lane answers
+abbrev pub answer_to : Question → LaneValue → ℕ
+answer_to Quota l = l.view.quota
+answer_to Inside l = tokens_in l.yard.lists
+answer_to Entries l = l.home.start.network.table.entries
+answer_to Exits l = l.home.start.network.table.width
+answer_to Grants l = length l.view.grants
+
+-- a grant as C sees it
+abbrev pub copy_of : floor.Grant → Grant
+copy_of g = record { client = g.client; exit = g.exit; visit = g.visit; name = g.name }
+
+-- some grants of a list, from this one on
+pub record AreGrantsFrom (grants : List floor.Grant) (first : ℕ) (copies : List Grant) : Type 0 where
+  pub there : first + length copies ≤ length grants
+  pub each : (k : ℕ) (d : Grant) (e : floor.Grant) → k < length copies → get_or copies k d ≡ copy_of (get_or grants (first + k) e)

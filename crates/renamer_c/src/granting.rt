@@ -1,0 +1,95 @@
+//! The grants of a lane, copied.
+
+ghost use Rattle.std.specs.Prelude.{◌≡◌, ◌+◌, ◌<◌, ◌≤◌, length, IfErr, OnErr, OnOk};
+ghost use Rattle.renamer_c.specs.Handles.{lane_in, lane_of};
+ghost use Rattle.renamer_c.specs.Questions.{AreGrantsFrom, copy_of};
+ghost use Rattle.renamer_c.specs.Refusals.{IsRefusal, NotCopied, WithLane};
+ghost use Rattle.renamer_c.specs.declared.refusal.TheConstants.{DONE};
+
+use crate::handle::Handle;
+use crate::held::Held;
+use crate::refusal::{DONE, Refusal};
+use std::alloc::Global;
+
+/// A client's way out, and its name, as C sees it.
+#[repr(C)]
+#[derive(Clone, Copy)]
+pub struct Grant {
+    /// Who left.
+    pub client: u64,
+    /// The exit.
+    pub exit: u64,
+    /// How many had left by the exit before.
+    pub visit: u64,
+    /// The name.
+    pub name: u64,
+}
+
+/// A grant as C sees it.
+fn copy_of(grant: &cn_floor::Grant) -> Grant
+    ensures { result ≡ copy_of grant.now }
+{
+    Grant {
+        client: grant.client,
+        exit: u64::from(grant.exit),
+        visit: grant.visit,
+        name: grant.name,
+    }
+}
+
+/// Copies grants, from this one on.
+fn copy_from(grants: &[cn_floor::Grant], first: usize, copies: &mut [Grant])
+    requires { first + length copies.old ≤ length grants.now }
+    ensures count { length copies.new ≡ length copies.old }
+    ensures copied { AreGrantsFrom grants.now first copies.new }
+{
+    for i in 0..copies.len() {
+        copies[i] = copy_of(&grants[first + i]);
+    }
+}
+
+/// Copies grants of the lane, from this one on.
+///
+/// # Errors
+/// The first that stands: `Nothing`, `Size`. Then nothing has changed.
+fn copy(held: &Held, first: u64, copies: &mut [Grant]) -> Result<(), Refusal>
+    ensures ok { OnOk result (WithLane (lane_of held.now) (λ l. AreGrantsFrom l.view.grants first copies.new)) }
+    ensures err { OnErr result (copies.new ≡ copies.old) }
+    ensures refused { IfErr result (NotCopied (lane_of held.now)) }
+{
+    let grants = match held.lane() {
+        Ok(lane) => lane.lane().grants(),
+        Err(refusal) => return Err(refusal),
+    };
+    if first > grants.len() as u64 || copies.len() > grants.len() - first as usize {
+        return Err(Refusal::Size);
+    }
+    copy_from(grants, first as usize, copies);
+    Ok(())
+}
+
+/// Copies grants of the lane, in the order in which they were given, from this one on.
+#[unsafe(no_mangle)]
+pub extern "C" fn renamer_grants(
+    alloc: Global,
+    lane: &mut Handle,
+    first: u64,
+    grants: &mut [Grant],
+) -> u32
+    ensures copied { result ≡ DONE
+        → WithLane (lane_in lane.old.held) (λ l. AreGrantsFrom l.view.grants first grants.new) }
+    ensures lane { lane.new.held ≡ lane.old.held }
+    ensures kept { 0 < result → grants.new ≡ grants.old }
+    ensures refused { 0 < result → IsRefusal (NotCopied (lane_in lane.old.held)) result }
+{
+    let held = match lane.take(alloc) {
+        Ok(held) => held,
+        Err(refusal) => return refusal.status(),
+    };
+    let copied = copy(&held, first, grants);
+    lane.put(held);
+    match copied {
+        Ok(()) => DONE,
+        Err(refusal) => refusal.status(),
+    }
+}

@@ -1,0 +1,198 @@
+//! What a handle has.
+
+ghost use Rattle.std.specs.Prelude.{◌≡◌, Some, IfErr, IfOk, OnErr, OnOk};
+ghost use Rattle.renamer_c.specs.Calls.{Answers, Closes, Names, Reserves, Splits};
+ghost use Rattle.renamer_c.specs.Handles.{lane_of, record_of};
+ghost use Rattle.renamer_c.specs.Questions.{answer_to};
+ghost use Rattle.renamer_c.specs.Refusals.{NotClosed, NotNamed, NotReserved, NotSplit, NotThere, WithLane};
+
+use crate::held_lane::HeldLane;
+use crate::question::Question;
+use crate::record_of_floor::Record;
+use crate::refusal::Refusal;
+use std::alloc::Global;
+use std::mem::replace;
+
+/// What a handle has.
+#[derive(Drop)]
+pub enum Held {
+    /// Nothing, while a call works on it.
+    Nothing,
+    /// A lane.
+    Lane(HeldLane),
+    /// A closed floor.
+    Closed(Record),
+}
+
+/// Splits off a lane with some of the quota: this lane, and the other in a box.
+///
+/// # Errors
+/// The first that stands, with this lane as it was: `QuotaTooSmall`, `Memory`.
+fn split_lane(
+    alloc: Global,
+    lane: HeldLane,
+    quota: u64,
+) -> Result<(HeldLane, Box<Held>), (Refusal, HeldLane)>
+    ensures ok { IfOk result (λ r. Splits (Some lane) (Some r.0) (lane_of r.1.value) quota) }
+    ensures err { IfErr result (λ r. r.1 ≡ lane) }
+    ensures refused { IfErr result (λ r. NotSplit (Some lane) quota r.0) }
+{
+    if quota > lane.lane().quota() {
+        return Err((Refusal::QuotaTooSmall, lane));
+    }
+    let Ok(mut room) = Box::new(alloc, Held::Nothing) else {
+        return Err((Refusal::Memory, lane));
+    };
+    match lane.split(alloc, quota) {
+        Ok((lane, other)) => {
+            *room = Held::Lane(other);
+            Ok((lane, room))
+        }
+        Err(lane) => Err((Refusal::Memory, lane)),
+    }
+}
+
+impl Held {
+    /// Names a client.
+    ///
+    /// # Errors
+    /// `Nothing` if there is no lane, else as [`HeldLane::name`]. Then nothing has changed.
+    pub(crate) fn name(&mut self, client: u64, entry: u64) -> Result<u64, Refusal>
+        ensures ok { IfOk result (λ name. Names (lane_of self.old) (lane_of self.new) client entry name) }
+        ensures err { OnErr result (self.new ≡ self.old) }
+        ensures refused { IfErr result (NotNamed (lane_of self.old) entry) }
+    {
+        match self {
+            Held::Lane(lane) => lane.name(client, entry),
+            _ => Err(Refusal::Nothing),
+        }
+    }
+
+    /// Splits off a lane with some of the quota, in a box.
+    ///
+    /// # Errors
+    /// `Nothing` if there is no lane, else `QuotaTooSmall` or `Memory`. Then nothing has changed.
+    pub(crate) fn split(&mut self, alloc: Global, quota: u64) -> Result<Box<Held>, Refusal>
+        ensures ok { IfOk result (λ other. Splits (lane_of self.old) (lane_of self.new) (lane_of other.value) quota) }
+        ensures err { OnErr result (self.new ≡ self.old) }
+        ensures refused { IfErr result (NotSplit (lane_of self.old) quota) }
+    {
+        match replace(self, Held::Nothing) {
+            Held::Lane(lane) => match split_lane(alloc, lane, quota) {
+                Ok((lane, other)) => {
+                    *self = Held::Lane(lane);
+                    Ok(other)
+                }
+                Err((refusal, lane)) => {
+                    *self = Held::Lane(lane);
+                    Err(refusal)
+                }
+            },
+            Held::Nothing => Err(Refusal::Nothing),
+            Held::Closed(record) => {
+                *self = Held::Closed(record);
+                Err(Refusal::Nothing)
+            }
+        }
+    }
+
+    /// How many clients came in, by all lanes, as far as the lane can see.
+    ///
+    /// # Errors
+    /// `Nothing` if there is no lane.
+    pub(crate) fn entered(&mut self) -> Result<u64, Refusal>
+        ensures ok { IfOk result (λ entered. Answers (lane_of self.old) (lane_of self.new) entered) }
+        ensures err { OnErr result (self.new ≡ self.old) }
+        ensures refused { IfErr result (NotThere (lane_of self.old)) }
+    {
+        match self {
+            Held::Lane(lane) => Ok(lane.entered()),
+            _ => Err(Refusal::Nothing),
+        }
+    }
+
+    /// The lane that is there.
+    ///
+    /// # Errors
+    /// `Nothing` if there is none.
+    pub(crate) fn lane(&self) -> Result<&HeldLane, Refusal>
+        ensures ok { IfOk result (λ lane. lane_of self.now ≡ Some lane.now) }
+        ensures refused { IfErr result (NotThere (lane_of self.now)) }
+    {
+        match self {
+            Held::Lane(lane) => Ok(lane),
+            _ => Err(Refusal::Nothing),
+        }
+    }
+
+    /// The record of a closed floor that is there.
+    ///
+    /// # Errors
+    /// `Nothing` if there is none.
+    pub(crate) fn record(&self) -> Result<&Record, Refusal>
+        ensures ok { IfOk result (λ closed. record_of self.now ≡ Some closed.now) }
+        ensures refused { IfErr result (NotThere (record_of self.now)) }
+    {
+        match self {
+            Held::Closed(record) => Ok(record),
+            _ => Err(Refusal::Nothing),
+        }
+    }
+
+    /// What the lane answers.
+    ///
+    /// # Errors
+    /// `Nothing` if there is no lane.
+    pub(crate) fn ask(&self, question: Question) -> Result<u64, Refusal>
+        ensures ok { IfOk result (λ n. WithLane (lane_of self.now) (λ l. n ≡ answer_to question l)) }
+        ensures refused { IfErr result (NotThere (lane_of self.now)) }
+    {
+        match self.lane() {
+            Ok(lane) => Ok(lane.ask(question)),
+            Err(refusal) => Err(refusal),
+        }
+    }
+
+    /// Makes room for so many clients.
+    ///
+    /// # Errors
+    /// `Nothing` if there is no lane, else as [`HeldLane::reserve`]. Then nothing has changed.
+    pub(crate) fn reserve(&mut self, clients: u64) -> Result<(), Refusal>
+        ensures ok { OnOk result (Reserves (lane_of self.old) (lane_of self.new) clients) }
+        ensures err { OnErr result (self.new ≡ self.old) }
+        ensures refused { IfErr result (NotReserved (lane_of self.old)) }
+    {
+        match self {
+            Held::Lane(lane) => lane.reserve(clients),
+            _ => Err(Refusal::Nothing),
+        }
+    }
+
+    /// Closes the floor of the lane, and leaves its record.
+    ///
+    /// # Errors
+    /// `Nothing` if there is no lane, else as [`HeldLane::close`]. Then nothing has changed.
+    pub(crate) fn close(&mut self, alloc: Global) -> Result<(), Refusal>
+        ensures ok { OnOk result (Closes (lane_of self.old) (record_of self.new)) }
+        ensures err { OnErr result (self.new ≡ self.old) }
+        ensures refused { IfErr result (NotClosed (lane_of self.old)) }
+    {
+        match replace(self, Held::Nothing) {
+            Held::Lane(lane) => match lane.close(alloc) {
+                Ok(record) => {
+                    *self = Held::Closed(record);
+                    Ok(())
+                }
+                Err((refusal, lane)) => {
+                    *self = Held::Lane(lane);
+                    Err(refusal)
+                }
+            },
+            Held::Nothing => Err(Refusal::Nothing),
+            Held::Closed(record) => {
+                *self = Held::Closed(record);
+                Err(Refusal::Nothing)
+            }
+        }
+    }
+}

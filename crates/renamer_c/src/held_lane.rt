@@ -1,0 +1,254 @@
+//! A lane with its share of its floor.
+
+ghost use Rattle.std.specs.Prelude.{◌≡◌, ◌+◌, ◌≤◌, Some, length, IfErr, IfOk, IsTrue, OnErr, OnOk};
+ghost use Rattle.cn_spec.specs.declared.limits.TheConstants.{MOST_CARRIED, MOST_CLIENTS};
+ghost use Rattle.cn_yard.specs.Lists.{tokens_in};
+ghost use Rattle.cn_floor.specs.Carried.{client_count, start_after};
+ghost use Rattle.cn_floor.specs.Lane.{empty_lane, with_room};
+ghost use Rattle.cn_floor.specs.Named.{IsNamed};
+ghost use Rattle.cn_floor.specs.Steps.{HasMoment, IsAnswer};
+ghost use Rattle.cn_floor.specs.Views.{after_entered};
+ghost use Rattle.renamer_c.specs.Calls.{IsClosedBy, IsOpened, IsSplit};
+ghost use Rattle.renamer_c.specs.Questions.{answer_to};
+ghost use Rattle.renamer_c.specs.Refusals.{NotClosed, NotNamed, NotReserved};
+
+use crate::floor_share::FloorShare;
+use crate::question::Question;
+use crate::record_of_floor::Record;
+use crate::refusal::Refusal;
+use cn_floor::{CloseFault, Floor, Lane, LaneFault, Words};
+use cn_spec::limits::MOST_ROOM;
+use cn_wiring::Counting;
+use std::alloc::Global;
+use std::marker::Model;
+use std::sync::Arc;
+
+/// A lane with its share of its floor. To contracts it is the lane.
+#[derive(Drop)]
+pub(crate) struct HeldLane {
+    floor: FloorShare,
+    lane: Lane,
+    /// How many clients the floor may let in.
+    most: u64,
+}
+
+impl Model for HeldLane {
+    ghost use Rattle.cn_floor.specs.Lane.{LaneValue};
+    ghost use Rattle.renamer_c.specs.InsideHeldLane.{IsHeldLane};
+
+    ghost Value = { LaneValue };
+
+    ghost view = { λ h. h.lane };
+
+    ghost invariant = { IsHeldLane };
+}
+
+impl HeldLane {
+    /// A floor over a network, and its first lane.
+    ///
+    /// # Errors
+    /// `Memory`.
+    pub(crate) fn open(alloc: Global, network: Counting, quota: u64) -> Result<HeldLane, Refusal>
+        requires { quota ≤ MOST_CLIENTS }
+        ensures opened { IfOk result (λ lane. IsOpened lane quota
+            × (lane.home.start.network ≡ network)) }
+        ensures memory { IfErr result (λ r. r ≡ Refusal.Memory) }
+    {
+        let Ok(network) = Arc::new(alloc, network) else {
+            return Err(Refusal::Memory);
+        };
+        match Floor::open_shared(alloc, &network, quota) {
+            Ok((floor, lane)) => Ok(HeldLane {
+                floor: FloorShare::of(floor),
+                lane,
+                most: quota,
+            }),
+            Err(_) => Err(Refusal::Memory),
+        }
+    }
+
+    /// Names a client.
+    ///
+    /// # Errors
+    /// The first that stands: `StillWalking`, `NoSuchEntry`, `QuotaSpent`, `Memory`. Then nothing has changed.
+    pub(crate) fn name(&mut self, client: u64, entry: u64) -> Result<u64, Refusal>
+        ensures ok { IfOk result (λ name. IsNamed self.old self.new client entry name) }
+        ensures err { OnErr result (self.new ≡ self.old) }
+        ensures refused { IfErr result (NotNamed (Some self.old) entry) }
+    {
+        if self.lane.inside() != 0 {
+            return Err(Refusal::StillWalking);
+        }
+        match self.floor.floor().name(&mut self.lane, client, entry) {
+            Ok(name) => Ok(name),
+            Err(LaneFault::NoSuchEntry) => Err(Refusal::NoSuchEntry),
+            Err(LaneFault::QuotaSpent) => Err(Refusal::QuotaSpent),
+            Err(LaneFault::Memory) => Err(Refusal::Memory),
+        }
+    }
+
+    /// Splits off a lane with some of the quota: this lane, and the other.
+    ///
+    /// # Errors
+    /// This lane as it was, if the other gets no memory.
+    pub(crate) fn split(self, alloc: Global, quota: u64) -> Result<(HeldLane, HeldLane), HeldLane>
+        requires { quota ≤ self.view.quota }
+        ensures ok { IfOk result (λ r. IsSplit self r.0 r.1 quota) }
+        ensures err { IfErr result (λ back. back ≡ self) }
+    {
+        let HeldLane {
+            floor,
+            mut lane,
+            most,
+        } = self;
+        match floor.split(alloc) {
+            Ok((floor, other_floor)) => match floor.floor().split_off(&mut lane, quota) {
+                Ok(other) => Ok((
+                    HeldLane { floor, lane, most },
+                    HeldLane {
+                        floor: other_floor,
+                        lane: other,
+                        most,
+                    },
+                )),
+                Err(_) => Err(HeldLane { floor, lane, most }),
+            },
+            Err(floor) => Err(HeldLane { floor, lane, most }),
+        }
+    }
+
+    /// How many clients came in, by all lanes, as far as this one can see.
+    pub(crate) fn entered(&mut self) -> u64
+        ensures answer { IsAnswer self.old.home.start self.old.view result }
+        ensures lane { self.new
+            ≡ record self.old { view = after_entered self.old.home.start result self.old.view } }
+        ensures moment { HasMoment self.old.home.start self.new.view }
+    {
+        self.floor.floor().entered(&mut self.lane)
+    }
+
+    /// The lane.
+    pub(crate) fn lane(&self) -> &Lane
+        ensures { result.now ≡ self.now }
+    {
+        &self.lane
+    }
+
+    /// What the lane answers.
+    pub(crate) fn ask(&self, question: Question) -> u64
+        ensures { result ≡ answer_to question self.now }
+    {
+        match question {
+            Question::Quota => self.lane.quota(),
+            Question::Inside => self.lane.inside(),
+            Question::Grants => self.lane.grants().len() as u64,
+            Question::Entries => u64::from(self.floor.floor().network().entries()),
+            Question::Exits => u64::from(self.floor.floor().network().width()),
+        }
+    }
+
+    /// Makes room for so many clients.
+    ///
+    /// # Errors
+    /// `Memory` if there is none, or if they are more than [`MOST_ROOM`]. Then nothing has changed.
+    pub(crate) fn reserve(&mut self, clients: u64) -> Result<(), Refusal>
+        ensures ok { OnOk result (self.new ≡ with_room clients self.old) }
+        ensures err { OnErr result (self.new ≡ self.old) }
+        ensures refused { IfErr result (NotReserved (Some self.old)) }
+    {
+        if clients > MOST_ROOM {
+            return Err(Refusal::Memory);
+        }
+        match self.lane.reserve(clients) {
+            Ok(()) => Ok(()),
+            Err(_) => Err(Refusal::Memory),
+        }
+    }
+
+    /// A floor that goes on from these words, and its first lane.
+    ///
+    /// # Errors
+    /// `Memory`.
+    pub(crate) fn open_after(
+        alloc: Global,
+        words: &Words<'static>,
+        quota: u64,
+    ) -> Result<HeldLane, Refusal>
+        requires { (client_count words.now ≤ MOST_CARRIED) × (quota ≤ MOST_CLIENTS) }
+        ensures opened { IfOk result (λ l. (l.home.start ≡ start_after words.now quota)
+            × (l ≡ empty_lane l.home quota)) }
+        ensures memory { IfErr result (λ r. r ≡ Refusal.Memory) }
+    {
+        match Floor::open_after(alloc, words, quota) {
+            Ok((floor, lane)) => Ok(HeldLane {
+                floor: FloorShare::of(floor),
+                lane,
+                most: quota,
+            }),
+            Err(_) => Err(Refusal::Memory),
+        }
+    }
+
+    /// Whether the lane has all of the floor's quota, spent or not.
+    fn has_all(&self) -> bool
+        ensures { IsTrue result → self.now.view.quota + length self.now.view.grants ≡ self.now.home.start.quota }
+    {
+        let granted = self.lane.grants().len() as u64;
+        granted <= self.most && self.lane.quota() == self.most - granted
+    }
+
+    /// Closes the floor, for its record in these lists.
+    ///
+    /// # Errors
+    /// `LanesMissing` if other lanes are there, and `Memory`, with the lane as it was.
+    fn close_into(self, counts: Vec<u64>, holders: Vec<u64>) -> Result<Record, (Refusal, HeldLane)>
+        requires out { tokens_in self.yard.lists ≡ 0 }
+        requires all { self.view.quota + length self.view.grants ≡ self.home.start.quota }
+        requires counts { length counts.items ≡ self.home.start.network.table.width }
+        requires holders { length holders.items ≡ length self.view.grants }
+        ensures ok { IfOk result (IsClosedBy self) }
+        ensures err { IfErr result (λ r. r.1 ≡ self) }
+        ensures refused { IfErr result (λ r. NotClosed (Some self) r.0) }
+    {
+        let HeldLane { floor, lane, most } = self;
+        let floor = match floor.into_floor() {
+            Ok(floor) => floor,
+            Err(floor) => return Err((Refusal::LanesMissing, HeldLane { floor, lane, most })),
+        };
+        match floor.close(lane) {
+            Ok(quiet) => {
+                quiet.quiet_laws();
+                Ok(Record::of(quiet, counts, holders))
+            }
+            Err(CloseFault::StillWalking(floor, lane) | CloseFault::Memory(floor, lane)) => {
+                let floor = FloorShare::of(floor);
+                Err((Refusal::Memory, HeldLane { floor, lane, most }))
+            }
+            Err(CloseFault::LanesMissing { .. }) => unreachable!(),
+        }
+    }
+
+    /// Closes the floor.
+    ///
+    /// # Errors
+    /// The first that stands, with the lane as it was: `StillWalking`, `LanesMissing`, `Memory`.
+    pub(crate) fn close(self, alloc: Global) -> Result<Record, (Refusal, HeldLane)>
+        ensures ok { IfOk result (IsClosedBy self) }
+        ensures err { IfErr result (λ r. r.1 ≡ self) }
+        ensures refused { IfErr result (λ r. NotClosed (Some self) r.0) }
+    {
+        if self.lane.inside() != 0 {
+            return Err((Refusal::StillWalking, self));
+        }
+        if !self.has_all() {
+            return Err((Refusal::LanesMissing, self));
+        }
+        let width = self.floor.floor().network().width() as usize;
+        let counts = Vec::from_elem(alloc, 0u64, width);
+        let holders = Vec::from_elem(alloc, 0u64, self.lane.grants().len());
+        match (counts, holders) {
+            (Ok(counts), Ok(holders)) => self.close_into(counts, holders),
+            _ => Err((Refusal::Memory, self)),
+        }
+    }
+}

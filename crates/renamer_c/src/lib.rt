@@ -1,0 +1,17 @@
+//! The floor for programs in C, C++ and Rust.
+#![tactic(auto)]
+
+mod asking;
+mod closing;
+mod floor_share;
+mod granting;
+mod handle;
+mod held;
+mod held_lane;
+mod loose;
+mod naming;
+mod opening;
+mod question;
+mod reading;
+mod record_of_floor;
+mod refusal;

@@ -1,0 +1,138 @@
+//! Calls that read what a closed floor left.
+
+ghost use Rattle.std.specs.Prelude.{◌≡◌, ◌<◌, length, IfErr, IfOk, OnErr, OnOk};
+ghost use Rattle.renamer_c.specs.Handles.{record_in, record_of};
+ghost use Rattle.renamer_c.specs.Records.{list_of};
+ghost use Rattle.renamer_c.specs.Refusals.{IsRefusal, NotCopied, NotThere, WithRecord};
+ghost use Rattle.renamer_c.specs.declared.refusal.TheConstants.{DONE};
+
+use crate::handle::Handle;
+use crate::held::Held;
+use crate::record_of_floor::Listed;
+use crate::refusal::{DONE, Refusal};
+use std::alloc::Global;
+
+/// How long a list of the record is.
+///
+/// # Errors
+/// `Nothing` if there is no record.
+fn size_of(held: &Held, listed: Listed) -> Result<u64, Refusal>
+    ensures ok { IfOk result (λ n. WithRecord (record_of held.now) (λ r. n ≡ length (list_of listed r))) }
+    ensures refused { IfErr result (NotThere (record_of held.now)) }
+{
+    match held.record() {
+        Ok(closed) => Ok(closed.list(listed).len() as u64),
+        Err(refusal) => Err(refusal),
+    }
+}
+
+/// Asks how long a list of the record is.
+fn ask_size(alloc: Global, quiet: &mut Handle, listed: Listed, size: &mut u64) -> u32
+    ensures answered { result ≡ DONE
+        → WithRecord (record_in quiet.old.held) (λ r. size.new ≡ length (list_of listed r)) }
+    ensures quiet { quiet.new.held ≡ quiet.old.held }
+    ensures kept { 0 < result → size.new ≡ size.old }
+    ensures refused { 0 < result → IsRefusal (NotThere (record_in quiet.old.held)) result }
+{
+    let held = match quiet.take(alloc) {
+        Ok(held) => held,
+        Err(refusal) => return refusal.status(),
+    };
+    let answer = size_of(&held, listed);
+    quiet.put(held);
+    match answer {
+        Ok(value) => {
+            *size = value;
+            DONE
+        }
+        Err(refusal) => refusal.status(),
+    }
+}
+
+/// Copies a list of the record.
+///
+/// # Errors
+/// The first that stands: `Nothing`, `Size`. Then nothing has changed.
+fn copy(held: &Held, listed: Listed, to: &mut [u64]) -> Result<(), Refusal>
+    ensures ok { OnOk result (WithRecord (record_of held.now) (λ r. to.new ≡ list_of listed r)) }
+    ensures err { OnErr result (to.new ≡ to.old) }
+    ensures refused { IfErr result (NotCopied (record_of held.now)) }
+{
+    let list = match held.record() {
+        Ok(closed) => closed.list(listed),
+        Err(refusal) => return Err(refusal),
+    };
+    if list.len() != to.len() {
+        return Err(Refusal::Size);
+    }
+    to.copy_from_slice(list);
+    Ok(())
+}
+
+/// Copies a list of the record.
+fn ask_list(alloc: Global, quiet: &mut Handle, listed: Listed, to: &mut [u64]) -> u32
+    ensures copied { result ≡ DONE
+        → WithRecord (record_in quiet.old.held) (λ r. to.new ≡ list_of listed r) }
+    ensures quiet { quiet.new.held ≡ quiet.old.held }
+    ensures kept { 0 < result → to.new ≡ to.old }
+    ensures refused { 0 < result → IsRefusal (NotCopied (record_in quiet.old.held)) result }
+{
+    let held = match quiet.take(alloc) {
+        Ok(held) => held,
+        Err(refusal) => return refusal.status(),
+    };
+    let copied = copy(&held, listed, to);
+    quiet.put(held);
+    match copied {
+        Ok(()) => DONE,
+        Err(refusal) => refusal.status(),
+    }
+}
+
+/// How many exits the floor had.
+#[unsafe(no_mangle)]
+pub extern "C" fn renamer_quiet_exits(alloc: Global, quiet: &mut Handle, exits: &mut u64) -> u32
+    ensures answered { result ≡ DONE
+        → WithRecord (record_in quiet.old.held) (λ r. exits.new ≡ length r.counts) }
+    ensures quiet { quiet.new.held ≡ quiet.old.held }
+    ensures kept { 0 < result → exits.new ≡ exits.old }
+    ensures refused { 0 < result → IsRefusal (NotThere (record_in quiet.old.held)) result }
+{
+    ask_size(alloc, quiet, Listed::Counts, exits)
+}
+
+/// How many clients the floor named.
+#[unsafe(no_mangle)]
+pub extern "C" fn renamer_quiet_clients(alloc: Global, quiet: &mut Handle, clients: &mut u64) -> u32
+    ensures answered { result ≡ DONE
+        → WithRecord (record_in quiet.old.held) (λ r. clients.new ≡ length r.holders) }
+    ensures quiet { quiet.new.held ≡ quiet.old.held }
+    ensures kept { 0 < result → clients.new ≡ clients.old }
+    ensures refused { 0 < result → IsRefusal (NotThere (record_in quiet.old.held)) result }
+{
+    ask_size(alloc, quiet, Listed::Holders, clients)
+}
+
+/// Copies how many left by each exit.
+#[unsafe(no_mangle)]
+pub extern "C" fn renamer_counts(alloc: Global, quiet: &mut Handle, counts: &mut [u64]) -> u32
+    ensures copied { result ≡ DONE
+        → WithRecord (record_in quiet.old.held) (λ r. counts.new ≡ r.counts) }
+    ensures quiet { quiet.new.held ≡ quiet.old.held }
+    ensures kept { 0 < result → counts.new ≡ counts.old }
+    ensures refused { 0 < result → IsRefusal (NotCopied (record_in quiet.old.held)) result }
+{
+    ask_list(alloc, quiet, Listed::Counts, counts)
+}
+
+/// Copies the clients by rising name.
+#[unsafe(no_mangle)]
+pub extern "C" fn renamer_holders(alloc: Global, quiet: &mut Handle, holders: &mut [u64]) -> u32
+    ensures copied { result ≡ DONE
+        → WithRecord (record_in quiet.old.held) (λ r. holders.new ≡ r.holders) }
+    ensures quiet { quiet.new.held ≡ quiet.old.held }
+    ensures kept { 0 < result → holders.new ≡ holders.old }
+    ensures refused { 0 < result → IsRefusal (NotCopied (record_in quiet.old.held)) result }
+{
+    ask_list(alloc, quiet, Listed::Holders, holders)
+}

@@ -1,0 +1,80 @@
+//! What a closed floor leaves.
+
+ghost use Rattle.std.specs.Prelude.{◌≡◌, length};
+ghost use Rattle.cn_floor.specs.Ends.{ListsHolders};
+ghost use Rattle.renamer_c.specs.Records.{IsRecordOf, list_of};
+
+use cn_floor::{Quiet, Words};
+use std::marker::Model;
+
+/// What a closed floor leaves: its words, with which another may begin, how many left by each exit, and the clients by
+/// rising name.
+#[derive(Drop)]
+pub(crate) struct Record {
+    words: Words<'static>,
+    counts: Vec<u64>,
+    holders: Vec<u64>,
+}
+
+impl Model for Record {
+    ghost use Rattle.renamer_c.specs.InsideRecord.{record_of};
+    ghost use Rattle.renamer_c.specs.Records.{RecordValue};
+
+    ghost Value = { RecordValue };
+
+    ghost view = { record_of };
+}
+
+/// The lists of a record.
+#[derive(Clone, Copy)]
+pub(crate) enum Listed {
+    /// How many left by each exit.
+    Counts,
+    /// The clients by rising name.
+    Holders,
+}
+
+/// Writes the clients of a closed floor at their names.
+fn write_holders(quiet: &Quiet<'_>, holders: &mut Vec<u64>)
+    requires { length holders.old.items ≡ length quiet.now.did.grants }
+    ensures { ListsHolders quiet.now.did.grants holders.new.items }
+{
+    quiet.quiet_laws();
+    for grant in quiet.grants() {
+        holders[grant.name as usize] = grant.client;
+    }
+}
+
+impl Record {
+    /// That of a closed floor, in lists that are long enough.
+    pub(crate) fn of(quiet: Quiet<'static>, mut counts: Vec<u64>, mut holders: Vec<u64>) -> Record
+        requires counts { length counts.items ≡ quiet.start.network.table.width }
+        requires holders { length holders.items ≡ length quiet.did.grants }
+        ensures { IsRecordOf quiet.entry result }
+    {
+        counts.copy_from_slice(quiet.counts());
+        write_holders(&quiet, &mut holders);
+        Record {
+            words: quiet.into_words(),
+            counts,
+            holders,
+        }
+    }
+
+    /// The words of the floor.
+    pub(crate) fn words(&self) -> &Words<'static>
+        ensures { result.now ≡ self.now.words }
+    {
+        &self.words
+    }
+
+    /// One of its lists.
+    pub(crate) fn list(&self, listed: Listed) -> &[u64]
+        ensures { result.now ≡ list_of listed self.now }
+    {
+        match listed {
+            Listed::Counts => self.counts.as_slice(),
+            Listed::Holders => self.holders.as_slice(),
+        }
+    }
+}

@@ -1,0 +1,67 @@
+//! Why calls are refused, and the statuses of that.
+
+ghost use Rattle.std.specs.Prelude.{◌≡◌, ◌<◌};
+ghost use Rattle.renamer_c.specs.Statuses.{status_of};
+
+use cn_floor::{JoinFault, LaneFault, OpenFault, SplitFault};
+
+/// The status of a call that is done.
+pub const DONE: u32 = 0;
+
+/// Why a call is refused. The header for C has a name for each.
+#[derive(Clone, Copy, Debug, PartialEq, Eq)]
+pub enum Refusal {
+    /// The handle does not have what the call wants.
+    Nothing,
+    /// A growth was refused.
+    Memory,
+    /// There is no network of this kind.
+    Kind,
+    /// There is no network of this width.
+    Width,
+    /// The quota is more than an epoch's clients.
+    Quota,
+    /// The network has no entry with this number.
+    NoSuchEntry,
+    /// The lane's quota is spent.
+    QuotaSpent,
+    /// The lane has less quota.
+    QuotaTooSmall,
+    /// The lane has clients inside.
+    StillWalking,
+    /// The lane has no client there.
+    NobodyThere,
+    /// Other lanes have a part of the floor.
+    LanesMissing,
+    /// The lanes are of two floors.
+    OtherFloor,
+    /// The array has the wrong size.
+    Size,
+    /// More clients came before than a floor may carry.
+    Carried,
+}
+
+impl Refusal {
+    /// Its status.
+    pub(crate) fn status(self) -> u32
+        ensures status { result ≡ status_of self }
+        ensures refused { 0 < result }
+    {
+        match self {
+            Refusal::Nothing => 1,
+            Refusal::Memory => 2,
+            Refusal::Kind => 3,
+            Refusal::Width => 4,
+            Refusal::Quota => 5,
+            Refusal::NoSuchEntry => 6,
+            Refusal::QuotaSpent => 7,
+            Refusal::QuotaTooSmall => 8,
+            Refusal::StillWalking => 9,
+            Refusal::NobodyThere => 10,
+            Refusal::LanesMissing => 11,
+            Refusal::OtherFloor => 12,
+            Refusal::Size => 13,
+            Refusal::Carried => 14,
+        }
+    }
+}
