@@ -59,6 +59,7 @@ PROGRAMS = (
     Program(C / "tests" / "names.c"),
     Program(C / "tests" / "statuses.c"),
     Program(C / "tests" / "handed.c"),
+    Program(C / "tests" / "joined.c"),
     Program(C / "tests" / "memory.c", GROWTHS),
     Program(C / "tests" / "rounds.c", GROWTHS),
 )

@@ -47,6 +47,9 @@ extern "C" {
 #define RENAMER_MOST_CLIENTS 262144
 #define RENAMER_MOST_CARRIED 2147483648
 
+/* How many lanes of a floor may be handed back and not joined yet. */
+#define RENAMER_MOST_RETURNED 64
+
 /* A lane of a floor, or none: a thread's own part of the floor, by which it lets clients in. */
 typedef struct renamer_lane {
     void *at;
@@ -69,6 +72,25 @@ typedef struct renamer_grant {
     uint64_t name;
 } renamer_grant;
 
+/* Where a client went by one step. It passed the balancer `place` as its passage `number`, and stands last on the wire
+   `next`; or it left by the exit `place` as its visit `number`, and `next` is its name. Numbers and visits count from 0. */
+typedef struct renamer_moved {
+    uint64_t client;
+    uint64_t has_left; /* 0 or 1 */
+    uint64_t place;
+    uint64_t number;
+    uint64_t next;
+} renamer_moved;
+
+/* Where the clients on a wire went by one step: as many as `clients`, in the order in which they stood, by the balancer or
+   the exit `place`, with the passages or visits from `first` on. */
+typedef struct renamer_swept {
+    uint64_t have_left; /* 0 or 1 */
+    uint64_t place;
+    uint64_t first;
+    uint64_t clients;
+} renamer_swept;
+
 /* The networks. The width is a power of two from 2 to 256. A tree has one entry, the others as many as their width. */
 enum {
     RENAMER_BITONIC = 0,
@@ -88,9 +110,12 @@ typedef enum renamer_status {
     RENAMER_QUOTA_SPENT = 7,     /* the lane may let in no more, or not so many */
     RENAMER_QUOTA_TOO_SMALL = 8, /* the lane has less quota than is to be split off */
     RENAMER_STILL_WALKING = 9,   /* the lane has clients inside */
-    RENAMER_LANES_MISSING = 11,  /* other lanes of the floor have quota, grants or clients of it, or are not freed yet */
+    RENAMER_NOBODY_THERE = 10,   /* the lane has no client there */
+    RENAMER_LANES_MISSING = 11,  /* other lanes of the floor have quota, grants or clients of it, or are there still */
+    RENAMER_NOTHING_BACK = 12,   /* no lane of the floor was handed back */
     RENAMER_SIZE = 13,           /* the array has the wrong size */
-    RENAMER_CARRIED = 14         /* more clients came before than RENAMER_MOST_CARRIED */
+    RENAMER_CARRIED = 14,        /* more clients came before than RENAMER_MOST_CARRIED */
+    RENAMER_NO_PLACE = 15        /* RENAMER_MOST_RETURNED lanes of the floor were handed back, and none was joined */
 } renamer_status;
 
 /* The version of the library, as RENAMER_VERSION. */
@@ -114,6 +139,25 @@ uint32_t renamer_reserve(renamer_lane *lane, uint64_t clients);
    RENAMER_NONE, _STILL_WALKING, _NO_SUCH_ENTRY, _QUOTA_SPENT, _MEMORY. */
 uint32_t renamer_name(renamer_lane *lane, uint64_t client, uint64_t entry, uint64_t *name);
 
+/* Single steps, for a program that is to say in which order clients walk. The clients of a lane stand on the network's
+   wires, in the order in which they came there. Wires have numbers: wire i begins at entry i, and each other one at a
+   balancer, with a greater number than the wires that end there. So sweeping the lowest wire again and again lets all out.
+
+   Lets a client in by an entry: it stands last on the wire with the entry's number. Takes memory only if the lane has no
+   room. RENAMER_NONE, _NO_SUCH_ENTRY, _QUOTA_SPENT, _MEMORY. */
+uint32_t renamer_enter(renamer_lane *lane, uint64_t client, uint64_t entry);
+
+/* Lets the lane's first client on a wire go by the wire's end, through a balancer or out with its name, by one atomic add.
+   RENAMER_NONE, _NOBODY_THERE. */
+uint32_t renamer_step(renamer_lane *lane, uint64_t wire, renamer_moved *moved);
+
+/* Lets all of the lane's clients on a wire go by the wire's end, by one atomic add. If they left, the lane's last grants
+   are theirs, in their order. RENAMER_NONE, _NOBODY_THERE. */
+uint32_t renamer_sweep(renamer_lane *lane, uint64_t wire, renamer_swept *swept);
+
+/* The least wire on which a client of the lane stands. RENAMER_NONE, _NOBODY_THERE (nobody of the lane is inside). */
+uint32_t renamer_lowest(renamer_lane *lane, uint64_t *wire);
+
 /* How many clients came in by all lanes, as far as this one can know: more than each name that it was given, no less
    than its earlier answers, and never more than came in.
    RENAMER_NONE. */
@@ -136,9 +180,23 @@ uint32_t renamer_grant_count(renamer_lane *lane, uint64_t *count);
    RENAMER_NONE, _SIZE (there are fewer than first + size). */
 uint32_t renamer_grants(renamer_lane *lane, uint64_t first, renamer_grant *grants, size_t size);
 
-/* Closes the floor. The lane must have all of it: no quota may have been split off, and no other lane of it may be there.
-   Lanes cannot be joined yet, so a floor that was split off quota cannot be closed. The lane is none then.
-   RENAMER_NONE, _STILL_WALKING, _LANES_MISSING, _MEMORY. */
+/* Hands the lane back to its floor, from any thread: its quota, its grants and all that it did. The lane is none then, and
+   another lane of the floor may take it in by renamer_join. If it was the only lane, the floor is freed.
+   RENAMER_NONE, _STILL_WALKING, _MEMORY, _NO_PLACE. */
+uint32_t renamer_hand_back(renamer_lane *lane);
+
+/* Takes one lane of the same floor in that was handed back: its quota is added, and its grants come after the lane's own.
+   Which of several, is not said. Takes no memory if the lane has room for these grants, and has that much less room then.
+   RENAMER_NONE, _NOTHING_BACK, _MEMORY. */
+uint32_t renamer_join(renamer_lane *lane);
+
+/* Closes the floor. The lane must have all of it: each lane that was split off was handed back or freed, and joined, so
+   after the threads have ended
+
+       while (renamer_join(&lane) == RENAMER_DONE) {}
+       renamer_close(&lane, &quiet);
+
+   closes it. The lane is none then. RENAMER_NONE, _STILL_WALKING, _LANES_MISSING, _MEMORY. */
 uint32_t renamer_close(renamer_lane *lane, renamer_quiet *quiet);
 
 /* How many clients left by each exit is a list of as many numbers as there are exits; who has which name is a list of as
@@ -157,8 +215,9 @@ uint32_t renamer_holders(renamer_quiet *quiet, uint64_t *holders, size_t size);
    RENAMER_NONE, _CARRIED, _QUOTA, _MEMORY. */
 uint32_t renamer_open_after(renamer_lane *lane, renamer_quiet *quiet, uint64_t quota);
 
-/* Frees what the handle has, if it has something. Quota and names of a lane are lost with it: then its floor cannot be
-   closed any more. The names of other lanes stay as good as they were. */
+/* Frees what the handle has, if it has something. A lane is handed back if that can be done. Else, with clients inside or
+   where renamer_hand_back would be refused, its quota and names are lost with it, and its floor cannot be closed any more;
+   the names of other lanes stay as good as they were. */
 void renamer_free(renamer_lane *lane);
 void renamer_free_quiet(renamer_quiet *quiet);
 

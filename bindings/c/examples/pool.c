@@ -1,7 +1,8 @@
 /*
  * A pool of worker numbers. Four threads start workers, each as many as it happens to need. A worker's number is its
  * place in one array, which the threads fill at once and without a lock: no two workers have the same number, and when
- * the threads have ended the numbers have no gap.
+ * the threads have ended the numbers have no gap. Then the lanes are joined and the floor is closed, which says who has
+ * which number.
  */
 #include "renamer.h"
 #include <inttypes.h>
@@ -43,6 +44,20 @@ static void *start_workers(void *argument) {
     return NULL;
 }
 
+/* Takes in all lanes that were handed back, closes the floor, and looks who has which number. */
+static void close_floor(renamer_lane *rest, uint64_t count) {
+    static uint64_t holders[MOST];
+    renamer_quiet quiet = RENAMER_NO_QUIET_YET;
+    while (renamer_join(rest) == RENAMER_DONE) {
+    }
+    must(renamer_close(rest, &quiet), "renamer_close");
+    must(renamer_holders(&quiet, holders, count), "renamer_holders");
+    for (uint64_t number = 0; number < MOST; number++)
+        if (workers[number].done != (number < count) || (number < count && workers[number].client != holders[number]))
+            exit(1);
+    renamer_free_quiet(&quiet);
+}
+
 int main(void) {
     static struct thread threads[THREADS];
     renamer_lane rest = RENAMER_NO_LANE_YET;
@@ -58,12 +73,9 @@ int main(void) {
     for (unsigned t = 0; t < THREADS; t++) {
         pthread_join(threads[t].id, NULL);
         count += threads[t].needed;
-        renamer_free(&threads[t].lane);
+        must(renamer_hand_back(&threads[t].lane), "renamer_hand_back");
     }
-    for (uint64_t number = 0; number < MOST; number++)
-        if (workers[number].done != (number < count))
-            return 1;
+    close_floor(&rest, count);
     printf("%" PRIu64 " workers have the numbers 0 to %" PRIu64 "\n", count, count - 1);
-    renamer_free(&rest);
     return 0;
 }

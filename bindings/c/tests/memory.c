@@ -67,6 +67,22 @@ static void name_some(renamer_lane *lane, uint64_t first) {
         NO_GROWTH(renamer_name(lane, client, 0, &name));
 }
 
+/* Lets clients in with and without room, and on by steps, which want no memory. */
+static void step_some(renamer_lane *lane, uint64_t first) {
+    renamer_moved moved;
+    renamer_swept swept;
+    uint64_t wire;
+    struct seen before = seen_of(lane);
+    EACH_GROWTH(renamer_enter(lane, first, 0), is_as(lane, &before));
+    before = seen_of(lane);
+    EACH_GROWTH(renamer_reserve(lane, 2), is_as(lane, &before));
+    NO_GROWTH(renamer_enter(lane, first + 1, 0));
+    NO_GROWTH(renamer_enter(lane, first + 2, 0));
+    NO_GROWTH(renamer_step(lane, 0, &moved));
+    while (renamer_lowest(lane, &wire) == RENAMER_DONE)
+        NO_GROWTH(renamer_sweep(lane, wire, &swept));
+}
+
 static void run_floor(uint32_t kind, uint32_t width) {
     renamer_lane lane = RENAMER_NO_LANE_YET, other = RENAMER_NO_LANE_YET;
     renamer_quiet quiet = RENAMER_NO_QUIET_YET;
@@ -76,7 +92,24 @@ static void run_floor(uint32_t kind, uint32_t width) {
     EACH_GROWTH(renamer_split(&lane, 100, &other), is_as(&lane, &before) && !other.at);
     name_some(&lane, 1000);
     name_some(&other, 2000);
-    renamer_free(&other);
+    step_some(&other, 2100);
+    before = seen_of(&other);
+    EACH_GROWTH(renamer_hand_back(&other), is_as(&other, &before));
+    before = seen_of(&lane);
+    EACH_GROWTH(renamer_join(&lane), is_as(&lane, &before));
+    before = seen_of(&lane);
+    CHECK(before.grants == 105 && before.quota == 95);
+    /* A lane that was taken and not joined for want of memory goes back with the one that took it. */
+    CHECK(renamer_split(&lane, 60, &other) == RENAMER_DONE);
+    name_some(&other, 4000);
+    CHECK(renamer_hand_back(&other) == RENAMER_DONE && renamer_split(&lane, 0, &other) == RENAMER_DONE);
+    growths_refuse(0, LONG_MAX);
+    CHECK(renamer_join(&other) == RENAMER_MEMORY && renamer_hand_back(&other) == RENAMER_MEMORY);
+    growths_refuse(0, 0);
+    CHECK(renamer_hand_back(&other) == RENAMER_DONE);
+    CHECK(renamer_join(&lane) == RENAMER_DONE && renamer_join(&lane) == RENAMER_DONE);
+    before = seen_of(&lane);
+    CHECK(before.grants == 156 && before.quota == 44);
     EACH_GROWTH(renamer_open(&lane, kind, width, 60), lane.at != NULL);
     name_some(&lane, 3000);
     before = seen_of(&lane);

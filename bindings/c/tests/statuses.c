@@ -1,6 +1,5 @@
 /*
- * Each status of each call but RENAMER_MEMORY (memory.c), RENAMER_CARRIED (carried.c) and RENAMER_STILL_WALKING, which no
- * call brings about yet. A refusal changes nothing.
+ * Each status of each call but RENAMER_MEMORY (memory.c) and RENAMER_CARRIED (carried.c). A refusal changes nothing.
  */
 #include "seen.h"
 
@@ -8,6 +7,8 @@
 static void none(renamer_lane *lane, renamer_quiet *quiet) {
     renamer_lane other = RENAMER_NO_LANE_YET;
     renamer_grant grant = {1, 2, 3, 4};
+    renamer_moved moved = {1, 2, 3, 4, 5};
+    renamer_swept swept = {1, 2, 3, 4};
     uint64_t number = 77;
     renamer_free(lane);
     renamer_free_quiet(quiet);
@@ -23,13 +24,20 @@ static void none(renamer_lane *lane, renamer_quiet *quiet) {
     CHECK(renamer_exits(lane, &number) == RENAMER_NONE);
     CHECK(renamer_grant_count(lane, &number) == RENAMER_NONE);
     CHECK(renamer_grants(lane, 0, &grant, 1) == RENAMER_NONE);
+    CHECK(renamer_enter(lane, 1, 0) == RENAMER_NONE);
+    CHECK(renamer_step(lane, 0, &moved) == RENAMER_NONE);
+    CHECK(renamer_sweep(lane, 0, &swept) == RENAMER_NONE);
+    CHECK(renamer_lowest(lane, &number) == RENAMER_NONE);
+    CHECK(renamer_hand_back(lane) == RENAMER_NONE);
+    CHECK(renamer_join(lane) == RENAMER_NONE);
     CHECK(renamer_close(lane, quiet) == RENAMER_NONE);
     CHECK(renamer_quiet_exits(quiet, &number) == RENAMER_NONE);
     CHECK(renamer_quiet_clients(quiet, &number) == RENAMER_NONE);
     CHECK(renamer_counts(quiet, &number, 1) == RENAMER_NONE);
     CHECK(renamer_holders(quiet, &number, 1) == RENAMER_NONE);
     CHECK(renamer_open_after(lane, quiet, 1) == RENAMER_NONE);
-    CHECK(number == 77 && grant.name == 4 && !lane->at && !other.at && !quiet->at);
+    CHECK(number == 77 && grant.name == 4 && moved.next == 5 && swept.clients == 4);
+    CHECK(!lane->at && !other.at && !quiet->at);
 }
 
 static void open_refuses(void) {
@@ -96,7 +104,104 @@ static void split_refuses(void) {
     renamer_free(&other);
 }
 
-/* A lane that is there still, or that was freed with some of the quota, is missed. */
+/* Wires on which no client of the lane is. */
+static void nobody_there(renamer_lane *lane, uint64_t but) {
+    static const uint64_t wires[] = {0, 1, 2, 7, 8, 15, 16, 1000, UINT32_MAX, 4294967296, 4294967297, UINT64_MAX};
+    renamer_moved moved = {1, 2, 3, 4, 5};
+    renamer_swept swept = {1, 2, 3, 4};
+    struct seen before = seen_of(lane);
+    for (size_t i = 0; i < sizeof wires / sizeof *wires; i++)
+        if (wires[i] != but) {
+            CHECK(renamer_step(lane, wires[i], &moved) == RENAMER_NOBODY_THERE && moved.next == 5);
+            CHECK(renamer_sweep(lane, wires[i], &swept) == RENAMER_NOBODY_THERE && swept.clients == 4);
+        }
+    CHECK(is_as(lane, &before));
+}
+
+/* What a lane with clients inside refuses, and that they go on by steps and sweeps. */
+static void clients_inside(void) {
+    renamer_lane lane = RENAMER_NO_LANE_YET;
+    renamer_quiet quiet = RENAMER_NO_QUIET_YET;
+    renamer_moved moved;
+    renamer_swept swept;
+    struct seen before;
+    uint64_t number = 77, holders[3];
+    CHECK(renamer_open(&lane, RENAMER_BITONIC, 2, 3) == RENAMER_DONE);
+    CHECK(renamer_lowest(&lane, &number) == RENAMER_NOBODY_THERE && number == 77);
+    nobody_there(&lane, UINT64_MAX - 1);
+    CHECK(renamer_enter(&lane, 7, 1) == RENAMER_DONE && renamer_enter(&lane, 8, 1) == RENAMER_DONE);
+    before = seen_of(&lane);
+    CHECK(before.inside == 2 && before.quota == 1 && before.entered == 2 && before.grants == 0);
+    nobody_there(&lane, 1);
+    CHECK(renamer_enter(&lane, 9, 2) == RENAMER_NO_SUCH_ENTRY && renamer_enter(&lane, 9, UINT64_MAX) == RENAMER_NO_SUCH_ENTRY);
+    CHECK(renamer_name(&lane, 9, 0, &number) == RENAMER_STILL_WALKING && number == 77);
+    CHECK(renamer_name(&lane, 9, 2, &number) == RENAMER_STILL_WALKING && number == 77);
+    CHECK(renamer_hand_back(&lane) == RENAMER_STILL_WALKING && renamer_close(&lane, &quiet) == RENAMER_STILL_WALKING);
+    CHECK(renamer_join(&lane) == RENAMER_NOTHING_BACK && is_as(&lane, &before) && !quiet.at);
+    CHECK(renamer_lowest(&lane, &number) == RENAMER_DONE && number == 1);
+    CHECK(renamer_step(&lane, 1, &moved) == RENAMER_DONE);
+    CHECK(moved.client == 7 && !moved.has_left && moved.place == 0 && moved.number == 0 && moved.next == 2);
+    CHECK(renamer_enter(&lane, 9, 1) == RENAMER_DONE && renamer_enter(&lane, 10, 0) == RENAMER_QUOTA_SPENT);
+    CHECK(renamer_sweep(&lane, 1, &swept) == RENAMER_DONE);
+    CHECK(!swept.have_left && swept.place == 0 && swept.first == 1 && swept.clients == 2);
+    CHECK(renamer_sweep(&lane, 2, &swept) == RENAMER_DONE);
+    CHECK(swept.have_left && swept.place == 0 && swept.first == 0 && swept.clients == 2);
+    CHECK(renamer_step(&lane, 3, &moved) == RENAMER_DONE);
+    CHECK(moved.client == 8 && moved.has_left && moved.place == 1 && moved.number == 0 && moved.next == 1);
+    CHECK(renamer_close(&lane, &quiet) == RENAMER_DONE && renamer_holders(&quiet, holders, 3) == RENAMER_DONE);
+    CHECK(holders[0] == 7 && holders[1] == 8 && holders[2] == 9);
+    renamer_free_quiet(&quiet);
+}
+
+/* A lane that is freed with clients inside takes them along: the floor stays open. */
+static void lost_inside(void) {
+    renamer_lane lane = RENAMER_NO_LANE_YET, other = RENAMER_NO_LANE_YET;
+    renamer_quiet quiet = RENAMER_NO_QUIET_YET;
+    CHECK(renamer_open(&lane, RENAMER_TREE, 4, 3) == RENAMER_DONE && renamer_split(&lane, 2, &other) == RENAMER_DONE);
+    CHECK(renamer_enter(&other, 7, 0) == RENAMER_DONE);
+    renamer_free(&other);
+    CHECK(renamer_join(&lane) == RENAMER_NOTHING_BACK && renamer_close(&lane, &quiet) == RENAMER_LANES_MISSING);
+    renamer_free(&lane);
+}
+
+/* As many lanes as a floor keeps are handed back, and one more. */
+static void no_place(void) {
+    static renamer_lane others[RENAMER_MOST_RETURNED + 1];
+    renamer_lane lane = RENAMER_NO_LANE_YET, *last = &others[RENAMER_MOST_RETURNED];
+    renamer_quiet quiet = RENAMER_NO_QUIET_YET;
+    struct seen before;
+    CHECK(renamer_open(&lane, RENAMER_TREE, 4, 100) == RENAMER_DONE);
+    for (int i = 0; i <= RENAMER_MOST_RETURNED; i++)
+        CHECK(renamer_split(&lane, 1, &others[i]) == RENAMER_DONE);
+    for (int i = 0; i < RENAMER_MOST_RETURNED; i++)
+        CHECK(renamer_hand_back(&others[i]) == RENAMER_DONE && !others[i].at);
+    before = seen_of(last);
+    CHECK(renamer_hand_back(last) == RENAMER_NO_PLACE && is_as(last, &before));
+    CHECK(renamer_join(&lane) == RENAMER_DONE && renamer_hand_back(last) == RENAMER_DONE);
+    for (int i = 0; i < RENAMER_MOST_RETURNED; i++)
+        CHECK(renamer_join(&lane) == RENAMER_DONE);
+    CHECK(renamer_join(&lane) == RENAMER_NOTHING_BACK && seen_of(&lane).quota == 100);
+    CHECK(renamer_close(&lane, &quiet) == RENAMER_DONE);
+    renamer_free_quiet(&quiet);
+}
+
+/* A lane goes back to its own floor, also where lanes of several are there. */
+static void two_floors(void) {
+    renamer_lane lanes[2] = {RENAMER_NO_LANE_YET, RENAMER_NO_LANE_YET}, other = RENAMER_NO_LANE_YET;
+    renamer_quiet quiet = RENAMER_NO_QUIET_YET;
+    uint64_t name;
+    for (int i = 0; i < 2; i++)
+        CHECK(renamer_open(&lanes[i], RENAMER_TREE, 4, 3) == RENAMER_DONE);
+    CHECK(renamer_split(&lanes[0], 2, &other) == RENAMER_DONE && renamer_name(&other, 7, 0, &name) == RENAMER_DONE);
+    CHECK(renamer_hand_back(&other) == RENAMER_DONE && renamer_join(&lanes[1]) == RENAMER_NOTHING_BACK);
+    CHECK(renamer_close(&lanes[1], &quiet) == RENAMER_DONE && renamer_join(&lanes[0]) == RENAMER_DONE);
+    CHECK(seen_of(&lanes[0]).quota == 2 && seen_of(&lanes[0]).last.client == 7);
+    /* The only lane of a floor, too: the floor goes with it. */
+    CHECK(renamer_hand_back(&lanes[0]) == RENAMER_DONE && !lanes[0].at);
+    renamer_free_quiet(&quiet);
+}
+
+/* A lane that is there still, or that was freed and not joined yet, is missed. */
 static void missing_lanes(void) {
     renamer_lane lane = RENAMER_NO_LANE_YET, other = RENAMER_NO_LANE_YET;
     renamer_quiet quiet = RENAMER_NO_QUIET_YET;
@@ -111,7 +216,7 @@ static void missing_lanes(void) {
     renamer_free(&other);
     before = seen_of(&lane);
     CHECK(renamer_close(&lane, &quiet) == RENAMER_LANES_MISSING && is_as(&lane, &before));
-    renamer_free(&lane);
+    CHECK(renamer_join(&lane) == RENAMER_DONE && renamer_close(&lane, &quiet) == RENAMER_DONE);
     renamer_free_quiet(&quiet);
 }
 
@@ -129,6 +234,10 @@ int main(void) {
     CHECK(renamer_open_after(&lane, &quiet, 5) == RENAMER_DONE);
     none(&lane, &quiet);
     split_refuses();
+    clients_inside();
+    lost_inside();
+    no_place();
+    two_floors();
     missing_lanes();
     return 0;
 }

@@ -24,16 +24,22 @@ pub enum Error {
     QuotaTooSmall = 8,
     /// The lane has clients inside.
     StillWalking = 9,
+    /// The lane has no client there.
+    NobodyThere = 10,
     /// Other lanes have quota, names or clients of the floor, or are there still.
     LanesMissing = 11,
+    /// No lane of the floor was handed back.
+    NothingBack = 12,
     /// A slice has the wrong size.
     Size = 13,
     /// More clients came before than [`MOST_CARRIED`](crate::MOST_CARRIED).
     Carried = 14,
+    /// As many lanes of the floor as [`MOST_RETURNED`](crate::MOST_RETURNED) were handed back, and none was joined.
+    NoPlace = 15,
 }
 
 impl Error {
-    const ALL: [Error; 10] = [
+    const ALL: [Error; 13] = [
         Error::Memory,
         Error::Width,
         Error::Quota,
@@ -41,9 +47,12 @@ impl Error {
         Error::QuotaSpent,
         Error::QuotaTooSmall,
         Error::StillWalking,
+        Error::NobodyThere,
         Error::LanesMissing,
+        Error::NothingBack,
         Error::Size,
         Error::Carried,
+        Error::NoPlace,
     ];
 
     /// The error with this number.
@@ -62,9 +71,12 @@ impl fmt::Display for Error {
             Error::QuotaSpent => "the quota of the lane is spent",
             Error::QuotaTooSmall => "there is less quota than is to be split off",
             Error::StillWalking => "the lane has clients inside",
+            Error::NobodyThere => "no client of the lane is there",
             Error::LanesMissing => "lanes of the floor are missing",
+            Error::NothingBack => "no lane was handed back",
             Error::Size => "a slice has the wrong size",
             Error::Carried => "too many clients came before",
+            Error::NoPlace => "there is no place for a lane that is handed back",
         })
     }
 }

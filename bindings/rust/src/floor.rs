@@ -1,6 +1,6 @@
 //! A floor, open and closed.
 use crate::raw::{RawLane, RawQuiet};
-use crate::{Error, Lane};
+use crate::{Error, Lane, Refused};
 use std::fmt;
 use std::sync::{Mutex, MutexGuard, PoisonError};
 
@@ -93,6 +93,31 @@ impl Floor {
     /// How many clients came in by all lanes, as far as is known here, and never more than did.
     pub fn entered(&self) -> u64 {
         self.rest().entered()
+    }
+
+    /// Closes the floor, once all lanes of it are handed back or dropped: takes them in, and ends the floor. If one is missing
+    /// still, or the system gives no memory, the rest of the floor is given back as a lane.
+    ///
+    /// ```
+    /// use renamer::{Error, Floor, Kind};
+    ///
+    /// let floor = Floor::open(Kind::Bitonic, 4, 200)?;
+    /// let name_100 = |first| floor.lane(100).and_then(|mut lane| (first..first + 100).try_for_each(|c| lane.name(c, 0).map(drop)));
+    /// std::thread::scope(|scope| {
+    ///     let other = scope.spawn(|| name_100(0));
+    ///     name_100(100).and(other.join().unwrap())
+    /// })?;
+    /// let mut holders = floor.close()?.holders();
+    /// holders.sort();
+    /// assert!(holders.into_iter().eq(0..200));
+    /// # Ok::<(), Error>(())
+    /// ```
+    pub fn close(self) -> Result<Quiet, Refused<Lane>> {
+        let mut lane = self.into_lane();
+        match lane.join_all() {
+            Ok(()) => lane.close(),
+            Err(error) => Err(Refused { error, value: lane }),
+        }
     }
 
     /// What no lane has, as a lane.

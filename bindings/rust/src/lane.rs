@@ -1,6 +1,6 @@
 //! A lane: a thread's own part of a floor.
 use crate::raw::RawLane;
-use crate::{Error, Quiet, Refused};
+use crate::{Error, Moved, Quiet, Refused, Swept};
 use std::fmt;
 
 /// A client that got its name.
@@ -19,8 +19,9 @@ pub struct Grant {
 
 /// A thread's own part of a [`Floor`](crate::Floor): it lets clients in and gives them their names.
 ///
-/// A lane can be sent to another thread. The floor lives as long as a lane of it. A lane that is dropped takes its
-/// quota and its names with it, and then the floor cannot be closed any more; the names of other lanes stay as good as
+/// A lane can be sent to another thread. The floor lives as long as a lane of it. A lane that is dropped is handed back
+/// to its floor, and another lane can take it in by [`Lane::join`]. If that cannot be done, as with clients inside, its quota and
+/// its names are lost with it, and then the floor cannot be closed any more; the names of other lanes stay as good as
 /// they were.
 ///
 /// Threads cannot share a lane:
@@ -56,8 +57,60 @@ impl Lane {
         Ok(Lane { raw: self.raw.split(quota)? })
     }
 
-    /// Closes the floor. The lane must have all of it: if other lanes have some of the quota or names, or are there still, the
-    /// lane is given back.
+    /// Hands the lane back to its floor, as a drop does, and says if it cannot be done: then the lane is given back.
+    ///
+    /// ```
+    /// use renamer::{Error, Floor, Kind};
+    ///
+    /// let mut lane = Floor::open(Kind::Tree, 2, 2)?.into_lane();
+    /// let mut other = lane.split(1)?;
+    /// other.enter(17, 0)?;
+    /// let refused = other.hand_back().unwrap_err();
+    /// assert_eq!(refused.error, Error::StillWalking);
+    /// # Ok::<(), Error>(())
+    /// ```
+    pub fn hand_back(mut self) -> Result<(), Refused<Lane>> {
+        match self.raw.hand_back() {
+            Ok(()) => Ok(()),
+            Err(error) => Err(Refused { error, value: self }),
+        }
+    }
+
+    /// Takes in one lane of the same floor that was handed back: its quota is added, and its grants come after this
+    /// lane's own. Which of several, is not said.
+    ///
+    /// ```
+    /// use renamer::{Error, Floor, Kind};
+    ///
+    /// let mut lane = Floor::open(Kind::Tree, 2, 2)?.into_lane();
+    /// let mut other = lane.split(2)?;
+    /// other.name(17, 0)?;
+    /// assert_eq!(lane.join(), Err(Error::NothingBack));
+    /// drop(other);
+    /// lane.join()?;
+    /// assert_eq!(lane.quota(), 1);
+    /// assert_eq!(lane.close()?.holders(), [17]);
+    /// # Ok::<(), Error>(())
+    /// ```
+    pub fn join(&mut self) -> Result<(), Error> {
+        self.raw.join()
+    }
+
+    /// Takes in all lanes of the same floor that were handed back.
+    ///
+    /// If the system gives no memory for one, those before it are taken in; it can be called again.
+    pub fn join_all(&mut self) -> Result<(), Error> {
+        loop {
+            match self.join() {
+                Ok(()) => {}
+                Err(Error::NothingBack) => return Ok(()),
+                Err(error) => return Err(error),
+            }
+        }
+    }
+
+    /// Closes the floor. The lane must have all of it: if other lanes have some of the quota or names, or are there still,
+    /// or were handed back and not joined, the lane is given back.
     ///
     /// ```
     /// use renamer::{Error, Floor, Kind};
@@ -82,6 +135,47 @@ impl Lane {
     /// Makes room for so many clients more, at most 1,048,576: they come in and get their names without further memory.
     pub fn reserve(&mut self, clients: u64) -> Result<(), Error> {
         self.raw.reserve(clients)
+    }
+
+    /// Lets a client in by an entry: it stands last on the wire with the entry's number. Then it goes on by [`Lane::step`] and
+    /// [`Lane::sweep`].
+    ///
+    /// Wires have numbers: wire i begins at entry i, and each other one at a balancer, with a greater number than the wires
+    /// that end there. So sweeping the lowest wire again and again lets all out.
+    ///
+    /// ```
+    /// use renamer::{Error, Floor, Kind, Moved};
+    ///
+    /// let mut lane = Floor::open(Kind::Tree, 2, 3)?.into_lane();
+    /// for client in [17, 5, 99] {
+    ///     lane.enter(client, 0)?;
+    /// }
+    /// assert!(matches!(lane.step(0)?, Moved::On { client: 17, number: 0, .. }));
+    /// while let Ok(wire) = lane.lowest() {
+    ///     lane.sweep(wire)?;
+    /// }
+    /// assert_eq!(lane.step(0), Err(Error::NobodyThere));
+    /// assert_eq!(lane.close()?.holders(), [17, 5, 99]);
+    /// # Ok::<(), Error>(())
+    /// ```
+    pub fn enter(&mut self, client: u64, entry: u64) -> Result<(), Error> {
+        self.raw.enter(client, entry)
+    }
+
+    /// Lets the lane's first client on a wire go by the wire's end, through a balancer or out with its name.
+    pub fn step(&mut self, wire: u64) -> Result<Moved, Error> {
+        self.raw.step(wire)
+    }
+
+    /// Lets all of the lane's clients on a wire go by the wire's end, by one atomic add. If they left, the lane's last
+    /// grants are theirs, in their order.
+    pub fn sweep(&mut self, wire: u64) -> Result<Swept, Error> {
+        self.raw.sweep(wire)
+    }
+
+    /// The least wire on which a client of the lane stands; `NobodyThere` if nobody of the lane is inside.
+    pub fn lowest(&self) -> Result<u64, Error> {
+        self.raw.lowest()
     }
 
     /// How many clients came in by all lanes, as far as this one can know: more than each name that it was given, and

@@ -2,8 +2,8 @@
 //!
 //! A [`Floor`] is a counting network on atomic words. Each thread has a [`Lane`] of it, and names clients by that
 //! without a lock: no two clients of a floor get the same name, and each name is below the number of clients that came
-//! in. So a name is an index into a table, a pool or an array. A lane that has all of its floor
-//! closes it, and the [`Quiet`] says who has which name.
+//! in. So a name is an index into a table, a pool or an array. When the
+//! threads have ended one lane takes the others in and closes the floor, and the [`Quiet`] says who has which name.
 //!
 //! ```
 //! use renamer::{Floor, Kind};
@@ -28,16 +28,21 @@ mod error;
 mod floor;
 mod lane;
 mod raw;
+mod steps;
 
 pub use error::{Error, Refused};
 pub use floor::{Floor, Kind, Quiet};
 pub use lane::{Grant, Lane};
+pub use steps::{Moved, Place, Swept};
 
 /// How many clients a floor lets in at most.
 pub const MOST_CLIENTS: u64 = 262_144;
 
 /// How many clients may have come in before a floor that goes on from others.
 pub const MOST_CARRIED: u64 = 2_147_483_648;
+
+/// How many lanes of a floor may be handed back and not joined yet.
+pub const MOST_RETURNED: u64 = 64;
 
 /// The version of the library: major * 1,000,000 + minor * 1,000 + patch.
 pub fn version() -> u32 {

@@ -5,7 +5,7 @@
 //! a cell, and a handle lies in a cell that is not `Sync`, so that one thread at a time can reach it.
 #![allow(unsafe_code)]
 
-use crate::{Error, Grant};
+use crate::{Error, Grant, Moved, Place, Swept};
 use std::cell::UnsafeCell;
 use std::ffi::c_void;
 use std::ptr::null_mut;
@@ -16,6 +16,27 @@ struct Handle {
     at: *mut c_void,
 }
 
+/// A step of a client, as the library writes it.
+#[repr(C)]
+#[derive(Default)]
+struct RawMoved {
+    client: u64,
+    has_left: u64,
+    place: u64,
+    number: u64,
+    next: u64,
+}
+
+/// A sweep, as the library writes it.
+#[repr(C)]
+#[derive(Default)]
+struct RawSwept {
+    have_left: u64,
+    place: u64,
+    first: u64,
+    clients: u64,
+}
+
 #[rustfmt::skip]
 extern "C" {
     fn renamer_version() -> u32;
@@ -23,6 +44,10 @@ extern "C" {
     fn renamer_split(lane: *mut Handle, quota: u64, other: *mut Handle) -> u32;
     fn renamer_reserve(lane: *mut Handle, clients: u64) -> u32;
     fn renamer_name(lane: *mut Handle, client: u64, entry: u64, name: *mut u64) -> u32;
+    fn renamer_enter(lane: *mut Handle, client: u64, entry: u64) -> u32;
+    fn renamer_step(lane: *mut Handle, wire: u64, moved: *mut RawMoved) -> u32;
+    fn renamer_sweep(lane: *mut Handle, wire: u64, swept: *mut RawSwept) -> u32;
+    fn renamer_lowest(lane: *mut Handle, wire: *mut u64) -> u32;
     fn renamer_entered(lane: *mut Handle, entered: *mut u64) -> u32;
     fn renamer_quota(lane: *mut Handle, quota: *mut u64) -> u32;
     fn renamer_inside(lane: *mut Handle, inside: *mut u64) -> u32;
@@ -30,6 +55,8 @@ extern "C" {
     fn renamer_exits(lane: *mut Handle, exits: *mut u64) -> u32;
     fn renamer_grant_count(lane: *mut Handle, count: *mut u64) -> u32;
     fn renamer_grants(lane: *mut Handle, first: u64, grants: *mut Grant, size: usize) -> u32;
+    fn renamer_hand_back(lane: *mut Handle) -> u32;
+    fn renamer_join(lane: *mut Handle) -> u32;
     fn renamer_close(lane: *mut Handle, quiet: *mut Handle) -> u32;
     fn renamer_quiet_exits(quiet: *mut Handle, exits: *mut u64) -> u32;
     fn renamer_quiet_clients(quiet: *mut Handle, clients: *mut u64) -> u32;
@@ -100,6 +127,37 @@ impl RawLane {
         Ok(name)
     }
 
+    pub(crate) fn enter(&mut self, client: u64, entry: u64) -> Result<(), Error> {
+        // SAFETY: `&mut` is the only way to the handle.
+        done(unsafe { renamer_enter(self.0.get_mut(), client, entry) })
+    }
+
+    pub(crate) fn step(&mut self, wire: u64) -> Result<Moved, Error> {
+        let mut moved = RawMoved::default();
+        // SAFETY: `&mut` is the only way to the handle, and what is written is a variable of its own.
+        done(unsafe { renamer_step(self.0.get_mut(), wire, &mut moved) })?;
+        let RawMoved { client, has_left, place, number, next } = moved;
+        Ok(match Place::of(has_left == 1, place) {
+            Place::Balancer(balancer) => Moved::On { client, balancer, number, wire: next },
+            Place::Exit(exit) => Moved::Out { client, exit, visit: number, name: next },
+        })
+    }
+
+    pub(crate) fn sweep(&mut self, wire: u64) -> Result<Swept, Error> {
+        let mut swept = RawSwept::default();
+        // SAFETY: as for a step.
+        done(unsafe { renamer_sweep(self.0.get_mut(), wire, &mut swept) })?;
+        let RawSwept { have_left, place, first, clients } = swept;
+        Ok(Swept { place: Place::of(have_left == 1, place), first, clients })
+    }
+
+    pub(crate) fn lowest(&self) -> Result<u64, Error> {
+        let mut wire = 0;
+        // SAFETY: the number lies apart from the handle, whose cell is not `Sync`, so no other thread has it.
+        done(unsafe { renamer_lowest(self.0.get(), &mut wire) })?;
+        Ok(wire)
+    }
+
     pub(crate) fn entered(&self) -> u64 {
         number(renamer_entered, &self.0)
     }
@@ -127,6 +185,17 @@ impl RawLane {
     pub(crate) fn grants(&self, first: u64, grants: &mut [Grant]) -> Result<(), Error> {
         // SAFETY: the array is a slice of this size; the cell is not `Sync`, so no other thread has the handle.
         done(unsafe { renamer_grants(self.0.get(), first, grants.as_mut_ptr(), grants.len()) })
+    }
+
+    /// Hands the lane back: it is none then.
+    pub(crate) fn hand_back(&mut self) -> Result<(), Error> {
+        // SAFETY: `&mut` is the only way to the handle.
+        done(unsafe { renamer_hand_back(self.0.get_mut()) })
+    }
+
+    pub(crate) fn join(&mut self) -> Result<(), Error> {
+        // SAFETY: `&mut` is the only way to the handle.
+        done(unsafe { renamer_join(self.0.get_mut()) })
     }
 
     /// Closes the floor: the lane is none then.

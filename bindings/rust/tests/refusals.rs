@@ -39,13 +39,62 @@ fn clients_that_do_not_come_in() {
 }
 
 #[test]
-fn a_lane_that_is_dropped_is_missed() {
+fn a_lane_that_is_dropped_is_missed_until_it_is_joined() {
     let floor = floor(2);
-    drop(floor.lane(1).unwrap());
+    let mut other = floor.lane(1).unwrap();
+    assert_eq!(other.name(7, 0), Ok(0));
+    drop(other);
     let refused = floor.into_lane().close().unwrap_err();
     assert_eq!(refused.error, Error::LanesMissing);
     assert_eq!(refused.to_string(), "lanes of the floor are missing");
-    assert_eq!(refused.value.quota(), 1);
+    let mut lane = refused.value;
+    assert_eq!(lane.quota(), 1);
+    assert_eq!(lane.join(), Ok(()));
+    assert_eq!(lane.join(), Err(Error::NothingBack));
+    assert_eq!(lane.close().unwrap().holders(), [7]);
+}
+
+#[test]
+fn a_lane_with_clients_inside_is_not_handed_back_and_its_floor_not_closed() {
+    let floor = floor(3);
+    let mut lane = floor.lane(2).unwrap();
+    lane.enter(7, 3).unwrap();
+    assert_eq!(lane.name(8, 0), Err(Error::StillWalking));
+    let lane = lane.hand_back().unwrap_err();
+    assert_eq!((lane.error, lane.value.inside()), (Error::StillWalking, 1));
+    let lane = lane.value.close().unwrap_err();
+    assert_eq!((lane.error, lane.value.lowest()), (Error::StillWalking, Ok(3)));
+    drop(lane);
+    assert_eq!(floor.close().unwrap_err().error, Error::LanesMissing);
+}
+
+#[test]
+fn steps_where_nobody_is() {
+    let mut lane = floor(2).into_lane();
+    assert_eq!(lane.lowest(), Err(Error::NobodyThere));
+    assert_eq!(lane.enter(7, 4), Err(Error::NoSuchEntry));
+    lane.enter(7, 1).unwrap();
+    for wire in [0, 2, 1_000, u64::MAX] {
+        assert_eq!(lane.step(wire), Err(Error::NobodyThere));
+        assert_eq!(lane.sweep(wire), Err(Error::NobodyThere));
+    }
+    lane.enter(8, 1).unwrap();
+    assert_eq!(lane.enter(9, 1), Err(Error::QuotaSpent));
+    assert_eq!((lane.inside(), lane.lowest()), (2, Ok(1)));
+}
+
+#[test]
+fn lanes_that_find_no_place() {
+    let mut lane = floor(9).into_lane();
+    let mut others: Vec<Lane> = (0..=renamer::MOST_RETURNED).map(|_| lane.split(0).unwrap()).collect();
+    let last = others.pop().unwrap();
+    drop(others);
+    let refused = last.hand_back().unwrap_err();
+    assert_eq!(refused.error, Error::NoPlace);
+    lane.join().unwrap();
+    refused.value.hand_back().unwrap();
+    lane.join_all().unwrap();
+    assert_eq!((lane.quota(), lane.close().is_ok()), (9, true));
 }
 
 #[test]

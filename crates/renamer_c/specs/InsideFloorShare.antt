@@ -7,7 +7,7 @@ use Rattle.renamer_c.specs.declared.floor_share.FloorShare.TheInside.{Inside}
 
 abbrev pub owned_by : Owners → FloorValue
 owned_by (One floor) = floor
-owned_by (Many floor) = arc_value floor
+owned_by (Many group) = arc_value group
 
 abbrev pub floor_of : Inside → FloorValue
 floor_of s = owned_by s.owners

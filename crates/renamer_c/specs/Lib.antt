@@ -2,9 +2,13 @@ pub mod Calls
 pub mod Handles
 pub mod Holding
 pub mod InsideFloorShare
+pub mod InsideGroup
 pub mod InsideHeldLane
 pub mod InsideRecord
+pub mod Moves
 pub mod Questions
 pub mod Records
 pub mod Refusals
+pub mod Returns
 pub mod Statuses
+pub mod Sweepings

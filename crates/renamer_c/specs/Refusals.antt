@@ -1,14 +1,16 @@
 -- Why calls are refused.
-use Rattle.std.specs.Prelude.{◌≡◌, ℕ, ◌+◌, ◌<◌, ◌≤◌, Option, None, Some, ⊤, length}
+use Rattle.std.specs.Prelude.{◌≡◌, ◌≢◌, ℕ, ◌+◌, ◌<◌, ◌≤◌, Option, None, Some, ⊤, length}
 use Rattle.cn_spec.specs.declared.limits.TheConstants.{MOST_CARRIED, MOST_CLIENTS}
 use Rattle.cn_wiring.specs.Widths.{IsWidth}
-use Rattle.cn_yard.specs.Lists.{tokens_in}
+use Rattle.cn_yard.specs.Lists.{on, tokens_in}
 use Rattle.cn_floor.specs.Carried.{client_count}
 use Rattle.cn_floor.specs.Lane.{LaneValue}
-use Rattle.renamer_c.specs.Records.{RecordValue}
+use Rattle.renamer_c.specs.Records.{RecordValue, list_of}
+use Rattle.renamer_c.specs.Returns.{IsBack}
 use Rattle.renamer_c.specs.Statuses.{status_of}
+use Rattle.renamer_c.specs.declared.record_of_floor.Listed.{Listed}
 use Rattle.renamer_c.specs.declared.refusal.Refusal.{Refusal}
-use Rattle.renamer_c.specs.declared.refusal.Refusal.TheVariants.{Nothing, Memory, Kind, Width, Quota, NoSuchEntry, QuotaSpent, QuotaTooSmall, StillWalking, LanesMissing, Size, Carried}
+use Rattle.renamer_c.specs.declared.refusal.Refusal.TheVariants.{Nothing, Memory, Kind, Width, Quota, NoSuchEntry, QuotaSpent, QuotaTooSmall, StillWalking, NobodyThere, LanesMissing, NothingBack, Size, Carried, NoPlace}
 
 -- a status that is one of these refusals
 abbrev pub IsRefusal : (Refusal → Type 0) → ℕ → Type 0
@@ -46,11 +48,46 @@ NotNamed lane entry QuotaSpent = WithLane lane (λ l. l.view.quota ≡ 0)
 NotNamed lane entry Memory = WithLane lane (λ l. l.room ≡ 0)
 NotNamed lane entry r = ⊥
 
+-- why a client is not let in
+abbrev pub NotEntered : Option LaneValue → ℕ → Refusal → Type 0
+NotEntered lane entry Nothing = lane ≡ None
+NotEntered lane entry NoSuchEntry = WithLane lane (λ l. l.home.start.network.table.entries ≤ entry)
+NotEntered lane entry QuotaSpent = WithLane lane (λ l. l.view.quota ≡ 0)
+NotEntered lane entry Memory = WithLane lane (λ l. l.room ≡ 0)
+NotEntered lane entry r = ⊥
+
+-- why nobody goes by the end of a wire
+abbrev pub NobodyOn : Option LaneValue → ℕ → Refusal → Type 0
+NobodyOn lane wire Nothing = lane ≡ None
+NobodyOn lane wire NobodyThere = WithLane lane (λ l. length (on l.yard.lists wire) ≡ 0)
+NobodyOn lane wire r = ⊥
+
+-- why no wire is the lowest with a client
+abbrev pub NobodyInside : Option LaneValue → Refusal → Type 0
+NobodyInside lane Nothing = lane ≡ None
+NobodyInside lane NobodyThere = WithLane lane (λ l. tokens_in l.yard.lists ≡ 0)
+NobodyInside lane r = ⊥
+
 -- why a lane gets no more room
 abbrev pub NotReserved : Option LaneValue → Refusal → Type 0
 NotReserved lane Nothing = lane ≡ None
 NotReserved lane Memory = WithLane lane (λ l. ⊤)
 NotReserved lane r = ⊥
+
+-- why a lane is not handed back
+abbrev pub NotHandedBack : Option LaneValue → Refusal → Type 0
+NotHandedBack lane Nothing = lane ≡ None
+NotHandedBack lane StillWalking = WithLane lane (λ l. 0 < tokens_in l.yard.lists)
+NotHandedBack lane Memory = WithLane lane (λ l. tokens_in l.yard.lists ≡ 0)
+NotHandedBack lane NoPlace = WithLane lane (λ l. tokens_in l.yard.lists ≡ 0)
+NotHandedBack lane r = ⊥
+
+-- why no lane is taken in: none was handed back, or one that was has more grants than there is room for
+abbrev pub NotJoined : Option LaneValue → Refusal → Type 0
+NotJoined lane Nothing = lane ≡ None
+NotJoined lane NothingBack = WithLane lane (λ l. ⊤)
+NotJoined lane Memory = WithLane lane (λ l. (m : LaneValue) × IsBack l.home m × (l.room < length m.view.grants))
+NotJoined lane r = ⊥
 
 -- why a floor is not closed
 abbrev pub NotClosed : Option LaneValue → Refusal → Type 0
@@ -74,8 +111,14 @@ abbrev pub NotThere : {A : Type 0} → Option A → Refusal → Type 0
 NotThere there Nothing = there ≡ None
 NotThere there r = ⊥
 
--- why a list is not copied
-abbrev pub NotCopied : {A : Type 0} → Option A → Refusal → Type 0
-NotCopied there Nothing = there ≡ None
-NotCopied there Size = ⊤
-NotCopied there r = ⊥
+-- why a list of the record of a closed floor is not copied: it has another size
+abbrev pub NotCopied : Option RecordValue → Listed → ℕ → Refusal → Type 0
+NotCopied closed listed size Nothing = closed ≡ None
+NotCopied closed listed size Size = WithRecord closed (λ r. length (list_of listed r) ≢ size)
+NotCopied closed listed size r = ⊥
+
+-- why no grants are copied, so many from this one on: there are fewer
+abbrev pub NotGranted : Option LaneValue → ℕ → ℕ → Refusal → Type 0
+NotGranted lane first size Nothing = lane ≡ None
+NotGranted lane first size Size = WithLane lane (λ l. length l.view.grants < first + size)
+NotGranted lane first size r = ⊥

@@ -1,7 +1,7 @@
 -- The statuses of refused calls.
 use Rattle.std.specs.Prelude.{ℕ}
 use Rattle.renamer_c.specs.declared.refusal.Refusal.{Refusal}
-use Rattle.renamer_c.specs.declared.refusal.Refusal.TheVariants.{Nothing, Memory, Kind, Width, Quota, NoSuchEntry, QuotaSpent, QuotaTooSmall, StillWalking, NobodyThere, LanesMissing, OtherFloor, Size, Carried}
+use Rattle.renamer_c.specs.declared.refusal.Refusal.TheVariants.{Nothing, Memory, Kind, Width, Quota, NoSuchEntry, QuotaSpent, QuotaTooSmall, StillWalking, NobodyThere, LanesMissing, NothingBack, Size, Carried, NoPlace}
 
 abbrev pub status_of : Refusal → ℕ
 status_of Nothing = 1
@@ -15,6 +15,7 @@ status_of QuotaTooSmall = 8
 status_of StillWalking = 9
 status_of NobodyThere = 10
 status_of LanesMissing = 11
-status_of OtherFloor = 12
+status_of NothingBack = 12
 status_of Size = 13
 status_of Carried = 14
+status_of NoPlace = 15

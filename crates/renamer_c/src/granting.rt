@@ -3,7 +3,7 @@
 ghost use Rattle.std.specs.Prelude.{◌≡◌, ◌+◌, ◌<◌, ◌≤◌, length, IfErr, OnErr, OnOk};
 ghost use Rattle.renamer_c.specs.Handles.{lane_in, lane_of};
 ghost use Rattle.renamer_c.specs.Questions.{AreGrantsFrom, copy_of};
-ghost use Rattle.renamer_c.specs.Refusals.{IsRefusal, NotCopied, WithLane};
+ghost use Rattle.renamer_c.specs.Refusals.{IsRefusal, NotGranted, WithLane};
 ghost use Rattle.renamer_c.specs.declared.refusal.TheConstants.{DONE};
 
 use crate::handle::Handle;
@@ -55,7 +55,7 @@ fn copy_from(grants: &[cn_floor::Grant], first: usize, copies: &mut [Grant])
 fn copy(held: &Held, first: u64, copies: &mut [Grant]) -> Result<(), Refusal>
     ensures ok { OnOk result (WithLane (lane_of held.now) (λ l. AreGrantsFrom l.view.grants first copies.new)) }
     ensures err { OnErr result (copies.new ≡ copies.old) }
-    ensures refused { IfErr result (NotCopied (lane_of held.now)) }
+    ensures refused { IfErr result (NotGranted (lane_of held.now) first (length copies.old)) }
 {
     let grants = match held.lane() {
         Ok(lane) => lane.lane().grants(),
@@ -80,7 +80,8 @@ pub extern "C" fn renamer_grants(
         → WithLane (lane_in lane.old.held) (λ l. AreGrantsFrom l.view.grants first grants.new) }
     ensures lane { lane.new.held ≡ lane.old.held }
     ensures kept { 0 < result → grants.new ≡ grants.old }
-    ensures refused { 0 < result → IsRefusal (NotCopied (lane_in lane.old.held)) result }
+    ensures refused { 0 < result
+        → IsRefusal (NotGranted (lane_in lane.old.held) first (length grants.old)) result }
 {
     let held = match lane.take(alloc) {
         Ok(held) => held,

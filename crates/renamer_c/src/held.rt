@@ -1,5 +1,8 @@
 //! What a handle has.
 
+mod returning;
+mod stepping;
+
 ghost use Rattle.std.specs.Prelude.{◌≡◌, Some, IfErr, IfOk, OnErr, OnOk};
 ghost use Rattle.renamer_c.specs.Calls.{Answers, Closes, Names, Reserves, Splits};
 ghost use Rattle.renamer_c.specs.Handles.{lane_of, record_of};

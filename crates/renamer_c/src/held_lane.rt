@@ -1,35 +1,38 @@
 //! A lane with its share of its floor.
 
-ghost use Rattle.std.specs.Prelude.{◌≡◌, ◌+◌, ◌≤◌, Some, length, IfErr, IfOk, IsTrue, OnErr, OnOk};
+mod closing;
+mod returning;
+mod stepping;
+
+ghost use Rattle.std.specs.Prelude.{◌≡◌, ◌≤◌, Some, IfErr, IfOk, OnErr, OnOk};
 ghost use Rattle.cn_spec.specs.declared.limits.TheConstants.{MOST_CARRIED, MOST_CLIENTS};
-ghost use Rattle.cn_yard.specs.Lists.{tokens_in};
 ghost use Rattle.cn_floor.specs.Carried.{client_count, start_after};
 ghost use Rattle.cn_floor.specs.Lane.{empty_lane, with_room};
 ghost use Rattle.cn_floor.specs.Named.{IsNamed};
 ghost use Rattle.cn_floor.specs.Steps.{HasMoment, IsAnswer};
 ghost use Rattle.cn_floor.specs.Views.{after_entered};
-ghost use Rattle.renamer_c.specs.Calls.{IsClosedBy, IsOpened, IsSplit};
+ghost use Rattle.renamer_c.specs.Calls.{IsOpened, IsSplit};
 ghost use Rattle.renamer_c.specs.Questions.{answer_to};
-ghost use Rattle.renamer_c.specs.Refusals.{NotClosed, NotNamed, NotReserved};
+ghost use Rattle.renamer_c.specs.Refusals.{NotNamed, NotReserved};
 
 use crate::floor_share::FloorShare;
 use crate::question::Question;
-use crate::record_of_floor::Record;
 use crate::refusal::Refusal;
-use cn_floor::{CloseFault, Floor, Lane, LaneFault, Words};
+use cn_floor::{Floor, Lane, LaneFault, Words};
 use cn_spec::limits::MOST_ROOM;
 use cn_wiring::Counting;
 use std::alloc::Global;
 use std::marker::Model;
 use std::sync::Arc;
 
-/// A lane with its share of its floor. To contracts it is the lane.
-#[derive(Drop)]
+/// A lane with its share of its floor. To contracts it is the lane. It is handed back where it is dropped.
 pub(crate) struct HeldLane {
     floor: FloorShare,
     lane: Lane,
     /// How many clients the floor may let in.
     most: u64,
+    /// A lane that was handed back and taken, and not joined for want of memory.
+    spare: Option<Lane>,
 }
 
 impl Model for HeldLane {
@@ -62,6 +65,7 @@ impl HeldLane {
                 floor: FloorShare::of(floor),
                 lane,
                 most: quota,
+                spare: None,
             }),
             Err(_) => Err(Refusal::Memory),
         }
@@ -100,20 +104,37 @@ impl HeldLane {
             floor,
             mut lane,
             most,
+            spare,
         } = self;
         match floor.split(alloc) {
             Ok((floor, other_floor)) => match floor.floor().split_off(&mut lane, quota) {
                 Ok(other) => Ok((
-                    HeldLane { floor, lane, most },
+                    HeldLane {
+                        floor,
+                        lane,
+                        most,
+                        spare,
+                    },
                     HeldLane {
                         floor: other_floor,
                         lane: other,
                         most,
+                        spare: None,
                     },
                 )),
-                Err(_) => Err(HeldLane { floor, lane, most }),
+                Err(_) => Err(HeldLane {
+                    floor,
+                    lane,
+                    most,
+                    spare,
+                }),
             },
-            Err(floor) => Err(HeldLane { floor, lane, most }),
+            Err(floor) => Err(HeldLane {
+                floor,
+                lane,
+                most,
+                spare,
+            }),
         }
     }
 
@@ -184,71 +205,28 @@ impl HeldLane {
                 floor: FloorShare::of(floor),
                 lane,
                 most: quota,
+                spare: None,
             }),
             Err(_) => Err(Refusal::Memory),
         }
     }
 
-    /// Whether the lane has all of the floor's quota, spent or not.
-    fn has_all(&self) -> bool
-        ensures { IsTrue result → self.now.view.quota + length self.now.view.grants ≡ self.now.home.start.quota }
-    {
-        let granted = self.lane.grants().len() as u64;
-        granted <= self.most && self.lane.quota() == self.most - granted
+    /// Lets the lane go, and what it has of its floor.
+    fn let_go(self) {
+        let HeldLane {
+            floor: _floor,
+            lane: _lane,
+            most: _most,
+            spare: _spare,
+        } = self;
     }
+}
 
-    /// Closes the floor, for its record in these lists.
-    ///
-    /// # Errors
-    /// `LanesMissing` if other lanes are there, and `Memory`, with the lane as it was.
-    fn close_into(self, counts: Vec<u64>, holders: Vec<u64>) -> Result<Record, (Refusal, HeldLane)>
-        requires out { tokens_in self.yard.lists ≡ 0 }
-        requires all { self.view.quota + length self.view.grants ≡ self.home.start.quota }
-        requires counts { length counts.items ≡ self.home.start.network.table.width }
-        requires holders { length holders.items ≡ length self.view.grants }
-        ensures ok { IfOk result (IsClosedBy self) }
-        ensures err { IfErr result (λ r. r.1 ≡ self) }
-        ensures refused { IfErr result (λ r. NotClosed (Some self) r.0) }
-    {
-        let HeldLane { floor, lane, most } = self;
-        let floor = match floor.into_floor() {
-            Ok(floor) => floor,
-            Err(floor) => return Err((Refusal::LanesMissing, HeldLane { floor, lane, most })),
-        };
-        match floor.close(lane) {
-            Ok(quiet) => {
-                quiet.quiet_laws();
-                Ok(Record::of(quiet, counts, holders))
-            }
-            Err(CloseFault::StillWalking(floor, lane) | CloseFault::Memory(floor, lane)) => {
-                let floor = FloorShare::of(floor);
-                Err((Refusal::Memory, HeldLane { floor, lane, most }))
-            }
-            Err(CloseFault::LanesMissing { .. }) => unreachable!(),
-        }
-    }
-
-    /// Closes the floor.
-    ///
-    /// # Errors
-    /// The first that stands, with the lane as it was: `StillWalking`, `LanesMissing`, `Memory`.
-    pub(crate) fn close(self, alloc: Global) -> Result<Record, (Refusal, HeldLane)>
-        ensures ok { IfOk result (IsClosedBy self) }
-        ensures err { IfErr result (λ r. r.1 ≡ self) }
-        ensures refused { IfErr result (λ r. NotClosed (Some self) r.0) }
-    {
-        if self.lane.inside() != 0 {
-            return Err((Refusal::StillWalking, self));
-        }
-        if !self.has_all() {
-            return Err((Refusal::LanesMissing, self));
-        }
-        let width = self.floor.floor().network().width() as usize;
-        let counts = Vec::from_elem(alloc, 0u64, width);
-        let holders = Vec::from_elem(alloc, 0u64, self.lane.grants().len());
-        match (counts, holders) {
-            (Ok(counts), Ok(holders)) => self.close_into(counts, holders),
-            _ => Err((Refusal::Memory, self)),
+impl Drop for HeldLane {
+    /// Hands the lane back if it can, so that the floor can be closed without it.
+    fn drop(self) {
+        if let Err((_, lane)) = self.hand_back() {
+            lane.let_go();
         }
     }
 }

@@ -56,7 +56,7 @@ fn ask_size(alloc: Global, quiet: &mut Handle, listed: Listed, size: &mut u64) -
 fn copy(held: &Held, listed: Listed, to: &mut [u64]) -> Result<(), Refusal>
     ensures ok { OnOk result (WithRecord (record_of held.now) (λ r. to.new ≡ list_of listed r)) }
     ensures err { OnErr result (to.new ≡ to.old) }
-    ensures refused { IfErr result (NotCopied (record_of held.now)) }
+    ensures refused { IfErr result (NotCopied (record_of held.now) listed (length to.old)) }
 {
     let list = match held.record() {
         Ok(closed) => closed.list(listed),
@@ -75,7 +75,8 @@ fn ask_list(alloc: Global, quiet: &mut Handle, listed: Listed, to: &mut [u64]) -
         → WithRecord (record_in quiet.old.held) (λ r. to.new ≡ list_of listed r) }
     ensures quiet { quiet.new.held ≡ quiet.old.held }
     ensures kept { 0 < result → to.new ≡ to.old }
-    ensures refused { 0 < result → IsRefusal (NotCopied (record_in quiet.old.held)) result }
+    ensures refused { 0 < result
+        → IsRefusal (NotCopied (record_in quiet.old.held) listed (length to.old)) result }
 {
     let held = match quiet.take(alloc) {
         Ok(held) => held,
@@ -120,7 +121,8 @@ pub extern "C" fn renamer_counts(alloc: Global, quiet: &mut Handle, counts: &mut
         → WithRecord (record_in quiet.old.held) (λ r. counts.new ≡ r.counts) }
     ensures quiet { quiet.new.held ≡ quiet.old.held }
     ensures kept { 0 < result → counts.new ≡ counts.old }
-    ensures refused { 0 < result → IsRefusal (NotCopied (record_in quiet.old.held)) result }
+    ensures refused { 0 < result
+        → IsRefusal (NotCopied (record_in quiet.old.held) Listed.Counts (length counts.old)) result }
 {
     ask_list(alloc, quiet, Listed::Counts, counts)
 }
@@ -132,7 +134,8 @@ pub extern "C" fn renamer_holders(alloc: Global, quiet: &mut Handle, holders: &m
         → WithRecord (record_in quiet.old.held) (λ r. holders.new ≡ r.holders) }
     ensures quiet { quiet.new.held ≡ quiet.old.held }
     ensures kept { 0 < result → holders.new ≡ holders.old }
-    ensures refused { 0 < result → IsRefusal (NotCopied (record_in quiet.old.held)) result }
+    ensures refused { 0 < result
+        → IsRefusal (NotCopied (record_in quiet.old.held) Listed.Holders (length holders.old)) result }
 {
     ask_list(alloc, quiet, Listed::Holders, holders)
 }

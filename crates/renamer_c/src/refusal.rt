@@ -33,12 +33,14 @@ pub enum Refusal {
     NobodyThere,
     /// Other lanes have a part of the floor.
     LanesMissing,
-    /// The lanes are of two floors.
-    OtherFloor,
+    /// No lane was handed back.
+    NothingBack,
     /// The array has the wrong size.
     Size,
     /// More clients came before than a floor may carry.
     Carried,
+    /// As many lanes were handed back as a floor keeps.
+    NoPlace,
 }
 
 impl Refusal {
@@ -59,9 +61,10 @@ impl Refusal {
             Refusal::StillWalking => 9,
             Refusal::NobodyThere => 10,
             Refusal::LanesMissing => 11,
-            Refusal::OtherFloor => 12,
+            Refusal::NothingBack => 12,
             Refusal::Size => 13,
             Refusal::Carried => 14,
+            Refusal::NoPlace => 15,
         }
     }
 }

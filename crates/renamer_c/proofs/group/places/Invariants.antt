@@ -1,0 +1,7 @@
+use Rattle.std.proofs.Common.{◌≡◌, All}
+use Rattle.cn_floor.specs.Lane.{FloorValue}
+use Rattle.renamer_c.proofs.group.places.Given as goal
+
+-- the places so far are for lanes of the floor
+abbrev pub invariant-loop : goal.invariant-loop
+invariant-loop l = All (λ (tag : FloorValue). tag ≡ l.floor) l.places.items

@@ -1,0 +1,28 @@
+-- Lanes that are handed back to their floor, and taken into others.
+use Rattle.std.specs.Prelude.{◌≡◌, ◌-◌, Option, Some, length}
+use Rattle.cn_yard.specs.Lists.{tokens_in}
+use Rattle.cn_floor.specs.Lane.{FloorValue, LaneValue}
+use Rattle.cn_floor.specs.Steps.{HasMoment}
+use Rattle.cn_floor.specs.Views.{after_join, after_look}
+
+-- a lane of this floor with nobody inside
+pub record IsBack (floor : FloorValue) (lane : LaneValue) : Type 0 where
+  pub home : lane.home ≡ floor
+  pub out : tokens_in lane.yard.lists ≡ 0
+
+-- a lane takes in another of its floor, with nobody inside: its grants, its quota and all that it did
+pub record IsJoined (old new other : LaneValue) : Type 0 where
+  pub back : IsBack old.home other
+  pub lane : new ≡ record old {
+    view = after_look (after_join old.view other.view);
+    room = old.room - length other.view.grants;
+  }
+  pub moment : HasMoment old.home.start new.view
+
+-- the same of what a handle has: it took in some lane that had been handed back
+abbrev pub Joins : Option LaneValue → Option LaneValue → Type 0
+Joins old new = (l k m : LaneValue) × (old ≡ Some l) × (new ≡ Some k) × IsJoined l k m
+
+-- a lane was there, with nobody inside
+abbrev pub HandsBack : Option LaneValue → Type 0
+HandsBack old = (l : LaneValue) × (old ≡ Some l) × IsBack l.home l

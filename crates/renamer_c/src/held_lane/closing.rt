@@ -1,0 +1,99 @@
+//! A lane closes its floor.
+
+ghost use Rattle.std.specs.Prelude.{◌≡◌, ◌+◌, Some, length, IfErr, IfOk, IsTrue};
+ghost use Rattle.cn_yard.specs.Lists.{tokens_in};
+ghost use Rattle.renamer_c.specs.Calls.{IsClosedBy};
+ghost use Rattle.renamer_c.specs.Refusals.{NotClosed};
+
+use super::HeldLane;
+use crate::floor_share::FloorShare;
+use crate::record_of_floor::Record;
+use crate::refusal::Refusal;
+use cn_floor::CloseFault;
+use std::alloc::Global;
+
+impl HeldLane {
+    /// Whether the lane has all of the floor's quota, spent or not.
+    fn has_all(&self) -> bool
+        ensures { IsTrue result → self.now.view.quota + length self.now.view.grants ≡ self.now.home.start.quota }
+    {
+        let granted = self.lane.grants().len() as u64;
+        granted <= self.most && self.lane.quota() == self.most - granted
+    }
+
+    /// Closes the floor, for its record in these lists.
+    ///
+    /// # Errors
+    /// `LanesMissing` if other lanes are there, and `Memory`, with the lane as it was.
+    fn close_into(self, counts: Vec<u64>, holders: Vec<u64>) -> Result<Record, (Refusal, HeldLane)>
+        requires out { tokens_in self.yard.lists ≡ 0 }
+        requires all { self.view.quota + length self.view.grants ≡ self.home.start.quota }
+        requires counts { length counts.items ≡ self.home.start.network.table.width }
+        requires holders { length holders.items ≡ length self.view.grants }
+        ensures ok { IfOk result (IsClosedBy self) }
+        ensures err { IfErr result (λ r. r.1 ≡ self) }
+        ensures refused { IfErr result (λ r. NotClosed (Some self) r.0) }
+    {
+        let HeldLane {
+            floor,
+            lane,
+            most,
+            spare,
+        } = self;
+        let floor = match floor.into_floor() {
+            Ok(floor) => floor,
+            Err(floor) => return Err((
+                Refusal::LanesMissing,
+                HeldLane {
+                    floor,
+                    lane,
+                    most,
+                    spare,
+                },
+            )),
+        };
+        match floor.close(lane) {
+            Ok(quiet) => {
+                quiet.quiet_laws();
+                Ok(Record::of(quiet, counts, holders))
+            }
+            Err(CloseFault::StillWalking(floor, lane) | CloseFault::Memory(floor, lane)) => {
+                let floor = FloorShare::of(floor);
+                Err((
+                    Refusal::Memory,
+                    HeldLane {
+                        floor,
+                        lane,
+                        most,
+                        spare,
+                    },
+                ))
+            }
+            Err(CloseFault::LanesMissing { .. }) => unreachable!(),
+        }
+    }
+
+    /// Closes the floor.
+    ///
+    /// # Errors
+    /// The first that stands, with the lane as it was: `StillWalking`, `LanesMissing`, `Memory`.
+    pub(crate) fn close(self, alloc: Global) -> Result<Record, (Refusal, HeldLane)>
+        ensures ok { IfOk result (IsClosedBy self) }
+        ensures err { IfErr result (λ r. r.1 ≡ self) }
+        ensures refused { IfErr result (λ r. NotClosed (Some self) r.0) }
+    {
+        if self.lane.inside() != 0 {
+            return Err((Refusal::StillWalking, self));
+        }
+        if !self.has_all() {
+            return Err((Refusal::LanesMissing, self));
+        }
+        let width = self.floor.floor().network().width() as usize;
+        let counts = Vec::from_elem(alloc, 0u64, width);
+        let holders = Vec::from_elem(alloc, 0u64, self.lane.grants().len());
+        match (counts, holders) {
+            (Ok(counts), Ok(holders)) => self.close_into(counts, holders),
+            _ => Err((Refusal::Memory, self)),
+        }
+    }
+}

@@ -1,0 +1,97 @@
+//! The steps of a lane, one at a time.
+
+ghost use Rattle.std.specs.Prelude.{◌≡◌, ◌<◌, Some, length, IfErr, IfOk, OnErr, OnOk};
+ghost use Rattle.cn_yard.specs.Lists.{IsLowest, on};
+ghost use Rattle.renamer_c.specs.Moves.{IsEntered, IsStepped};
+ghost use Rattle.renamer_c.specs.Refusals.{NobodyInside, NobodyOn, NotEntered};
+ghost use Rattle.renamer_c.specs.Sweepings.{IsSwept};
+
+use super::HeldLane;
+use crate::moved::{Moved, Swept, moved_of, swept_of};
+use crate::refusal::Refusal;
+use cn_floor::LaneFault;
+
+impl HeldLane {
+    /// Lets a client in by an entry.
+    ///
+    /// # Errors
+    /// The first that stands: `NoSuchEntry`, `QuotaSpent`, `Memory`. Then nothing has changed.
+    pub(crate) fn enter(&mut self, client: u64, entry: u64) -> Result<(), Refusal>
+        ensures ok { OnOk result (IsEntered self.old self.new client entry) }
+        ensures err { OnErr result (self.new ≡ self.old) }
+        ensures refused { IfErr result (NotEntered (Some self.old) entry) }
+    {
+        match self.floor.floor().enter(&mut self.lane, client, entry) {
+            Ok(_token) => Ok(()),
+            Err(LaneFault::NoSuchEntry) => Err(Refusal::NoSuchEntry),
+            Err(LaneFault::QuotaSpent) => Err(Refusal::QuotaSpent),
+            Err(LaneFault::Memory) => Err(Refusal::Memory),
+        }
+    }
+
+    /// The wire with this number, on which a client of the lane stands.
+    ///
+    /// # Errors
+    /// `NobodyThere`.
+    fn wire_of_some(&self, wire: u64) -> Result<u32, Refusal>
+        ensures ok { IfOk result (λ w. (w ≡ wire) × (0 < length (on self.now.yard.lists wire))) }
+        ensures refused { IfErr result (NobodyOn (Some self.now) wire) }
+    {
+        self.lane.lane_laws();
+        let network = self.floor.floor().network();
+        let wires = u64::from(network.entries()) + 2 * u64::from(network.balancers());
+        if wire < wires && self.lane.count(wire as u32) > 0 {
+            Ok(wire as u32)
+        } else {
+            Err(Refusal::NobodyThere)
+        }
+    }
+
+    /// Lets the first client on a wire go by its end.
+    ///
+    /// # Errors
+    /// `NobodyThere`. Then nothing has changed.
+    pub(crate) fn step(&mut self, wire: u64) -> Result<Moved, Refusal>
+        ensures ok { IfOk result (λ moved. IsStepped self.old self.new wire moved) }
+        ensures err { OnErr result (self.new ≡ self.old) }
+        ensures refused { IfErr result (NobodyOn (Some self.old) wire) }
+    {
+        let wire = self.wire_of_some(wire)?;
+        self.lane.lane_laws();
+        match self.lane.first(wire) {
+            Some(token) => {
+                let client = self.lane.client_of(token);
+                let moved = self.floor.floor().step(&mut self.lane, token);
+                Ok(moved_of(client, moved))
+            }
+            None => unreachable!(),
+        }
+    }
+
+    /// Lets all clients on a wire go by its end, by one step.
+    ///
+    /// # Errors
+    /// `NobodyThere`. Then nothing has changed.
+    pub(crate) fn sweep(&mut self, wire: u64) -> Result<Swept, Refusal>
+        ensures ok { IfOk result (λ swept. IsSwept self.old self.new wire swept) }
+        ensures err { OnErr result (self.new ≡ self.old) }
+        ensures refused { IfErr result (NobodyOn (Some self.old) wire) }
+    {
+        let wire = self.wire_of_some(wire)?;
+        Ok(swept_of(self.floor.floor().sweep(&mut self.lane, wire)))
+    }
+
+    /// The least wire on which a client of the lane stands.
+    ///
+    /// # Errors
+    /// `NobodyThere` if none does.
+    pub(crate) fn lowest(&self) -> Result<u64, Refusal>
+        ensures ok { IfOk result (IsLowest self.now.yard.lists) }
+        ensures refused { IfErr result (NobodyInside (Some self.now)) }
+    {
+        match self.lane.lowest() {
+            Some(wire) => Ok(u64::from(wire)),
+            None => Err(Refusal::NobodyThere),
+        }
+    }
+}

@@ -1,0 +1,114 @@
+//! Calls that let clients in, and on by single steps and sweeps.
+
+ghost use Rattle.std.specs.Prelude.{◌≡◌, ◌<◌};
+ghost use Rattle.cn_yard.specs.Lists.{IsLowest};
+ghost use Rattle.renamer_c.specs.Handles.{lane_in};
+ghost use Rattle.renamer_c.specs.Moves.{Enters, Steps};
+ghost use Rattle.renamer_c.specs.Refusals.{IsRefusal, NobodyInside, NobodyOn, NotEntered, WithLane};
+ghost use Rattle.renamer_c.specs.Sweepings.{Sweeps};
+ghost use Rattle.renamer_c.specs.declared.refusal.TheConstants.{DONE};
+
+use crate::handle::Handle;
+use crate::moved::{Moved, Swept};
+use crate::refusal::DONE;
+use std::alloc::Global;
+
+/// Lets a client in by an entry: it stands last on the wire with the entry's number.
+#[unsafe(no_mangle)]
+pub extern "C" fn renamer_enter(alloc: Global, lane: &mut Handle, client: u64, entry: u64) -> u32
+    ensures entered { result ≡ DONE
+        → Enters (lane_in lane.old.held) (lane_in lane.new.held) client entry }
+    ensures kept { 0 < result → lane.new.held ≡ lane.old.held }
+    ensures refused { 0 < result → IsRefusal (NotEntered (lane_in lane.old.held) entry) result }
+{
+    let mut held = match lane.take(alloc) {
+        Ok(held) => held,
+        Err(refusal) => return refusal.status(),
+    };
+    let entered = held.enter(client, entry);
+    lane.put(held);
+    match entered {
+        Ok(()) => DONE,
+        Err(refusal) => refusal.status(),
+    }
+}
+
+/// Lets the lane's first client on a wire go by the end of the wire.
+#[unsafe(no_mangle)]
+pub extern "C" fn renamer_step(
+    alloc: Global,
+    lane: &mut Handle,
+    wire: u64,
+    moved: &mut Moved,
+) -> u32
+    ensures stepped { result ≡ DONE
+        → Steps (lane_in lane.old.held) (lane_in lane.new.held) wire moved.new }
+    ensures kept { 0 < result → (lane.new.held ≡ lane.old.held) × (moved.new ≡ moved.old) }
+    ensures refused { 0 < result → IsRefusal (NobodyOn (lane_in lane.old.held) wire) result }
+{
+    let mut held = match lane.take(alloc) {
+        Ok(held) => held,
+        Err(refusal) => return refusal.status(),
+    };
+    let answer = held.step(wire);
+    lane.put(held);
+    match answer {
+        Ok(value) => {
+            *moved = value;
+            DONE
+        }
+        Err(refusal) => refusal.status(),
+    }
+}
+
+/// Lets all of the lane's clients on a wire go by the end of the wire, by one step.
+#[unsafe(no_mangle)]
+pub extern "C" fn renamer_sweep(
+    alloc: Global,
+    lane: &mut Handle,
+    wire: u64,
+    swept: &mut Swept,
+) -> u32
+    ensures swept { result ≡ DONE
+        → Sweeps (lane_in lane.old.held) (lane_in lane.new.held) wire swept.new }
+    ensures kept { 0 < result → (lane.new.held ≡ lane.old.held) × (swept.new ≡ swept.old) }
+    ensures refused { 0 < result → IsRefusal (NobodyOn (lane_in lane.old.held) wire) result }
+{
+    let mut held = match lane.take(alloc) {
+        Ok(held) => held,
+        Err(refusal) => return refusal.status(),
+    };
+    let answer = held.sweep(wire);
+    lane.put(held);
+    match answer {
+        Ok(value) => {
+            *swept = value;
+            DONE
+        }
+        Err(refusal) => refusal.status(),
+    }
+}
+
+/// The least wire on which a client of the lane stands.
+#[unsafe(no_mangle)]
+pub extern "C" fn renamer_lowest(alloc: Global, lane: &mut Handle, wire: &mut u64) -> u32
+    ensures answered { result ≡ DONE
+        → WithLane (lane_in lane.old.held) (λ l. IsLowest l.yard.lists wire.new) }
+    ensures lane { lane.new.held ≡ lane.old.held }
+    ensures kept { 0 < result → wire.new ≡ wire.old }
+    ensures refused { 0 < result → IsRefusal (NobodyInside (lane_in lane.old.held)) result }
+{
+    let held = match lane.take(alloc) {
+        Ok(held) => held,
+        Err(refusal) => return refusal.status(),
+    };
+    let answer = held.lowest();
+    lane.put(held);
+    match answer {
+        Ok(value) => {
+            *wire = value;
+            DONE
+        }
+        Err(refusal) => refusal.status(),
+    }
+}
