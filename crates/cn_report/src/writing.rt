@@ -3,6 +3,7 @@
 mod emitting;
 mod grants;
 mod heading;
+mod line;
 mod outcome;
 mod replay;
 mod report;

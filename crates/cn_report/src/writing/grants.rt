@@ -2,9 +2,10 @@
 
 ghost use Rattle.std.specs.Prelude.{◌≡◌, [], ◌∷◌, ◌++◌, All, List, OnOk, IfOk, length};
 ghost use Rattle.cn_epoch.specs.declared.record.EpochRecord.{EpochRecord};
-ghost use Rattle.cn_report.specs.Writing.Grants.{HasHolders, grant_line, grant_lines, grants_header, grants_text};
+ghost use Rattle.cn_report.specs.Writing.Grants.{HasHolders, grant_lines, grants_header, grants_text};
 ghost use Rattle.cn_report.specs.Writing.Text.{Grows};
 
+use crate::writing::line::put_grant;
 use cn_epoch::EpochRecord;
 use std::alloc::{AllocError, Global};
 use std::marker::Model;
@@ -14,13 +15,6 @@ fn put_header(text: &mut String) -> Result<(), AllocError>
     ensures { OnOk result (Grows text.old text.new grants_header) }
 {
     writeln!(text, "epoch,client,name")
-}
-
-#[tactic(auto, unfolding(crate::specs::Writing::Grants::grant_line))]
-fn put_grant(text: &mut String, epoch: u64, client: u64, name: u64) -> Result<(), AllocError>
-    ensures { OnOk result (Grows text.old text.new (grant_line epoch client name)) }
-{
-    writeln!(text, "{epoch},{client},{name}")
 }
 
 fn put_epoch(text: &mut String, epoch: u64, clients: u64, holders: &[u64]) -> Result<(), AllocError>

@@ -4,6 +4,7 @@ ghost use Rattle.std.specs.Prelude.{◌≡◌, OnOk, length};
 ghost use Rattle.cn_report.specs.Writing.Text.{Grows};
 ghost use Rattle.cn_report.specs.Writing.Outcome.{IsWholeRecord, exit_line, exit_lines, name_line, name_lines, outcome_lines};
 
+use crate::writing::line::put_line;
 use cn_epoch::EpochRecord;
 use std::alloc::AllocError;
 
@@ -11,7 +12,7 @@ use std::alloc::AllocError;
 fn put_count(text: &mut String, exit: u32, count: u64) -> Result<(), AllocError>
     ensures { OnOk result (Grows text.old text.new (exit_line exit count)) }
 {
-    writeln!(text, "exit {exit} count {count}")
+    put_line(text, "exit ", u64::from(exit), " count ", count)
 }
 
 fn put_counts(text: &mut String, width: u32, counts: &[u64]) -> Result<(), AllocError>
@@ -28,7 +29,7 @@ fn put_counts(text: &mut String, width: u32, counts: &[u64]) -> Result<(), Alloc
 fn put_holder(text: &mut String, name: u64, client: u64) -> Result<(), AllocError>
     ensures { OnOk result (Grows text.old text.new (name_line name client)) }
 {
-    writeln!(text, "name {name} client {client}")
+    put_line(text, "name ", name, " client ", client)
 }
 
 fn put_holders(text: &mut String, clients: u64, holders: &[u64]) -> Result<(), AllocError>

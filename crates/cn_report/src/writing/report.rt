@@ -7,6 +7,7 @@ ghost use Rattle.cn_report.specs.Writing.Report.{epoch_line, epoch_lines, report
 ghost use Rattle.cn_wiring.specs.Network.{Network};
 
 use crate::writing::heading::put_heading;
+use crate::writing::line::put_line;
 use crate::writing::outcome::put_outcome;
 use cn_epoch::EpochRecord;
 use cn_wiring::Counting;
@@ -18,7 +19,7 @@ fn put_number(text: &mut String, number: u64, clients: u64) -> Result<(), AllocE
     ensures { OnOk result (string_bytes text.new
         ≡ string_bytes text.old ++ epoch_line number clients) }
 {
-    writeln!(text, "epoch {number} clients {clients}")
+    put_line(text, "epoch ", number, " clients ", clients)
 }
 
 fn put_epoch(text: &mut String, width: u32, epoch: &EpochRecord) -> Result<(), AllocError>

@@ -1,0 +1,9 @@
+use Rattle.std.proofs.Common.{◌≡◌, true, take}
+use Rattle.std.specs.Char.{is_ascii_digit}
+use Rattle.std.specs.List.{list_all}
+use Rattle.std.specs.Str.Parse.{digits_value}
+use Rattle.cn_report.proofs.reading.number.value_of_few.Given as goal
+
+abbrev pub invariant-loop-digit : goal.invariant-loop-digit
+invariant-loop-digit l =
+    (l.value ≡ digits_value 10 (take l.digit-index l.digits)) × (list_all is_ascii_digit (take l.digit-index l.digits) ≡ true)
