@@ -1,7 +1,6 @@
 -- Lemmas on what is written.
 pub mod Appending
 pub mod Lines
-pub mod Replies
 pub mod Reports
 pub mod SameLines
 pub mod Words
