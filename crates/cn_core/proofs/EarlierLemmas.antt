@@ -11,8 +11,8 @@ use Rattle.cn_core.specs.declared.position.Position.{Position}
 use Rattle.cn_core.specs.declared.position.Position.TheVariants.{On, Holds}
 use Rattle.cn_core.specs.declared.event.Event.{Event}
 use Rattle.cn_core.specs.declared.event.Event.TheVariants.{Enter, Step}
-use Rattle.cn_core.specs.declared.reply.EnterFault.TheVariants.{NoSuchEntry, AlreadyIn, EpochFull}
-use Rattle.cn_core.specs.declared.reply.Reply.TheVariants.{Entered, EnterRefused}
+use Rattle.cn_record.specs.declared.reply.EnterFault.TheVariants.{NoSuchEntry, AlreadyIn, EpochFull}
+use Rattle.cn_record.specs.declared.reply.Reply.TheVariants.{Entered, EnterRefused}
 use Rattle.cn_core.specs.State.{State, after_carry, after_enter, after_step, inside_in, position_in, start}
 use Rattle.cn_core.specs.History.{Agrees, HasOneHolder, AreEpochs, ByHistories, Carried, IsHistory, carried_by, enters_of, is_accepted, position_after, step_answer}
 use Rattle.cn_core.specs.StateLedger.{IsCore}

@@ -15,10 +15,10 @@ use Rattle.cn_core.specs.declared.position.Position.{Position}
 use Rattle.cn_core.specs.declared.position.Position.TheVariants.{On, Holds}
 use Rattle.cn_core.specs.declared.event.Event.{Event}
 use Rattle.cn_core.specs.declared.event.Event.TheVariants.{Enter, Step}
-use Rattle.cn_core.specs.declared.reply.EnterFault.TheVariants.{NoSuchEntry, AlreadyIn, EpochFull, Memory}
-use Rattle.cn_core.specs.declared.reply.StepFault.TheVariants.{Stranger, HasName}
-use Rattle.cn_core.specs.declared.reply.Reply.{Reply}
-use Rattle.cn_core.specs.declared.reply.Reply.TheVariants.{Entered, EnterRefused, Stepped, StepRefused}
+use Rattle.cn_record.specs.declared.reply.EnterFault.TheVariants.{NoSuchEntry, AlreadyIn, EpochFull, Memory}
+use Rattle.cn_record.specs.declared.reply.StepFault.TheVariants.{Stranger, HasName}
+use Rattle.cn_record.specs.declared.reply.Reply.{Reply}
+use Rattle.cn_record.specs.declared.reply.Reply.TheVariants.{Entered, EnterRefused, Stepped, StepRefused}
 use Rattle.cn_core.specs.State.{State, IsState, position_in, position_past, past, after_carry, after_enter, after_step, start, is_named, is_inside, inside_in}
 use Rattle.cn_core.specs.InsideClients.{with_position}
 use Rattle.cn_core.specs.History.{Carried, position_after, leaves_of, inside_of, end_at, is_leave, IsHistory, Agrees, AgreesAfter, MayAnswerAll, carried_by, history_after, steps_before}

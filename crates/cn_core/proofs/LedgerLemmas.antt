@@ -21,7 +21,7 @@ use Rattle.cn_core.specs.History.{AgreesAfter, ByHistories, Carried, carried_by,
 use Rattle.cn_ledger.specs.Ledger.{IsSound}
 use Rattle.cn_ledger.specs.Events.{Enters, Passes, Leaves}
 use Rattle.cn_ledger.specs.declared.moved.Moved.{Moved}
-use Rattle.cn_core.specs.declared.reply.Reply.TheVariants.{Stepped}
+use Rattle.cn_record.specs.declared.reply.Reply.TheVariants.{Stepped}
 use Rattle.cn_ledger.specs.Moves.{IsMoveOf}
 use Rattle.cn_core.specs.Calls.{IsLedgerEvent, StepsTo}
 use Rattle.cn_core.specs.StateLedger.{is_on, holds, given_in, ledger_of, HasSoundLedger, IsCore}

@@ -1,32 +1,19 @@
 -- What the calls of a core answer and leave.
-use Rattle.std.specs.Prelude.{◌≡◌, ℕ, ◌<◌, ◌≤◌, List, [], ◌∷◌, None, Some, Result, Ok, Err, length, IsSome}
+use Rattle.std.specs.Prelude.{◌≡◌, ℕ, ◌<◌, ◌≤◌, List, [], ◌∷◌, None, Some, length, IsSome}
 use Rattle.cn_spec.specs.declared.limits.TheConstants.{MOST_CLIENTS}
 use Rattle.cn_wiring.specs.Table.{end_of}
 use Rattle.cn_core.specs.declared.position.Position.TheVariants.{On, Holds}
-use Rattle.cn_core.specs.declared.reply.EnterFault.{EnterFault}
-use Rattle.cn_core.specs.declared.reply.EnterFault.TheVariants.{NoSuchEntry, AlreadyIn, EpochFull, Memory}
-use Rattle.cn_core.specs.declared.reply.StepFault.{StepFault}
-use Rattle.cn_core.specs.declared.reply.StepFault.TheVariants.{Stranger, HasName}
-use Rattle.cn_core.specs.declared.reply.Reply.{Reply}
-use Rattle.cn_core.specs.declared.reply.Reply.TheVariants.{Entered, EnterRefused, Stepped, StepRefused}
+use Rattle.cn_record.specs.declared.reply.EnterFault.TheVariants.{NoSuchEntry, AlreadyIn, EpochFull, Memory}
+use Rattle.cn_record.specs.declared.reply.StepFault.TheVariants.{Stranger, HasName}
+use Rattle.cn_record.specs.declared.reply.Reply.{Reply}
+use Rattle.cn_record.specs.declared.reply.Reply.TheVariants.{Entered, EnterRefused, Stepped, StepRefused}
 use Rattle.cn_core.specs.declared.event.Event.{Event}
 use Rattle.cn_core.specs.declared.event.Event.TheVariants.{Enter, Step}
-use Rattle.cn_ledger.specs.declared.moved.Moved.{Moved}
 use Rattle.cn_ledger.specs.Events.{Enters}
 use Rattle.cn_ledger.specs.Moves.{IsMoveOf}
 use Rattle.cn_core.specs.StateLedger.{ledger_of}
 use Rattle.cn_core.specs.State.{State, position_in, past, after_enter, after_step}
 use Rattle.cn_core.specs.History.{Agrees, ByHistories, carried_by, MayAnswer, MayAnswerAll, history_after, history_by, moved_past}
-
--- the reply of an enter
-abbrev pub entered_reply : {U : Type 0} → Result U EnterFault → Reply
-entered_reply (Ok done) = Entered
-entered_reply (Err fault) = EnterRefused fault
-
--- the reply of a step
-abbrev pub stepped_reply : Result Moved StepFault → Reply
-stepped_reply (Ok moved) = Stepped moved
-stepped_reply (Err fault) = StepRefused fault
 
 -- an enter with this reply takes the old state to the new one
 abbrev pub EntersTo : State → ℕ → ℕ → Reply → State → Type 0

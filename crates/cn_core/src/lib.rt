@@ -6,10 +6,9 @@ mod core_state;
 mod event;
 pub mod laws;
 mod position;
-mod reply;
 
 pub use cn_ledger::{Client, Moved};
+pub use cn_record::{EnterFault, Reply, StepFault};
 pub use core_state::Core;
 pub use event::Event;
 pub use position::Position;
-pub use reply::{EnterFault, Reply, StepFault};

@@ -1,5 +1,5 @@
 -- What the calls of epochs answer and leave.
-use Rattle.std.specs.Prelude.{◌≡◌, ℕ, ◌+◌, ◌≤◌, ◌<◌, List, [], ◌∷◌, Option, Result, Ok, Err, length, slice_index}
+use Rattle.std.specs.Prelude.{◌≡◌, ℕ, ◌+◌, ◌≤◌, ◌<◌, List, [], ◌∷◌, Option, length, slice_index}
 use Rattle.cn_spec.specs.Step.{share}
 use Rattle.cn_core.specs.declared.event.Event.{Event}
 use Rattle.cn_core.specs.declared.event.Event.TheVariants.{Enter as EnterEvent, Step as StepEvent}
@@ -7,22 +7,16 @@ use Rattle.cn_core.specs.Calls as core
 use Rattle.cn_core.specs.Calls.{IsLedgerEvent}
 use Rattle.cn_core.specs.History.{MayAnswer as MayAnswerEvent, history_after as history_after_event, carried_by}
 use Rattle.cn_core.specs.State.{inside_in}
-use Rattle.cn_core.specs.declared.reply.Reply.{Reply}
+use Rattle.cn_record.specs.declared.reply.Reply.{Reply}
 use Rattle.cn_core.specs.Tight.{ListsHolders}
-use Rattle.cn_epoch.specs.declared.answer.Answer.{Answer}
-use Rattle.cn_epoch.specs.declared.answer.Answer.TheVariants.{Replied, Turned, TurnRefused}
-use Rattle.cn_epoch.specs.declared.answer.TurnFault.{TurnFault}
-use Rattle.cn_epoch.specs.declared.answer.TurnFault.TheVariants.{NotQuiet, Memory}
-use Rattle.cn_epoch.specs.declared.command.Command.{Command}
-use Rattle.cn_epoch.specs.declared.command.Command.TheVariants.{Enter, Step, Turn}
-use Rattle.cn_epoch.specs.declared.record.EpochRecord.{EpochRecord}
+use Rattle.cn_record.specs.declared.answer.Answer.{Answer}
+use Rattle.cn_record.specs.declared.answer.Answer.TheVariants.{Replied, Turned, TurnRefused}
+use Rattle.cn_record.specs.declared.answer.TurnFault.TheVariants.{NotQuiet, Memory}
+use Rattle.cn_record.specs.declared.command.Command.{Command}
+use Rattle.cn_record.specs.declared.command.Command.TheVariants.{Enter, Step, Turn}
+use Rattle.cn_record.specs.declared.record.EpochRecord.{EpochRecord}
 use Rattle.cn_epoch.specs.History.{Agrees, Epochs, MayAnswerAll, MayAnswer, MayTurn, cut_by, history_after, history_by, kept_after, kept_by, next, turns_after, turns_by, earlier_in}
 use Rattle.cn_epoch.specs.Turns.{IsTightRecord}
-
--- the answer of a turn
-abbrev pub turned_answer : Result EpochRecord TurnFault → Answer
-turned_answer (Ok r) = Turned r
-turned_answer (Err fault) = TurnRefused fault
 
 -- a record describes the epoch that stands open: how many ended before it, how many clients entered it, how many left
 -- by each exit beyond those that are carried, and its clients by name

@@ -5,14 +5,11 @@ use Rattle.cn_spec.specs.Step.{share}
 use Rattle.cn_spec.specs.declared.limits.TheConstants.{MOST_CARRIED}
 use Rattle.cn_wiring.specs.Table.{Table}
 use Rattle.cn_core.specs.declared.event.Event.{Event}
-use Rattle.cn_core.specs.declared.reply.EnterFault.TheVariants.{Memory as EnterMemory}
-use Rattle.cn_core.specs.declared.reply.Reply.TheVariants.{EnterRefused}
 use Rattle.cn_core.specs.History.{Carried, carried_by}
-use Rattle.cn_epoch.specs.declared.answer.Answer.{Answer}
-use Rattle.cn_epoch.specs.declared.answer.Answer.TheVariants.{Replied, Turned, TurnRefused}
-use Rattle.cn_epoch.specs.declared.answer.TurnFault.TheVariants.{Memory}
-use Rattle.cn_epoch.specs.declared.command.Command.{Command}
-use Rattle.cn_epoch.specs.declared.record.EpochRecord.{EpochRecord}
+use Rattle.cn_record.specs.declared.answer.Answer.{Answer}
+use Rattle.cn_record.specs.declared.command.Command.{Command}
+use Rattle.cn_record.specs.declared.record.EpochRecord.{EpochRecord}
+use Rattle.cn_record.specs.Answers.{HadMemory, IsSameAnswer, IsSameRecord}
 use Rattle.cn_epoch.specs.History.{IsRecordOf, MayAnswerAll, kept_by, earlier_in}
 
 -- what a record says is tight after so many clients: each exit has let out what its share has grown by, and each name below
@@ -25,31 +22,11 @@ pub record IsTightRecord (width base : ℕ) (r : EpochRecord) : Type 0 where
   pub distinct : (m n : ℕ) → m < n → n < r.clients
       → slice_index r.holders.items m ≢ slice_index r.holders.items n
 
--- two records have the same contents
-pub record IsSameRecord (r s : EpochRecord) : Type 0 where
-  pub number : r.number ≡ s.number
-  pub clients : r.clients ≡ s.clients
-  pub counts : r.counts.items ≡ s.counts.items
-  pub holders : r.holders.items ≡ s.holders.items
-
--- two answers have the same contents
-abbrev pub IsSameAnswer : Answer → Answer → Type 0
-IsSameAnswer (Replied reply) (Replied other) = reply ≡ other
-IsSameAnswer (Turned r) (Turned s) = IsSameRecord r s
-IsSameAnswer (TurnRefused fault) (TurnRefused other) = fault ≡ other
-IsSameAnswer answer other = ⊥
-
 -- the records of a history after what is carried have the same contents
 abbrev pub HasOneRecord : Table → ℕ → List Event → Carried → Type 0
 HasOneRecord table turns history carried =
     (r s : EpochRecord) → IsRecordOf table turns history carried r → IsRecordOf table turns history carried s
     → IsSameRecord r s
-
--- an answer that is not want of memory
-abbrev pub HadMemory : Answer → Type 0
-HadMemory (Replied reply) = reply ≢ EnterRefused EnterMemory
-HadMemory (Turned r) = Unit {0}
-HadMemory (TurnRefused fault) = fault ≢ Memory
 
 -- apart from want of memory, the answers that these commands may have are the same: the epochs that end by them, and the
 -- earlier ones, have no more clients than may be carried

@@ -5,7 +5,7 @@ use Rattle.std.proofs.lemmas.List.Sorted.{All-permutation}
 use Rattle.std.proofs.lemmas.List.Sums.{sum_by-cons}
 use Rattle.cn_spec.specs.Step.{counts_after, shares, shares_after}
 use Rattle.cn_ledger.specs.declared.client.Client.{Client}
-use Rattle.cn_epoch.specs.declared.record.EpochRecord.{EpochRecord}
+use Rattle.cn_record.specs.declared.record.EpochRecord.{EpochRecord}
 use Rattle.cn_report.proofs.CallerLemmas.{IsSmallEpoch, batch_numbers, tight_after, told_back, written_tight}
 use Rattle.cn_report.specs.Reading.Batch.{AreRising}
 use Rattle.cn_report.specs.Reading.Grants.{IsTightList}

@@ -10,7 +10,7 @@ use Rattle.cn_spec.specs.Step.{share}
 use Rattle.cn_spec.specs.Sums.{when}
 use Rattle.cn_wiring.specs.Network.{Network}
 use Rattle.cn_ledger.specs.declared.client.Client.{Client}
-use Rattle.cn_epoch.specs.declared.record.EpochRecord.{EpochRecord}
+use Rattle.cn_record.specs.declared.record.EpochRecord.{EpochRecord}
 use Rattle.cn_report.specs.Reading.Batch.{IsBatch, clients_of}
 use Rattle.cn_report.specs.Reading.Records.{records_of}
 use Rattle.cn_report.specs.declared.reading.gathering.BatchEpoch.{BatchEpoch}

@@ -2,5 +2,6 @@ pub mod Accepted
 pub mod Built
 pub mod Headline
 pub mod OneText
+pub mod Replies
 pub mod Served
 pub mod Telling

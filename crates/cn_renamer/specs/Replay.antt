@@ -2,10 +2,10 @@
 use Rattle.std.specs.Prelude.{ℕ, ◌≡◌, ◌≢◌, All, IfSome, List, [], None, Option}
 use Rattle.cn_wiring.specs.Network.{Network}
 use Rattle.cn_core.specs.History.{carried_by, enters_of, inside_of}
-use Rattle.cn_epoch.specs.declared.answer.Answer.{Answer}
-use Rattle.cn_epoch.specs.declared.command.Command.{Command}
+use Rattle.cn_record.specs.declared.answer.Answer.{Answer}
+use Rattle.cn_record.specs.declared.command.Command.{Command}
 use Rattle.cn_epoch.specs.History.{MayAnswerAll, history_by, turns_by}
-use Rattle.cn_epoch.specs.Turns.{HadMemory}
+use Rattle.cn_record.specs.Answers.{HadMemory}
 use Rattle.cn_report.specs.Reading.Records.{records_of}
 use Rattle.cn_report.specs.Writing.Replay.{replay_text}
 use Rattle.cn_report.specs.Reading.Schedule.{IsSchedule, IsScheduleFault}

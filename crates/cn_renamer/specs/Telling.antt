@@ -1,7 +1,7 @@
 -- The text of epochs as they end, in the asked form.
 use Rattle.std.specs.Prelude.{◌≡◌, Bool, List}
 use Rattle.cn_wiring.specs.Network.{Network}
-use Rattle.cn_epoch.specs.declared.record.EpochRecord.{EpochRecord}
+use Rattle.cn_record.specs.declared.record.EpochRecord.{EpochRecord}
 use Rattle.cn_report.specs.declared.reading.gathering.BatchEpoch.{BatchEpoch}
 use Rattle.cn_report.specs.Writing.Grants.{HasHolders, grants_text}
 use Rattle.cn_report.specs.Writing.Outcome.{IsWholeRecord}

@@ -1,7 +1,7 @@
 //! The text of epochs in the asked form, as they end.
 
 ghost use Rattle.std.specs.Prelude.{◌≡◌, [], ◌∷◌, ◌++◌, IfOk, List};
-ghost use Rattle.cn_epoch.specs.declared.record.EpochRecord.{EpochRecord};
+ghost use Rattle.cn_record.specs.declared.record.EpochRecord.{EpochRecord};
 ghost use Rattle.cn_renamer.specs.Headline.{text_in};
 ghost use Rattle.cn_renamer.specs.Telling.{CanTell, Tells};
 ghost use Rattle.cn_wiring.specs.Network.{Network};

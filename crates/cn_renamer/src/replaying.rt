@@ -4,7 +4,7 @@ ghost use Rattle.std.specs.Prelude.{◌≡◌, ◌↔◌, [], false, IfErr, IfOk
 ghost use Rattle.std.specs.List.{All};
 ghost use Rattle.cn_core.specs.State.{start};
 ghost use Rattle.cn_epoch.specs.History.{Agrees};
-ghost use Rattle.cn_epoch.specs.Turns.{HadMemory};
+ghost use Rattle.cn_record.specs.Answers.{HadMemory};
 ghost use Rattle.cn_report.specs.Writing.Written.{HasWritten, written_by};
 ghost use Rattle.cn_renamer.specs.Outputs.{until_output};
 ghost use Rattle.cn_renamer.specs.Replay.{IsReplayFault, IsReplayOfCommands, IsReplayOfKnown, IsReplayText, fault_of_output, fault_of_schedule, status_of_replay, until_replay};

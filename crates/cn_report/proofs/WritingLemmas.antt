@@ -2,7 +2,6 @@
 pub mod Appending
 pub mod LineEnds
 pub mod Lines
-pub mod Replies
 pub mod Reports
 pub mod SameLines
 pub mod Words

@@ -4,7 +4,7 @@ ghost use Rattle.std.specs.Prelude.{◌≡◌, ◌<◌, ℕ, List, map};
 ghost use Rattle.std.specs.List.{AllByRecursion};
 ghost use Rattle.cn_report.specs.declared.reading.gathering.BatchEpoch.{BatchEpoch};
 ghost use Rattle.cn_report.specs.Reading.Batch.{IsBatch, plain_epoch};
-ghost use Rattle.cn_epoch.specs.declared.record.EpochRecord.{EpochRecord};
+ghost use Rattle.cn_record.specs.declared.record.EpochRecord.{EpochRecord};
 ghost use Rattle.cn_report.specs.Reading.Grants.{IsTightList};
 ghost use Rattle.cn_report.specs.Reading.Records.{Record, records_of};
 ghost use Rattle.cn_report.specs.Reading.Told.{told_epochs};

@@ -11,6 +11,7 @@ pub mod of_exit;
 pub mod of_ledger;
 pub mod of_names;
 pub mod of_periodic;
+pub mod of_record;
 pub mod of_renamer;
 pub mod of_report;
 pub mod of_spec;

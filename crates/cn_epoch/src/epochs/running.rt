@@ -5,8 +5,7 @@ ghost use Rattle.cn_spec.specs.declared.limits.TheConstants.{MOST_CARRIED};
 ghost use Rattle.cn_epoch.specs.Calls.{AnswersByHistory, RunsTo, TakesTo, RunsByHistory};
 
 use super::Epochs;
-use crate::answer::Answer;
-use crate::command::Command;
+use cn_record::{Answer, Command};
 use std::alloc::AllocError;
 
 impl<'a> Epochs<'a> {

@@ -9,7 +9,7 @@ use Rattle.std.proofs.lemmas.List.Sorted.{IsPermutation-refl}
 use Rattle.std.proofs.Math.Dec.{eqb}
 use Rattle.std.specs.Prelude.{true, false}
 use Rattle.cn_spec.proofs.CallerLemmas.{times-nil}
-use Rattle.cn_epoch.specs.declared.record.EpochRecord.{EpochRecord}
+use Rattle.cn_record.specs.declared.record.EpochRecord.{EpochRecord}
 use Rattle.cn_report.specs.Reading.Granted.{of_epoch}
 use Rattle.cn_report.specs.Reading.Grants.{IsTightEpoch, IsTightList}
 use Rattle.cn_report.specs.Reading.Records.{records_of}

@@ -9,7 +9,7 @@ use Rattle.std.proofs.lemmas.List.Sorted.{IsPermutation-refl}
 use Rattle.std.proofs.lemmas.List.Sums.{fold-append}
 use Rattle.cn_spec.specs.Step.{counts_after, counts_of, shares, shares_after}
 use Rattle.cn_spec.proofs.CallerLemmas.{counts_shares, counts_shares_after}
-use Rattle.cn_epoch.specs.declared.record.EpochRecord.{EpochRecord}
+use Rattle.cn_record.specs.declared.record.EpochRecord.{EpochRecord}
 use Rattle.cn_report.specs.Reading.Granted.{grants_in, of_epoch}
 use Rattle.cn_report.specs.Reading.Records.{Record, records_of}
 use Rattle.cn_report.specs.Reading.Grants.{IsTightList}

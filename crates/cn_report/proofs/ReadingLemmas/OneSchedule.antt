@@ -1,6 +1,6 @@
 -- Records spell one list of commands.
 use Rattle.std.proofs.Common.{◌≡◌, List, [], ◌∷◌, map, Result, Ok, Err, refl, sym, ap, ap₂, ◌∙◌}
-use Rattle.cn_epoch.specs.declared.command.Command.{Command}
+use Rattle.cn_record.specs.declared.command.Command.{Command}
 use Rattle.cn_report.specs.Reading.Records.{Record}
 use Rattle.cn_report.specs.Reading.Schedule.{IsSchedule}
 use Rattle.cn_report.specs.declared.reading.schedule_fault.ScheduleCause.{ScheduleCause}

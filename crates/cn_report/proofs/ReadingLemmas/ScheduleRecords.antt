@@ -2,7 +2,7 @@
 use Rattle.std.proofs.Common.{◌≡◌, ℕ, List, ◌∷◌, [], ◌++◌, None, length, drop, map, refl, arith, sym, ◌∙◌}
 use Rattle.std.specs.Prelude.{Ok}
 use Rattle.std.proofs.lemmas.List.{map-append}
-use Rattle.cn_epoch.specs.declared.command.Command.{Command}
+use Rattle.cn_record.specs.declared.command.Command.{Command}
 use Rattle.cn_report.specs.Reading.Records.{Record}
 use Rattle.cn_report.specs.Reading.Command.{command_in}
 use Rattle.cn_report.specs.Reading.Schedule.{IsSchedule, command_cause, header_cause, record_cause}

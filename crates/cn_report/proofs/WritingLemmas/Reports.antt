@@ -1,6 +1,6 @@
 -- The text of a report as it grows.
 use Rattle.std.proofs.Common.{ℕ, ◌<◌, length, arith}
-use Rattle.cn_epoch.specs.declared.record.EpochRecord.{EpochRecord}
+use Rattle.cn_record.specs.declared.record.EpochRecord.{EpochRecord}
 use Rattle.cn_report.specs.Writing.Report.{epoch_line, epoch_lines}
 
 -- an epoch has at least a byte

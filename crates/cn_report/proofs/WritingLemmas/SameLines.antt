@@ -1,11 +1,11 @@
 -- Answers that tell the same have the same lines.
 use Rattle.std.proofs.Common.{◌≡◌, ℕ, List, [], ◌∷◌, ◌++◌, refl, ap, ap₂}
 use Rattle.std.specs.List.{AllZip}
-use Rattle.cn_epoch.specs.declared.answer.Answer.{Answer}
-use Rattle.cn_epoch.specs.declared.answer.Answer.TheVariants.{Replied, Turned, TurnRefused}
-use Rattle.cn_epoch.specs.declared.command.Command.{Command}
-use Rattle.cn_epoch.specs.declared.command.Command.TheVariants.{Enter, Step, Turn}
-use Rattle.cn_epoch.specs.Turns.{IsSameAnswer}
+use Rattle.cn_record.specs.declared.answer.Answer.{Answer}
+use Rattle.cn_record.specs.declared.answer.Answer.TheVariants.{Replied, Turned, TurnRefused}
+use Rattle.cn_record.specs.declared.command.Command.{Command}
+use Rattle.cn_record.specs.declared.command.Command.TheVariants.{Enter, Step, Turn}
+use Rattle.cn_record.specs.Answers.{IsSameAnswer}
 use Rattle.cn_report.specs.Writing.Replay.{answer_line, answer_lines}
 
 line-same : (width : ℕ) (command : Command) (answer other : Answer) → IsSameAnswer answer other → answer_line width command answer ≡ answer_line width command other

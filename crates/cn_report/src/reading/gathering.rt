@@ -8,7 +8,7 @@ ghost use Rattle.cn_report.specs.Reading.Gathered.{Holds, IsGathered, Keeps, gat
 
 use crate::reading::arrival::Arrival;
 use crate::reading::batch_fault::BatchCause;
-use cn_core::Client;
+use cn_ledger::Client;
 use cn_spec::limits::{MOST_CLIENTS, MOST_RECORDS};
 use indexmap::IndexSet;
 use std::alloc::{AllocError, Global};

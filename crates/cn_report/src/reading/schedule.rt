@@ -9,7 +9,7 @@ ghost use Rattle.cn_report.specs.Reading.Schedule.{IsSchedule, IsScheduleFault, 
 use crate::reading::command::command_of;
 use crate::reading::rows::{is_header, next_row, open_rows};
 use crate::reading::schedule_fault::{ScheduleCause, ScheduleFault};
-use cn_epoch::Command;
+use cn_record::Command;
 use cn_spec::limits::MOST_RECORDS;
 use csv::{ByteRecord, Reader};
 use std::alloc::Global;

@@ -1,12 +1,12 @@
 //! The text of a grant list.
 
 ghost use Rattle.std.specs.Prelude.{◌≡◌, [], ◌∷◌, ◌++◌, All, List, OnOk, IfOk, length};
-ghost use Rattle.cn_epoch.specs.declared.record.EpochRecord.{EpochRecord};
+ghost use Rattle.cn_record.specs.declared.record.EpochRecord.{EpochRecord};
 ghost use Rattle.cn_report.specs.Writing.Grants.{HasHolders, grant_lines, grants_header, grants_text};
 ghost use Rattle.cn_report.specs.Writing.Text.{Grows};
 
 use crate::writing::line::put_grant;
-use cn_epoch::EpochRecord;
+use cn_record::EpochRecord;
 use std::alloc::{AllocError, Global};
 use std::marker::Model;
 

@@ -5,7 +5,7 @@ ghost use Rattle.cn_report.specs.Writing.Text.{Grows};
 ghost use Rattle.cn_report.specs.Writing.Outcome.{IsWholeRecord, exit_line, exit_lines, name_line, name_lines, outcome_lines};
 
 use crate::writing::line::put_line;
-use cn_epoch::EpochRecord;
+use cn_record::EpochRecord;
 use std::alloc::AllocError;
 
 #[tactic(auto, unfolding(crate::specs::Writing::Outcome::exit_line))]

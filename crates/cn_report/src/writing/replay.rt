@@ -2,15 +2,15 @@
 
 ghost use Rattle.std.specs.Prelude.{◌≡◌, OnOk, IfOk};
 ghost use Rattle.std.specs.List.{All};
-ghost use Rattle.cn_epoch.specs.Turns.{HadMemory};
+ghost use Rattle.cn_record.specs.Answers.{HadMemory};
 ghost use Rattle.cn_report.specs.Writing.Text.{Grows};
 ghost use Rattle.cn_report.specs.Writing.Outcome.{IsWholeRecord};
 ghost use Rattle.cn_report.specs.Writing.Replay.{AreAnswers, Fits, IsEnterReply, IsStepReply, IsWhole, answer_line, answer_lines, end_line, enter_line, moved_line, not_quiet_line, record_lines, replay_text, step_line, turn_line};
 
 use crate::writing::heading::put_heading;
 use crate::writing::outcome::put_outcome;
-use cn_core::{EnterFault, Moved, Reply, StepFault};
-use cn_epoch::{Answer, Command, EpochRecord, TurnFault};
+use cn_ledger::Moved;
+use cn_record::{Answer, Command, EnterFault, EpochRecord, Reply, StepFault, TurnFault};
 use cn_wiring::Counting;
 use std::alloc::{AllocError, Global};
 

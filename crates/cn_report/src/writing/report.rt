@@ -1,7 +1,7 @@
 //! The text of a report.
 
 ghost use Rattle.std.specs.Prelude.{◌≡◌, [], ◌∷◌, ◌++◌, All, List, OnOk, IfOk, string_bytes};
-ghost use Rattle.cn_epoch.specs.declared.record.EpochRecord.{EpochRecord};
+ghost use Rattle.cn_record.specs.declared.record.EpochRecord.{EpochRecord};
 ghost use Rattle.cn_report.specs.Writing.Outcome.{IsWholeRecord};
 ghost use Rattle.cn_report.specs.Writing.Report.{epoch_line, epoch_lines, report_end, report_so_far, report_text};
 ghost use Rattle.cn_wiring.specs.Network.{Network};
@@ -9,7 +9,7 @@ ghost use Rattle.cn_wiring.specs.Network.{Network};
 use crate::writing::heading::put_heading;
 use crate::writing::line::put_line;
 use crate::writing::outcome::put_outcome;
-use cn_epoch::EpochRecord;
+use cn_record::EpochRecord;
 use cn_wiring::Counting;
 use std::alloc::{AllocError, Global};
 use std::marker::Model;

@@ -4,9 +4,9 @@ use Rattle.cn_wiring.specs.Network.{Network}
 use Rattle.cn_core.specs.declared.event.Event.{Event}
 use Rattle.cn_core.specs.History.{carried_by, enters_of, inside_of}
 use Rattle.cn_epoch.specs.History.{history_by, turns_by}
-use Rattle.cn_epoch.specs.Turns.{HadMemory}
+use Rattle.cn_record.specs.Answers.{HadMemory}
 use Rattle.cn_report.specs.Writing.Replay.{IsWhole}
-use Rattle.cn_report.proofs.CallerLemmas.{fits_all, whole_all}
+use Rattle.cn_renamer.proofs.Replies.{fits_all, whole_all}
 use Rattle.cn_renamer.proofs.replaying.applied.Goals as goal
 
 pub render_replay-requires-clause-fit : goal.render_replay-requires-clause-fit

@@ -1,8 +1,8 @@
 use Rattle.std.proofs.Common.{◌++◌, ◌∙◌, ap, arith, string_bytes}
 use Rattle.std.proofs.lemmas.List.Elements.{All-get_or}
 use Rattle.std.proofs.lemmas.Slice.Zip.{AllZip-long}
-use Rattle.cn_epoch.specs.declared.command.Command.TheVariants.{Enter}
-use Rattle.cn_epoch.specs.Turns.{HadMemory}
+use Rattle.cn_record.specs.declared.command.Command.TheVariants.{Enter}
+use Rattle.cn_record.specs.Answers.{HadMemory}
 use Rattle.cn_report.specs.Writing.Replay.{Fits, IsWhole, answer_line}
 use Rattle.cn_report.proofs.WritingLemmas.Lines.{zipped_all, zipped_at, zipped_more}
 use Rattle.cn_report.proofs.writing.replay.put_answers.Goals as goal

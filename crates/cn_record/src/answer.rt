@@ -1,10 +1,10 @@
 //! What epochs answer.
 
 ghost use Rattle.std.specs.Prelude.{◌≡◌};
-ghost use Rattle.cn_epoch.specs.Calls.{turned_answer};
+ghost use Rattle.cn_record.specs.Answers.{turned_answer};
 
 use crate::record::EpochRecord;
-use cn_core::Reply;
+use crate::reply::Reply;
 
 /// Why a turn is refused.
 #[derive(Clone, Copy, Debug, PartialEq, Eq)]

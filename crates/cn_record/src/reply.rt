@@ -1,7 +1,7 @@
-//! What a core answers.
+//! What a core replies.
 
 ghost use Rattle.std.specs.Prelude.{◌≡◌};
-ghost use Rattle.cn_core.specs.Calls.{entered_reply, stepped_reply};
+ghost use Rattle.cn_record.specs.Answers.{entered_reply, stepped_reply};
 
 use cn_ledger::Moved;
 
