@@ -1,9 +1,9 @@
 #!/usr/bin/env python3
 """The processor time that clients take who share a bucket of the program's tables, beside random clients.
 
-65,536 clients share a bucket under the kit's hasher with one fixed state: `run` of 16 epochs of them, `replay` of five
-epochs in which they enter and walk out, `check` of 16 epochs of grants to them, ten runs each. The program draws a fresh
-state in each run, so nobody can choose such clients beforehand. The last rows show what the clients would cost if the
+65,536 clients share a bucket of the job's table under one fixed state of random words: `run` of 16 epochs of them, `replay`
+of five epochs in which they enter and walk out, `check` of 16 epochs of grants to them, ten runs each. The program draws
+fresh words in each run, so nobody can choose such clients beforehand. The last rows show what the clients would cost if the
 state were that one: the same runs, once each, with random words that are all zero.
 """
 import measure
@@ -34,10 +34,13 @@ def inputs(bench, kind, clients):
 def rows(bench):
     keys = bench.compiled(["rustc", "-O"], "enemies/keys.rs", "keys")
     zeros = bench.compiled(["gcc", "-shared", "-fPIC", "-O1"], "enemies/zeros.c", "zeros.so")
-    count = str(bench.size(65_536, 4_096))
-    enemies = [int(client) for client in bench.written([keys, count]).split()]
-    theirs = inputs(bench, "enemies", enemies)
-    others = inputs(bench, "others", [bench.chance.randrange(10**19, 2**64) for _ in enemies])
+    count = bench.size(65_536, 4_096)
+
+    def sharing(hasher):
+        return inputs(bench, hasher, [int(client) for client in bench.written([keys, hasher, str(count)]).split()])
+
+    theirs = {**sharing("sip"), "run": sharing("scatter")["run"]}
+    others = inputs(bench, "others", [bench.chance.randrange(10**19, 2**64) for _ in range(count)])
     tree = ["--network", "tree", "--width", "2"]
     jobs = {"run": ["run", *tree], "replay": ["replay", *tree], "check": ["check", "--width", "2"]}
     pairs = {job: [([bench.proved, *words], paths[job]) for paths in (theirs, others)] for job, words in jobs.items()}

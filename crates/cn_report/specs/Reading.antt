@@ -12,5 +12,6 @@ pub mod Marks
 pub mod Number
 pub mod Numbers
 pub mod Records
+pub mod Scatter
 pub mod Schedule
 pub mod Told

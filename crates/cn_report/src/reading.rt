@@ -12,6 +12,7 @@ mod marks;
 mod number;
 mod numbers;
 mod rows;
+mod scatter;
 mod schedule;
 mod schedule_fault;
 mod tight;

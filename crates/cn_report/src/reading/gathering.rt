@@ -8,6 +8,7 @@ ghost use Rattle.cn_report.specs.Reading.Gathered.{Holds, IsGathered, Keeps, gat
 
 use crate::reading::arrival::Arrival;
 use crate::reading::batch_fault::BatchCause;
+use crate::reading::scatter::Scatter;
 use cn_ledger::Client;
 use cn_spec::limits::{MOST_CLIENTS, MOST_RECORDS};
 use indexmap::IndexSet;
@@ -29,7 +30,7 @@ pub struct BatchEpoch {
 pub(crate) struct Gathering {
     over: Vec<BatchEpoch>,
     latest: BatchEpoch,
-    standing: IndexSet<u64, RandomState>,
+    standing: IndexSet<u64, Scatter>,
 }
 
 impl Gathering {
@@ -44,7 +45,7 @@ impl Gathering {
                 number: 0,
                 clients: Vec::new(alloc),
             },
-            standing: IndexSet::with_hasher(alloc, state),
+            standing: IndexSet::with_hasher(alloc, Scatter::drawn(state)),
         }
     }
 
