@@ -37,9 +37,14 @@ static void *name_by_itself(void *lane) {
     return NULL;
 }
 
+/* A lane that is freed is handed back, and the last one frees what the others handed back. */
 static void *free_lane(void *lane) {
+    if (IS_ORDER_UNSEEN)
+        pthread_mutex_lock(&lock);
     renamer_free(lane);
     renamer_free(lane);
+    if (IS_ORDER_UNSEEN)
+        pthread_mutex_unlock(&lock);
     return NULL;
 }
 

@@ -19,7 +19,7 @@ struct Handle {
 /// A step of a client, as the library writes it.
 #[repr(C)]
 #[derive(Default)]
-struct RawMoved {
+pub(crate) struct RawMoved {
     client: u64,
     has_left: u64,
     place: u64,
@@ -30,7 +30,7 @@ struct RawMoved {
 /// A sweep, as the library writes it.
 #[repr(C)]
 #[derive(Default)]
-struct RawSwept {
+pub(crate) struct RawSwept {
     have_left: u64,
     place: u64,
     first: u64,
