@@ -62,8 +62,8 @@ impl Lane {
         self.raw.name(client, entry)
     }
 
-    /// Names clients by one call: lets them in, in this order, and then out together. Of many clients that is faster than one
-    /// call for each.
+    /// Names clients by one call: lets them in, in this order, and then out together, by one atomic add for all that are on a
+    /// wire. That is fewer adds on words that several threads share, and not less time by one thread.
     ///
     /// Their grants come in the order in which they left, which has not to be that of the clients.
     ///
