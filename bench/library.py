@@ -26,6 +26,7 @@ def ways(namers, slabs):
     found = {ADD: [namers, "add"], TABLE: [namers, "table"]}
     for network, width in NETWORKS:
         found[f"{network} {width}"] = [namers, "name", network, str(width)]
+        found[f"{network} {width} by lists of 64"] = [namers, "many", network, str(width)]
     found |= {name: [slabs, word] for name, word in SLABS.items() if slabs}
     return found
 

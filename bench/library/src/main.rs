@@ -2,10 +2,10 @@
 //! mutex, or a floor of this repository's library.
 //!
 //!     namers add|table|refused THREADS ROUNDS
-//!     namers name NETWORK WIDTH THREADS ROUNDS
+//!     namers name|many NETWORK WIDTH THREADS ROUNDS
 mod timing;
 
-use renamer::{Floor, Kind, Lane};
+use renamer::{Client, Floor, Grant, Kind, Lane};
 use std::collections::HashMap;
 use std::env;
 use std::hint::black_box;
@@ -77,6 +77,27 @@ fn name(kind: Kind, width: u32, threads: u64) -> Spent {
     spent
 }
 
+/// Names clients by lists of 64.
+fn many(kind: Kind, width: u32, threads: u64) -> Spent {
+    const LIST: usize = 64;
+    let floor = Floor::open(kind, width, CLIENTS).expect("there is memory");
+    let (spent, sum) = in_threads(lanes(&floor, threads), |(thread, lane)| {
+        let mut waiting = clients(*thread, threads).zip(entries(lane, *thread, threads));
+        let (mut list, mut grants) = ([Client::default(); LIST], [Grant::default(); LIST]);
+        let mut sum = 0;
+        for _ in 0..CLIENTS / threads / LIST as u64 {
+            for (place, (client, entry)) in list.iter_mut().zip(&mut waiting) {
+                *place = Client { client, entry };
+            }
+            lane.name_many_into(&list, &mut grants).expect("there is room");
+            sum += grants.iter().map(|grant| grant.name).sum::<u64>();
+        }
+        sum
+    });
+    is_tight(sum);
+    spent
+}
+
 /// A call that is refused: the network has no such entry.
 fn refused(threads: u64) -> Spent {
     let floor = Floor::open(Kind::Tree, 64, CLIENTS).expect("there is memory");
@@ -92,7 +113,7 @@ fn number<N: std::str::FromStr>(word: &str) -> N {
 }
 
 fn usage() -> ! {
-    eprintln!("namers: add|table|refused THREADS ROUNDS, or name bitonic|periodic|tree WIDTH THREADS ROUNDS");
+    eprintln!("namers: add|table|refused THREADS ROUNDS, or name|many bitonic|periodic|tree WIDTH THREADS ROUNDS");
     process::exit(2)
 }
 
@@ -113,6 +134,7 @@ fn main() {
         ["table", ..] => Box::new(table),
         ["refused", ..] => Box::new(refused),
         ["name", network, width, ..] => Box::new(move |threads| name(kind(network), number(width), threads)),
+        ["many", network, width, ..] => Box::new(move |threads| many(kind(network), number(width), threads)),
         _ => usage(),
     };
     let [.., threads, rounds] = words[..] else { usage() };

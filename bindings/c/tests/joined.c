@@ -1,5 +1,5 @@
 /*
- * Four threads name clients on each network of each width, by names and by single steps, and hand their lanes back, free
+ * Four threads name clients on each network of each width, by names, lists and single steps, and hand their lanes back, free
  * them or split them. Then one lane takes all in and closes the floor: the counts are the shares, and of the names 0 to
  * k-1 each has its holder. So it is on a floor that goes on from that one.
  */
@@ -28,12 +28,30 @@ static void walk_out(struct thread *thread, renamer_lane *lane) {
     }
 }
 
-/* Names the clients with these numbers: some by one call each, others by single steps, ten at a time. */
+/* Names ten clients by one call. */
+static void name_ten(struct thread *thread, renamer_lane *lane, uint64_t from, uint64_t entries) {
+    renamer_client clients[10];
+    renamer_grant grants[10];
+    for (uint64_t i = 0; i < 10; i++) {
+        clients[i].client = thread->first + from + i;
+        clients[i].entry = clients[i].client % entries;
+    }
+    CHECK(renamer_name_many(lane, clients, 10, grants, 10) == RENAMER_DONE);
+    for (uint64_t i = 0; i < 10; i++)
+        thread->names[grants[i].client - thread->first] = grants[i].name;
+}
+
+/* Names the clients with these numbers: some by one call each or for ten, others by single steps, ten at a time. */
 static void name_some(struct thread *thread, renamer_lane *lane, uint64_t from, uint64_t to) {
     uint64_t entries;
     CHECK(renamer_entries(lane, &entries) == RENAMER_DONE);
     for (uint64_t i = from; i < to; i++) {
         uint64_t client = thread->first + i;
+        if (i % 30 == 0 && i + 10 <= to) {
+            name_ten(thread, lane, i, entries);
+            i += 9;
+            continue;
+        }
         if (i % 20 < 10) {
             CHECK(renamer_name(lane, client, client % entries, &thread->names[i]) == RENAMER_DONE);
             continue;

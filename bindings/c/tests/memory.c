@@ -67,6 +67,19 @@ static void name_some(renamer_lane *lane, uint64_t first) {
         NO_GROWTH(renamer_name(lane, client, 0, &name));
 }
 
+/* Names a list of clients without room and with some. */
+static void name_a_list(renamer_lane *lane, uint64_t first) {
+    renamer_client clients[10];
+    renamer_grant grants[10];
+    struct seen before = seen_of(lane);
+    for (uint64_t i = 0; i < 10; i++)
+        clients[i] = (renamer_client){first + i, 0};
+    EACH_GROWTH(renamer_name_many(lane, clients, 10, grants, 10), is_as(lane, &before));
+    before = seen_of(lane);
+    EACH_GROWTH(renamer_reserve(lane, 10), is_as(lane, &before));
+    NO_GROWTH(renamer_name_many(lane, clients, 10, grants, 10));
+}
+
 /* Lets clients in with and without room, and on by steps, which want no memory. */
 static void step_some(renamer_lane *lane, uint64_t first) {
     renamer_moved moved;
@@ -112,6 +125,8 @@ static void run_floor(uint32_t kind, uint32_t width) {
     CHECK(before.grants == 156 && before.quota == 44);
     EACH_GROWTH(renamer_open(&lane, kind, width, 60), lane.at != NULL);
     name_some(&lane, 3000);
+    EACH_GROWTH(renamer_open(&lane, kind, width, 60), lane.at != NULL);
+    name_a_list(&lane, 5000);
     before = seen_of(&lane);
     EACH_GROWTH(renamer_close(&lane, &quiet), is_as(&lane, &before) && !quiet.at);
     CHECK(!lane.at && !other.at);

@@ -7,6 +7,7 @@
 static void none(renamer_lane *lane, renamer_quiet *quiet) {
     renamer_lane other = RENAMER_NO_LANE_YET;
     renamer_grant grant = {1, 2, 3, 4};
+    renamer_client client = {1, 0};
     renamer_moved moved = {1, 2, 3, 4, 5};
     renamer_swept swept = {1, 2, 3, 4};
     uint64_t number = 77;
@@ -24,6 +25,7 @@ static void none(renamer_lane *lane, renamer_quiet *quiet) {
     CHECK(renamer_exits(lane, &number) == RENAMER_NONE);
     CHECK(renamer_grant_count(lane, &number) == RENAMER_NONE);
     CHECK(renamer_grants(lane, 0, &grant, 1) == RENAMER_NONE);
+    CHECK(renamer_name_many(lane, &client, 1, &grant, 1) == RENAMER_NONE);
     CHECK(renamer_enter(lane, 1, 0) == RENAMER_NONE);
     CHECK(renamer_step(lane, 0, &moved) == RENAMER_NONE);
     CHECK(renamer_sweep(lane, 0, &swept) == RENAMER_NONE);
@@ -102,6 +104,33 @@ static void split_refuses(void) {
     CHECK(before.quota == 1 && (before = seen_of(&other)).quota == 2);
     renamer_free(&lane);
     renamer_free(&other);
+}
+
+/* Lists of clients that are not named, of a lane with a quota of 3 on a network with 4 entries. */
+static void lists_of_clients(void) {
+    static const renamer_client clients[] = {{7, 3}, {8, 0}, {9, 3}, {10, 4}};
+    renamer_lane lane = RENAMER_NO_LANE_YET;
+    renamer_grant grants[4] = {{0, 0, 0, 77}, {0, 0, 0, 77}, {0, 0, 0, 77}, {0, 0, 0, 77}}, own[3];
+    struct seen before;
+    unsigned char seen[3] = {0};
+    CHECK(renamer_open(&lane, RENAMER_BITONIC, 4, 3) == RENAMER_DONE);
+    before = seen_of(&lane);
+    CHECK(renamer_name_many(&lane, clients, 3, grants, 2) == RENAMER_SIZE);
+    CHECK(renamer_name_many(&lane, clients + 3, 1, grants, 0) == RENAMER_SIZE);
+    CHECK(renamer_name_many(&lane, clients, 4, grants, 4) == RENAMER_NO_SUCH_ENTRY);
+    CHECK(renamer_name_many(&lane, clients + 3, 1, grants, 1) == RENAMER_NO_SUCH_ENTRY);
+    CHECK(renamer_name_many(&lane, clients, 0, grants, 0) == RENAMER_DONE && is_as(&lane, &before) && grants[0].name == 77);
+    CHECK(renamer_name_many(&lane, clients, 3, grants, 3) == RENAMER_DONE && grants[3].name == 77);
+    CHECK(renamer_grants(&lane, 0, own, 3) == RENAMER_DONE && !memcmp(grants, own, sizeof own));
+    for (int i = 0; i < 3; i++)
+        CHECK(grants[i].name < 3 && grants[i].client >= 7 && grants[i].client <= 9 && !seen[grants[i].client - 7]++);
+    before = seen_of(&lane);
+    CHECK(before.quota == 0 && before.inside == 0 && before.entered == 3);
+    CHECK(renamer_name_many(&lane, clients, 1, grants, 1) == RENAMER_QUOTA_SPENT && is_as(&lane, &before));
+    CHECK(renamer_open(&lane, RENAMER_BITONIC, 4, 2) == RENAMER_DONE && renamer_enter(&lane, 7, 0) == RENAMER_DONE);
+    before = seen_of(&lane);
+    CHECK(renamer_name_many(&lane, clients, 4, grants, 4) == RENAMER_STILL_WALKING && is_as(&lane, &before));
+    renamer_free(&lane);
 }
 
 /* Wires on which no client of the lane is. */
@@ -234,6 +263,7 @@ int main(void) {
     CHECK(renamer_open_after(&lane, &quiet, 5) == RENAMER_DONE);
     none(&lane, &quiet);
     split_refuses();
+    lists_of_clients();
     clients_inside();
     lost_inside();
     no_place();

@@ -3,6 +3,16 @@ use crate::raw::RawLane;
 use crate::{Error, Moved, Quiet, Refused, Swept};
 use std::fmt;
 
+/// A client that is to come in.
+#[derive(Clone, Copy, Debug, Default, PartialEq, Eq, Hash)]
+#[repr(C)]
+pub struct Client {
+    /// The client's identity.
+    pub client: u64,
+    /// The entry by which it comes.
+    pub entry: u64,
+}
+
 /// A client that got its name.
 #[derive(Clone, Copy, Debug, Default, PartialEq, Eq, Hash)]
 #[repr(C)]
@@ -50,6 +60,33 @@ impl Lane {
     /// ```
     pub fn name(&mut self, client: u64, entry: u64) -> Result<u64, Error> {
         self.raw.name(client, entry)
+    }
+
+    /// Names clients by one call: lets them in, in this order, and then out together, by one atomic add for all that are on a
+    /// wire. That is fewer adds on words that several threads share, and not less time by one thread.
+    ///
+    /// Their grants come in the order in which they left, which has not to be that of the clients.
+    ///
+    /// ```
+    /// use renamer::{Client, Floor, Kind};
+    ///
+    /// let mut lane = Floor::open(Kind::Bitonic, 4, 4)?.into_lane();
+    /// let clients = [17, 5, 99, 40].map(|client| Client { client, entry: client % 4 });
+    /// let mut grants = lane.name_many(&clients)?;
+    /// grants.sort_by_key(|grant| grant.name);
+    /// assert!(grants.iter().map(|grant| grant.name).eq(0..4));
+    /// assert!(clients.iter().all(|one| grants.iter().any(|grant| grant.client == one.client)));
+    /// # Ok::<(), renamer::Error>(())
+    /// ```
+    pub fn name_many(&mut self, clients: &[Client]) -> Result<Vec<Grant>, Error> {
+        let mut grants = vec![Grant::default(); clients.len()];
+        self.name_many_into(clients, &mut grants)?;
+        Ok(grants)
+    }
+
+    /// Names clients as [`Lane::name_many`] does, and writes their grants into a slice of as many.
+    pub fn name_many_into(&mut self, clients: &[Client], grants: &mut [Grant]) -> Result<(), Error> {
+        self.raw.name_many(clients, grants)
     }
 
     /// Splits off another lane of the same floor, with so much of the quota.

@@ -32,7 +32,7 @@ mod steps;
 
 pub use error::{Error, Refused};
 pub use floor::{Floor, Kind, Quiet};
-pub use lane::{Grant, Lane};
+pub use lane::{Client, Grant, Lane};
 pub use steps::{Moved, Place, Swept};
 
 /// How many clients a floor lets in at most.

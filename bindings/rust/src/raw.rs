@@ -5,7 +5,7 @@
 //! a cell, and a handle lies in a cell that is not `Sync`, so that one thread at a time can reach it.
 #![allow(unsafe_code)]
 
-use crate::{Error, Grant, Moved, Place, Swept};
+use crate::{Client, Error, Grant, Moved, Place, Swept};
 use std::cell::UnsafeCell;
 use std::ffi::c_void;
 use std::ptr::null_mut;
@@ -44,6 +44,7 @@ extern "C" {
     fn renamer_split(lane: *mut Handle, quota: u64, other: *mut Handle) -> u32;
     fn renamer_reserve(lane: *mut Handle, clients: u64) -> u32;
     fn renamer_name(lane: *mut Handle, client: u64, entry: u64, name: *mut u64) -> u32;
+    fn renamer_name_many(lane: *mut Handle, clients: *const Client, client_count: usize, grants: *mut Grant, grant_count: usize) -> u32;
     fn renamer_enter(lane: *mut Handle, client: u64, entry: u64) -> u32;
     fn renamer_step(lane: *mut Handle, wire: u64, moved: *mut RawMoved) -> u32;
     fn renamer_sweep(lane: *mut Handle, wire: u64, swept: *mut RawSwept) -> u32;
@@ -125,6 +126,15 @@ impl RawLane {
         // SAFETY: `&mut` is the only way to the handle, and the name is a variable of its own.
         done(unsafe { renamer_name(self.0.get_mut(), client, entry, &mut name) })?;
         Ok(name)
+    }
+
+    pub(crate) fn name_many(&mut self, clients: &[Client], grants: &mut [Grant]) -> Result<(), Error> {
+        // SAFETY: `&mut` is the only way to the handle, and the arrays are slices of these sizes, of which only the second is
+        // written.
+        done(unsafe {
+            let (from, to) = (clients.as_ptr(), grants.as_mut_ptr());
+            renamer_name_many(self.0.get_mut(), from, clients.len(), to, grants.len())
+        })
     }
 
     pub(crate) fn enter(&mut self, client: u64, entry: u64) -> Result<(), Error> {

@@ -1,5 +1,5 @@
 //! Each cause for which a call is refused, and that a refused call changes nothing.
-use renamer::{Error, Floor, Grant, Kind, Lane, Quiet};
+use renamer::{Client, Error, Floor, Grant, Kind, Lane, Quiet};
 
 fn floor(quota: u64) -> Floor {
     Floor::open(Kind::Bitonic, 4, quota).unwrap()
@@ -66,6 +66,22 @@ fn a_lane_with_clients_inside_is_not_handed_back_and_its_floor_not_closed() {
     assert_eq!((lane.error, lane.value.lowest()), (Error::StillWalking, Ok(3)));
     drop(lane);
     assert_eq!(floor.close().unwrap_err().error, Error::LanesMissing);
+}
+
+#[test]
+fn lists_that_are_not_named() {
+    let mut lane = floor(3).into_lane();
+    let client = |client, entry| Client { client, entry };
+    let mut grants = [Grant::default(); 2];
+    assert_eq!(lane.name_many(&[client(7, 0); 4]), Err(Error::QuotaSpent));
+    assert_eq!(lane.name_many(&[client(7, 0), client(8, 4)]), Err(Error::NoSuchEntry));
+    assert_eq!(lane.name_many_into(&[client(7, 0)], &mut grants), Err(Error::Size));
+    assert_eq!((lane.quota(), lane.grant_count(), grants), (3, 0, [Grant::default(); 2]));
+    assert_eq!(lane.name_many(&[]), Ok(vec![]));
+    assert_eq!(lane.name_many_into(&[client(7, 3), client(8, 0)], &mut grants), Ok(()));
+    assert_eq!(lane.grants(), grants);
+    lane.enter(9, 0).unwrap();
+    assert_eq!(lane.name_many(&[]), Err(Error::StillWalking));
 }
 
 #[test]

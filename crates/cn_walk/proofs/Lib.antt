@@ -1,5 +1,5 @@
-mod Walks
+pub mod Walks
 mod Alone
-mod SweptWalks
+pub mod SweptWalks
 mod Halves
 mod Runs

@@ -1,5 +1,5 @@
 -- Why calls are refused.
-use Rattle.std.specs.Prelude.{◌≡◌, ◌≢◌, ℕ, ◌+◌, ◌<◌, ◌≤◌, Option, None, Some, ⊤, length}
+use Rattle.std.specs.Prelude.{◌≡◌, ◌≢◌, ℕ, ◌+◌, ◌<◌, ◌≤◌, All, List, Option, None, Some, ⊤, length}
 use Rattle.cn_spec.specs.declared.limits.TheConstants.{MOST_CARRIED, MOST_CLIENTS}
 use Rattle.cn_wiring.specs.Widths.{IsWidth}
 use Rattle.cn_yard.specs.Lists.{on, tokens_in}
@@ -8,6 +8,7 @@ use Rattle.cn_floor.specs.Lane.{LaneValue}
 use Rattle.renamer_c.specs.Records.{RecordValue, list_of}
 use Rattle.renamer_c.specs.Returns.{IsBack}
 use Rattle.renamer_c.specs.Statuses.{status_of}
+use Rattle.renamer_c.specs.declared.client.Client.{Client}
 use Rattle.renamer_c.specs.declared.record_of_floor.Listed.{Listed}
 use Rattle.renamer_c.specs.declared.refusal.Refusal.{Refusal}
 use Rattle.renamer_c.specs.declared.refusal.Refusal.TheVariants.{Nothing, Memory, Kind, Width, Quota, NoSuchEntry, QuotaSpent, QuotaTooSmall, StillWalking, NobodyThere, LanesMissing, NothingBack, Size, Carried, NoPlace}
@@ -47,6 +48,16 @@ NotNamed lane entry NoSuchEntry = WithLane lane (λ l. l.home.start.network.tabl
 NotNamed lane entry QuotaSpent = WithLane lane (λ l. l.view.quota ≡ 0)
 NotNamed lane entry Memory = WithLane lane (λ l. l.room ≡ 0)
 NotNamed lane entry r = ⊥
+
+-- why clients are not named by one call, with room for so many grants
+abbrev pub NotNamedMany : Option LaneValue → List Client → ℕ → Refusal → Type 0
+NotNamedMany lane clients size Nothing = lane ≡ None
+NotNamedMany lane clients size Size = WithLane lane (λ l. size ≢ length clients)
+NotNamedMany lane clients size StillWalking = WithLane lane (λ l. 0 < tokens_in l.yard.lists)
+NotNamedMany lane clients size NoSuchEntry = WithLane lane (λ l. ¬ All (λ c. c.entry < l.home.start.network.table.entries) clients)
+NotNamedMany lane clients size QuotaSpent = WithLane lane (λ l. l.view.quota < length clients)
+NotNamedMany lane clients size Memory = WithLane lane (λ l. l.room < length clients)
+NotNamedMany lane clients size r = ⊥
 
 -- why a client is not let in
 abbrev pub NotEntered : Option LaneValue → ℕ → Refusal → Type 0

@@ -38,7 +38,7 @@ fn copy_of(grant: &cn_floor::Grant) -> Grant
 }
 
 /// Copies grants, from this one on.
-fn copy_from(grants: &[cn_floor::Grant], first: usize, copies: &mut [Grant])
+pub(crate) fn copy_from(grants: &[cn_floor::Grant], first: usize, copies: &mut [Grant])
     requires { first + length copies.old ≤ length grants.now }
     ensures count { length copies.new ≡ length copies.old }
     ensures copied { AreGrantsFrom grants.now first copies.new }

@@ -1,5 +1,6 @@
 //! What a handle has.
 
+mod naming_many;
 mod returning;
 mod stepping;
 

@@ -1,6 +1,7 @@
 //! A lane with its share of its floor.
 
 mod closing;
+mod naming_many;
 mod returning;
 mod stepping;
 

@@ -2,6 +2,7 @@
 #![tactic(auto)]
 
 mod asking;
+mod client;
 mod closing;
 mod floor_share;
 mod granting;
@@ -13,6 +14,7 @@ mod joining;
 mod loose;
 mod moved;
 mod naming;
+mod naming_many;
 mod opening;
 mod question;
 mod reading;

@@ -1,0 +1,19 @@
+use Rattle.std.proofs.Common.{◌≡◌, ℕ, ◌<◌, ◌≤◌, [], length}
+use Rattle.cn_yard.specs.Lists.{on}
+use Rattle.cn_floor.specs.Steps.{HasMoment}
+use Rattle.cn_walk.specs.Walks.{Walks, steps_left}
+use Rattle.cn_walk.proofs.Walks.{IsHeld}
+use Rattle.renamer_c.proofs.held_lane.naming_many.walk_out.Given as goal
+
+-- some of those inside went on or out, and nobody stands below the last wire
+abbrev pub invariant-loop-wire : goal.invariant-loop-wire
+invariant-loop-wire l = record {
+  walks : Walks l.initial.lane l.lane [];
+  held : IsHeld l.lane;
+  moment : HasMoment l.initial.lane.home.start l.lane.view;
+  from : l.from ≤ length l.lane.yard.lists;
+  clear : (u : ℕ) → u < l.from → on l.lane.yard.lists u ≡ [];
+}
+
+abbrev pub decreases-loop-wire : goal.decreases-loop-wire
+decreases-loop-wire l = steps_left l.lane.view

@@ -1,0 +1,26 @@
+-- What the naming of many clients by one call makes of a lane.
+use Rattle.std.specs.Prelude.{◌≡◌, ℕ, ◌<◌, ◌≤◌, List, Option, Some, length, map}
+use Rattle.cn_spec.specs.Sums.{times}
+use Rattle.cn_ledger.specs.declared.client.Client as ledger
+use Rattle.cn_floor.specs.Lane.{LaneValue}
+use Rattle.cn_floor.specs.Steps.{HasMoment}
+use Rattle.cn_walk.specs.Walks.{WalksAll}
+use Rattle.renamer_c.specs.Questions.{AreGrantsFrom}
+use Rattle.renamer_c.specs.declared.client.Client.{Client}
+use Rattle.renamer_c.specs.declared.granting.Grant.{Grant}
+
+-- a client of a list of C's
+abbrev pub client_of : Client → ledger.Client
+client_of c = record { id = c.client; entry = c.entry }
+
+-- clients came in and left: a grant more for each, and no name stands twice in the lane
+pub record AreNamed (old new : LaneValue) (clients : List Client) : Type 0 where
+  pub walked : WalksAll old new (map client_of clients)
+  pub moment : 0 < length clients → HasMoment old.home.start new.view
+  pub once : 0 < length clients → (name : ℕ) → times name (map (λ g. g.name) new.view.grants) ≤ 1
+
+-- the same of what handles have, with these grants in the order in which the clients left
+abbrev pub NamesMany : Option LaneValue → Option LaneValue → List Client → List Grant → Type 0
+NamesMany old new clients grants =
+    (l k : LaneValue) × (old ≡ Some l) × (new ≡ Some k) × AreNamed l k clients
+    × AreGrantsFrom k.view.grants (length l.view.grants) grants × (length grants ≡ length clients)
