@@ -1,11 +1,28 @@
 /*
- * Opens, splits, names and closes, round after round: after each there are as many blocks of memory as before
- * it. The number of rounds is the argument.
+ * Opens, splits, names, hands back, joins and closes, round after round: after each there are as many blocks of memory as
+ * before it. The number of rounds is the argument.
  */
 #include "growths.h"
 #include "judge.h"
 
-/* A round in which the floor is closed and one goes on from it, and in which a lane that goes is freed. */
+/* A lane of a floor that goes on from a closed one is handed back with its name, another is freed; both are joined, and the
+   floor is closed. */
+static void join_and_close(renamer_quiet *quiet) {
+    renamer_lane lane = RENAMER_NO_LANE_YET, other = RENAMER_NO_LANE_YET;
+    uint64_t name, holder;
+    CHECK(renamer_open_after(&lane, quiet, 4) == RENAMER_DONE);
+    CHECK(renamer_split(&lane, 2, &other) == RENAMER_DONE);
+    CHECK(renamer_name(&other, 7, 0, &name) == RENAMER_DONE && name == 0);
+    CHECK(renamer_hand_back(&other) == RENAMER_DONE);
+    CHECK(renamer_split(&lane, 1, &other) == RENAMER_DONE);
+    renamer_free(&other);
+    CHECK(renamer_join(&lane) == RENAMER_DONE && renamer_join(&lane) == RENAMER_DONE);
+    CHECK(renamer_join(&lane) == RENAMER_NOTHING_BACK);
+    CHECK(renamer_close(&lane, quiet) == RENAMER_DONE);
+    CHECK(renamer_holders(quiet, &holder, 1) == RENAMER_DONE && holder == 7);
+}
+
+/* A round in which the floor is closed and others go on from it, and in which a lane that goes is freed. */
 static void run_round(uint32_t kind, uint32_t width) {
     renamer_lane lane = RENAMER_NO_LANE_YET, other = RENAMER_NO_LANE_YET;
     renamer_quiet quiet = RENAMER_NO_QUIET_YET;
@@ -18,6 +35,7 @@ static void run_round(uint32_t kind, uint32_t width) {
     CHECK(renamer_close(&lane, &quiet) == RENAMER_DONE);
     CHECK(renamer_holders(&quiet, holders, 3) == RENAMER_DONE);
     CHECK(holders[0] == 7 && holders[1] == 8 && holders[2] == 9);
+    join_and_close(&quiet);
     CHECK(renamer_open_after(&lane, &quiet, 2) == RENAMER_DONE);
     CHECK(renamer_split(&lane, 2, &other) == RENAMER_DONE);
     CHECK(renamer_name(&other, 7, 0, &name) == RENAMER_DONE);
