@@ -5,3 +5,4 @@ pub mod Swept
 pub mod Lanes
 pub mod Lone
 pub mod Named
+pub mod Listed

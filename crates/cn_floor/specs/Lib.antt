@@ -20,3 +20,4 @@ pub mod Laws
 pub mod Lone
 pub mod Together
 pub mod Named
+pub mod Listed

@@ -6,6 +6,7 @@ mod counters;
 mod lane;
 mod laws;
 mod leftovers;
+mod listed;
 mod lone;
 mod looking;
 mod naming;

@@ -15,7 +15,7 @@ frees-next [] old between new e same one = (new, subst (λ (y : Yard). Releases 
 frees-next (d ∷ done) old between new e (first, taken, rest) one = (first, taken, frees-next done first between new e rest one)
 
 -- a grant after others
-grants-next : (width less i n m : ℕ) (done : List (ℕ × ℕ)) (token client : ℕ) → m ≡ n + length done
+pub grants-next : (width less i n m : ℕ) (done : List (ℕ × ℕ)) (token client : ℕ) → m ≡ n + length done
     → grants_out width less i n (done ++ (token, client) ∷ [])
     ≡ grants_out width less i n done ++ record { client = client; exit = i; visit = m; name = name_of width i m - less } ∷ []
 unfolding grants_out

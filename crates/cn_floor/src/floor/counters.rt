@@ -131,6 +131,30 @@ impl Counters {
             .fetch_add::<EnterPlay<T>>(seat, 1 + entry as usize, 1);
     }
 
+    /// As [`Counters::enter`], for a client whose token has the number of its place in a list.
+    pub(super) fn come<T: EnterOf>(
+        &self,
+        seat: &mut Seat<(), View>,
+        _place: usize,
+        _client: u64,
+        entry: u32,
+    )
+        requires own { (seat.old.table_id ≡ self.now.table)
+            × (seat.old.me.0.start ≡ self.now.start) }
+        requires coming { T.coming
+            ≡ record { start = self.now.start; token = _place; client = _client; entry = entry } }
+        requires slots { (seat.old.me.1 ≡ []) × (seat.old.me.0.loads ≡ []) }
+        requires entry { (entry < self.now.start.network.table.entries)
+            × (entry < length seat.old.me.0.tokens) }
+        requires quota { 0 < seat.old.me.0.quota }
+        ensures seat { (seat.new.table_id ≡ seat.old.table_id) × (seat.new.me.1 ≡ []) }
+        ensures came { ComesIn T.coming seat.old.me.0 seat.new.me.0 }
+    {
+        self.table
+            .shared
+            .fetch_add::<EnterPlay<T>>(seat, 1 + entry as usize, 1);
+    }
+
     /// The token goes by the end of its wire, in one atomic step: an add on the end's word, which gives its number. The
     /// token, the client and the wire are only for the proof.
     pub(super) fn step<T: StepOf>(

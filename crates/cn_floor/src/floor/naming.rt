@@ -42,7 +42,7 @@ impl<'a> Floor<'a> {
         if lane.quota() == 0 {
             return Err(LaneFault::QuotaSpent);
         }
-        let Ok(()) = lane.reserve_one() else {
+        let Ok(()) = lane.make_room(1) else {
             return Err(LaneFault::Memory);
         };
         let (exit, visit) = self.walk_through(&mut lane.seat, client, entry as u32);

@@ -1,0 +1,214 @@
+use Rattle.std.proofs.Common.{rules, ◌≡◌, ℕ, ◌+◌, ◌-◌, ◌*◌, ◌≤◌, List, ◌++◌, length, refl, arith, sym, ap, ◌∙◌, subst, length-append}
+use Rattle.cn_spec.specs.Step as step
+use Rattle.cn_wiring.specs.declared.end.End.{End}
+use Rattle.cn_wiring.specs.declared.end.End.TheVariants.{Balancer, Exit}
+use Rattle.cn_wiring.specs.Network.{Network}
+use Rattle.cn_wiring.specs.Table.{output_wire}
+use Rattle.cn_yard.specs.Deals.{every_second}
+use Rattle.cn_yard.specs.Lists.{on}
+use Rattle.cn_floor.specs.declared.view.Start.{Start}
+use Rattle.cn_floor.specs.declared.view.View.{View}
+use Rattle.cn_floor.specs.Lane.{FloorValue}
+use Rattle.cn_floor.specs.Listed.{HaveLeft, Stand, placed}
+use Rattle.cn_floor.specs.Sweeps.{AreLetBy, grants_out}
+use Rattle.cn_floor.specs.Views.{base}
+use Rattle.cn_floor.proofs.InLane.Listed.{GoTogether, above-first, above-second, dealt-so, first-stand, grants-by, grants-so, inside, kin-so, left-by, left-so, nobody-left, placed-many, together}
+use Rattle.cn_floor.proofs.floor.Floor.+pass_all.Goals as goal
+
+pub returns-then-group-eq0-clause-left : goal.returns-then-group-eq0-clause-left
+unfolding placed
+returns-then-group-eq0-clause-left t c =
+    let g = c.args.group in
+    nobody-left c.args.seat.now.me.0 c.args.wire (c.requires.group.are ∙ ap (λ (n : ℕ). placed c.args.clients.now g.first g.stride n) c.if-group-eq0.true)
+
+pub let_by-end-requires-clause-tokens : goal.let_by-end-requires-clause-tokens
+let_by-end-requires-clause-tokens t c =
+    let g = c.args.group in
+    ap length c.requires.group.are ∙ placed-many c.args.clients.now g.first g.stride g.count
+
+pub pass_all-requires : goal.pass_all-requires
+pass_all-requires t c =
+    let start : Start = c.args.self.now.start in
+    let wire : ℕ = c.args.wire in
+    let v : View = c.args.seat.now.me.0 in
+    let w : View = c.let_by-end.new.seat.me.0 in
+    let b : ℕ = c.in-Balancer.balancer in
+    let n : ℕ = c.let_by-end.result.1 in
+    let g = c.args.group in
+    let clients : List ℕ = c.args.clients.now in
+    let many : length (on v.tokens wire) ≡ g.count = ap length c.requires.group.are ∙ placed-many clients g.first g.stride g.count in
+    let go : GoTogether start wire (Balancer b) n v w =
+    subst (λ (e : End). GoTogether start wire e n v w) c.in-Balancer.is
+    (together start wire c.let_by-end.result.0 n v w c.start_laws.ensures c.requires.own.1 c.requires.wires c.requires.wire c.requires.once c.requires.above (omega (arith, many, c.if-group-eq0.false))
+    c.let_by-end.ensures.end c.let_by-end.ensures.stands c.let_by-end.ensures.went c.let_by-end.ensures.by) in
+    let is = dealt-so start wire b n v w go in
+    let like = kin-so start wire b n v w go in
+    let entries : c.entries.result ≡ start.network.table.entries = c.entries.ensures.value ∙ ap (λ (x : Network). x.table.entries) c.network-network.ensures.value in
+    let to : c.entries.result + 2 * b + 1 ≡ output_wire start.network.table b 1 = omega (arith, entries) in
+    let stand : Stand clients c.deal.result.1 (on w.tokens (c.entries.result + 2 * b + 1)) =
+    subst (λ (es : List (ℕ × ℕ)). Stand clients c.deal.result.1 es)
+    ((λ i. every_second (1 - c.output_of.ensures i) (sym c.requires.group.are i)) ∙ sym is.second ∙ ap (λ (u : ℕ). on w.tokens u) (sym to)) c.deal.ensures.lower in (
+      search rules,
+      (
+        (c.let_by-end.ensures.seat.0 ∙ c.requires.own.0, like.start ∙ c.requires.own.1),
+        (
+          (c.let_by-end.ensures.seat.1, like.loads ∙ c.requires.slots.1),
+          (
+            is.wires,
+            (
+              omega (arith, entries, inside start wire b n v w go),
+              (
+                is.once,
+                (
+                  stand,
+                  (
+                    λ u more. above-second start wire b n v w go u (omega (arith, more, to)),
+                    (omega (arith, c.requires.room, c.deal.ensures.all), c.requires.grants ∙ sym (grants-so start wire b n v w go)),
+                  ),
+                ),
+              ),
+            ),
+          ),
+        ),
+      ),
+    )
+
+pub pass_all-requires-in-Balancer : goal.pass_all-requires-in-Balancer
+pass_all-requires-in-Balancer t c =
+    let start : Start = c.args.self.now.start in
+    let wire : ℕ = c.args.wire in
+    let v : View = c.args.seat.now.me.0 in
+    let w : View = c.let_by-end.new.seat.me.0 in
+    let mid : View = c.pass_all.new.seat.me.0 in
+    let b : ℕ = c.in-Balancer.balancer in
+    let n : ℕ = c.let_by-end.result.1 in
+    let g = c.args.group in
+    let clients : List ℕ = c.args.clients.now in
+    let many : length (on v.tokens wire) ≡ g.count = ap length c.requires.group.are ∙ placed-many clients g.first g.stride g.count in
+    let go : GoTogether start wire (Balancer b) n v w =
+    subst (λ (e : End). GoTogether start wire e n v w) c.in-Balancer.is
+    (together start wire c.let_by-end.result.0 n v w c.start_laws.ensures c.requires.own.1 c.requires.wires c.requires.wire c.requires.once c.requires.above (omega (arith, many, c.if-group-eq0.false))
+    c.let_by-end.ensures.end c.let_by-end.ensures.stands c.let_by-end.ensures.went c.let_by-end.ensures.by) in
+    let is = dealt-so start wire b n v w go in
+    let like = kin-so start wire b n v w go in
+    let entries : c.entries.result ≡ start.network.table.entries = c.entries.ensures.value ∙ ap (λ (x : Network). x.table.entries) c.network-network.ensures.value in
+    let to0 : c.entries.result + 2 * b ≡ output_wire start.network.table b 0 = omega (arith, entries) in
+    let to1 : c.entries.result + 2 * b + 1 ≡ output_wire start.network.table b 1 = omega (arith, entries) in
+    let left : HaveLeft w mid (output_wire start.network.table b 1) (on w.tokens (output_wire start.network.table b 1)) =
+    subst (λ (u : ℕ). HaveLeft w mid u (on w.tokens u)) to1 c.pass_all.ensures.left in
+    let stand : Stand clients c.deal.result.0 (on mid.tokens (c.entries.result + 2 * b)) =
+    subst (λ (es : List (ℕ × ℕ)). Stand clients c.deal.result.0 es)
+    ((λ i. every_second (c.output_of.ensures i) (sym c.requires.group.are i)) ∙ sym (first-stand start wire b n v w go mid left) ∙ ap (λ (u : ℕ). on mid.tokens u) (sym to0)) c.deal.ensures.upper in
+    let lower : length (on w.tokens (output_wire start.network.table b 1)) ≡ c.deal.result.1.count =
+    ap length (is.second ∙ (λ i. every_second (1 - sym c.output_of.ensures i) (c.requires.group.are i)) ∙ c.deal.ensures.lower.are) ∙ placed-many clients c.deal.result.1.first c.deal.result.1.stride c.deal.result.1.count in
+    let (more, grew, theirs) = left.grants in
+    let grants : length c.pass_all.new.grants.items ≡ length c.args.grants.now.items + c.deal.result.1.count =
+    ap length (c.pass_all.ensures.grants ∙ grew) ∙ length-append w.grants more
+    ∙ (λ i. length ((grants-so start wire b n v w go ∙ sym c.requires.grants) i) + (theirs.as_many ∙ lower) i) in (
+      search rules,
+      (
+        (c.pass_all.ensures.seat.0 ∙ c.let_by-end.ensures.seat.0 ∙ c.requires.own.0, left.start ∙ like.start ∙ c.requires.own.1),
+        (
+          (c.pass_all.ensures.seat.1, left.loads ∙ like.loads ∙ c.requires.slots.1),
+          (
+            left.wires ∙ is.wires,
+            (
+              omega (arith, entries, inside start wire b n v w go),
+              (
+                c.pass_all.ensures.once,
+                (
+                  stand,
+                  (
+                    λ u past. above-first start wire b n v w go mid left u (omega (arith, past, to0)),
+                    (omega (arith, c.requires.room, c.deal.ensures.all, grants, c.pass_all.ensures.capacity), c.pass_all.ensures.grants),
+                  ),
+                ),
+              ),
+            ),
+          ),
+        ),
+      ),
+    )
+
+pub returns-in-Balancer-clause-left : goal.returns-in-Balancer-clause-left
+returns-in-Balancer-clause-left t c =
+    let start : Start = c.args.self.now.start in
+    let wire : ℕ = c.args.wire in
+    let v : View = c.args.seat.now.me.0 in
+    let w : View = c.let_by-end.new.seat.me.0 in
+    let mid : View = c.pass_all.new.seat.me.0 in
+    let x : View = c.pass_all-in-Balancer.new.seat.me.0 in
+    let b : ℕ = c.in-Balancer.balancer in
+    let n : ℕ = c.let_by-end.result.1 in
+    let g = c.args.group in
+    let many : length (on v.tokens wire) ≡ g.count = ap length c.requires.group.are ∙ placed-many c.args.clients.now g.first g.stride g.count in
+    let go : GoTogether start wire (Balancer b) n v w =
+    subst (λ (e : End). GoTogether start wire e n v w) c.in-Balancer.is
+    (together start wire c.let_by-end.result.0 n v w c.start_laws.ensures c.requires.own.1 c.requires.wires c.requires.wire c.requires.once c.requires.above (omega (arith, many, c.if-group-eq0.false))
+    c.let_by-end.ensures.end c.let_by-end.ensures.stands c.let_by-end.ensures.went c.let_by-end.ensures.by) in
+    let entries : c.entries.result ≡ start.network.table.entries = c.entries.ensures.value ∙ ap (λ (y : Network). y.table.entries) c.network-network.ensures.value in
+    let to0 : c.entries.result + 2 * b ≡ output_wire start.network.table b 0 = omega (arith, entries) in
+    let to1 : c.entries.result + 2 * b + 1 ≡ output_wire start.network.table b 1 = omega (arith, entries) in
+    left-so start wire b n v w go mid x (subst (λ (u : ℕ). HaveLeft w mid u (on w.tokens u)) to1 c.pass_all.ensures.left)
+    (subst (λ (u : ℕ). HaveLeft mid x u (on mid.tokens u)) to0 c.pass_all-in-Balancer.ensures.left)
+
+-- ---- an exit
+
+module _ (t : ℕ) (c : goal.After-grant_all-arg-1 t) where
+  abbrev start : Start
+  start = c.args.self.now.start
+
+  abbrev v : View
+  v = c.args.seat.now.me.0
+
+  begun : c.self.inside.base ≡ base start
+  begun = c.self.invariant.base ∙ ap (λ (h : FloorValue). base h.start) c.self.view_is
+
+  width : c.width-width.result ≡ start.network.table.width
+  width = c.width-width.ensures.value ∙ ap (λ (x : Network). x.table.width) c.network-network.ensures.value
+
+  by : AreLetBy start v c.let_by-end.new.seat.me.0 c.args.wire (Exit c.in-Exit.exit) c.let_by-end.result.1
+  by = subst (λ (e : End). AreLetBy start v c.let_by-end.new.seat.me.0 c.args.wire e c.let_by-end.result.1) c.in-Exit.is c.let_by-end.ensures.by
+
+pub grant_all-requires-clause-visits : goal.grant_all-requires-clause-visits
+grant_all-requires-clause-visits t c =
+    let g = c.args.group in
+    let many : length (on c.args.seat.now.me.0.tokens c.args.wire) ≡ g.count = ap length c.requires.group.are ∙ placed-many c.args.clients.now g.first g.stride g.count in
+    omega (arith, (by t c).few, many, c.start_laws.ensures.few, c.start_laws.ensures.quota)
+
+pub grant_all-requires-clause-names : goal.grant_all-requires-clause-names
+grant_all-requires-clause-names t c =
+    subst (λ (x : ℕ × ℕ). x.0 ≤ step.name_of x.1 c.in-Exit.exit c.let_by-end.result.1) (λ i. (sym (begun t c) i, sym (width t c) i)) ((by t c).late c.in-Exit.exit refl)
+
+-- all of the group left by the exit
+left : (t : ℕ) (c : goal.After-grant_all t) → GoTogether c.args.self.now.start c.args.wire (Exit c.in-Exit.exit) c.let_by-end.result.1 c.args.seat.now.me.0 c.let_by-end.new.seat.me.0
+left t c =
+    let start : Start = c.args.self.now.start in
+    let wire : ℕ = c.args.wire in
+    let v : View = c.args.seat.now.me.0 in
+    let w : View = c.let_by-end.new.seat.me.0 in
+    let n : ℕ = c.let_by-end.result.1 in
+    let g = c.args.group in
+    let many : length (on v.tokens wire) ≡ g.count = ap length c.requires.group.are ∙ placed-many c.args.clients.now g.first g.stride g.count in
+    subst (λ (e : End). GoTogether start wire e n v w) c.in-Exit.is
+    (together start wire c.let_by-end.result.0 n v w c.start_laws.ensures c.requires.own.1 c.requires.wires c.requires.wire c.requires.once c.requires.above (omega (arith, many, c.if-group-eq0.false))
+    c.let_by-end.ensures.end c.let_by-end.ensures.stands c.let_by-end.ensures.went c.let_by-end.ensures.by)
+
+pub returns-in-Exit-clause-left : goal.returns-in-Exit-clause-left
+returns-in-Exit-clause-left t c =
+    (left-by c.args.self.now.start c.args.wire c.in-Exit.exit c.let_by-end.result.1 c.args.seat.now.me.0 c.let_by-end.new.seat.me.0 (left t c)).0
+
+pub returns-in-Exit-clause-once : goal.returns-in-Exit-clause-once
+returns-in-Exit-clause-once t c =
+    (left-by c.args.self.now.start c.args.wire c.in-Exit.exit c.let_by-end.result.1 c.args.seat.now.me.0 c.let_by-end.new.seat.me.0 (left t c)).1
+
+pub returns-in-Exit-clause-grants : goal.returns-in-Exit-clause-grants
+returns-in-Exit-clause-grants t c =
+    let start : Start = c.args.self.now.start in
+    let i : ℕ = c.in-Exit.exit in
+    let n : ℕ = c.let_by-end.result.1 in
+    let begun : c.self.inside.base ≡ base start = c.self.invariant.base ∙ ap (λ (h : FloorValue). base h.start) c.self.view_is in
+    let width : c.width-width.result ≡ start.network.table.width = c.width-width.ensures.value ∙ ap (λ (x : Network). x.table.width) c.network-network.ensures.value in
+    c.grant_all.ensures.granted
+    ∙ (λ x. c.requires.grants x ++ grants_out (width x) (begun x) i n (sym c.requires.group.are x))
+    ∙ sym (grants-by start c.args.wire i n c.args.seat.now.me.0 c.let_by-end.new.seat.me.0 (left t c))

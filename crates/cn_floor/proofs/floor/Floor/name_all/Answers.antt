@@ -1,0 +1,102 @@
+use Rattle.std.proofs.Common.{◌≡◌, ℕ, ◌+◌, ◌==◌, List, [], ◌++◌, count_by, length, max, replicate, arith, sym, ap, ◌∙◌, subst, length-append}
+use Rattle.std.proofs.lemmas.List.{nil_from_length}
+use Rattle.cn_wiring.specs.Network.{Network}
+use Rattle.cn_yard.specs.Lists.{Lists, on, tokens_in}
+use Rattle.cn_yard.proofs.CallerLemmas.{nobody-on}
+use Rattle.cn_floor.specs.declared.view.Start.{Start}
+use Rattle.cn_floor.specs.declared.view.View.{View}
+use Rattle.cn_floor.specs.InsideLane.{lane_of}
+use Rattle.cn_floor.specs.Lane.{FloorValue, LaneValue, with_room}
+use Rattle.cn_floor.specs.Steps.{HasMoment}
+use Rattle.cn_floor.proofs.AtClose.Rises.{all-empty}
+use Rattle.cn_floor.proofs.InLane.Listed.{all-clients, came-once, nobody-stands, placed-many}
+use Rattle.cn_floor.proofs.floor.Floor.name_all.Goals as goal
+
+pub come_in-requires-clause-out : goal.come_in-requires-clause-out
+come_in-requires-clause-out c u =
+    let held : lane_of c.lane.inside ≡ with_room (length c.args.clients.now) c.args.lane.now = c.lane.view_is ∙ c.in-Ok.ensures.ok in
+    let nobody : tokens_in c.lane.inside.yard.lists ≡ 0 = ap (λ (l : LaneValue). tokens_in l.yard.lists) held ∙ c.requires.out in
+    subst (λ (ls : Lists). on ls u ≡ []) c.lane.invariant.tokens (nil_from_length (on c.lane.inside.yard.lists u) (nobody-on c.lane.inside.yard.lists nobody u))
+
+pub pass_all-requires-clause-once : goal.pass_all-requires-clause-once
+pass_all-requires-clause-once c =
+    let came = c.come_in.ensures.came in
+    let held : lane_of c.lane.inside ≡ with_room (length c.args.clients.now) c.args.lane.now = c.lane.view_is ∙ c.in-Ok.ensures.ok in
+    let begun : c.lane.inside.seat.me.0.start ≡ c.args.self.now.start = ap (λ (l : LaneValue). l.home.start) held ∙ ap (λ (h : FloorValue). h.start) c.requires.own in
+    came-once c.lane.inside.seat.me.0 c.come_in.new.seat.me.0 c.args.clients.now c.args.entry (length c.args.clients.now) came
+    (omega (
+      arith,
+      came.wires,
+      ap length c.lane.invariant.tokens,
+      c.lane.invariant.wires,
+      ap (λ (s : Start). length s.network.table.ends) begun,
+      c.start_laws.ensures.network.formed.wires,
+      c.if-entry-from.false,
+      c.from.ensures,
+      c.entries.ensures.value,
+      ap (λ (n : Network). n.table.entries) c.network.ensures.value,
+    ))
+
+pub invariant_of-lane : goal.invariant_of-lane
+invariant_of-lane c =
+    let v : View = c.lane.inside.seat.me.0 in
+    let w : View = c.come_in.new.seat.me.0 in
+    let x : View = c.pass_all.new.seat.me.0 in
+    let clients : List ℕ = c.args.clients.now in
+    let k : ℕ = length clients in
+    let was = c.lane.invariant in
+    let came = c.come_in.ensures.came in
+    let left = c.pass_all.ensures.left in
+    let held : lane_of c.lane.inside ≡ with_room k c.args.lane.now = c.lane.view_is ∙ c.in-Ok.ensures.ok in
+    let nobody : tokens_in c.lane.inside.yard.lists ≡ 0 = ap (λ (l : LaneValue). tokens_in l.yard.lists) held ∙ c.requires.out in
+    let some : c.lane.inside.room ≡ max k c.args.lane.now.room = ap (λ (l : LaneValue). l.room) held in
+    let (more, grew, theirs) = left.grants in
+    let many : length c.pass_all.new.grants.items ≡ length v.grants + k =
+    ap length (c.pass_all.ensures.grants ∙ grew) ∙ length-append w.grants more
+    ∙ (λ i. length (came.grants i) + (theirs.as_many ∙ ap length came.there ∙ placed-many clients 0 1 k) i) in
+    record {
+      no_slot = c.pass_all.ensures.seat.1;
+      idle = left.loads ∙ came.loads ∙ was.idle;
+      tokens = all-empty c.lane.inside.yard.lists nobody ∙ (λ i. replicate (length (was.tokens i)) []) ∙ sym (nobody-stands v w x clients c.args.entry k came left);
+      wires = was.wires ∙ ap (λ (s : Start). length s.network.table.ends) (sym (left.start ∙ came.start));
+      grants = c.pass_all.ensures.grants;
+      quota = omega (arith, was.quota, came.quota, left.quota);
+      few = omega (arith, was.few);
+      room = omega (arith, was.room, some, many, ap length was.grants, c.pass_all.ensures.capacity);
+      spare = omega (arith, was.spare);
+    }
+
+pub returns-clause-ok : goal.returns-clause-ok
+returns-clause-ok c =
+    let v : View = c.lane.inside.seat.me.0 in
+    let w : View = c.come_in.new.seat.me.0 in
+    let x : View = c.pass_all.new.seat.me.0 in
+    let clients : List ℕ = c.args.clients.now in
+    let k : ℕ = length clients in
+    let old : LaneValue = c.args.lane.now in
+    let came = c.come_in.ensures.came in
+    let left = c.pass_all.ensures.left in
+    let held : lane_of c.lane.inside ≡ with_room k old = c.lane.view_is ∙ c.in-Ok.ensures.ok in
+    let view : v ≡ old.view = ap (λ (l : LaneValue). l.view) held in
+    let own : v.start ≡ old.home.start = ap (λ (l : LaneValue). l.home.start) held in
+    let stood : length (on w.tokens c.args.entry) ≡ k = ap length came.there ∙ placed-many clients 0 1 k in
+    let (more, grew, theirs) = left.grants in
+    record {
+      home = (λ i. record {
+        table = (c.pass_all.ensures.seat.0 ∙ c.come_in.ensures.seat.0) i;
+        start = (left.start ∙ came.start) i;
+      }) ∙ ap (λ (l : LaneValue). l.home) held;
+      quota = omega (arith, came.quota, left.quota, ap (λ (y : View). y.quota) view);
+      entries = left.entries ∙ came.entries ∙ (λ i. (view i).entries ++ replicate k c.args.entry);
+      seen = left.seen ∙ came.seen ∙ ap (λ (y : View). y.seen) view;
+      grants = (
+        more,
+        grew ∙ (λ i. (came.grants ∙ ap (λ (y : View). y.grants) view) i ++ more),
+        theirs.as_many ∙ stood,
+        λ client. theirs.as_often client ∙ ap (count_by (λ e. e.1 == client)) came.there ∙ all-clients clients client,
+      );
+      moment = λ some. subst (λ (s : Start). HasMoment s x) (came.start ∙ own) (left.moment (omega (arith, some, stood)));
+      lists = ap (λ (l : LaneValue). l.yard.lists) held;
+      spare = ap (λ (l : LaneValue). l.yard.spare) held;
+      room = omega (arith, ap (λ (l : LaneValue). l.room) held);
+    }

@@ -1,0 +1,54 @@
+use Rattle.std.proofs.Common.{◌≡◌, ℕ, suc, ◌+◌, ◌-◌, ◌*◌, List, [], ◌∷◌, ◌++◌, length, refl, arith, sym, ap, ◌∙◌, append-nil, length-append}
+use Rattle.std.specs.Prelude.{slice_index}
+use Rattle.std.proofs.lemmas.List.{append_assoc}
+use Rattle.cn_spec.specs.Step.{name_of}
+use Rattle.cn_floor.specs.declared.view.Grant.{Grant}
+use Rattle.cn_floor.specs.Listed.{placed}
+use Rattle.cn_floor.specs.Sweeps.{grants_out}
+use Rattle.cn_floor.proofs.InLane.Listed.{placed-many, placed-more}
+use Rattle.cn_floor.proofs.InLane.Outs.{grants-many, grants-next}
+use Rattle.cn_floor.proofs.floor.listed.grant_all.Goals as goal
+
+pub loop-number-init : goal.loop-number-init
+unfolding placed grants_out
+loop-number-init c = record { granted = sym (append-nil c.args.grants.now.items); capacity = refl }
+
+pub push_reserved-requires : goal.push_reserved-requires
+push_reserved-requires c =
+    let g = c.args.group in
+    let many = placed-many c.args.clients.now g.first g.stride c.loop-number.number in
+    let so_far = placed c.args.clients.now g.first g.stride c.loop-number.number in
+    omega (
+      arith,
+      c.requires.room,
+      c.loop-number-test.true,
+      c.loop-number.invariant.capacity,
+      c.loop-number.grants.ok,
+      ap length c.loop-number.invariant.granted,
+      length-append c.args.grants.now.items (grants_out c.args.width c.args.base c.args.exit c.args.first so_far),
+      grants-many c.args.width c.args.base c.args.exit c.args.first so_far,
+      many,
+    )
+
+pub loop-number-preserved : goal.loop-number-preserved
+loop-number-preserved c =
+    let g = c.args.group in
+    let clients : List ℕ = c.args.clients.now in
+    let j : ℕ = c.loop-number.number in
+    let at : ℕ = g.first + g.stride * j in
+    let so_far = placed clients g.first g.stride j in
+    let out : List (ℕ × ℕ) → List Grant = λ es. grants_out c.args.width c.args.base c.args.exit c.args.first es in
+    let one : ℕ → Grant = λ name. record { client = slice_index clients at; exit = c.args.exit; visit = c.args.first + j; name = name } in
+    let next : j + 1 ≡ suc j = omega arith in
+    let more : placed clients g.first g.stride (j + 1) ≡ so_far ++ (at, slice_index clients at) ∷ [] =
+    ap (placed clients g.first g.stride) next ∙ placed-more clients g.first g.stride j in
+    let grows : out (placed clients g.first g.stride (j + 1)) ≡ out so_far ++ one (name_of c.args.width c.args.exit (c.args.first + j) - c.args.base) ∷ [] =
+    ap out more ∙ grants-next c.args.width c.args.base c.args.exit c.args.first (c.args.first + j) so_far at (slice_index clients at)
+    (omega (arith, placed-many clients g.first g.stride j)) in
+    record {
+      granted = c.push_reserved.ensures.items
+          ∙ (λ x. c.loop-number.invariant.granted x ++ one (c.name_of.ensures x - c.args.base) ∷ [])
+          ∙ append_assoc c.args.grants.now.items (out so_far) (one (name_of c.args.width c.args.exit (c.args.first + j) - c.args.base) ∷ [])
+          ∙ ap (λ (gs : List Grant). c.args.grants.now.items ++ gs) (sym grows);
+      capacity = c.push_reserved.ensures.capacity ∙ c.loop-number.invariant.capacity;
+    }

@@ -1,0 +1,72 @@
+-- Clients of a list who come in by one entry and pass the ends of wires together.
+use Rattle.std.specs.Prelude.{◌≡◌, ◌≢◌, ℕ, zero, suc, ◌+◌, ◌-◌, ◌*◌, ◌<◌, ◌++◌, ◌==◌, [], ◌∷◌, List, count_by, length, max, replicate, slice_index}
+use Rattle.cn_spec.specs.Sums.{times}
+use Rattle.cn_yard.specs.Deals.{every_second}
+use Rattle.cn_yard.specs.Lists.{on}
+use Rattle.cn_floor.specs.declared.floor.listed.Group.{Group}
+use Rattle.cn_floor.specs.declared.view.Grant.{Grant}
+use Rattle.cn_floor.specs.declared.view.View.{View}
+use Rattle.cn_floor.specs.Lane.{LaneValue}
+use Rattle.cn_floor.specs.Steps.{HasMoment}
+
+-- of a list's clients those at the places first, first + stride and so on, so many; each is a token with the number of its
+-- place
+unfoldable pub placed : List ℕ → ℕ → ℕ → ℕ → List (ℕ × ℕ)
+placed clients first stride zero = []
+placed clients first stride (suc n) = (first, slice_index clients first) ∷ placed clients (first + stride) stride n
+
+-- these tokens are those of a group of the list
+pub record Stand (clients : List ℕ) (g : Group) (tokens : List (ℕ × ℕ)) : Type 0 where
+  pub are : tokens ≡ placed clients g.first g.stride g.count
+  pub within : 0 < g.count → g.first + g.stride * (g.count - 1) < length clients
+
+-- a group is dealt to two, of which the first has every second from an output on
+pub record AreDealt (clients : List ℕ) (g : Group) (output : ℕ) (first second : Group) : Type 0 where
+  pub upper : Stand clients first (every_second output (placed clients g.first g.stride g.count))
+  pub lower : Stand clients second (every_second (1 - output) (placed clients g.first g.stride g.count))
+  pub all : first.count + second.count ≡ g.count
+
+-- grants for these tokens: as many, and to each client as often as it has tokens
+pub record AreTheirs (tokens : List (ℕ × ℕ)) (grants : List Grant) : Type 0 where
+  pub as_many : length grants ≡ length tokens
+  pub as_often : (client : ℕ) → count_by (λ g. g.client == client) grants ≡ count_by (λ e. e.1 == client) tokens
+
+-- what the first k clients of a list, who came in by an entry, made of a view with nobody inside
+pub record CameIn (v w : View) (clients : List ℕ) (entry k : ℕ) : Type 0 where
+  pub start : w.start ≡ v.start
+  pub quota : w.quota + k ≡ v.quota
+  pub entries : w.entries ≡ v.entries ++ replicate (k) entry
+  pub seen : w.seen ≡ v.seen
+  pub loads : w.loads ≡ v.loads
+  pub grants : w.grants ≡ v.grants
+  pub wires : length w.tokens ≡ length v.tokens
+  pub there : on w.tokens entry ≡ placed clients 0 1 (k)
+  pub others : (u : ℕ) → u ≢ entry → on w.tokens u ≡ []
+
+-- what these tokens, which stood on a wire, made of a view until all of them had left
+pub record HaveLeft (v w : View) (wire : ℕ) (tokens : List (ℕ × ℕ)) : Type 0 where
+  pub start : w.start ≡ v.start
+  pub quota : w.quota ≡ v.quota
+  pub entries : w.entries ≡ v.entries
+  pub seen : w.seen ≡ v.seen
+  pub loads : w.loads ≡ v.loads
+  pub wires : length w.tokens ≡ length v.tokens
+  pub empty : on w.tokens wire ≡ []
+  pub others : (u : ℕ) → u ≢ wire → on w.tokens u ≡ on v.tokens u
+  pub grants : (more : List Grant) × (w.grants ≡ v.grants ++ more) × AreTheirs tokens more
+  pub moment : 0 < length tokens → HasMoment v.start w
+  pub nobody : length tokens ≡ 0 → w ≡ v
+
+-- the clients of a list came in by an entry and left: a grant more for each of them, and nobody is inside
+pub record AreNamed (old new : LaneValue) (clients : List ℕ) (entry : ℕ) : Type 0 where
+  pub home : new.home ≡ old.home
+  pub quota : new.view.quota + length clients ≡ old.view.quota
+  pub entries : new.view.entries ≡ old.view.entries ++ replicate (length clients) entry
+  pub seen : new.view.seen ≡ old.view.seen
+  pub grants : (more : List Grant) × (new.view.grants ≡ old.view.grants ++ more) × (length more ≡ length clients)
+      × ((client : ℕ) → count_by (λ g. g.client == client) more ≡ times client clients)
+  -- the lane stands at some moment: so the rule holds of its names
+  pub moment : 0 < length clients → HasMoment old.home.start new.view
+  pub lists : new.yard.lists ≡ old.yard.lists
+  pub spare : new.yard.spare ≡ max (length clients) old.yard.spare
+  pub room : new.room + length clients ≡ max (length clients) old.room
