@@ -42,15 +42,12 @@ impl HeldLane {
         } = self;
         let floor = match floor.into_floor() {
             Ok(floor) => floor,
-            Err(floor) => return Err((
-                Refusal::LanesMissing,
-                HeldLane {
-                    floor,
-                    lane,
-                    most,
-                    spare,
-                },
-            )),
+            Err(floor) => {
+                return Err((
+                    Refusal::LanesMissing,
+                    HeldLane::of(floor, lane, most, spare),
+                ));
+            }
         };
         match floor.close(lane) {
             Ok(quiet) => {
@@ -58,15 +55,9 @@ impl HeldLane {
                 Ok(Record::of(quiet, counts, holders))
             }
             Err(CloseFault::StillWalking(floor, lane) | CloseFault::Memory(floor, lane)) => {
-                let floor = FloorShare::of(floor);
                 Err((
                     Refusal::Memory,
-                    HeldLane {
-                        floor,
-                        lane,
-                        most,
-                        spare,
-                    },
+                    HeldLane::of(FloorShare::of(floor), lane, most, spare),
                 ))
             }
             Err(CloseFault::LanesMissing { .. }) => unreachable!(),
