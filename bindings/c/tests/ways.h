@@ -70,7 +70,7 @@ static const char *by_names(struct thread *thread, renamer_lane *lane, uint64_t 
 }
 
 static const char *by_a_list(struct thread *thread, renamer_lane *lane, uint64_t first, uint64_t count) {
-    renamer_client clients[MOST_PART];
+    renamer_client clients[MOST_PART] = {{0, 0}};
     renamer_grant grants[MOST_PART];
     for (uint64_t i = 0; i < count; i++) {
         clients[i].client = first + i;
