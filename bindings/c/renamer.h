@@ -117,11 +117,12 @@ typedef enum renamer_status {
     RENAMER_QUOTA_TOO_SMALL = 8, /* the lane has less quota than is to be split off */
     RENAMER_STILL_WALKING = 9,   /* the lane has clients inside */
     RENAMER_NOBODY_THERE = 10,   /* the lane has no client there */
-    RENAMER_LANES_MISSING = 11,  /* other lanes of the floor have quota, grants or clients of it, or are there still */
+    RENAMER_LANES_MISSING = 11,  /* other lanes of the floor have quota, grants or clients of it */
     RENAMER_NOTHING_BACK = 12,   /* no lane of the floor was handed back */
     RENAMER_SIZE = 13,           /* the array has the wrong size */
     RENAMER_CARRIED = 14,        /* more clients came before than RENAMER_MOST_CARRIED */
-    RENAMER_NO_PLACE = 15        /* RENAMER_MOST_RETURNED lanes of the floor were handed back, and none was joined */
+    RENAMER_NO_PLACE = 15,       /* RENAMER_MOST_RETURNED lanes of the floor were handed back, and none was joined */
+    RENAMER_LANES_THERE = 16     /* other lanes of the floor are there still, with nothing of it */
 } renamer_status;
 
 /* The version of the library, as RENAMER_VERSION. */
@@ -210,13 +211,13 @@ uint32_t renamer_hand_back(renamer_lane *lane);
    RENAMER_NONE, _NOTHING_BACK, _MEMORY. */
 uint32_t renamer_join(renamer_lane *lane);
 
-/* Closes the floor. The lane must have all of it: each lane that was split off was handed back or freed, and joined, so
-   after the threads have ended
+/* Closes the floor. The lane must have all of it, and no other may be there: each that was split off was handed back or
+   freed, and those that had quota or grants were joined. So after the threads have ended
 
        while (renamer_join(&lane) == RENAMER_DONE) {}
        renamer_close(&lane, &quiet);
 
-   closes it. The lane is none then. RENAMER_NONE, _STILL_WALKING, _LANES_MISSING, _MEMORY. */
+   closes it. The lane is none then. RENAMER_NONE, _STILL_WALKING, _LANES_MISSING, _MEMORY, _LANES_THERE. */
 uint32_t renamer_close(renamer_lane *lane, renamer_quiet *quiet);
 
 /* How many clients left by each exit is a list of as many numbers as there are exits; who has which name is a list of as

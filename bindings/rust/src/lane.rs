@@ -151,8 +151,8 @@ impl Lane {
         }
     }
 
-    /// Closes the floor. The lane must have all of it: if other lanes have some of the quota or names, or are there still,
-    /// or were handed back and not joined, the lane is given back.
+    /// Closes the floor. The lane must have all of it, and no other may be there: if other lanes have some of the quota or
+    /// names, also those that were handed back and not joined, or are there still with nothing, the lane is given back.
     ///
     /// ```
     /// use renamer::{Error, Floor, Kind};
@@ -161,7 +161,7 @@ impl Lane {
     /// lane.name(17, 0)?;
     /// let other = lane.split(0)?;
     /// let refused = lane.close().unwrap_err();
-    /// assert_eq!(refused.error, Error::LanesMissing);
+    /// assert_eq!(refused.error, Error::LanesThere);
     ///
     /// drop(other);
     /// assert_eq!(refused.value.close()?.holders(), [17]);
