@@ -67,8 +67,9 @@ impl Lane {
         self.raw.name(client, entry)
     }
 
-    /// Names clients by one call: lets them in, in this order, and then out together, by one atomic add for all that are on a
-    /// wire. That is fewer adds on words that several threads share, and not less time by one thread.
+    /// Names clients by one call. If they are more than the network has entries, it lets them in, in this order, and then
+    /// out together, by one atomic add for all that are on a wire: fewer adds on words that several threads share, and not
+    /// less time by one thread. Else it names one after the other, as hardly two would be on one wire.
     ///
     /// Their grants come in the order in which they left, which has not to be that of the clients.
     ///

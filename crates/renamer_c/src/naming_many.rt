@@ -12,7 +12,8 @@ use crate::granting::Grant;
 use crate::handle::Handle;
 use std::alloc::Global;
 
-/// Names clients: lets them in, and then out together. Copies their grants, in the order in which they left.
+/// Names clients: lets them in, and then out together, or one after the other if they are few. Copies their grants, in the
+/// order in which they left.
 #[unsafe(no_mangle)]
 pub extern "C" fn renamer_name_many(
     alloc: Global,
