@@ -4,7 +4,9 @@
 Floors of 262,144 names on the trees of width 2 and 64 and the bitonic networks of width 8 and 64, in one, two and four
 threads; beside one atomic add on one word (`AtomicU64::fetch_add`), a table of
 clients behind a mutex (`Mutex<HashMap>`), a slab behind a mutex (`slab`) and one of shards (`sharded_slab`). Each gives
-distinct numbers; those of all but the last are dense. All but that begin with room for all clients.
+distinct numbers; those of all but the last are dense. All but that begin with room for all clients. Each thread lets
+its clients in by entries of its own; for the bitonic networks there are rows beside that by which each takes all
+entries.
 
 One thread is compared by processor time, in uncontended adds; several by the clock, each way to the add by as many
 threads. A ratio is the median over ten rounds, in which all ways run in turn; a run is the median of five epochs after
@@ -19,6 +21,8 @@ NETWORKS = (("tree", 2), ("tree", 64), ("bitonic", 8), ("bitonic", 64))
 THREADS = {1: "one thread", 2: "two threads", 4: "four threads"}
 TABLE, ADD, REFUSED = "a mutex and table", "the add", "a refused call"
 SLABS = {"a mutex and slab": "slab", "a sharded slab": "sharded"}
+ALL_OVER = {f"{network} {width} by all entries": ["all-over", network, str(width)]
+            for network, width in NETWORKS if network == "bitonic"}
 
 
 def ways(namers, slabs):
@@ -54,6 +58,7 @@ def rows(bench):
     slabs = bench.cargo("slabs", "slabs") if bench.has_crates("slab", "sharded-slab") else None
     found = ways(namers, slabs)
     jobs = {(way, threads): [*words, str(threads)] for way, words in found.items() for threads in THREADS}
+    jobs |= {(way, threads): [namers, *words, str(threads)] for way, words in ALL_OVER.items() for threads in (2, 4)}
     jobs[REFUSED, 1] = [namers, "refused", "1"]
     spent = measured(bench, jobs)
     for way, threads in jobs:
@@ -61,9 +66,9 @@ def rows(bench):
             by, unit = ("processor", " adds") if threads == 1 else ("clock", "")
             ratio, times = compared(spent, (way, threads), (ADD, threads), by)
             yield measure.Row(f"{way}, {THREADS[threads]}", ratio, f"{times}{' by the clock' * (threads > 1)}", unit)
-    for network, width in NETWORKS:
-        ratio, times = compared(spent, (f"{network} {width}", 4), (TABLE, 4), "clock")
-        yield measure.Row(f"{network} {width}, four threads, to {TABLE}", ratio, f"{times} by the clock")
+    for way in [way for way, threads in jobs if threads == 4 and way not in (ADD, TABLE, *SLABS)]:
+        ratio, times = compared(spent, (way, 4), (TABLE, 4), "clock")
+        yield measure.Row(f"{way}, four threads, to {TABLE}", ratio, f"{times} by the clock")
 
 
 if __name__ == "__main__":

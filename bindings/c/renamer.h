@@ -117,11 +117,12 @@ typedef enum renamer_status {
     RENAMER_QUOTA_TOO_SMALL = 8, /* the lane has less quota than is to be split off */
     RENAMER_STILL_WALKING = 9,   /* the lane has clients inside */
     RENAMER_NOBODY_THERE = 10,   /* the lane has no client there */
-    RENAMER_LANES_MISSING = 11,  /* other lanes of the floor have quota, grants or clients of it, or are there still */
+    RENAMER_LANES_MISSING = 11,  /* other lanes of the floor have quota, grants or clients of it */
     RENAMER_NOTHING_BACK = 12,   /* no lane of the floor was handed back */
     RENAMER_SIZE = 13,           /* the array has the wrong size */
     RENAMER_CARRIED = 14,        /* more clients came before than RENAMER_MOST_CARRIED */
-    RENAMER_NO_PLACE = 15        /* RENAMER_MOST_RETURNED lanes of the floor were handed back, and none was joined */
+    RENAMER_NO_PLACE = 15,       /* RENAMER_MOST_RETURNED lanes of the floor were handed back, and none was joined */
+    RENAMER_LANES_THERE = 16     /* other lanes of the floor are there still, with nothing of it */
 } renamer_status;
 
 /* The version of the library, as RENAMER_VERSION. */
@@ -142,11 +143,17 @@ uint32_t renamer_reserve(renamer_lane *lane, uint64_t clients);
 
 /* Names a client: lets it in by an entry and walks it out. Takes memory only if the lane has no room. Identities are any
    numbers, and are not compared: a client that is named twice gets two names.
+
+   Any entry will do. If threads name clients at once on a bitonic network of width w, it is best that each lets its clients
+   in by entries of its own, one after another: thread t of n by those from t * w / n up to, not including, (t + 1) * w / n.
+   That network is two of half the width, on the lower and the upper half of the entries, and a merger. So threads with
+   halves or quarters of the entries meet only in mergers.
    RENAMER_NONE, _STILL_WALKING, _NO_SUCH_ENTRY, _QUOTA_SPENT, _MEMORY. */
 uint32_t renamer_name(renamer_lane *lane, uint64_t client, uint64_t entry, uint64_t *name);
 
-/* Names clients by one call: lets them in, in this order, and then out together, by one atomic add for all that are on a
-   wire: fewer adds on words that several threads share, and not less time by one thread. Copies their grants, in the order
+/* Names clients by one call. If they are more than the network has entries, it lets them in, in this order, and then out
+   together, by one atomic add for all that are on a wire: fewer adds on words that several threads share, and not less time
+   by one thread. Else it names one after the other, as hardly two would be on one wire. Copies their grants, in the order
    in which they left, which has not to be that of the clients; they are the lane's last ones too. Takes memory only if the
    lane has less room.
    RENAMER_NONE, _SIZE (there are not as many grants as clients), _STILL_WALKING, _NO_SUCH_ENTRY, _QUOTA_SPENT,
@@ -205,13 +212,13 @@ uint32_t renamer_hand_back(renamer_lane *lane);
    RENAMER_NONE, _NOTHING_BACK, _MEMORY. */
 uint32_t renamer_join(renamer_lane *lane);
 
-/* Closes the floor. The lane must have all of it: each lane that was split off was handed back or freed, and joined, so
-   after the threads have ended
+/* Closes the floor. The lane must have all of it, and no other may be there: each that was split off was handed back or
+   freed, and those that had quota or grants were joined. So after the threads have ended
 
        while (renamer_join(&lane) == RENAMER_DONE) {}
        renamer_close(&lane, &quiet);
 
-   closes it. The lane is none then. RENAMER_NONE, _STILL_WALKING, _LANES_MISSING, _MEMORY. */
+   closes it. The lane is none then. RENAMER_NONE, _STILL_WALKING, _LANES_MISSING, _MEMORY, _LANES_THERE. */
 uint32_t renamer_close(renamer_lane *lane, renamer_quiet *quiet);
 
 /* How many clients left by each exit is a list of as many numbers as there are exits; who has which name is a list of as

@@ -2,7 +2,9 @@
 //! mutex, or a floor of this repository's library.
 //!
 //!     namers add|table|refused THREADS ROUNDS
-//!     namers name|many NETWORK WIDTH THREADS ROUNDS
+//!     namers name|many|all-over NETWORK WIDTH THREADS ROUNDS
+//!
+//! By `name` and `many` each thread lets its clients in by entries of its own, by `all-over` each by all entries.
 mod timing;
 
 use renamer::{Client, Floor, Grant, Kind, Lane};
@@ -57,16 +59,30 @@ fn lanes(floor: &Floor, threads: u64) -> Vec<(u64, Lane)> {
     lanes
 }
 
-/// The entries of a thread's clients: each in turn, from one of its own on.
-fn entries(lane: &Lane, thread: u64, threads: u64) -> impl Iterator<Item = u64> {
-    let entries = lane.entries();
-    (thread * entries / threads..).map(move |entry| entry % entries)
+/// Which entries a thread's clients come by.
+#[derive(Clone, Copy)]
+enum Entering {
+    /// Those of the thread's own part of the width.
+    Apart,
+    /// All, from one of its own on.
+    AllOver,
 }
 
-fn name(kind: Kind, width: u32, threads: u64) -> Spent {
+/// The entries of a thread's clients, one after another.
+fn entries(lane: &Lane, entering: Entering, thread: u64, threads: u64) -> impl Iterator<Item = u64> {
+    let entries = lane.entries();
+    let from = thread * entries / threads;
+    let to = match entering {
+        Entering::Apart => ((thread + 1) * entries / threads).max(from + 1),
+        Entering::AllOver => from + entries,
+    };
+    (from..to).cycle().map(move |entry| entry % entries)
+}
+
+fn name(kind: Kind, width: u32, entering: Entering, threads: u64) -> Spent {
     let floor = Floor::open(kind, width, CLIENTS).expect("there is memory");
     let (spent, sum) = in_threads(lanes(&floor, threads), |(thread, lane)| {
-        let entries = entries(lane, *thread, threads);
+        let entries = entries(lane, entering, *thread, threads);
         let mut sum = 0;
         for (client, entry) in clients(*thread, threads).zip(entries) {
             sum += lane.name(client, entry).expect("there is room");
@@ -82,7 +98,7 @@ fn many(kind: Kind, width: u32, threads: u64) -> Spent {
     const LIST: usize = 64;
     let floor = Floor::open(kind, width, CLIENTS).expect("there is memory");
     let (spent, sum) = in_threads(lanes(&floor, threads), |(thread, lane)| {
-        let mut waiting = clients(*thread, threads).zip(entries(lane, *thread, threads));
+        let mut waiting = clients(*thread, threads).zip(entries(lane, Entering::Apart, *thread, threads));
         let (mut list, mut grants) = ([Client::default(); LIST], [Grant::default(); LIST]);
         let mut sum = 0;
         for _ in 0..CLIENTS / threads / LIST as u64 {
@@ -113,7 +129,7 @@ fn number<N: std::str::FromStr>(word: &str) -> N {
 }
 
 fn usage() -> ! {
-    eprintln!("namers: add|table|refused THREADS ROUNDS, or name|many bitonic|periodic|tree WIDTH THREADS ROUNDS");
+    eprintln!("namers: add|table|refused THREADS ROUNDS, or name|many|all-over bitonic|periodic|tree WIDTH THREADS ROUNDS");
     process::exit(2)
 }
 
@@ -133,7 +149,12 @@ fn main() {
         ["add", ..] => Box::new(add),
         ["table", ..] => Box::new(table),
         ["refused", ..] => Box::new(refused),
-        ["name", network, width, ..] => Box::new(move |threads| name(kind(network), number(width), threads)),
+        ["name", network, width, ..] => {
+            Box::new(move |threads| name(kind(network), number(width), Entering::Apart, threads))
+        }
+        ["all-over", network, width, ..] => {
+            Box::new(move |threads| name(kind(network), number(width), Entering::AllOver, threads))
+        }
         ["many", network, width, ..] => Box::new(move |threads| many(kind(network), number(width), threads)),
         _ => usage(),
     };

@@ -53,7 +53,7 @@ int main() {
     for (std::uint64_t t = 0; t < threads; t++)
         running.emplace_back([&lanes, &names, t, each] {
             for (std::uint64_t client = each * t; client < each * (t + 1); client++)
-                names[client] = lanes[t].name(client, client % 8);
+                names[client] = lanes[t].name(client, 2 * t + client % 2); // by two entries of its own
         });
     for (auto &thread : running)
         thread.join();

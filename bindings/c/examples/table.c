@@ -18,6 +18,7 @@ struct thread {
     renamer_lane lane;
     uint64_t first;
     uint64_t clients;
+    uint64_t entry; /* the first of this thread's own two */
     uint32_t status;
 };
 
@@ -26,7 +27,7 @@ static void *serve(void *argument) {
     struct thread *thread = argument;
     for (uint64_t client = thread->first; client < thread->first + thread->clients; client++) {
         uint64_t row;
-        thread->status = renamer_name(&thread->lane, client, client % 4, &row);
+        thread->status = renamer_name(&thread->lane, client, thread->entry + client % 2, &row);
         if (thread->status != RENAMER_DONE)
             break;
         rows[row] = client;
@@ -49,6 +50,7 @@ static uint64_t run_epoch(uint64_t epoch) {
     for (uint64_t t = 0; t < THREADS; t++) {
         threads[t].first = 100 * epoch + 50 * t;
         threads[t].clients = epoch + 2 * t;
+        threads[t].entry = 2 * t;
         must(renamer_split(&rest, ROWS / THREADS, &threads[t].lane), "renamer_split");
         if (pthread_create(&threads[t].id, NULL, serve, &threads[t]) != 0)
             exit(1);

@@ -1,95 +1,105 @@
 /*
- * Eight threads name 262,144 clients on each of many floors, over random networks, with lanes that are split while others
- * walk. Each floor is judged by its names, and by its counts and clients as the lanes' grants have them.
+ * Eight threads name 262,144 clients on each of many floors, over random networks that go on from random counters: by
+ * names, by lists, and by single steps and sweeps, with lanes that are split off, handed back and taken in while others walk.
+ * Then one lane takes all in and closes the floor. Each floor is judged by its names, by the grants of that lane, and by
+ * the counts and clients of the closed floor.
  *
  *     soak FLOORS SECONDS SEED
  *
  * Floor n has the seed SEED + n, and what is drawn for it follows from that. It prints a line for each floor that is
- * wrong, and at the end how many were made and how many of them are wrong. When the seconds are over it makes no more;
- * the status is 0 only if all were made and none is wrong.
+ * wrong, and at the end how many were made, how many of them are wrong, and how often each call was made. When the
+ * seconds are over it makes no more; the status is 0 only if all were made and none is wrong.
  */
-#include "judge.h"
-#include <inttypes.h>
-#include <pthread.h>
+#include "ways.h"
 #include <string.h>
 #include <time.h>
 
-enum { THREADS = 8, ALL = RENAMER_MOST_CLIENTS, MOST_WIDTH = 256 };
+enum { THREADS = 8, MOST_WIDTH = 256, MOST_BEFORE = 1000 };
 
-struct thread {
-    pthread_t id;
-    /* Its own lane, and one that it splits off. */
-    renamer_lane lane, other;
-    uint64_t chance, entries, first, count;
-    /* Why the floor is wrong, if it is. */
-    const char *wrong;
-};
-
-/* The client with each name: 0 is nobody, and clients are numbered from 1. */
-static uint64_t named[ALL];
 static struct thread threads[THREADS];
 
-/* The next of a row of random numbers (splitmix64). */
-static uint64_t draw(uint64_t *chance) {
-    uint64_t z = (*chance += 0x9e3779b97f4a7c15u);
-    z = (z ^ (z >> 30)) * 0xbf58476d1ce4e5b9u;
-    z = (z ^ (z >> 27)) * 0x94d049bb133111ebu;
-    return z ^ (z >> 31);
-}
-
-/* No other thread has this name, so the place is this thread's. */
-static const char *note(uint64_t name, uint64_t client) {
-    if (name >= ALL)
-        return "a name is too high";
-    if (named[name])
-        return "a name was given twice";
-    named[name] = client;
-    return NULL;
-}
+/* ---- lanes */
 
 static const char *name_some(struct thread *thread, renamer_lane *lane, uint64_t first, uint64_t count) {
+    static const char *(*const ways[])(struct thread *, renamer_lane *, uint64_t, uint64_t) = {by_names, by_a_list,
+                                                                                               by_steps};
     const char *wrong = NULL;
-    for (uint64_t i = 0; i < count && !wrong; i++) {
-        uint64_t name;
-        if (renamer_name(lane, first + i, draw(&thread->chance) % thread->entries, &name) != RENAMER_DONE)
-            return "renamer_name was refused";
-        wrong = note(name, first + i);
+    while (count && !wrong) {
+        uint64_t part = 1 + drawn(thread, count < MOST_PART ? count : MOST_PART);
+        wrong = ways[drawn(thread, 3)](thread, lane, first, part);
+        first += part;
+        count -= part;
     }
     return wrong;
 }
 
-/* Names all clients of a thread: half of them by its lane, the others by one that is split off meanwhile. */
+/* Takes in a lane that was handed back, of any thread, if one was. */
+static const char *join_one(struct thread *thread, renamer_lane *lane) {
+    uint32_t status = renamer_join(lane);
+    thread->did[JOINS] += status == RENAMER_DONE;
+    return status == RENAMER_DONE || status == RENAMER_NOTHING_BACK ? NULL : "renamer_join was refused";
+}
+
+/* Hands a lane back. While there is no place, it takes another lane in first. */
+static const char *hand_back(struct thread *thread, renamer_lane *lane) {
+    uint32_t status;
+    while ((status = renamer_hand_back(lane)) == RENAMER_NO_PLACE) {
+        const char *wrong = join_one(thread, lane);
+        if (wrong)
+            return wrong;
+        thread->did[NO_PLACE]++;
+    }
+    thread->did[BACK]++;
+    return status == RENAMER_DONE && !lane->at ? NULL : "renamer_hand_back was refused";
+}
+
+/* Names clients by a lane that is split off, while a few clients of the thread's own lane are inside. */
+static const char *name_by_another(struct thread *thread, uint64_t first, uint64_t count) {
+    renamer_lane other = RENAMER_NO_LANE_YET;
+    uint64_t inside = drawn(thread, count < MOST_PART ? count : MOST_PART);
+    const char *wrong = let_in(thread, &thread->lane, first, inside);
+    if (wrong)
+        return wrong;
+    if (renamer_split(&thread->lane, count - inside, &other) != RENAMER_DONE)
+        return "renamer_split was refused";
+    thread->did[SPLITS]++;
+    wrong = name_some(thread, &other, first + inside, count - inside);
+    wrong = wrong ? wrong : let_out(thread, &thread->lane);
+    if (!wrong && drawn(thread, 4) == 0)
+        wrong = join_one(thread, &other);
+    return wrong ? wrong : hand_back(thread, &other);
+}
+
+/* Names all clients of a thread, part by part: by its lane, or by one that is split off meanwhile. */
 static void *name_all(void *argument) {
     struct thread *thread = argument;
-    uint64_t half = thread->count / 2;
-    thread->wrong = name_some(thread, &thread->lane, thread->first, half);
-    if (thread->wrong)
-        return NULL;
-    if (renamer_split(&thread->lane, thread->count - half, &thread->other) != RENAMER_DONE)
-        thread->wrong = "renamer_split was refused";
-    else
-        thread->wrong = name_some(thread, &thread->other, thread->first + half, thread->count - half);
-    return NULL;
-}
-
-/* Counts by exit what a lane was given: each grant is the one that was noted. */
-static const char *count_grants(renamer_lane *lane, uint64_t *counts, uint64_t *all) {
-    uint64_t count = 0;
-    if (renamer_grant_count(lane, &count) != RENAMER_DONE)
-        return "renamer_grant_count was refused";
-    for (uint64_t i = 0; i < count; i++) {
-        renamer_grant grant;
-        if (renamer_grants(lane, i, &grant, 1) != RENAMER_DONE)
-            return "renamer_grants was refused";
-        if (grant.name >= ALL || named[grant.name] != grant.client || grant.exit >= MOST_WIDTH)
-            return "a grant is another";
-        counts[grant.exit]++;
+    uint64_t first = thread->first, left = thread->count, most = 1 + left / 8;
+    const char *wrong = NULL;
+    while (left && !wrong) {
+        uint64_t part = 1 + drawn(thread, left < most ? left : most);
+        wrong = drawn(thread, 4) ? name_by_another(thread, first, part) : name_some(thread, &thread->lane, first, part);
+        first += part;
+        left -= part;
     }
-    *all += count;
+    thread->wrong = wrong ? wrong : hand_back(thread, &thread->lane);
     return NULL;
 }
 
-/* Runs the threads on a floor, whose rest has the whole quota. */
+/* ---- floors */
+
+/* Opens a floor that goes on from one on which so many clients came. */
+static const char *open_after(renamer_lane *rest, uint32_t kind, uint32_t width, uint64_t before) {
+    renamer_quiet quiet = RENAMER_NO_QUIET_YET;
+    uint32_t status = renamer_open(rest, kind, width, before);
+    for (uint64_t client = 0, name; client < before && status == RENAMER_DONE; client++)
+        status = renamer_name(rest, client, 0, &name);
+    status = status ? status : renamer_close(rest, &quiet);
+    status = status ? status : renamer_open_after(rest, &quiet, ALL);
+    renamer_free_quiet(&quiet);
+    return status == RENAMER_DONE ? NULL : "the floor was not opened";
+}
+
+/* Runs the threads on a floor, whose rest has the whole quota, and takes their lanes in. */
 static const char *run_threads(renamer_lane *rest, uint64_t *chance) {
     const char *wrong = NULL;
     uint64_t entries, first = 1;
@@ -110,28 +120,49 @@ static const char *run_threads(renamer_lane *rest, uint64_t *chance) {
         CHECK(pthread_join(threads[t].id, NULL) == 0);
         wrong = wrong ? wrong : threads[t].wrong;
     }
+    while (!wrong && renamer_join(rest) == RENAMER_DONE)
+        threads[0].did[JOINS]++;
     return wrong;
 }
 
-/* Judges a floor by what its lanes were given: each client one name, each exit its share. */
-static const char *judge(uint64_t width) {
+/* Judges what the lane was given that took all in: each client one name, and each name that of its exit and visit. */
+static const char *judge_grants(renamer_lane *rest, uint64_t width, uint64_t before) {
     static unsigned char seen[ALL + 1];
-    uint64_t counts[MOST_WIDTH] = {0}, all = 0;
-    const char *wrong = NULL;
+    uint64_t count;
     memset(seen, 0, sizeof seen);
     for (uint64_t name = 0; name < ALL; name++)
         if (named[name] - 1 >= ALL || seen[named[name]]++)
             return "a client has no name, or two";
-    for (int t = 0; t < THREADS && !wrong; t++) {
-        wrong = count_grants(&threads[t].lane, counts, &all);
-        wrong = wrong ? wrong : count_grants(&threads[t].other, counts, &all);
-    }
-    if (!wrong && all != ALL)
+    if (renamer_grant_count(rest, &count) != RENAMER_DONE || count != ALL)
         return "there are more grants, or fewer";
-    for (uint64_t i = 0; i < MOST_WIDTH && !wrong; i++)
-        if (counts[i] != (i < width ? share(ALL, width, i) : 0))
+    for (uint64_t i = 0; i < count; i++) {
+        renamer_grant grant;
+        if (renamer_grants(rest, i, &grant, 1) != RENAMER_DONE)
+            return "renamer_grants was refused";
+        if (grant.name >= ALL || named[grant.name] != grant.client)
+            return "a grant is another";
+        if (grant.exit >= width || grant.name + before != grant.exit + width * grant.visit)
+            return "a name is not that of its exit and visit";
+    }
+    return NULL;
+}
+
+/* Closes a floor, and judges what it leaves: the shares of the exits, and the clients by name. */
+static const char *judge_quiet(renamer_lane *rest, uint64_t width, uint64_t before) {
+    static uint64_t holders[ALL];
+    uint64_t counts[MOST_WIDTH];
+    renamer_quiet quiet = RENAMER_NO_QUIET_YET;
+    if (renamer_close(rest, &quiet) != RENAMER_DONE)
+        return "renamer_close was refused";
+    uint32_t status = renamer_counts(&quiet, counts, width);
+    status = status ? status : renamer_holders(&quiet, holders, ALL);
+    renamer_free_quiet(&quiet);
+    if (status != RENAMER_DONE || memcmp(holders, named, sizeof named) != 0)
+        return "the holders are others";
+    for (uint64_t i = 0; i < width; i++)
+        if (counts[i] != share(before + ALL, width, i) - share(before, width, i))
             return "a count is another";
-    return wrong;
+    return NULL;
 }
 
 /* Runs a floor, and says what is wrong with it, if something is. */
@@ -139,16 +170,27 @@ static const char *run_floor(uint64_t seed) {
     renamer_lane rest = RENAMER_NO_LANE_YET;
     uint64_t chance = seed;
     uint32_t kind = (uint32_t)(draw(&chance) % KINDS), width = (uint32_t)2 << draw(&chance) % LEVELS;
-    const char *wrong = "the floor was not opened";
-    if (renamer_open(&rest, kind, width, ALL) == RENAMER_DONE)
-        wrong = run_threads(&rest, &chance);
-    wrong = wrong ? wrong : judge(width);
-    for (int t = 0; t < THREADS; t++) {
+    uint64_t before = draw(&chance) % MOST_BEFORE;
+    const char *wrong = open_after(&rest, kind, width, before);
+    wrong = wrong ? wrong : run_threads(&rest, &chance);
+    wrong = wrong ? wrong : judge_grants(&rest, width, before);
+    wrong = wrong ? wrong : judge_quiet(&rest, width, before);
+    for (int t = 0; t < THREADS; t++)
         renamer_free(&threads[t].lane);
-        renamer_free(&threads[t].other);
-    }
     renamer_free(&rest);
     return wrong;
+}
+
+static void print_calls(void) {
+    static const char *const calls[CALLS] = {"names",  "lists",  "names in lists", "enters",       "steps",
+                                             "sweeps", "splits", "lanes back",     "lanes joined", "times no place"};
+    for (int call = 0; call < CALLS; call++) {
+        uint64_t all = 0;
+        for (int t = 0; t < THREADS; t++)
+            all += threads[t].did[call];
+        printf("%s%" PRIu64 " %s", call ? ", " : "", all, calls[call]);
+    }
+    printf("\n");
 }
 
 int main(int count, char **words) {
@@ -164,6 +206,7 @@ int main(int count, char **words) {
             wrong++;
         }
     }
+    print_calls();
     printf("%" PRIu64 " of %" PRIu64 " floors of %d names, %" PRIu64 " wrong\n", made, floors, ALL, wrong);
     return wrong != 0 || made < floors;
 }

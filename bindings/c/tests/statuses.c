@@ -230,7 +230,7 @@ static void two_floors(void) {
     renamer_free_quiet(&quiet);
 }
 
-/* A lane that is there still, or that was freed and not joined yet, is missed. */
+/* A floor is not closed while a lane is there still, or while one that was freed is not joined yet. */
 static void missing_lanes(void) {
     renamer_lane lane = RENAMER_NO_LANE_YET, other = RENAMER_NO_LANE_YET;
     renamer_quiet quiet = RENAMER_NO_QUIET_YET;
@@ -238,7 +238,7 @@ static void missing_lanes(void) {
     CHECK(renamer_open(&lane, RENAMER_TREE, 4, 3) == RENAMER_DONE);
     before = seen_of(&lane);
     CHECK(renamer_split(&lane, 0, &other) == RENAMER_DONE && is_as(&lane, &before));
-    CHECK(renamer_close(&lane, &quiet) == RENAMER_LANES_MISSING && !quiet.at && is_as(&lane, &before));
+    CHECK(renamer_close(&lane, &quiet) == RENAMER_LANES_THERE && !quiet.at && is_as(&lane, &before));
     renamer_free(&other);
     CHECK(renamer_close(&lane, &quiet) == RENAMER_DONE && quiet.at && !lane.at);
     CHECK(renamer_open_after(&lane, &quiet, 3) == RENAMER_DONE && renamer_split(&lane, 1, &other) == RENAMER_DONE);

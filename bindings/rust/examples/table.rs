@@ -7,11 +7,11 @@ use std::thread;
 
 const ROWS: u64 = 64;
 
-/// Each client gets a row, and writes into it what it has: here its identity.
-fn serve(floor: &Floor, table: &[AtomicU64], clients: Range<u64>) -> Result<(), Error> {
+/// Each client gets a row, and writes into it what it has: here its identity. The entries are this thread's own.
+fn serve(floor: &Floor, table: &[AtomicU64], clients: Range<u64>, entries: Range<u64>) -> Result<(), Error> {
     let mut lane = floor.lane(ROWS / 2)?;
-    for client in clients {
-        let row = lane.name(client, client % 4)?;
+    for (client, entry) in clients.zip(entries.cycle()) {
+        let row = lane.name(client, entry)?;
         table[row as usize].store(client, Ordering::Relaxed);
     }
     Ok(())
@@ -22,8 +22,8 @@ fn run_epoch(table: &[AtomicU64], epoch: u64) -> Result<(), Error> {
     let floor = Floor::open(Kind::Bitonic, 4, ROWS)?;
     let first = 100 * epoch;
     thread::scope(|scope| {
-        let other = scope.spawn(|| serve(&floor, table, first + 50..first + 50 + 2 * epoch));
-        serve(&floor, table, first..first + epoch)?;
+        let other = scope.spawn(|| serve(&floor, table, first + 50..first + 50 + 2 * epoch, 2..4));
+        serve(&floor, table, first..first + epoch, 0..2)?;
         other.join().expect("a thread ends")
     })
 }

@@ -26,7 +26,7 @@ pub enum Error {
     StillWalking = 9,
     /// The lane has no client there.
     NobodyThere = 10,
-    /// Other lanes have quota, names or clients of the floor, or are there still.
+    /// Other lanes have quota, names or clients of the floor.
     LanesMissing = 11,
     /// No lane of the floor was handed back.
     NothingBack = 12,
@@ -36,10 +36,12 @@ pub enum Error {
     Carried = 14,
     /// As many lanes of the floor as [`MOST_RETURNED`](crate::MOST_RETURNED) were handed back, and none was joined.
     NoPlace = 15,
+    /// Other lanes of the floor are there still, with nothing of it.
+    LanesThere = 16,
 }
 
 impl Error {
-    const ALL: [Error; 13] = [
+    const ALL: [Error; 14] = [
         Error::Memory,
         Error::Width,
         Error::Quota,
@@ -53,6 +55,7 @@ impl Error {
         Error::Size,
         Error::Carried,
         Error::NoPlace,
+        Error::LanesThere,
     ];
 
     /// The error with this number.
@@ -77,6 +80,7 @@ impl fmt::Display for Error {
             Error::Size => "a slice has the wrong size",
             Error::Carried => "too many clients came before",
             Error::NoPlace => "there is no place for a lane that is handed back",
+            Error::LanesThere => "lanes of the floor are there still",
         })
     }
 }

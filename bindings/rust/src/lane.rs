@@ -50,6 +50,11 @@ impl Lane {
     /// It takes memory only if the lane has no room. Identities are not compared: a client that is named twice gets two
     /// names.
     ///
+    /// Any entry below [`Lane::entries`] will do. If threads name clients at once on a bitonic network of width w, it is
+    /// best that each lets its clients in by entries of its own, one after another: thread t of n by those of
+    /// `t * w / n..(t + 1) * w / n`. That network is two of half the width, on the lower and the upper half of the
+    /// entries, and a merger. So threads with halves or quarters of the entries meet only in mergers.
+    ///
     /// ```
     /// use renamer::{Error, Floor, Kind};
     ///
@@ -62,8 +67,9 @@ impl Lane {
         self.raw.name(client, entry)
     }
 
-    /// Names clients by one call: lets them in, in this order, and then out together, by one atomic add for all that are on a
-    /// wire. That is fewer adds on words that several threads share, and not less time by one thread.
+    /// Names clients by one call. If they are more than the network has entries, it lets them in, in this order, and then
+    /// out together, by one atomic add for all that are on a wire: fewer adds on words that several threads share, and not
+    /// less time by one thread. Else it names one after the other, as hardly two would be on one wire.
     ///
     /// Their grants come in the order in which they left, which has not to be that of the clients.
     ///
@@ -146,8 +152,8 @@ impl Lane {
         }
     }
 
-    /// Closes the floor. The lane must have all of it: if other lanes have some of the quota or names, or are there still,
-    /// or were handed back and not joined, the lane is given back.
+    /// Closes the floor. The lane must have all of it, and no other may be there: if other lanes have some of the quota or
+    /// names, also those that were handed back and not joined, or are there still with nothing, the lane is given back.
     ///
     /// ```
     /// use renamer::{Error, Floor, Kind};
@@ -156,7 +162,7 @@ impl Lane {
     /// lane.name(17, 0)?;
     /// let other = lane.split(0)?;
     /// let refused = lane.close().unwrap_err();
-    /// assert_eq!(refused.error, Error::LanesMissing);
+    /// assert_eq!(refused.error, Error::LanesThere);
     ///
     /// drop(other);
     /// assert_eq!(refused.value.close()?.holders(), [17]);

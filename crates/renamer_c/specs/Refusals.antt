@@ -11,7 +11,7 @@ use Rattle.renamer_c.specs.Statuses.{status_of}
 use Rattle.renamer_c.specs.declared.client.Client.{Client}
 use Rattle.renamer_c.specs.declared.record_of_floor.Listed.{Listed}
 use Rattle.renamer_c.specs.declared.refusal.Refusal.{Refusal}
-use Rattle.renamer_c.specs.declared.refusal.Refusal.TheVariants.{Nothing, Memory, Kind, Width, Quota, NoSuchEntry, QuotaSpent, QuotaTooSmall, StillWalking, NobodyThere, LanesMissing, NothingBack, Size, Carried, NoPlace}
+use Rattle.renamer_c.specs.declared.refusal.Refusal.TheVariants.{Nothing, Memory, Kind, Width, Quota, NoSuchEntry, QuotaSpent, QuotaTooSmall, StillWalking, NobodyThere, LanesMissing, NothingBack, Size, Carried, NoPlace, LanesThere}
 
 -- a status that is one of these refusals
 abbrev pub IsRefusal : (Refusal → Type 0) → ℕ → Type 0
@@ -100,13 +100,18 @@ NotJoined lane NothingBack = WithLane lane (λ l. ⊤)
 NotJoined lane Memory = WithLane lane (λ l. (m : LaneValue) × IsBack l.home m × (l.room < length m.view.grants))
 NotJoined lane r = ⊥
 
+-- with nobody inside, a lane has the floor's whole quota, spent or not
+abbrev pub HasAll : LaneValue → Type 0
+HasAll l = (tokens_in l.yard.lists ≡ 0) × (l.view.quota + length l.view.grants ≡ l.home.start.quota)
+
 -- why a floor is not closed
 abbrev pub NotClosed : Option LaneValue → Refusal → Type 0
 NotClosed lane Nothing = lane ≡ None
 NotClosed lane StillWalking = WithLane lane (λ l. 0 < tokens_in l.yard.lists)
-NotClosed lane LanesMissing = WithLane lane (λ l. tokens_in l.yard.lists ≡ 0)
-NotClosed lane Memory = WithLane lane (λ l. (tokens_in l.yard.lists ≡ 0)
-    × (l.view.quota + length l.view.grants ≡ l.home.start.quota))
+NotClosed lane LanesMissing = WithLane lane (λ l. (tokens_in l.yard.lists ≡ 0)
+    × (l.view.quota + length l.view.grants ≢ l.home.start.quota))
+NotClosed lane Memory = WithLane lane HasAll
+NotClosed lane LanesThere = WithLane lane HasAll
 NotClosed lane r = ⊥
 
 -- why no floor goes on from a closed one

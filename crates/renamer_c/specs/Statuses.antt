@@ -1,7 +1,7 @@
 -- The statuses of refused calls.
 use Rattle.std.specs.Prelude.{ℕ}
 use Rattle.renamer_c.specs.declared.refusal.Refusal.{Refusal}
-use Rattle.renamer_c.specs.declared.refusal.Refusal.TheVariants.{Nothing, Memory, Kind, Width, Quota, NoSuchEntry, QuotaSpent, QuotaTooSmall, StillWalking, NobodyThere, LanesMissing, NothingBack, Size, Carried, NoPlace}
+use Rattle.renamer_c.specs.declared.refusal.Refusal.TheVariants.{Nothing, Memory, Kind, Width, Quota, NoSuchEntry, QuotaSpent, QuotaTooSmall, StillWalking, NobodyThere, LanesMissing, NothingBack, Size, Carried, NoPlace, LanesThere}
 
 abbrev pub status_of : Refusal → ℕ
 status_of Nothing = 1
@@ -19,3 +19,4 @@ status_of NothingBack = 12
 status_of Size = 13
 status_of Carried = 14
 status_of NoPlace = 15
+status_of LanesThere = 16

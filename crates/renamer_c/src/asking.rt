@@ -8,9 +8,9 @@ ghost use Rattle.renamer_c.specs.Questions.{answer_to};
 ghost use Rattle.renamer_c.specs.Refusals.{IsRefusal, NotReserved, NotThere, WithLane};
 ghost use Rattle.renamer_c.specs.declared.refusal.TheConstants.{DONE};
 
+use crate::answer::{status, write};
 use crate::handle::Handle;
 use crate::question::Question;
-use crate::refusal::DONE;
 use std::alloc::Global;
 
 /// How many clients came in, by all lanes, as far as this one can know.
@@ -27,13 +27,7 @@ pub extern "C" fn renamer_entered(alloc: Global, lane: &mut Handle, entered: &mu
     };
     let answer = held.entered();
     lane.put(held);
-    match answer {
-        Ok(value) => {
-            *entered = value;
-            DONE
-        }
-        Err(refusal) => refusal.status(),
-    }
+    write(answer, entered)
 }
 
 /// Makes room for so many clients.
@@ -50,10 +44,7 @@ pub extern "C" fn renamer_reserve(alloc: Global, lane: &mut Handle, clients: u64
     };
     let answer = held.reserve(clients);
     lane.put(held);
-    match answer {
-        Ok(()) => DONE,
-        Err(refusal) => refusal.status(),
-    }
+    status(answer)
 }
 
 /// Asks a lane for a number.
@@ -70,13 +61,7 @@ fn ask(alloc: Global, lane: &mut Handle, question: Question, to: &mut u64) -> u3
     };
     let answer = held.ask(question);
     lane.put(held);
-    match answer {
-        Ok(value) => {
-            *to = value;
-            DONE
-        }
-        Err(refusal) => refusal.status(),
-    }
+    write(answer, to)
 }
 
 /// How many clients more the lane may let in.

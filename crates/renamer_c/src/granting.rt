@@ -6,9 +6,10 @@ ghost use Rattle.renamer_c.specs.Questions.{AreGrantsFrom, copy_of};
 ghost use Rattle.renamer_c.specs.Refusals.{IsRefusal, NotGranted, WithLane};
 ghost use Rattle.renamer_c.specs.declared.refusal.TheConstants.{DONE};
 
+use crate::answer::status;
 use crate::handle::Handle;
 use crate::held::Held;
-use crate::refusal::{DONE, Refusal};
+use crate::refusal::Refusal;
 use std::alloc::Global;
 
 /// A client's way out, and its name, as C sees it.
@@ -89,8 +90,5 @@ pub extern "C" fn renamer_grants(
     };
     let copied = copy(&held, first, grants);
     lane.put(held);
-    match copied {
-        Ok(()) => DONE,
-        Err(refusal) => refusal.status(),
-    }
+    status(copied)
 }

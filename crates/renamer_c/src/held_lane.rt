@@ -5,7 +5,7 @@ mod naming_many;
 mod returning;
 mod stepping;
 
-ghost use Rattle.std.specs.Prelude.{◌≡◌, ◌≤◌, Some, IfErr, IfOk, OnErr, OnOk};
+ghost use Rattle.std.specs.Prelude.{◌≡◌, ◌≤◌, Some, IfErr, IfOk, IfSome, OnErr, OnOk};
 ghost use Rattle.cn_spec.specs.declared.limits.TheConstants.{MOST_CARRIED, MOST_CLIENTS};
 ghost use Rattle.cn_floor.specs.Carried.{client_count, start_after};
 ghost use Rattle.cn_floor.specs.Lane.{empty_lane, with_room};
@@ -15,6 +15,7 @@ ghost use Rattle.cn_floor.specs.Views.{after_entered};
 ghost use Rattle.renamer_c.specs.Calls.{IsOpened, IsSplit};
 ghost use Rattle.renamer_c.specs.Questions.{answer_to};
 ghost use Rattle.renamer_c.specs.Refusals.{NotNamed, NotReserved};
+ghost use Rattle.renamer_c.specs.Returns.{IsBack};
 
 use crate::floor_share::FloorShare;
 use crate::question::Question;
@@ -48,6 +49,21 @@ impl Model for HeldLane {
 }
 
 impl HeldLane {
+    /// A lane with its share of its floor.
+    fn of(floor: FloorShare, lane: Lane, most: u64, spare: Option<Lane>) -> HeldLane
+        requires own { lane.home ≡ floor }
+        requires most { most ≡ floor.start.quota }
+        requires spare { IfSome spare (IsBack floor) }
+        ensures { result ≡ lane }
+    {
+        HeldLane {
+            floor,
+            lane,
+            most,
+            spare,
+        }
+    }
+
     /// A floor over a network, and its first lane.
     ///
     /// # Errors
@@ -62,12 +78,7 @@ impl HeldLane {
             return Err(Refusal::Memory);
         };
         match Floor::open_shared(alloc, &network, quota) {
-            Ok((floor, lane)) => Ok(HeldLane {
-                floor: FloorShare::of(floor),
-                lane,
-                most: quota,
-                spare: None,
-            }),
+            Ok((floor, lane)) => Ok(HeldLane::of(FloorShare::of(floor), lane, quota, None)),
             Err(_) => Err(Refusal::Memory),
         }
     }
@@ -110,32 +121,12 @@ impl HeldLane {
         match floor.split(alloc) {
             Ok((floor, other_floor)) => match floor.floor().split_off(&mut lane, quota) {
                 Ok(other) => Ok((
-                    HeldLane {
-                        floor,
-                        lane,
-                        most,
-                        spare,
-                    },
-                    HeldLane {
-                        floor: other_floor,
-                        lane: other,
-                        most,
-                        spare: None,
-                    },
+                    HeldLane::of(floor, lane, most, spare),
+                    HeldLane::of(other_floor, other, most, None),
                 )),
-                Err(_) => Err(HeldLane {
-                    floor,
-                    lane,
-                    most,
-                    spare,
-                }),
+                Err(_) => Err(HeldLane::of(floor, lane, most, spare)),
             },
-            Err(floor) => Err(HeldLane {
-                floor,
-                lane,
-                most,
-                spare,
-            }),
+            Err(floor) => Err(HeldLane::of(floor, lane, most, spare)),
         }
     }
 
@@ -202,12 +193,7 @@ impl HeldLane {
         ensures memory { IfErr result (λ r. r ≡ Refusal.Memory) }
     {
         match Floor::open_after(alloc, words, quota) {
-            Ok((floor, lane)) => Ok(HeldLane {
-                floor: FloorShare::of(floor),
-                lane,
-                most: quota,
-                spare: None,
-            }),
+            Ok((floor, lane)) => Ok(HeldLane::of(FloorShare::of(floor), lane, quota, None)),
             Err(_) => Err(Refusal::Memory),
         }
     }

@@ -6,6 +6,7 @@ ghost use Rattle.renamer_c.specs.Refusals.{IsRefusal, NotHandedBack, NotJoined};
 ghost use Rattle.renamer_c.specs.Returns.{HandsBack, Joins};
 ghost use Rattle.renamer_c.specs.declared.refusal.TheConstants.{DONE};
 
+use crate::answer::status;
 use crate::handle::Handle;
 use crate::refusal::DONE;
 use std::alloc::Global;
@@ -44,8 +45,5 @@ pub extern "C" fn renamer_join(alloc: Global, lane: &mut Handle) -> u32
     };
     let joined = held.join();
     lane.put(held);
-    match joined {
-        Ok(()) => DONE,
-        Err(refusal) => refusal.status(),
-    }
+    status(joined)
 }

@@ -1,6 +1,7 @@
 //! The floor for programs in C, C++ and Rust.
 #![tactic(auto)]
 
+mod answer;
 mod asking;
 mod client;
 mod closing;

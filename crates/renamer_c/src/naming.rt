@@ -6,8 +6,8 @@ ghost use Rattle.renamer_c.specs.Handles.{lane_in};
 ghost use Rattle.renamer_c.specs.Refusals.{IsRefusal, NotNamed};
 ghost use Rattle.renamer_c.specs.declared.refusal.TheConstants.{DONE};
 
+use crate::answer::write;
 use crate::handle::Handle;
-use crate::refusal::DONE;
 use std::alloc::Global;
 
 /// Names a client: lets it in by an entry and walks it out.
@@ -30,11 +30,5 @@ pub extern "C" fn renamer_name(
     };
     let answer = held.name(client, entry);
     lane.put(held);
-    match answer {
-        Ok(given) => {
-            *name = given;
-            DONE
-        }
-        Err(refusal) => refusal.status(),
-    }
+    write(answer, name)
 }

@@ -6,13 +6,14 @@ ghost use Rattle.renamer_c.specs.Many.{NamesMany};
 ghost use Rattle.renamer_c.specs.Refusals.{IsRefusal, NotNamedMany};
 ghost use Rattle.renamer_c.specs.declared.refusal.TheConstants.{DONE};
 
+use crate::answer::status;
 use crate::client::Client;
 use crate::granting::Grant;
 use crate::handle::Handle;
-use crate::refusal::DONE;
 use std::alloc::Global;
 
-/// Names clients: lets them in, and then out together. Copies their grants, in the order in which they left.
+/// Names clients: lets them in, and then out together, or one after the other if they are few. Copies their grants, in the
+/// order in which they left.
 #[unsafe(no_mangle)]
 pub extern "C" fn renamer_name_many(
     alloc: Global,
@@ -32,8 +33,5 @@ pub extern "C" fn renamer_name_many(
     };
     let named = held.name_many(clients, grants);
     lane.put(held);
-    match named {
-        Ok(()) => DONE,
-        Err(refusal) => refusal.status(),
-    }
+    status(named)
 }

@@ -6,10 +6,11 @@ ghost use Rattle.renamer_c.specs.Records.{list_of};
 ghost use Rattle.renamer_c.specs.Refusals.{IsRefusal, NotCopied, NotThere, WithRecord};
 ghost use Rattle.renamer_c.specs.declared.refusal.TheConstants.{DONE};
 
+use crate::answer::{status, write};
 use crate::handle::Handle;
 use crate::held::Held;
 use crate::record_of_floor::Listed;
-use crate::refusal::{DONE, Refusal};
+use crate::refusal::Refusal;
 use std::alloc::Global;
 
 /// How long a list of the record is.
@@ -40,13 +41,7 @@ fn ask_size(alloc: Global, quiet: &mut Handle, listed: Listed, size: &mut u64) -
     };
     let answer = size_of(&held, listed);
     quiet.put(held);
-    match answer {
-        Ok(value) => {
-            *size = value;
-            DONE
-        }
-        Err(refusal) => refusal.status(),
-    }
+    write(answer, size)
 }
 
 /// Copies a list of the record.
@@ -84,10 +79,7 @@ fn ask_list(alloc: Global, quiet: &mut Handle, listed: Listed, to: &mut [u64]) -
     };
     let copied = copy(&held, listed, to);
     quiet.put(held);
-    match copied {
-        Ok(()) => DONE,
-        Err(refusal) => refusal.status(),
-    }
+    status(copied)
 }
 
 /// How many exits the floor had.

@@ -31,7 +31,7 @@ pub enum Refusal {
     StillWalking,
     /// The lane has no client there.
     NobodyThere,
-    /// Other lanes have a part of the floor.
+    /// Other lanes have a part of the floor's quota, spent or not.
     LanesMissing,
     /// No lane was handed back.
     NothingBack,
@@ -41,6 +41,8 @@ pub enum Refusal {
     Carried,
     /// As many lanes were handed back as a floor keeps.
     NoPlace,
+    /// Other lanes are there still, with none of the floor's quota.
+    LanesThere,
 }
 
 impl Refusal {
@@ -65,6 +67,7 @@ impl Refusal {
             Refusal::Size => 13,
             Refusal::Carried => 14,
             Refusal::NoPlace => 15,
+            Refusal::LanesThere => 16,
         }
     }
 }

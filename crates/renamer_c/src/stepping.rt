@@ -8,9 +8,9 @@ ghost use Rattle.renamer_c.specs.Refusals.{IsRefusal, NobodyInside, NobodyOn, No
 ghost use Rattle.renamer_c.specs.Sweepings.{Sweeps};
 ghost use Rattle.renamer_c.specs.declared.refusal.TheConstants.{DONE};
 
+use crate::answer::{status, write};
 use crate::handle::Handle;
 use crate::moved::{Moved, Swept};
-use crate::refusal::DONE;
 use std::alloc::Global;
 
 /// Lets a client in by an entry: it stands last on the wire with the entry's number.
@@ -27,10 +27,7 @@ pub extern "C" fn renamer_enter(alloc: Global, lane: &mut Handle, client: u64, e
     };
     let entered = held.enter(client, entry);
     lane.put(held);
-    match entered {
-        Ok(()) => DONE,
-        Err(refusal) => refusal.status(),
-    }
+    status(entered)
 }
 
 /// Lets the lane's first client on a wire go by the end of the wire.
@@ -52,13 +49,7 @@ pub extern "C" fn renamer_step(
     };
     let answer = held.step(wire);
     lane.put(held);
-    match answer {
-        Ok(value) => {
-            *moved = value;
-            DONE
-        }
-        Err(refusal) => refusal.status(),
-    }
+    write(answer, moved)
 }
 
 /// Lets all of the lane's clients on a wire go by the end of the wire, by one step.
@@ -80,13 +71,7 @@ pub extern "C" fn renamer_sweep(
     };
     let answer = held.sweep(wire);
     lane.put(held);
-    match answer {
-        Ok(value) => {
-            *swept = value;
-            DONE
-        }
-        Err(refusal) => refusal.status(),
-    }
+    write(answer, swept)
 }
 
 /// The least wire on which a client of the lane stands.
@@ -104,11 +89,5 @@ pub extern "C" fn renamer_lowest(alloc: Global, lane: &mut Handle, wire: &mut u6
     };
     let answer = held.lowest();
     lane.put(held);
-    match answer {
-        Ok(value) => {
-            *wire = value;
-            DONE
-        }
-        Err(refusal) => refusal.status(),
-    }
+    write(answer, wire)
 }

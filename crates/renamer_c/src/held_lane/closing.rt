@@ -1,6 +1,6 @@
 //! A lane closes its floor.
 
-ghost use Rattle.std.specs.Prelude.{◌≡◌, ◌+◌, Some, length, IfErr, IfOk, IsTrue};
+ghost use Rattle.std.specs.Prelude.{◌≡◌, ◌≢◌, ◌+◌, Some, false, length, IfErr, IfOk, IsTrue};
 ghost use Rattle.cn_yard.specs.Lists.{tokens_in};
 ghost use Rattle.renamer_c.specs.Calls.{IsClosedBy};
 ghost use Rattle.renamer_c.specs.Refusals.{NotClosed};
@@ -15,7 +15,10 @@ use std::alloc::Global;
 impl HeldLane {
     /// Whether the lane has all of the floor's quota, spent or not.
     fn has_all(&self) -> bool
-        ensures { IsTrue result → self.now.view.quota + length self.now.view.grants ≡ self.now.home.start.quota }
+        ensures all { IsTrue result
+            → self.now.view.quota + length self.now.view.grants ≡ self.now.home.start.quota }
+        ensures missing { result ≡ false
+            → self.now.view.quota + length self.now.view.grants ≢ self.now.home.start.quota }
     {
         let granted = self.lane.grants().len() as u64;
         granted <= self.most && self.lane.quota() == self.most - granted
@@ -24,7 +27,7 @@ impl HeldLane {
     /// Closes the floor, for its record in these lists.
     ///
     /// # Errors
-    /// `LanesMissing` if other lanes are there, and `Memory`, with the lane as it was.
+    /// `LanesThere` if other lanes are, and `Memory`, with the lane as it was.
     fn close_into(self, counts: Vec<u64>, holders: Vec<u64>) -> Result<Record, (Refusal, HeldLane)>
         requires out { tokens_in self.yard.lists ≡ 0 }
         requires all { self.view.quota + length self.view.grants ≡ self.home.start.quota }
@@ -42,15 +45,9 @@ impl HeldLane {
         } = self;
         let floor = match floor.into_floor() {
             Ok(floor) => floor,
-            Err(floor) => return Err((
-                Refusal::LanesMissing,
-                HeldLane {
-                    floor,
-                    lane,
-                    most,
-                    spare,
-                },
-            )),
+            Err(floor) => {
+                return Err((Refusal::LanesThere, HeldLane::of(floor, lane, most, spare)));
+            }
         };
         match floor.close(lane) {
             Ok(quiet) => {
@@ -58,15 +55,9 @@ impl HeldLane {
                 Ok(Record::of(quiet, counts, holders))
             }
             Err(CloseFault::StillWalking(floor, lane) | CloseFault::Memory(floor, lane)) => {
-                let floor = FloorShare::of(floor);
                 Err((
                     Refusal::Memory,
-                    HeldLane {
-                        floor,
-                        lane,
-                        most,
-                        spare,
-                    },
+                    HeldLane::of(FloorShare::of(floor), lane, most, spare),
                 ))
             }
             Err(CloseFault::LanesMissing { .. }) => unreachable!(),
@@ -76,7 +67,7 @@ impl HeldLane {
     /// Closes the floor.
     ///
     /// # Errors
-    /// The first that stands, with the lane as it was: `StillWalking`, `LanesMissing`, `Memory`.
+    /// The first that stands, with the lane as it was: `StillWalking`, `LanesMissing`, `Memory`, `LanesThere`.
     pub(crate) fn close(self, alloc: Global) -> Result<Record, (Refusal, HeldLane)>
         ensures ok { IfOk result (IsClosedBy self) }
         ensures err { IfErr result (λ r. r.1 ≡ self) }

@@ -1,4 +1,4 @@
-//! Many clients are named by one call: they come in, and sweeps let them out together.
+//! Many clients are named by one call: they come in, and sweeps let them out together. Few walk one after the other.
 
 ghost use Rattle.std.specs.Prelude.{◌≡◌, ℕ, ◌<◌, ◌≤◌, [], All, Some, false, length, map, IfErr, IsTrue, OnErr, OnOk};
 ghost use Rattle.cn_yard.specs.Lists.{tokens_in};
@@ -63,8 +63,25 @@ fn walk_out(floor: &Floor<'static>, lane: &mut Lane)
     }
 }
 
-/// Names clients of which there is one at least, by a lane with nobody inside that has quota and room for all.
-fn name_all(floor: &Floor<'static>, lane: &mut Lane, clients: &[Client])
+/// Names clients one after the other, by a lane with nobody inside that has quota and room for all.
+fn name_singly(floor: &Floor<'static>, lane: &mut Lane, clients: &[Client])
+    requires own { lane.old.home ≡ floor.now }
+    requires out { tokens_in lane.old.yard.lists ≡ 0 }
+    requires entries { All (λ c. c.entry < floor.now.start.network.table.entries) clients.now }
+    requires quota { length clients.now ≤ lane.old.view.quota }
+    requires room { length clients.now ≤ lane.old.room }
+    ensures { AreNamed lane.old lane.new clients.now }
+{
+    floor.names_are_once();
+    for client in clients {
+        let Ok(_name) = floor.name(lane, client.client, client.entry) else {
+            unreachable!()
+        };
+    }
+}
+
+/// Names clients together, of which there is one at least, by a lane with nobody inside that has quota and room for all.
+fn name_together(floor: &Floor<'static>, lane: &mut Lane, clients: &[Client])
     requires own { lane.old.home ≡ floor.now }
     requires out { tokens_in lane.old.yard.lists ≡ 0 }
     requires some { 0 < length clients.now }
@@ -93,20 +110,23 @@ impl HeldLane {
         if self.lane.inside() != 0 {
             return Err(Refusal::StillWalking);
         }
-        if !all_enter(clients, u64::from(self.floor.floor().network().entries())) {
+        let entries = u64::from(self.floor.floor().network().entries());
+        if !all_enter(clients, entries) {
             return Err(Refusal::NoSuchEntry);
         }
         if count > self.lane.quota() {
             return Err(Refusal::QuotaSpent);
         }
-        if count == 0 {
-            return Ok(());
-        }
         self.lane.lane_laws();
         if self.lane.room() < count && self.lane.reserve(count).is_err() {
             return Err(Refusal::Memory);
         }
-        name_all(self.floor.floor(), &mut self.lane, clients);
+        // If they are no more than the entries, hardly two are on one wire, and sweeps would save no step.
+        if count <= entries {
+            name_singly(self.floor.floor(), &mut self.lane, clients);
+        } else {
+            name_together(self.floor.floor(), &mut self.lane, clients);
+        }
         Ok(())
     }
 }

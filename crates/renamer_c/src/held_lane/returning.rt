@@ -46,32 +46,12 @@ impl HeldLane {
         };
         if let Some(spare) = spare {
             if let Err((refusal, spare)) = floor.hand_back(spare) {
-                let spare = Some(spare);
-                return Err((
-                    refusal,
-                    HeldLane {
-                        floor,
-                        lane,
-                        most,
-                        spare,
-                    },
-                ));
+                return Err((refusal, HeldLane::of(floor, lane, most, Some(spare))));
             }
         }
         match floor.hand_back(lane) {
             Ok(()) => Ok(()),
-            Err((refusal, lane)) => {
-                let spare = None;
-                Err((
-                    refusal,
-                    HeldLane {
-                        floor,
-                        lane,
-                        most,
-                        spare,
-                    },
-                ))
-            }
+            Err((refusal, lane)) => Err((refusal, HeldLane::of(floor, lane, most, None))),
         }
     }
 
@@ -91,37 +71,14 @@ impl HeldLane {
             spare,
         } = self;
         let Some(other) = next(&floor, spare) else {
-            let spare = None;
-            return Err((
-                Refusal::NothingBack,
-                HeldLane {
-                    floor,
-                    lane,
-                    most,
-                    spare,
-                },
-            ));
+            return Err((Refusal::NothingBack, HeldLane::of(floor, lane, most, None)));
         };
         match floor.floor().join(lane, other) {
-            Ok(lane) => {
-                let spare = None;
-                Ok(HeldLane {
-                    floor,
-                    lane,
-                    most,
-                    spare,
-                })
-            }
+            Ok(lane) => Ok(HeldLane::of(floor, lane, most, None)),
             Err((JoinFault::Memory, lane, other)) => {
-                let spare = Some(other);
                 Err((
                     Refusal::Memory,
-                    HeldLane {
-                        floor,
-                        lane,
-                        most,
-                        spare,
-                    },
+                    HeldLane::of(floor, lane, most, Some(other)),
                 ))
             }
             Err((JoinFault::StillWalking, _, _)) => unreachable!(),

@@ -5,7 +5,7 @@ use Rattle.cn_floor.specs.Steps.{HasMoment}
 use Rattle.cn_walk.specs.Walks.{Walks}
 use Rattle.cn_walk.proofs.Walks.{IsHeld, none_by, walked, walks_on}
 use Rattle.renamer_c.specs.Many.{client_of}
-use Rattle.renamer_c.proofs.held_lane.naming_many.name_all.Goals as goal
+use Rattle.renamer_c.proofs.held_lane.naming_many.name_together.Goals as goal
 
 pub walk_out-requires-clause-moment : goal.walk_out-requires-clause-moment
 walk_out-requires-clause-moment c =
