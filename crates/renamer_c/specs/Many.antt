@@ -1,5 +1,5 @@
 -- What the naming of many clients by one call makes of a lane.
-use Rattle.std.specs.Prelude.{◌≡◌, ℕ, ◌<◌, ◌≤◌, List, Option, Some, length, map}
+use Rattle.std.specs.Prelude.{◌≡◌, ℕ, ◌<◌, ◌≤◌, List, Option, Some, get_or, length, map, take}
 use Rattle.cn_spec.specs.Sums.{times}
 use Rattle.cn_ledger.specs.declared.client.Client as ledger
 use Rattle.cn_floor.specs.Lane.{LaneValue}
@@ -12,6 +12,16 @@ use Rattle.renamer_c.specs.declared.granting.Grant.{Grant}
 -- a client of a list of C's
 abbrev pub client_of : Client → ledger.Client
 client_of c = record { id = c.client; entry = c.entry }
+
+-- a client, for a place that a list lacks
+abbrev pub no_client : Client
+no_client = record { client = 0; entry = 0 }
+
+-- the first n clients of a list come in by the entry of its first one, and these are their identities
+pub record IsRun (clients : List Client) (ids : List ℕ) (n : ℕ) : Type 0 where
+  pub some : 0 < n
+  pub few : (n ≤ length clients) × (n ≤ length ids)
+  pub are : map client_of (take n clients) ≡ map (λ id. record { id = id; entry = (get_or clients 0 no_client).entry }) (take n ids)
 
 -- clients came in and left: a grant more for each, and no name stands twice in the lane
 pub record AreNamed (old new : LaneValue) (clients : List Client) : Type 0 where

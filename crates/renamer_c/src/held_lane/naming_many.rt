@@ -1,10 +1,8 @@
-//! Many clients are named by one call: they come in, and sweeps let them out together. Few walk one after the other.
+//! Many clients are named by one call: those who follow one another by one entry together.
 
 ghost use Rattle.std.specs.Prelude.{◌≡◌, ℕ, ◌<◌, ◌≤◌, [], All, Some, false, length, map, IfErr, IsTrue, OnErr, OnOk};
 ghost use Rattle.cn_yard.specs.Lists.{tokens_in};
-ghost use Rattle.cn_floor.specs.Steps.{HasMoment};
-ghost use Rattle.cn_walk.specs.Walks.{Walks, WalksAll, inside_by};
-ghost use Rattle.renamer_c.specs.Many.{AreNamed, client_of};
+ghost use Rattle.renamer_c.specs.Many.{AreNamed, IsRun};
 ghost use Rattle.renamer_c.specs.Refusals.{NotNamedMany};
 
 use super::HeldLane;
@@ -25,46 +23,28 @@ fn all_enter(clients: &[Client], entries: u64) -> bool
     true
 }
 
-/// Lets the clients in, one after the other.
-fn walk_in(floor: &Floor<'static>, lane: &mut Lane, clients: &[Client])
-    requires own { lane.old.home ≡ floor.now }
-    requires entries { All (λ c. c.entry < floor.now.start.network.table.entries) clients.now }
-    requires quota { length clients.now ≤ lane.old.view.quota }
-    requires room { length clients.now ≤ lane.old.room }
-    ensures walked { Walks lane.old lane.new (map client_of clients.now) }
-    ensures moment { 0 < length clients.now → HasMoment lane.old.home.start lane.new.view }
+/// How many clients who come in by one entry go on together at most.
+const TOGETHER: usize = 64;
+
+/// Copies the identities of the first clients of a list, who come in by the entry of the first of them, as many as there is
+/// room for. Returns how many.
+fn copy_run(clients: &[Client], ids: &mut [u64]) -> usize
+    requires some { (0 < length clients.now) × (0 < length ids.old) }
+    ensures run { IsRun clients.now ids.new result }
+    ensures same { length ids.new ≡ length ids.old }
 {
-    floor.start_laws();
-    for client in clients {
-        lane.lane_laws();
-        let Ok(_token) = floor.enter(lane, client.client, client.entry) else {
-            unreachable!()
-        };
+    let entry = clients[0].entry;
+    let mut count = 0;
+    while count < clients.len() && count < ids.len() && clients[count].entry == entry {
+        ids[count] = clients[count].client;
+        count += 1;
     }
+    count
 }
 
-/// Sweeps the lowest wire that has a client, until nobody is inside. Clients go on to greater wires, so none stands below the
-/// wire that was swept last.
-fn walk_out(floor: &Floor<'static>, lane: &mut Lane)
-    requires own { lane.old.home ≡ floor.now }
-    requires moment { HasMoment lane.old.home.start lane.old.view }
-    ensures walked { Walks lane.old lane.new [] }
-    ensures out { tokens_in lane.new.yard.lists ≡ 0 }
-    ensures nobody { (f : ℕ → ℕ) → inside_by f lane.new.view ≡ 0 }
-    ensures moment { HasMoment lane.old.home.start lane.new.view }
-{
-    floor.start_laws();
-    lane.lane_laws();
-    let mut from = 0;
-    while let Some(wire) = lane.lowest_from(from) {
-        floor.sweep(lane, wire);
-        lane.lane_laws();
-        from = wire;
-    }
-}
-
-/// Names clients one after the other, by a lane with nobody inside that has quota and room for all.
-fn name_singly(floor: &Floor<'static>, lane: &mut Lane, clients: &[Client])
+/// Names clients by a lane with nobody inside that has quota and room for all: those who follow one another by one entry
+/// together.
+fn name_all(floor: &Floor<'static>, lane: &mut Lane, clients: &[Client])
     requires own { lane.old.home ≡ floor.now }
     requires out { tokens_in lane.old.yard.lists ≡ 0 }
     requires entries { All (λ c. c.entry < floor.now.start.network.table.entries) clients.now }
@@ -73,27 +53,16 @@ fn name_singly(floor: &Floor<'static>, lane: &mut Lane, clients: &[Client])
     ensures { AreNamed lane.old lane.new clients.now }
 {
     floor.names_are_once();
-    for client in clients {
-        let Ok(_name) = floor.name(lane, client.client, client.entry) else {
+    let mut ids = [0; TOGETHER];
+    let mut named = 0;
+    while named < clients.len() {
+        let rest = &clients[named..];
+        let count = copy_run(rest, &mut ids);
+        let Ok(()) = floor.name_all(lane, &ids[..count], rest[0].entry) else {
             unreachable!()
         };
+        named += count;
     }
-}
-
-/// Names clients together, of which there is one at least, by a lane with nobody inside that has quota and room for all.
-fn name_together(floor: &Floor<'static>, lane: &mut Lane, clients: &[Client])
-    requires own { lane.old.home ≡ floor.now }
-    requires out { tokens_in lane.old.yard.lists ≡ 0 }
-    requires some { 0 < length clients.now }
-    requires entries { All (λ c. c.entry < floor.now.start.network.table.entries) clients.now }
-    requires quota { length clients.now ≤ lane.old.view.quota }
-    requires room { length clients.now ≤ lane.old.room }
-    ensures { AreNamed lane.old lane.new clients.now }
-{
-    floor.names_are_once();
-    lane.lane_laws();
-    walk_in(floor, lane, clients);
-    walk_out(floor, lane);
 }
 
 impl HeldLane {
@@ -121,12 +90,7 @@ impl HeldLane {
         if self.lane.room() < count && self.lane.reserve(count).is_err() {
             return Err(Refusal::Memory);
         }
-        // If they are no more than the entries, hardly two are on one wire, and sweeps would save no step.
-        if count <= entries {
-            name_singly(self.floor.floor(), &mut self.lane, clients);
-        } else {
-            name_together(self.floor.floor(), &mut self.lane, clients);
-        }
+        name_all(self.floor.floor(), &mut self.lane, clients);
         Ok(())
     }
 }

@@ -1,0 +1,84 @@
+-- Clients of a list, of whom those who follow one another by one entry are named together.
+use Rattle.std.proofs.Common.{◌≡◌, ℕ, zero, suc, ◌+◌, ◌≤◌, ◌==◌, cond, count_by, drop, max, replicate, List, [], ◌∷◌, ◌++◌, length, map, take, refl, sym, ap, ◌∙◌, arith, append_assoc, append-nil}
+use Rattle.std.proofs.lemmas.List.{length-append, length-map, map-append}
+use Rattle.std.proofs.lemmas.List.Sums.{sum_by-append, sum_by-cons}
+use Rattle.cn_spec.specs.Sums.{times}
+use Rattle.cn_spec.proofs.CallerLemmas.{times-cons, times-nil}
+use Rattle.cn_ledger.specs.declared.client.Client.{Client}
+use Rattle.cn_yard.specs.Lists.{Lists, tokens_in}
+use Rattle.cn_floor.specs.declared.view.Grant.{Grant}
+use Rattle.cn_floor.specs.Lane.{LaneValue}
+use Rattle.cn_floor.specs.Listed.{AreNamed}
+use Rattle.cn_walk.specs.Walks.{WalksAll}
+
+pub none_yet : (a : LaneValue) → tokens_in a.yard.lists ≡ 0 → WalksAll a a []
+none_yet a out = record {
+  home = refl;
+  out = out;
+  quota = omega arith;
+  room = omega arith;
+  entries = sym (append-nil a.view.entries);
+  seen = refl;
+  grants = ([], sym (append-nil a.view.grants), record { as_many = refl; as_often = λ id. refl });
+}
+
+-- clients who all come in by one entry
+abbrev pub by_entry : ℕ → List ℕ → List Client
+by_entry entry ids = map (λ (id : ℕ). record { id = id; entry = entry }) ids
+
+entries_by : (entry : ℕ) (ids : List ℕ) → map (λ (c : Client). c.entry) (by_entry entry ids) ≡ replicate (length ids) entry
+entries_by entry [] = refl
+entries_by entry (id ∷ ids) = ap (λ (es : List ℕ). entry ∷ es) (entries_by entry ids)
+
+times_by : (entry id : ℕ) (ids : List ℕ) → count_by (λ c. c.id == id) (by_entry entry ids) ≡ times id ids
+times_by entry id [] = sym (times-nil id)
+times_by entry id (x ∷ ids) =
+    omega (arith, times_by entry id ids, times-cons id x ids, sum_by-cons (λ (c : Client). cond (c.id == id) 1 0) (record { id = x; entry = entry }) (by_entry entry ids))
+
+-- clients of one entry are named after others
+pub run_more : (a b c : LaneValue) (xs : List Client) (ids : List ℕ) (entry : ℕ) → length ids ≤ b.room → WalksAll a b xs → AreNamed b c ids entry → WalksAll a c (xs ++ by_entry entry ids)
+run_more a b c xs ids entry room was is =
+    let (more, grants, for) = was.grants in
+    let (most, grew, many, often) = is.grants in
+    let at : Client → ℕ = λ d. d.entry in
+    let long : length (by_entry entry ids) ≡ length ids = length-map ids (λ (id : ℕ). record { id = id; entry = entry }) in
+    let whole : max (length ids) b.room ≡ b.room = omega (arith, room) in
+    record {
+      home = is.home ∙ was.home;
+      out = ap (λ (ls : Lists). tokens_in ls) is.lists ∙ was.out;
+      quota = omega (arith, was.quota, is.quota, length-append xs (by_entry entry ids), long);
+      room = omega (arith, was.room, is.room, whole, length-append xs (by_entry entry ids), long);
+      entries = is.entries ∙ ap (λ (es : List ℕ). es ++ replicate (length ids) entry) was.entries ∙ append_assoc a.view.entries (map at xs) (replicate (length ids) entry)
+          ∙ ap (λ (es : List ℕ). a.view.entries ++ es) (ap (λ (es : List ℕ). map at xs ++ es) (sym (entries_by entry ids)) ∙ sym (map-append at xs (by_entry entry ids)));
+      seen = is.seen ∙ was.seen;
+      grants = (
+        more ++ most,
+        grew ∙ ap (λ (gs : List Grant). gs ++ most) grants ∙ append_assoc a.view.grants more most,
+        record {
+          as_many = omega (arith, for.as_many, many, length-append more most, length-append xs (by_entry entry ids), long);
+          as_often = λ id. omega (
+            arith,
+            for.as_often id,
+            often id,
+            times_by entry id ids,
+            sum_by-append (λ (g : Grant). cond (g.client == id) 1 0) more most,
+            sum_by-append (λ (d : Client). cond (d.id == id) 1 0) xs (by_entry entry ids),
+          );
+        },
+      );
+    }
+
+-- the first clients of a list, and then those after them
+pub take_both : {X : Type 0} (i n : ℕ) (xs : List X) → i ≤ length xs → take (i + n) xs ≡ take i xs ++ take n (drop i xs)
+take_both zero n xs few = ap (λ (k : ℕ). take k xs) (let none : 0 + n ≡ n = omega arith in none)
+take_both (suc i) n [] few = absurd (omega (arith, few))
+take_both (suc i) n (x ∷ xs) few =
+    ap (λ (k : ℕ). take k (x ∷ xs)) (let one : suc i + n ≡ suc (i + n) = omega arith in one) ∙ ap (λ (ys : List _). x ∷ ys) (take_both i n xs (omega (arith, few)))
+
+pub map_part : {X Y : Type 0} (f : X → Y) (i n : ℕ) (xs : List X) → map f (take n (drop i xs)) ≡ take n (drop i (map f xs))
+map_part f zero zero xs = refl
+map_part f zero (suc n) [] = refl
+map_part f zero (suc n) (x ∷ xs) = ap (λ (ys : List _). f x ∷ ys) (map_part f zero n xs)
+map_part f (suc i) zero [] = refl
+map_part f (suc i) (suc n) [] = refl
+map_part f (suc i) n (x ∷ xs) = map_part f i n xs

@@ -1,0 +1,38 @@
+use Rattle.std.proofs.Common.{◌≡◌, ℕ, ◌+◌, ◌-◌, ◌≤◌, ◌++◌, List, arith, drop, get_or, length, map, take, sym, ap, ◌∙◌, subst}
+use Rattle.std.proofs.lemmas.List.{length-drop, length-map, length-take-le, take_all}
+use Rattle.cn_ledger.specs.declared.client.Client as ledger
+use Rattle.cn_floor.specs.Lane.{FloorValue}
+use Rattle.cn_floor.specs.Steps.{HasMoment}
+use Rattle.cn_walk.specs.Walks.{WalksAll}
+use Rattle.renamer_c.specs.Many.{client_of, no_client}
+use Rattle.renamer_c.specs.declared.client.Client.{Client}
+use Rattle.renamer_c.proofs.Listed.{by_entry, map_part, run_more, take_both}
+use Rattle.renamer_c.proofs.held_lane.naming_many.name_all.Goals as goal
+
+pub loop-named-preserved : goal.loop-named-preserved
+loop-named-preserved c =
+    let clients : List Client = c.args.clients.now in
+    let all : List ledger.Client = map client_of clients in
+    let i : ℕ = c.loop-named.named in
+    let n : ℕ = c.copy_run-count.result in
+    let ids : List ℕ = take n c.copy_run-count.new.ids in
+    let was = c.loop-named.invariant in
+    let run = c.copy_run-count.ensures.run in
+    let is = c.in-Ok.ensures.ok in
+    let long : length all ≡ length clients = length-map clients client_of in
+    let rest : List Client = take (length clients - i) (drop i clients) in
+    let whole : rest ≡ drop i clients = take_all (length clients - i) (drop i clients) (omega (arith, length-drop i clients)) in
+    let left : length rest + i ≡ length clients = omega (arith, ap length whole, length-drop i clients, was.few) in
+    let few : i + n ≤ length clients = omega (arith, run.few, left) in
+    let many : length ids ≡ n = length-take-le n c.copy_run-count.new.ids run.few.1 in
+    let before : length (take i all) ≡ i = length-take-le i all (omega (arith, was.few, long)) in
+    let next : take (i + n) all ≡ take i all ++ by_entry (get_or rest 0 no_client).entry ids =
+    take_both i n all (omega (arith, was.few, long)) ∙ ap (λ (cs : List ledger.Client). take i all ++ cs) (sym (map_part client_of i n clients) ∙ ap (λ (cs : List Client). map client_of (take n cs)) (sym whole) ∙ run.are) in
+    record {
+      few = few;
+      ids = c.copy_run-count.ensures.same ∙ was.ids;
+      walked = subst (λ (cs : List ledger.Client). WalksAll c.args.lane.now c.name_all.new.lane cs) (sym next)
+          (run_more c.args.lane.now c.loop-named.lane c.name_all.new.lane (take i all) ids (get_or rest 0 no_client).entry
+          (omega (arith, many, was.walked.room, before, few, c.requires.room)) was.walked is);
+      moment = λ _. subst (λ (h : FloorValue). HasMoment h.start c.name_all.new.lane.view) was.walked.home (is.moment (omega (arith, many, run.some)));
+    }
