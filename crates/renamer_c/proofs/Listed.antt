@@ -10,6 +10,7 @@ use Rattle.cn_floor.specs.declared.view.Grant.{Grant}
 use Rattle.cn_floor.specs.Lane.{LaneValue}
 use Rattle.cn_floor.specs.Listed.{AreNamed}
 use Rattle.cn_walk.specs.Walks.{WalksAll}
+use Rattle.renamer_c.specs.Many.{by_entry}
 
 pub none_yet : (a : LaneValue) → tokens_in a.yard.lists ≡ 0 → WalksAll a a []
 none_yet a out = record {
@@ -22,10 +23,6 @@ none_yet a out = record {
   grants = ([], sym (append-nil a.view.grants), record { as_many = refl; as_often = λ id. refl });
 }
 
--- clients who all come in by one entry
-abbrev pub by_entry : ℕ → List ℕ → List Client
-by_entry entry ids = map (λ (id : ℕ). record { id = id; entry = entry }) ids
-
 entries_by : (entry : ℕ) (ids : List ℕ) → map (λ (c : Client). c.entry) (by_entry entry ids) ≡ replicate (length ids) entry
 entries_by entry [] = refl
 entries_by entry (id ∷ ids) = ap (λ (es : List ℕ). entry ∷ es) (entries_by entry ids)
@@ -35,34 +32,47 @@ times_by entry id [] = sym (times-nil id)
 times_by entry id (x ∷ ids) =
     omega (arith, times_by entry id ids, times-cons id x ids, sum_by-cons (λ (c : Client). cond (c.id == id) 1 0) (record { id = x; entry = entry }) (by_entry entry ids))
 
--- clients of one entry are named after others
-pub run_more : (a b c : LaneValue) (xs : List Client) (ids : List ℕ) (entry : ℕ) → length ids ≤ b.room → WalksAll a b xs → AreNamed b c ids entry → WalksAll a c (xs ++ by_entry entry ids)
-run_more a b c xs ids entry room was is =
-    let (more, grants, for) = was.grants in
+-- clients of one entry are named together
+pub together : (a b : LaneValue) (ids : List ℕ) (entry : ℕ) → tokens_in a.yard.lists ≡ 0 → length ids ≤ a.room → AreNamed a b ids entry → WalksAll a b (by_entry entry ids)
+together a b ids entry out room is =
     let (most, grew, many, often) = is.grants in
-    let at : Client → ℕ = λ d. d.entry in
     let long : length (by_entry entry ids) ≡ length ids = length-map ids (λ (id : ℕ). record { id = id; entry = entry }) in
-    let whole : max (length ids) b.room ≡ b.room = omega (arith, room) in
+    let whole : max (length ids) a.room ≡ a.room = omega (arith, room) in
+    record {
+      home = is.home;
+      out = ap (λ (ls : Lists). tokens_in ls) is.lists ∙ out;
+      quota = omega (arith, is.quota, long);
+      room = omega (arith, is.room, whole, long);
+      entries = is.entries ∙ ap (λ (es : List ℕ). a.view.entries ++ es) (sym (entries_by entry ids));
+      seen = is.seen;
+      grants = (most, grew, record { as_many = many ∙ sym long; as_often = λ id. often id ∙ sym (times_by entry id ids) });
+    }
+
+-- clients are named after others
+pub more : (a b c : LaneValue) (xs ys : List Client) → WalksAll a b xs → WalksAll b c ys → WalksAll a c (xs ++ ys)
+more a b c xs ys was is =
+    let (some, grants, for) = was.grants in
+    let (most, grew, then) = is.grants in
+    let at : Client → ℕ = λ d. d.entry in
     record {
       home = is.home ∙ was.home;
-      out = ap (λ (ls : Lists). tokens_in ls) is.lists ∙ was.out;
-      quota = omega (arith, was.quota, is.quota, length-append xs (by_entry entry ids), long);
-      room = omega (arith, was.room, is.room, whole, length-append xs (by_entry entry ids), long);
-      entries = is.entries ∙ ap (λ (es : List ℕ). es ++ replicate (length ids) entry) was.entries ∙ append_assoc a.view.entries (map at xs) (replicate (length ids) entry)
-          ∙ ap (λ (es : List ℕ). a.view.entries ++ es) (ap (λ (es : List ℕ). map at xs ++ es) (sym (entries_by entry ids)) ∙ sym (map-append at xs (by_entry entry ids)));
+      out = is.out;
+      quota = omega (arith, was.quota, is.quota, length-append xs ys);
+      room = omega (arith, was.room, is.room, length-append xs ys);
+      entries = is.entries ∙ ap (λ (es : List ℕ). es ++ map at ys) was.entries ∙ append_assoc a.view.entries (map at xs) (map at ys)
+          ∙ ap (λ (es : List ℕ). a.view.entries ++ es) (sym (map-append at xs ys));
       seen = is.seen ∙ was.seen;
       grants = (
-        more ++ most,
-        grew ∙ ap (λ (gs : List Grant). gs ++ most) grants ∙ append_assoc a.view.grants more most,
+        some ++ most,
+        grew ∙ ap (λ (gs : List Grant). gs ++ most) grants ∙ append_assoc a.view.grants some most,
         record {
-          as_many = omega (arith, for.as_many, many, length-append more most, length-append xs (by_entry entry ids), long);
+          as_many = omega (arith, for.as_many, then.as_many, length-append some most, length-append xs ys);
           as_often = λ id. omega (
             arith,
             for.as_often id,
-            often id,
-            times_by entry id ids,
-            sum_by-append (λ (g : Grant). cond (g.client == id) 1 0) more most,
-            sum_by-append (λ (d : Client). cond (d.id == id) 1 0) xs (by_entry entry ids),
+            then.as_often id,
+            sum_by-append (λ (g : Grant). cond (g.client == id) 1 0) some most,
+            sum_by-append (λ (d : Client). cond (d.id == id) 1 0) xs ys,
           );
         },
       );

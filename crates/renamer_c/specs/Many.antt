@@ -17,11 +17,15 @@ client_of c = record { id = c.client; entry = c.entry }
 abbrev pub no_client : Client
 no_client = record { client = 0; entry = 0 }
 
+-- clients who all come in by one entry
+abbrev pub by_entry : ℕ → List ℕ → List ledger.Client
+by_entry entry ids = map (λ id. record { id = id; entry = entry }) ids
+
 -- the first n clients of a list come in by the entry of its first one, and these are their identities
 pub record IsRun (clients : List Client) (ids : List ℕ) (n : ℕ) : Type 0 where
   pub some : 0 < n
   pub few : (n ≤ length clients) × (n ≤ length ids)
-  pub are : map client_of (take n clients) ≡ map (λ id. record { id = id; entry = (get_or clients 0 no_client).entry }) (take n ids)
+  pub are : map client_of (take n clients) ≡ by_entry (get_or clients 0 no_client).entry (take n ids)
 
 -- clients came in and left: a grant more for each, and no name stands twice in the lane
 pub record AreNamed (old new : LaneValue) (clients : List Client) : Type 0 where

@@ -452,6 +452,45 @@ module _ (start : Start) (wire b n : ℕ) (v w : View) (go : GoTogether start wi
       (subst (λ (y : View). HasMoment start y) go.went (moment-after _ _ _ _ go.by.step))
       (subst (λ (y : View). HaveLeft y mid (output_wire start.network.table b 1) (on y.tokens (output_wire start.network.table b 1))) go.went one) two
 
+-- ---- one token by itself
+
+one-second : (es : List (ℕ × ℕ)) → length es ≡ 1 → (every_second 0 es ≡ es) × (every_second 1 es ≡ [])
+unfolding every_second
+one-second [] one = absurd (omega (arith, one))
+one-second (e ∷ []) one = (refl, refl)
+one-second (e ∷ d ∷ rest) one = absurd (omega (arith, one))
+
+-- a token by itself goes on to an output, with nobody above: once it has left from there, it has left
+pub record GoesOnAlone (start : Start) (wire b q : ℕ) (v w : View) : Type 0 where
+  pub to : on w.tokens (output_wire start.network.table b q) ≡ on v.tokens wire
+  pub above : (u : ℕ) → output_wire start.network.table b q < u → on w.tokens u ≡ []
+  pub left : (x : View) → HaveLeft w x (output_wire start.network.table b q) (on w.tokens (output_wire start.network.table b q)) → HaveLeft v x wire (on v.tokens wire)
+
+pub goes-on-alone : (start : Start) (wire b n : ℕ) (v w : View) → GoTogether start wire (Balancer b) n v w → length (on v.tokens wire) ≡ 1 → GoesOnAlone start wire b (n % 2) v w
+goes-on-alone start wire b n v w go one =
+    let is = dealt-so start wire b n v w go in
+    by (n % 2) (omega arith) is.first is.second
+  where
+    by : (q : ℕ) → q < 2 → on w.tokens (output_wire start.network.table b 0) ≡ every_second q (on v.tokens wire) → on w.tokens (output_wire start.network.table b 1) ≡ every_second (1 - q) (on v.tokens wire)
+        → GoesOnAlone start wire b q v w
+    by zero low first second =
+        let none : on w.tokens (output_wire start.network.table b 1) ≡ [] = second ∙ (one-second (on v.tokens wire) one).1 in
+        record {
+          to = first ∙ (one-second (on v.tokens wire) one).0;
+          above = λ u more. elim (cases_eq u (output_wire start.network.table b 1)) [
+            | inl e ↦ subst (λ (y : ℕ). on w.tokens y ≡ []) (sym e) none
+            | inr other ↦ above-second start wire b n v w go u (omega (arith, more, other))
+          ];
+          left = λ x left. left-so start wire b n v w go w x (nobody-left w (output_wire start.network.table b 1) none) left;
+        }
+    by (suc zero) low first second = record {
+      to = second ∙ (one-second (on v.tokens wire) one).0;
+      above = above-second start wire b n v w go;
+      left = λ x left. left-so start wire b n v w go x x left
+          (nobody-left x (output_wire start.network.table b 0) (left.others (output_wire start.network.table b 0) (λ e. omega (arith, e)) ∙ first ∙ (one-second (on v.tokens wire) one).1));
+    }
+    by (suc (suc q)) low first second = absurd (omega (arith, low))
+
 module _ (start : Start) (wire i n : ℕ) (v w : View) (go : GoTogether start wire (Exit i) n v w) where
   abbrev Ends : View → Type 0
   Ends x = HaveLeft v x wire (on v.tokens wire) × ((k : ℕ) → times_in x.tokens k ≤ 1)

@@ -175,7 +175,11 @@ impl<'a> Floor<'a> {
         match end {
             End::Balancer(balancer) => {
                 let out = network.entries() + 2 * balancer;
-                let (upper, lower) = group.deal(output_of(number), clients);
+                let output = output_of(number);
+                if group.count == 1 {
+                    return self.pass_all(seat, grants, clients, group, out + output);
+                }
+                let (upper, lower) = group.deal(output, clients);
                 self.pass_all(seat, grants, clients, lower, out + 1);
                 self.pass_all(seat, grants, clients, upper, out);
             }

@@ -2,7 +2,9 @@
 
 ghost use Rattle.std.specs.Prelude.{◌≡◌, ℕ, ◌<◌, ◌≤◌, [], All, Some, false, length, map, IfErr, IsTrue, OnErr, OnOk};
 ghost use Rattle.cn_yard.specs.Lists.{tokens_in};
-ghost use Rattle.renamer_c.specs.Many.{AreNamed, IsRun};
+ghost use Rattle.cn_floor.specs.Steps.{HasMoment};
+ghost use Rattle.cn_walk.specs.Walks.{WalksAll};
+ghost use Rattle.renamer_c.specs.Many.{AreNamed, IsRun, by_entry};
 ghost use Rattle.renamer_c.specs.Refusals.{NotNamedMany};
 
 use super::HeldLane;
@@ -42,6 +44,28 @@ fn copy_run(clients: &[Client], ids: &mut [u64]) -> usize
     count
 }
 
+/// Names clients who come in by one entry, of whom there is one at least: one by itself, and several together.
+fn name_run(floor: &Floor<'static>, lane: &mut Lane, ids: &[u64], entry: u64)
+    requires own { lane.old.home ≡ floor.now }
+    requires out { tokens_in lane.old.yard.lists ≡ 0 }
+    requires some { 0 < length ids.now }
+    requires entry { entry < floor.now.start.network.table.entries }
+    requires quota { length ids.now ≤ lane.old.view.quota }
+    requires room { length ids.now ≤ lane.old.room }
+    ensures walked { WalksAll lane.old lane.new (by_entry entry ids.now) }
+    ensures moment { HasMoment lane.old.home.start lane.new.view }
+{
+    if ids.len() == 1 {
+        let Ok(_name) = floor.name(lane, ids[0], entry) else {
+            unreachable!()
+        };
+    } else {
+        let Ok(()) = floor.name_all(lane, ids, entry) else {
+            unreachable!()
+        };
+    }
+}
+
 /// Names clients by a lane with nobody inside that has quota and room for all: those who follow one another by one entry
 /// together.
 fn name_all(floor: &Floor<'static>, lane: &mut Lane, clients: &[Client])
@@ -58,9 +82,7 @@ fn name_all(floor: &Floor<'static>, lane: &mut Lane, clients: &[Client])
     while named < clients.len() {
         let rest = &clients[named..];
         let count = copy_run(rest, &mut ids);
-        let Ok(()) = floor.name_all(lane, &ids[..count], rest[0].entry) else {
-            unreachable!()
-        };
+        name_run(floor, lane, &ids[..count], rest[0].entry);
         named += count;
     }
 }

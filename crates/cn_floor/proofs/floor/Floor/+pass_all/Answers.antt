@@ -1,4 +1,4 @@
-use Rattle.std.proofs.Common.{rules, ◌≡◌, ℕ, ◌+◌, ◌-◌, ◌*◌, ◌≤◌, List, ◌++◌, length, refl, arith, sym, ap, ◌∙◌, subst, length-append}
+use Rattle.std.proofs.Common.{rules, ◌≡◌, ℕ, ◌+◌, ◌-◌, ◌*◌, ◌%◌, ◌≤◌, List, ◌++◌, length, refl, arith, sym, ap, ◌∙◌, subst, length-append}
 use Rattle.cn_spec.specs.Step as step
 use Rattle.cn_wiring.specs.declared.end.End.{End}
 use Rattle.cn_wiring.specs.declared.end.End.TheVariants.{Balancer, Exit}
@@ -12,7 +12,7 @@ use Rattle.cn_floor.specs.Lane.{FloorValue}
 use Rattle.cn_floor.specs.Listed.{HaveLeft, Stand, placed}
 use Rattle.cn_floor.specs.Sweeps.{AreLetBy, grants_out}
 use Rattle.cn_floor.specs.Views.{base}
-use Rattle.cn_floor.proofs.InLane.Listed.{GoTogether, above-first, above-second, dealt-so, first-stand, grants-by, grants-so, inside, kin-so, left-by, left-so, nobody-left, placed-many, together}
+use Rattle.cn_floor.proofs.InLane.Listed.{GoTogether, above-first, above-second, dealt-so, first-stand, goes-on-alone, grants-by, grants-so, inside, kin-so, left-by, left-so, nobody-left, placed-many, together}
 use Rattle.cn_floor.proofs.floor.Floor.+pass_all.Goals as goal
 
 pub returns-then-group-eq0-clause-left : goal.returns-then-group-eq0-clause-left
@@ -43,11 +43,78 @@ pass_all-requires t c =
     c.let_by-end.ensures.end c.let_by-end.ensures.stands c.let_by-end.ensures.went c.let_by-end.ensures.by) in
     let is = dealt-so start wire b n v w go in
     let like = kin-so start wire b n v w go in
+    let alone = goes-on-alone start wire b n v w go (many ∙ c.if-group-eq1.true) in
+    let entries : c.entries.result ≡ start.network.table.entries = c.entries.ensures.value ∙ ap (λ (x : Network). x.table.entries) c.network-network.ensures.value in
+    let to : c.entries.result + 2 * b + c.output_of-output.result ≡ output_wire start.network.table b (n % 2) = omega (arith, entries, c.output_of-output.ensures) in
+    let stand : Stand clients g (on w.tokens (c.entries.result + 2 * b + c.output_of-output.result)) =
+    subst (λ (es : List (ℕ × ℕ)). Stand clients g es) (sym alone.to ∙ ap (λ (u : ℕ). on w.tokens u) (sym to)) c.requires.group in (
+      search rules,
+      (
+        (c.let_by-end.ensures.seat.0 ∙ c.requires.own.0, like.start ∙ c.requires.own.1),
+        (
+          (c.let_by-end.ensures.seat.1, like.loads ∙ c.requires.slots.1),
+          (
+            is.wires,
+            (
+              omega (arith, entries, inside start wire b n v w go, c.output_of-output.ensures),
+              (
+                is.once,
+                (
+                  stand,
+                  (
+                    λ u more. alone.above u (omega (arith, more, to)),
+                    (c.requires.room, c.requires.grants ∙ sym (grants-so start wire b n v w go)),
+                  ),
+                ),
+              ),
+            ),
+          ),
+        ),
+      ),
+    )
+
+pub returns-then-group-eq1-clause-left : goal.returns-then-group-eq1-clause-left
+returns-then-group-eq1-clause-left t c =
+    let start : Start = c.args.self.now.start in
+    let wire : ℕ = c.args.wire in
+    let v : View = c.args.seat.now.me.0 in
+    let w : View = c.let_by-end.new.seat.me.0 in
+    let x : View = c.pass_all.new.seat.me.0 in
+    let b : ℕ = c.in-Balancer.balancer in
+    let n : ℕ = c.let_by-end.result.1 in
+    let g = c.args.group in
+    let many : length (on v.tokens wire) ≡ g.count = ap length c.requires.group.are ∙ placed-many c.args.clients.now g.first g.stride g.count in
+    let go : GoTogether start wire (Balancer b) n v w =
+    subst (λ (e : End). GoTogether start wire e n v w) c.in-Balancer.is
+    (together start wire c.let_by-end.result.0 n v w c.start_laws.ensures c.requires.own.1 c.requires.wires c.requires.wire c.requires.once c.requires.above (omega (arith, many, c.if-group-eq0.false))
+    c.let_by-end.ensures.end c.let_by-end.ensures.stands c.let_by-end.ensures.went c.let_by-end.ensures.by) in
+    let alone = goes-on-alone start wire b n v w go (many ∙ c.if-group-eq1.true) in
+    let entries : c.entries.result ≡ start.network.table.entries = c.entries.ensures.value ∙ ap (λ (y : Network). y.table.entries) c.network-network.ensures.value in
+    let to : c.entries.result + 2 * b + c.output_of-output.result ≡ output_wire start.network.table b (n % 2) = omega (arith, entries, c.output_of-output.ensures) in
+    alone.left x (subst (λ (u : ℕ). HaveLeft w x u (on w.tokens u)) to c.pass_all.ensures.left)
+
+pub pass_all-requires-in-Balancer : goal.pass_all-requires-in-Balancer
+pass_all-requires-in-Balancer t c =
+    let start : Start = c.args.self.now.start in
+    let wire : ℕ = c.args.wire in
+    let v : View = c.args.seat.now.me.0 in
+    let w : View = c.let_by-end.new.seat.me.0 in
+    let b : ℕ = c.in-Balancer.balancer in
+    let n : ℕ = c.let_by-end.result.1 in
+    let g = c.args.group in
+    let clients : List ℕ = c.args.clients.now in
+    let many : length (on v.tokens wire) ≡ g.count = ap length c.requires.group.are ∙ placed-many clients g.first g.stride g.count in
+    let go : GoTogether start wire (Balancer b) n v w =
+    subst (λ (e : End). GoTogether start wire e n v w) c.in-Balancer.is
+    (together start wire c.let_by-end.result.0 n v w c.start_laws.ensures c.requires.own.1 c.requires.wires c.requires.wire c.requires.once c.requires.above (omega (arith, many, c.if-group-eq0.false))
+    c.let_by-end.ensures.end c.let_by-end.ensures.stands c.let_by-end.ensures.went c.let_by-end.ensures.by) in
+    let is = dealt-so start wire b n v w go in
+    let like = kin-so start wire b n v w go in
     let entries : c.entries.result ≡ start.network.table.entries = c.entries.ensures.value ∙ ap (λ (x : Network). x.table.entries) c.network-network.ensures.value in
     let to : c.entries.result + 2 * b + 1 ≡ output_wire start.network.table b 1 = omega (arith, entries) in
     let stand : Stand clients c.deal.result.1 (on w.tokens (c.entries.result + 2 * b + 1)) =
     subst (λ (es : List (ℕ × ℕ)). Stand clients c.deal.result.1 es)
-    ((λ i. every_second (1 - c.output_of.ensures i) (sym c.requires.group.are i)) ∙ sym is.second ∙ ap (λ (u : ℕ). on w.tokens u) (sym to)) c.deal.ensures.lower in (
+    ((λ i. every_second (1 - c.output_of-output.ensures i) (sym c.requires.group.are i)) ∙ sym is.second ∙ ap (λ (u : ℕ). on w.tokens u) (sym to)) c.deal.ensures.lower in (
       search rules,
       (
         (c.let_by-end.ensures.seat.0 ∙ c.requires.own.0, like.start ∙ c.requires.own.1),
@@ -73,13 +140,13 @@ pass_all-requires t c =
       ),
     )
 
-pub pass_all-requires-in-Balancer : goal.pass_all-requires-in-Balancer
-pass_all-requires-in-Balancer t c =
+pub pass_all-requires-in-Balancer-2 : goal.pass_all-requires-in-Balancer-2
+pass_all-requires-in-Balancer-2 t c =
     let start : Start = c.args.self.now.start in
     let wire : ℕ = c.args.wire in
     let v : View = c.args.seat.now.me.0 in
     let w : View = c.let_by-end.new.seat.me.0 in
-    let mid : View = c.pass_all.new.seat.me.0 in
+    let mid : View = c.pass_all-in-Balancer.new.seat.me.0 in
     let b : ℕ = c.in-Balancer.balancer in
     let n : ℕ = c.let_by-end.result.1 in
     let g = c.args.group in
@@ -95,32 +162,32 @@ pass_all-requires-in-Balancer t c =
     let to0 : c.entries.result + 2 * b ≡ output_wire start.network.table b 0 = omega (arith, entries) in
     let to1 : c.entries.result + 2 * b + 1 ≡ output_wire start.network.table b 1 = omega (arith, entries) in
     let left : HaveLeft w mid (output_wire start.network.table b 1) (on w.tokens (output_wire start.network.table b 1)) =
-    subst (λ (u : ℕ). HaveLeft w mid u (on w.tokens u)) to1 c.pass_all.ensures.left in
+    subst (λ (u : ℕ). HaveLeft w mid u (on w.tokens u)) to1 c.pass_all-in-Balancer.ensures.left in
     let stand : Stand clients c.deal.result.0 (on mid.tokens (c.entries.result + 2 * b)) =
     subst (λ (es : List (ℕ × ℕ)). Stand clients c.deal.result.0 es)
-    ((λ i. every_second (c.output_of.ensures i) (sym c.requires.group.are i)) ∙ sym (first-stand start wire b n v w go mid left) ∙ ap (λ (u : ℕ). on mid.tokens u) (sym to0)) c.deal.ensures.upper in
+    ((λ i. every_second (c.output_of-output.ensures i) (sym c.requires.group.are i)) ∙ sym (first-stand start wire b n v w go mid left) ∙ ap (λ (u : ℕ). on mid.tokens u) (sym to0)) c.deal.ensures.upper in
     let lower : length (on w.tokens (output_wire start.network.table b 1)) ≡ c.deal.result.1.count =
-    ap length (is.second ∙ (λ i. every_second (1 - sym c.output_of.ensures i) (c.requires.group.are i)) ∙ c.deal.ensures.lower.are) ∙ placed-many clients c.deal.result.1.first c.deal.result.1.stride c.deal.result.1.count in
+    ap length (is.second ∙ (λ i. every_second (1 - sym c.output_of-output.ensures i) (c.requires.group.are i)) ∙ c.deal.ensures.lower.are) ∙ placed-many clients c.deal.result.1.first c.deal.result.1.stride c.deal.result.1.count in
     let (more, grew, theirs) = left.grants in
-    let grants : length c.pass_all.new.grants.items ≡ length c.args.grants.now.items + c.deal.result.1.count =
-    ap length (c.pass_all.ensures.grants ∙ grew) ∙ length-append w.grants more
+    let grants : length c.pass_all-in-Balancer.new.grants.items ≡ length c.args.grants.now.items + c.deal.result.1.count =
+    ap length (c.pass_all-in-Balancer.ensures.grants ∙ grew) ∙ length-append w.grants more
     ∙ (λ i. length ((grants-so start wire b n v w go ∙ sym c.requires.grants) i) + (theirs.as_many ∙ lower) i) in (
       search rules,
       (
-        (c.pass_all.ensures.seat.0 ∙ c.let_by-end.ensures.seat.0 ∙ c.requires.own.0, left.start ∙ like.start ∙ c.requires.own.1),
+        (c.pass_all-in-Balancer.ensures.seat.0 ∙ c.let_by-end.ensures.seat.0 ∙ c.requires.own.0, left.start ∙ like.start ∙ c.requires.own.1),
         (
-          (c.pass_all.ensures.seat.1, left.loads ∙ like.loads ∙ c.requires.slots.1),
+          (c.pass_all-in-Balancer.ensures.seat.1, left.loads ∙ like.loads ∙ c.requires.slots.1),
           (
             left.wires ∙ is.wires,
             (
               omega (arith, entries, inside start wire b n v w go),
               (
-                c.pass_all.ensures.once,
+                c.pass_all-in-Balancer.ensures.once,
                 (
                   stand,
                   (
                     λ u past. above-first start wire b n v w go mid left u (omega (arith, past, to0)),
-                    (omega (arith, c.requires.room, c.deal.ensures.all, grants, c.pass_all.ensures.capacity), c.pass_all.ensures.grants),
+                    (omega (arith, c.requires.room, c.deal.ensures.all, grants, c.pass_all-in-Balancer.ensures.capacity), c.pass_all-in-Balancer.ensures.grants),
                   ),
                 ),
               ),
@@ -130,14 +197,14 @@ pass_all-requires-in-Balancer t c =
       ),
     )
 
-pub returns-in-Balancer-clause-left : goal.returns-in-Balancer-clause-left
-returns-in-Balancer-clause-left t c =
+pub returns-else-group-eq1-clause-left : goal.returns-else-group-eq1-clause-left
+returns-else-group-eq1-clause-left t c =
     let start : Start = c.args.self.now.start in
     let wire : ℕ = c.args.wire in
     let v : View = c.args.seat.now.me.0 in
     let w : View = c.let_by-end.new.seat.me.0 in
-    let mid : View = c.pass_all.new.seat.me.0 in
-    let x : View = c.pass_all-in-Balancer.new.seat.me.0 in
+    let mid : View = c.pass_all-in-Balancer.new.seat.me.0 in
+    let x : View = c.pass_all-in-Balancer-2.new.seat.me.0 in
     let b : ℕ = c.in-Balancer.balancer in
     let n : ℕ = c.let_by-end.result.1 in
     let g = c.args.group in
@@ -149,8 +216,8 @@ returns-in-Balancer-clause-left t c =
     let entries : c.entries.result ≡ start.network.table.entries = c.entries.ensures.value ∙ ap (λ (y : Network). y.table.entries) c.network-network.ensures.value in
     let to0 : c.entries.result + 2 * b ≡ output_wire start.network.table b 0 = omega (arith, entries) in
     let to1 : c.entries.result + 2 * b + 1 ≡ output_wire start.network.table b 1 = omega (arith, entries) in
-    left-so start wire b n v w go mid x (subst (λ (u : ℕ). HaveLeft w mid u (on w.tokens u)) to1 c.pass_all.ensures.left)
-    (subst (λ (u : ℕ). HaveLeft mid x u (on mid.tokens u)) to0 c.pass_all-in-Balancer.ensures.left)
+    left-so start wire b n v w go mid x (subst (λ (u : ℕ). HaveLeft w mid u (on w.tokens u)) to1 c.pass_all-in-Balancer.ensures.left)
+    (subst (λ (u : ℕ). HaveLeft mid x u (on mid.tokens u)) to0 c.pass_all-in-Balancer-2.ensures.left)
 
 -- ---- an exit
 

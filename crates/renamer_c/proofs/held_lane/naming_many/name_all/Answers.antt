@@ -4,9 +4,9 @@ use Rattle.cn_ledger.specs.declared.client.Client as ledger
 use Rattle.cn_floor.specs.Lane.{FloorValue}
 use Rattle.cn_floor.specs.Steps.{HasMoment}
 use Rattle.cn_walk.specs.Walks.{WalksAll}
-use Rattle.renamer_c.specs.Many.{client_of, no_client}
+use Rattle.renamer_c.specs.Many.{by_entry, client_of, no_client}
 use Rattle.renamer_c.specs.declared.client.Client.{Client}
-use Rattle.renamer_c.proofs.Listed.{by_entry, map_part, run_more, take_both}
+use Rattle.renamer_c.proofs.Listed.{map_part, more, take_both}
 use Rattle.renamer_c.proofs.held_lane.naming_many.name_all.Goals as goal
 
 pub loop-named-preserved : goal.loop-named-preserved
@@ -18,7 +18,7 @@ loop-named-preserved c =
     let ids : List ℕ = take n c.copy_run-count.new.ids in
     let was = c.loop-named.invariant in
     let run = c.copy_run-count.ensures.run in
-    let is = c.in-Ok.ensures.ok in
+    let is = c.name_run.ensures in
     let long : length all ≡ length clients = length-map clients client_of in
     let rest : List Client = take (length clients - i) (drop i clients) in
     let whole : rest ≡ drop i clients = take_all (length clients - i) (drop i clients) (omega (arith, length-drop i clients)) in
@@ -31,8 +31,7 @@ loop-named-preserved c =
     record {
       few = few;
       ids = c.copy_run-count.ensures.same ∙ was.ids;
-      walked = subst (λ (cs : List ledger.Client). WalksAll c.args.lane.now c.name_all.new.lane cs) (sym next)
-          (run_more c.args.lane.now c.loop-named.lane c.name_all.new.lane (take i all) ids (get_or rest 0 no_client).entry
-          (omega (arith, many, was.walked.room, before, few, c.requires.room)) was.walked is);
-      moment = λ _. subst (λ (h : FloorValue). HasMoment h.start c.name_all.new.lane.view) was.walked.home (is.moment (omega (arith, many, run.some)));
+      walked = subst (λ (cs : List ledger.Client). WalksAll c.args.lane.now c.name_run.new.lane cs) (sym next)
+          (more c.args.lane.now c.loop-named.lane c.name_run.new.lane (take i all) (by_entry (get_or rest 0 no_client).entry ids) was.walked is.walked);
+      moment = λ _. subst (λ (h : FloorValue). HasMoment h.start c.name_run.new.lane.view) was.walked.home is.moment;
     }
