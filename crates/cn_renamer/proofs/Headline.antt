@@ -82,6 +82,15 @@ pub served-next : (carry : Bool) (width : ℕ) (epochs : List BatchEpoch) (recor
 served-next false width epochs records e r served one = served-more false width 0 epochs records e r served (subst (λ (m : ℕ). IsServed width m e r) (sym (none-came epochs)) one)
 served-next true width epochs records e r served one = served-more true width 0 epochs records e r served (subst (λ (m : ℕ). IsServed width m e r) (sym (all-came 0 epochs ∙ omega arith)) one)
 
+-- without carry epochs may be served apart from those after them
+pub served-both : (width : ℕ) (first : List BatchEpoch) (rs : List EpochRecord) (second : List BatchEpoch) (ss : List EpochRecord) → AreServed false width 0 first rs → AreServed false width 0 second ss
+    → AreServed false width 0 (first ++ second) (rs ++ ss)
+unfolding AreServed
+served-both width [] [] second ss one other = other
+served-both width [] (r ∷ rs) second ss one other = absurd one
+served-both width (e ∷ first) [] second ss one other = absurd one
+served-both width (e ∷ first) (r ∷ rs) second ss (one, rest) other = (one, served-both width first rs second ss rest other)
+
 -- there are none before the first epoch
 pub none-served : (carry : Bool) (width m : ℕ) → AreServed carry width m [] []
 unfolding AreServed

@@ -3,5 +3,6 @@ pub mod Built
 pub mod Headline
 pub mod OneText
 pub mod Replies
+pub mod Running
 pub mod Served
 pub mod Telling

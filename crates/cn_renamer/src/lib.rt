@@ -2,6 +2,8 @@
 #![tactic(auto)]
 
 mod checking;
+mod crew;
+mod epochs;
 mod fault;
 mod forms;
 pub mod laws;

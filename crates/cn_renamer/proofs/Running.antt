@@ -1,0 +1,62 @@
+-- The epochs of a batch that were run.
+use Rattle.std.proofs.Common.{◌≡◌, ℕ, ◌+◌, ◌<◌, ◌≤◌, All, Bool, false, List, [], ◌∷◌, ◌++◌, drop, length, take, refl, sym, arith, append-nil, ◌∙◌}
+use Rattle.std.specs.List.{flat_map}
+use Rattle.std.proofs.lemmas.List.Concat.{flat_map-append}
+use Rattle.std.proofs.lemmas.List.Elements.{All-drop, All-head, All-take}
+use Rattle.std.proofs.lemmas.List.Sums.{sum_by-cons, sum_by-take-drop}
+use Rattle.cn_spec.specs.Sums.{when}
+use Rattle.cn_record.specs.declared.record.EpochRecord.{EpochRecord}
+use Rattle.cn_report.specs.Reading.Batch.{MayCome, clients_of}
+use Rattle.cn_report.specs.declared.reading.gathering.BatchEpoch.{BatchEpoch}
+use Rattle.cn_renamer.specs.Headline.{AreServed, IsServed}
+use Rattle.cn_renamer.specs.Running.{AreHoldersOf, MayRunAll}
+use Rattle.cn_renamer.proofs.Headline.{none-served, served-both, served-next}
+
+-- before the first epoch nobody holds one
+pub none-listed : (carry : Bool) (w : ℕ) → AreHoldersOf carry w [] []
+none-listed carry w = record { records = []; served = none-served carry w 0; listed = refl }
+
+-- those of one more epoch stand after the others
+pub listed-next : (carry : Bool) (w : ℕ) (epochs : List BatchEpoch) (epoch : BatchEpoch) (r : EpochRecord) (holders : List ℕ) → AreHoldersOf carry w epochs holders
+    → IsServed w (when carry (clients_of epochs)) epoch r → AreHoldersOf carry w (epochs ++ epoch ∷ []) (holders ++ r.holders.items)
+listed-next carry w epochs epoch r holders before one = record {
+  records = before.records ++ r ∷ [];
+  served = served-next carry w epochs before.records epoch r before.served one;
+  listed = (λ i. before.listed i ++ sym (append-nil r.holders.items) i) ∙ sym (flat_map-append (λ (s : EpochRecord). s.holders.items) before.records (r ∷ []));
+}
+
+-- so do those of epochs that carry nothing from the others
+pub listed-both : (w : ℕ) (first second : List BatchEpoch) (xs ys : List ℕ) → AreHoldersOf false w first xs → AreHoldersOf false w second ys → AreHoldersOf false w (first ++ second) (xs ++ ys)
+listed-both w first second xs ys a b = record {
+  records = a.records ++ b.records;
+  served = served-both w first a.records second b.records a.served b.served;
+  listed = (λ i. a.listed i ++ b.listed i) ∙ sym (flat_map-append (λ (s : EpochRecord). s.holders.items) a.records b.records);
+}
+
+-- epochs that each have some client have some client
+pub some-client : (epochs : List BatchEpoch) → 0 < length epochs → All (λ (e : BatchEpoch). 0 < length e.clients.items) epochs → 0 < clients_of epochs
+some-client [] none some = absurd (omega (arith, none))
+some-client (e ∷ epochs) many some =
+    omega (arith, sum_by-cons (λ (x : BatchEpoch). length x.clients.items) e epochs, All-head (λ (x : BatchEpoch). 0 < length x.clients.items) e epochs some)
+
+-- the epochs before a cut may be run, and those after it
+module _ (entries : ℕ) (epochs : List BatchEpoch) (places at front : ℕ) (may : MayRunAll entries epochs places) (is : front ≡ clients_of (take at epochs)) where
+  -- the clients of both are all
+  all-cut : clients_of (take at epochs) + clients_of (drop at epochs) ≡ clients_of epochs
+  all-cut = sum_by-take-drop (λ (e : BatchEpoch). length e.clients.items) epochs at
+
+  pub may-front : MayRunAll entries (take at epochs) front
+  may-front = record {
+    come = All-take (λ (e : BatchEpoch). MayCome entries e.clients.items) at epochs may.come;
+    some = All-take (λ (e : BatchEpoch). 0 < length e.clients.items) at epochs may.some;
+    few = omega (arith, may.few, may.all, is, all-cut);
+    all = is;
+  }
+
+  pub may-back : (back : ℕ) → front + back ≡ places → MayRunAll entries (drop at epochs) back
+  may-back back both = record {
+    come = All-drop (λ (e : BatchEpoch). MayCome entries e.clients.items) at epochs may.come;
+    some = All-drop (λ (e : BatchEpoch). 0 < length e.clients.items) at epochs may.some;
+    few = omega (arith, may.few, both);
+    all = omega (arith, may.all, is, all-cut, both);
+  }
