@@ -1,5 +1,5 @@
 -- The epochs of a batch that were run.
-use Rattle.std.proofs.Common.{◌≡◌, ℕ, ◌+◌, ◌<◌, ◌≤◌, All, Bool, false, List, [], ◌∷◌, ◌++◌, drop, length, take, refl, sym, arith, append-nil, ◌∙◌}
+use Rattle.std.proofs.Common.{◌≡◌, ℕ, ◌+◌, ◌<◌, ◌≤◌, All, Bool, false, List, [], ◌∷◌, ◌++◌, drop, length, take, refl, subst, sym, arith, append-nil, ◌∙◌}
 use Rattle.std.specs.List.{flat_map}
 use Rattle.std.proofs.lemmas.List.Concat.{flat_map-append}
 use Rattle.std.proofs.lemmas.List.Elements.{All-drop, All-head, All-take}
@@ -25,11 +25,12 @@ listed-next carry w epochs epoch r holders before one = record {
   listed = (λ i. before.listed i ++ sym (append-nil r.holders.items) i) ∙ sym (flat_map-append (λ (s : EpochRecord). s.holders.items) before.records (r ∷ []));
 }
 
--- so do those of epochs that carry nothing from the others
-pub listed-both : (w : ℕ) (first second : List BatchEpoch) (xs ys : List ℕ) → AreHoldersOf false w first xs → AreHoldersOf false w second ys → AreHoldersOf false w (first ++ second) (xs ++ ys)
-listed-both w first second xs ys a b = record {
+-- so do those of epochs to which nothing is carried from others
+pub listed-both : (w : ℕ) (epochs first second : List BatchEpoch) (xs ys : List ℕ) → epochs ≡ first ++ second → AreHoldersOf false w first xs → AreHoldersOf false w second ys
+    → AreHoldersOf false w epochs (xs ++ ys)
+listed-both w epochs first second xs ys both a b = record {
   records = a.records ++ b.records;
-  served = served-both w first a.records second b.records a.served b.served;
+  served = subst (λ (es : List BatchEpoch). AreServed false w 0 es (a.records ++ b.records)) (sym both) (served-both w first a.records second b.records a.served b.served);
   listed = (λ i. a.listed i ++ b.listed i) ∙ sym (flat_map-append (λ (s : EpochRecord). s.holders.items) a.records b.records);
 }
 

@@ -19,8 +19,8 @@ pub(crate) struct Crew {
 }
 
 impl Crew {
-    /// Two crews of these workers, who are two at least: the first has about `part` of `whole` of them, and each has one at
-    /// least.
+    /// Two crews of these workers, who are two at least: the first has the part of them that is nearest to `part` of `whole`,
+    /// so far as each has one at least.
     pub(crate) fn split(self, part: usize, whole: usize) -> (Crew, Crew)
         requires crew { IsCrew self }
         requires two { 2 ≤ self.workers }
@@ -30,12 +30,10 @@ impl Crew {
         ensures second { IsCrew result.1 }
         ensures all { result.0.workers + result.1.workers ≡ self.workers }
     {
-        let share = u64::from(self.workers) * part as u64 / whole as u64;
+        let (part, whole) = (part as u64, whole as u64);
+        let share = (u64::from(self.workers) * part + whole / 2) / whole;
         let workers = (share as u32).max(1).min(self.workers - 1);
-        let first = Crew {
-            workers,
-            ..self
-        };
+        let first = Crew { workers, ..self };
         let second = Crew {
             first: self.first + workers,
             workers: self.workers - workers,

@@ -147,9 +147,7 @@ fn run_beside<G: Gate + Sync, R: Threads + Wait + Sync>(
     ensures { OnOk result (AreHoldersOf false network.now.table.width epochs.now holders.new) }
 {
     if epochs.len() < 2 || crew.workers < 2 {
-        return run_in_turn(
-            rt, alloc, network, false, epochs, crew, gate, holders,
-        );
+        return run_in_turn(rt, alloc, network, false, epochs, crew, gate, holders);
     }
     let clients = holders.len();
     // An odd crew has its smaller half first, which is to have no more than its share of the clients.
@@ -188,8 +186,9 @@ pub(crate) fn run_all<G: Gate + Sync, R: Threads + Wait + Sync>(
 ) -> Result<Vec<u64>, AllocError>
     requires servable { AreServable network.now.table.entries epochs.now }
     requires few { clients_of epochs.now ≤ MOST_RECORDS }
-    ensures { IfOk result (λ holders.
+    ensures listed { IfOk result (λ holders.
         AreHoldersOf options.now.carry network.now.table.width epochs.now holders.items) }
+    ensures many { IfOk result (λ holders. clients_of epochs.now ≡ length holders.items) }
 {
     let mut holders = vec![in alloc; 0; clients_in(epochs)]?;
     let crew = Crew {
@@ -198,9 +197,7 @@ pub(crate) fn run_all<G: Gate + Sync, R: Threads + Wait + Sync>(
         hand: options.hand(),
     };
     if options.carries() {
-        run_in_turn(
-            rt, alloc, network, true, epochs, crew, gate, &mut holders,
-        )?;
+        run_in_turn(rt, alloc, network, true, epochs, crew, gate, &mut holders)?;
     } else {
         run_beside(rt, alloc, network, epochs, crew, gate, &mut holders)?;
     }

@@ -30,8 +30,5 @@ join_mut-one-requires-after_bounds g t c κs within =
 
 pub returns : goal.returns
 returns g t c =
-    let w : ℕ = c.args.network.now.table.width in
-    let front : AreHoldersOf false w c.split_at.result.0.now c.front-1.given.0 = search rules in
-    let back : AreHoldersOf false w c.split_at.result.1.now c.back-1.given.0 = search rules in
-    subst (λ (es : List BatchEpoch). AreHoldersOf false w es (c.front-1.given.0 ++ c.back-1.given.0)) (sym c.split_at.ensures.by_index.0)
-    (listed-both w c.split_at.result.0.now c.split_at.result.1.now c.front-1.given.0 c.back-1.given.0 front back)
+    listed-both c.args.network.now.table.width c.args.epochs.now c.split_at.result.0.now c.split_at.result.1.now _ _ c.split_at.ensures.by_index.0
+    (search rules) (search rules)

@@ -61,8 +61,12 @@ loop-epoch-preserved g c =
     let own : List ℕ = c.in_ok-record.record.holders.items in
     let many : c.len-at.result ≡ length c.deref.result.now =
     omega (arith, c.len-at.ensures, one.clients, as-many _ _ epoch c.in_ok-record.record one, ap length c.deref.ensures.value) in
-    let written : take (c.loop-epoch.at + c.len-at.result) c.put.new.places ≡ take c.loop-epoch.at c.loop-epoch.holders ++ own =
-    ap (λ (n : ℕ). take (c.loop-epoch.at + n) c.put.new.places) many ∙ c.put.ensures.written ∙ ap (λ (xs : List ℕ). take c.loop-epoch.at c.loop-epoch.holders ++ xs) c.deref.ensures.value in
+    let before_own : List ℕ = take c.loop-epoch.at c.loop-epoch.holders in
+    let at : take (c.loop-epoch.at + c.len-at.result) c.put.new.places ≡ take (c.loop-epoch.at + length c.deref.result.now) c.put.new.places =
+    ap (λ (n : ℕ). take (c.loop-epoch.at + n) c.put.new.places) many in
+    let put : take (c.loop-epoch.at + length c.deref.result.now) c.put.new.places ≡ before_own ++ c.deref.result.now = c.put.ensures.written in
+    let read : before_own ++ c.deref.result.now ≡ before_own ++ own = ap (λ (xs : List ℕ). before_own ++ xs) c.deref.ensures.value in
+    let written : take (c.loop-epoch.at + c.len-at.result) c.put.new.places ≡ before_own ++ own = at ∙ put ∙ read in
     let listed = listed-next carry width (take i epochs) epoch c.in_ok-record.record (take c.loop-epoch.at c.loop-epoch.holders) before.listed one in
     record {
       over = c.in_ok-record.ensures.network ∙ before.over;
