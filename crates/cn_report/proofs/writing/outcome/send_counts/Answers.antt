@@ -10,13 +10,13 @@ loop-exit-init g c start text left way = all-lines start _ _ text (λ exit. exit
 
 pub loop-exit-preserved : goal.loop-exit-preserved
 loop-exit-preserved g c start text left way =
-    c.in_ok-send_count.ensures start text _
+    (rw c.count_after-count.ensures at c.in_ok-send_count.ensures) start text _
     (next-line start _ _ text (λ exit. exit_line exit (slice_index (shares_after c.args.before c.args.clients c.args.width) exit)) c.loop-exit.exit (c.args.width) left (omega arith) (c.loop-exit.invariant start text left way))
 
 pub returns-in_err-send_count : goal.returns-in_err-send_count
 returns-in_err-send_count g c =
     let fault = err_from_is_err_and c.from_residual.result c.from_residual.ensures.1 in
-    rw (fault.1, fault.2) (λ start text left way. c.in_err-send_count.ensures start text _
+    rw (fault.1, fault.2) (λ start text left way. (rw c.count_after-count.ensures at c.in_err-send_count.ensures) start text _
     (next-line start _ _ text (λ exit. exit_line exit (slice_index (shares_after c.args.before c.args.clients c.args.width) exit)) c.loop-exit.exit (c.args.width) left (omega arith) (c.loop-exit.invariant start text left way)))
 
 pub returns : goal.returns
