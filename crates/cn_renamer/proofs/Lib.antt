@@ -5,4 +5,3 @@ pub mod OneText
 pub mod Replies
 pub mod Running
 pub mod Served
-pub mod Telling

@@ -1,6 +1,7 @@
 -- The epochs of a batch that were run.
 use Rattle.std.proofs.Common.{◌≡◌, ℕ, ◌+◌, ◌<◌, ◌≤◌, All, Bool, false, List, [], ◌∷◌, ◌++◌, drop, length, take, refl, subst, sym, arith, append-nil, ◌∙◌}
 use Rattle.std.specs.List.{flat_map}
+use Rattle.std.proofs.lemmas.List.{drop_at, take_at}
 use Rattle.std.proofs.lemmas.List.Concat.{flat_map-append}
 use Rattle.std.proofs.lemmas.List.Elements.{All-drop, All-head, All-take}
 use Rattle.std.proofs.lemmas.List.Sums.{sum_by-cons, sum_by-take-drop}
@@ -8,9 +9,10 @@ use Rattle.cn_spec.specs.Sums.{when}
 use Rattle.cn_record.specs.declared.record.EpochRecord.{EpochRecord}
 use Rattle.cn_report.specs.Reading.Batch.{MayCome, clients_of}
 use Rattle.cn_report.specs.declared.reading.gathering.BatchEpoch.{BatchEpoch}
+use Rattle.cn_report.specs.Writing.Records.{AreRecordsOf}
 use Rattle.cn_renamer.specs.Headline.{AreServed, IsServed}
 use Rattle.cn_renamer.specs.Running.{AreHoldersOf, MayRunAll}
-use Rattle.cn_renamer.proofs.Headline.{none-served, served-both, served-next}
+use Rattle.cn_renamer.proofs.Headline.{as-many, none-served, served-both, served-next}
 
 -- before the first epoch nobody holds one
 pub none-listed : (carry : Bool) (w : ℕ) → AreHoldersOf carry w [] []
@@ -61,3 +63,18 @@ module _ (entries : ℕ) (epochs : List BatchEpoch) (places at front : ℕ) (may
     few = omega (arith, may.few, both);
     all = omega (arith, may.all, is, all-cut, both);
   }
+
+-- epochs that were served have the records that are made of the list of all holders
+pub records-of : (carry : Bool) (w m : ℕ) (epochs : List BatchEpoch) (records : List EpochRecord) → AreServed carry w m epochs records
+    → AreRecordsOf carry w m epochs records (flat_map (λ (r : EpochRecord). r.holders.items) records)
+unfolding AreServed AreRecordsOf
+records-of carry w m [] [] served = tt
+records-of carry w m [] (r ∷ records) served = absurd served
+records-of carry w m (e ∷ epochs) [] served = absurd served
+records-of carry w m (e ∷ epochs) (r ∷ records) (one, rest) =
+    let others : List ℕ = flat_map (λ (s : EpochRecord). s.holders.items) records in
+    let many : length r.holders.items ≡ length e.clients.items = as-many w m e r one ∙ one.clients in (
+      record { number = one.number; clients = one.clients; counts = one.counts; holders = sym (take_at r.holders.items others (length e.clients.items) many) },
+      subst (λ (xs : List ℕ). AreRecordsOf carry w (when carry (m + length e.clients.items)) epochs records xs) (sym (drop_at r.holders.items others (length e.clients.items) many))
+          (records-of carry w (when carry (m + length e.clients.items)) epochs records rest),
+    )

@@ -6,4 +6,3 @@ pub mod Replay
 pub mod Running
 pub mod Serve
 pub mod Show
-pub mod Telling

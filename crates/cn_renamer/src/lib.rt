@@ -5,7 +5,6 @@ mod checking;
 mod crew;
 mod epochs;
 mod fault;
-mod forms;
 pub mod laws;
 mod output_fault;
 mod performing;
