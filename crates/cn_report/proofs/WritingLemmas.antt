@@ -3,6 +3,7 @@ pub mod Appending
 pub mod LineEnds
 pub mod Lines
 pub mod Pieces
+pub mod Records
 pub mod Reports
 pub mod SameLines
 pub mod Words

@@ -3,6 +3,7 @@
 ghost use Rattle.std.specs.Prelude.{◌≡◌, ◌+◌, ◌≤◌, [], ◌∷◌, ◌++◌, All, List, OnOk, IfOk, length, string_bytes};
 ghost use Rattle.std.specs.List.{flat_map};
 ghost use Rattle.cn_spec.specs.Step.{shares_after};
+ghost use Rattle.cn_spec.specs.Sums.{when};
 ghost use Rattle.cn_spec.specs.declared.limits.TheConstants.{MOST_ENDS, MOST_RECORDS};
 ghost use Rattle.cn_record.specs.declared.record.EpochRecord.{EpochRecord};
 ghost use Rattle.cn_report.specs.Reading.Batch.{AreServable, clients_of};
@@ -194,6 +195,13 @@ fn send_epoch<W: Write>(
     send_holders(pieces, writer, holders)
 }
 
+/// How many clients come before the next epoch, if so many have come.
+fn carried(carries: bool, clients: u64) -> u64
+    ensures { result ≡ when carries clients }
+{
+    if carries { clients } else { 0 }
+}
+
 fn send_epochs<W: Write>(
     pieces: &mut Pieces,
     writer: &mut W,
@@ -214,7 +222,7 @@ fn send_epochs<W: Write>(
     for epoch in epochs {
         let (own, others) = left.split_at(epoch.clients.len());
         send_epoch(pieces, writer, width, before, epoch.number, own)?;
-        before = if carries { before + own.len() as u64 } else { 0 };
+        before = carried(carries, before + own.len() as u64);
         left = others;
     }
     Ok(())
