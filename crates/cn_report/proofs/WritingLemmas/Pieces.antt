@@ -76,6 +76,12 @@ module _ (start now : Option (List ℕ)) (pending : Pending) (text : List ℕ) w
   pub apart : (part rest left : List ℕ) → IsOnItsWay start now pending text ((part ++ rest) ++ left) → IsOnItsWay start now pending text (part ++ (rest ++ left))
   apart part rest left way = subst (IsOnItsWay start now pending text) (append_assoc part rest left) way
 
+  -- or in three
+  pub apart-3 : (first second third left : List ℕ) → IsOnItsWay start now pending text ((first ++ (second ++ third)) ++ left)
+      → IsOnItsWay start now pending text (first ++ (second ++ (third ++ left)))
+  apart-3 first second third left way =
+      subst (IsOnItsWay start now pending text) (append_assoc first (second ++ third) left ∙ ap (λ (t : List ℕ). first ++ t) (append_assoc second third left)) way
+
   pub same-left : (left other : List ℕ) → left ≡ other → IsOnItsWay start now pending text left → IsOnItsWay start now pending text other
   same-left left other same way = subst (IsOnItsWay start now pending text) same way
 

@@ -15,6 +15,7 @@ ghost use Rattle.cn_report.specs.Writing.Written.{First, HasWritten, written_by}
 ghost use Rattle.cn_wiring.specs.Network.{Network};
 
 use crate::reading::BatchEpoch;
+use crate::writing::bounds::report_is_countable;
 use crate::writing::emitting::EmitFault;
 use crate::writing::heading::{put_heading, send_heading, send_number};
 use crate::writing::line::{put_line, send_line};
@@ -267,6 +268,7 @@ pub fn write_report<W: Write>(
         → let written = written_by (λ fault. First fault.written) result in
         HasWritten W.contents (λ text. text ≡ report_text network.now records) written writer.old writer.new }
 {
+    report_is_countable(network, epochs, holders);
     let mut pieces = pieces;
     send_heading(&mut pieces, writer, network)?;
     send_epochs(&mut pieces, writer, network.width(), carries, epochs, holders)?;

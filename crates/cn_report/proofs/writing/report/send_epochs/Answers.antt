@@ -40,12 +40,32 @@ loop-epoch-init g c =
 pub loop-epoch-preserved : goal.loop-epoch-preserved
 loop-epoch-preserved g c =
     let e = c.epoch-item.result in
+    let w = c.args.width in
+    let m = c.loop-epoch.before in
     let count : c.len.result ≡ length e.clients.items = omega (arith, c.len.ensures, e.clients.ok.0) in
-    let own = c.split_at.result.0.now in
-    let many = c.split_at.ensures.front_len ∙ count in
     let front = c.split_at.ensures.front ∙ ap (λ n. take n c.loop-epoch.left.now) count in
     let back = c.split_at.ensures.back ∙ ap (λ n. drop n c.loop-epoch.left.now) count in
-    ?
+    let many = c.split_at.ensures.front_len ∙ count in
+    let next : c.carried-before.result ≡ when c.args.carries (m + length e.clients.items) = c.carried-before.ensures ∙ ap (λ n. when c.args.carries (m + n)) many in
+    record {
+      as_many = omega (
+        arith,
+        count,
+        c.split_at.ensures.back_len,
+        c.loop-epoch.invariant.as_many,
+        ap (λ (x : BatchEpoch). length x.clients.items) c.epoch-item.is,
+        sum_by-drop_more (λ (x : BatchEpoch). length x.clients.items) c.args.epochs.now c.loop-epoch.epoch-index e c.loop-epoch-test.true,
+      );
+      few = omega (arith, count, c.split_at.ensures.back_len, c.loop-epoch.invariant.few, next, when-le c.args.carries (m + length e.clients.items));
+      put = λ records are.
+      let (later, rest, leads) = c.loop-epoch.invariant.put records are in
+      let f = first-record (epoch_lines w) c.args.carries w m c.args.epochs.now c.loop-epoch.epoch-index e later c.loop-epoch.left.now c.loop-epoch-test.true c.epoch-item.is rest in
+      let parts = record-lines c.args.carries w m e _ later c.loop-epoch.left.now c.split_at.result.0.now front many f in
+      let epochs = drop (c.loop-epoch.epoch-index + 1) c.args.epochs.now in
+      let after = subst (λ (t : List ℕ). AreRecordsOf c.args.carries w (when c.args.carries (m + length e.clients.items)) epochs f.later t) (sym back) f.rest in
+      (f.later, subst (λ n. AreRecordsOf c.args.carries w n epochs f.later c.split_at.result.1.now) (sym next) after, λ start text left way.
+      c.in_ok-send_epoch.ensures start text _ (apart start _ _ text _ (flat_map (epoch_lines w) f.later) left (same-left start _ _ text _ _ (ap (λ (t : List ℕ). t ++ left) parts) (leads start text left way))));
+    }
 
 pub returns-in_err-send_epoch : goal.returns-in_err-send_epoch
 returns-in_err-send_epoch g c records are =
