@@ -10,6 +10,9 @@ use Rattle.cn_spec.specs.Step.{share, shares_after}
 use Rattle.cn_spec.specs.Sums.{when}
 use Rattle.cn_spec.specs.declared.limits.TheConstants.{MOST_ENDS, MOST_RECORDS}
 use Rattle.cn_record.specs.declared.record.EpochRecord.{EpochRecord}
+use Rattle.cn_wiring.specs.Kinds.{kind_word}
+use Rattle.cn_wiring.specs.declared.kind.Kind.{Kind}
+use Rattle.cn_wiring.specs.declared.kind.Kind.TheVariants.{Bitonic, Periodic, Tree}
 use Rattle.cn_wiring.specs.Network.{Network}
 use Rattle.cn_report.specs.declared.reading.gathering.BatchEpoch.{BatchEpoch}
 use Rattle.cn_report.specs.Reading.Batch as batch
@@ -178,4 +181,21 @@ report-fits network carry epochs records holders short wide numbers some few fit
       all-epochs-few carry w 0 epochs records holders numbers some (omega (arith, few)) wide fit are,
       length-append (heading network ++ flat_map (epoch_lines w) records) (report_end (length records) (clients_of records)),
       length-append (heading network) (flat_map (epoch_lines w) records),
+    )
+
+kind-short : (kind : Kind) → length (kind_word kind) ≤ 8
+kind-short Bitonic = omega arith
+kind-short Periodic = omega arith
+kind-short Tree = omega arith
+
+pub heading-short : (network : Network) → network.table.width < 2 ^ 64 → network.table.balancers < 2 ^ 64 → network.depth < 2 ^ 64 → length (heading network) ≤ 128
+unfolding heading
+heading-short network w b d =
+    omega (
+      arith,
+      kind-short network.kind,
+      number_is_short network.table.width w,
+      number_is_short network.table.balancers b,
+      number_is_short network.depth d,
+      length-append {A = ℕ},
     )

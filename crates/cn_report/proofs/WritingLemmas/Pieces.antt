@@ -6,6 +6,8 @@ use Rattle.std.proofs.lemmas.List.{take-append-le}
 use Rattle.std.specs.Io.KnownBytes.{Appends, Keeps}
 use Rattle.std.proofs.KnownBytes.{Appends-kept, Appends-nil, Appends-trans}
 use Rattle.cn_report.specs.declared.writing.emitting.EmitFault.{EmitFault}
+use Rattle.cn_report.specs.Writing.Written.{First, HasWritten, written_by}
+use Rattle.std.specs.Result.{MatchResult}
 use Rattle.cn_report.specs.Writing.Pieces.{IsCutShort, IsOnItsWay, Pending, Puts, nothing_put}
 
 -- a text that begins
@@ -106,3 +108,14 @@ module _ (start now : Option (List ℕ)) (pending : Pending) (text : List ℕ) w
   no-line f i n left over way =
       let none : n - i ≡ 0 = omega arith in
       same-left _ _ (ap (λ k. flat_map f (range_with_len i k) ++ left) none) way
+
+-- a text that was to be put is written, whole or its first bytes
+pub text-written : {U W : Type 0} (contents : W → Option (List ℕ)) (old new : W) (text : List ℕ) (result : Result U EmitFault) → length text < 2 ^ 64
+    → MatchResult result (λ done. Appends (contents old) (contents new) text) (IsCutShort (contents old) (contents new) text)
+    → HasWritten contents (λ t. t ≡ text) (written_by (λ fault. First fault.written) result) old new
+text-written contents old new text (Ok done) fits grows = (text, refl, grows)
+text-written contents old new text (Err fault) fits cut = let (few, grows) = cut fits in (text, refl, few, grows)
+
+pub text-cut : {W : Type 0} (contents : W → Option (List ℕ)) (old new : W) (text : List ℕ) (fault : EmitFault) → length text < 2 ^ 64 → IsCutShort (contents old) (contents new) text fault
+    → HasWritten contents (λ t. t ≡ text) (First fault.written) old new
+text-cut contents old new text fault fits cut = let (few, grows) = cut fits in (text, refl, few, grows)
