@@ -1,4 +1,4 @@
-use Rattle.std.proofs.Common.{◌≡◌, ℕ, List, [], ◌++◌, ◌∙◌, append_assoc, append-nil, ap, length, subst, sym}
+use Rattle.std.proofs.Common.{◌≡◌, ℕ, List, [], ◌++◌, ◌∙◌, append_assoc, append-nil, ap, ap₂, arith, length, subst, sym}
 use Rattle.std.specs.List.{flat_map}
 use Rattle.std.proofs.lemmas.Result.{err_from_is_err_and}
 use Rattle.cn_report.specs.Writing.Pieces.{IsOnItsWay, Pending, nothing_put}
@@ -12,7 +12,7 @@ in-parts : (first second third : List ℕ) → (first ++ second) ++ third ≡ fi
 in-parts first second third = append_assoc first second third ∙ ap (λ (t : List ℕ). first ++ (second ++ t)) (sym (append-nil third))
 
 pub send_epochs-requires-clause-width : goal.send_epochs-requires-clause-width
-send_epochs-requires-clause-width g c = ?
+send_epochs-requires-clause-width g c = omega (arith, c.width.ensures.value, c.width.ensures.network.formed.width.1)
 
 pub returns-in_err-send_heading : goal.returns-in_err-send_heading
 returns-in_err-send_heading g c records are =
@@ -41,7 +41,7 @@ returns-in_err-send_epochs g c records are =
     (same-left start start nothing_put text text _ (in-parts (heading network) lines end) (begins start text)) in
     let way1 = c.in_ok-send_heading.ensures start text _ way0 in
     rw (fault.1, fault.2)
-    (text-cut g.W.Write.contents c.args.writer.now c.send_epochs.new.writer text c.in_err-send_epochs.field-0.0 fits ?)
+    (text-cut g.W.Write.contents c.args.writer.now c.send_epochs.new.writer text c.in_err-send_epochs.field-0.0 fits ((rw c.width.ensures.value at c.in_err-send_epochs.ensures) records are start text _ way1))
 
 pub returns-in_err-send_end : goal.returns-in_err-send_end
 returns-in_err-send_end g c records are =
@@ -55,7 +55,12 @@ returns-in_err-send_end g c records are =
     let way0 = subst (λ (p : Pending). IsOnItsWay start start p text (heading network ++ (lines ++ (end ++ [])))) (sym c.requires.fresh)
     (same-left start start nothing_put text text _ (in-parts (heading network) lines end) (begins start text)) in
     let way1 = c.in_ok-send_heading.ensures start text _ way0 in
-    ?
+    let way2 = (rw c.width.ensures.value at c.in_ok-send_epochs.ensures) records are start text _ way1 in
+    let (many, clients) = as-many-records c.args.carries network.table.width 0 c.args.epochs.now records c.args.holders.now are in
+    let ends = ap₂ (λ n k. report_end n k ++ []) many (clients ∙ c.requires.as_many) in
+    let way3 = same-left start _ _ text _ _ ends way2 in
+    rw (fault.1, fault.2)
+    (text-cut g.W.Write.contents c.args.writer.now c.send_end.new.writer text c.in_err-send_end.field-0.0 fits (c.in_err-send_end.ensures start text [] way3))
 
 pub returns : goal.returns
 returns g c records are =
@@ -68,4 +73,9 @@ returns g c records are =
     let way0 = subst (λ (p : Pending). IsOnItsWay start start p text (heading network ++ (lines ++ (end ++ [])))) (sym c.requires.fresh)
     (same-left start start nothing_put text text _ (in-parts (heading network) lines end) (begins start text)) in
     let way1 = c.in_ok-send_heading.ensures start text _ way0 in
-    ?
+    let way2 = (rw c.width.ensures.value at c.in_ok-send_epochs.ensures) records are start text _ way1 in
+    let (many, clients) = as-many-records c.args.carries network.table.width 0 c.args.epochs.now records c.args.holders.now are in
+    let ends = ap₂ (λ n k. report_end n k ++ []) many (clients ∙ c.requires.as_many) in
+    let way3 = same-left start _ _ text _ _ ends way2 in
+    let way4 = c.in_ok-send_end.ensures start text [] way3 in
+    text-written g.W.Write.contents c.args.writer.now c.finish.new.writer text c.finish.result fits (c.finish.ensures start text way4)
