@@ -1,6 +1,6 @@
 -- How many bytes the text of a run has at most.
-use Rattle.std.proofs.Common.{◌≡◌, ℕ, ◌+◌, ◌-◌, ◌*◌, ◌/◌, ◌^◌, ◌<◌, ◌≤◌, Bool, List, [], ◌∷◌, ◌++◌, zero, suc, drop, get_or, length, map, take, ap, ◌∙◌, refl, sym, subst, arith, length-append, decimal, zero-add}
-use Rattle.std.specs.Prelude.{codes, slice_index}
+use Rattle.std.proofs.Common.{◌≡◌, ℕ, ◌+◌, ◌-◌, ◌*◌, ◌^◌, ◌<◌, ◌≤◌, Bool, List, [], ◌∷◌, ◌++◌, zero, suc, drop, length, take, refl, arith, length-append, zero-add}
+use Rattle.std.specs.Prelude.{slice_index}
 use Rattle.std.specs.List.{AllByRecursion, flat_map, range_with_len}
 use Rattle.std.proofs.Math.Nat.{div-le_self}
 use Rattle.std.proofs.lemmas.List.{get_or-drop}
@@ -20,7 +20,7 @@ use Rattle.cn_report.specs.Writing.Grants.{grant_line, grant_lines, grants_heade
 use Rattle.cn_report.specs.Writing.Outcome.{exit_line, exit_lines, name_line, name_lines}
 use Rattle.cn_report.specs.Writing.Records.{AreRecordsOf, IsRecordOf}
 use Rattle.cn_report.specs.Writing.Report.{clients_of, epoch_line, epoch_lines, report_end, report_text}
-use Rattle.cn_report.specs.Writing.Text.{heading, line}
+use Rattle.cn_report.specs.Writing.Text.{heading}
 use Rattle.cn_report.proofs.WritingLemmas.LineEnds.{number_is_short}
 use Rattle.cn_report.proofs.WritingLemmas.Records.{when-le}
 

@@ -8,7 +8,7 @@ use Rattle.std.proofs.KnownBytes.{Appends-kept, Appends-nil, Appends-trans}
 use Rattle.cn_report.specs.declared.writing.emitting.EmitFault.{EmitFault}
 use Rattle.cn_report.specs.Writing.Written.{First, HasWritten, written_by}
 use Rattle.std.specs.Result.{MatchResult}
-use Rattle.cn_report.specs.Writing.Pieces.{IsCutShort, IsOnItsWay, Pending, Puts, nothing_put}
+use Rattle.cn_report.specs.Writing.Pieces.{IsCutShort, IsOnItsWay, Pending, nothing_put}
 
 -- a text that begins
 pub begins : (start : Option (List ℕ)) (text : List ℕ) → IsOnItsWay start start nothing_put text text

@@ -1,4 +1,4 @@
-use Rattle.std.proofs.Common.{◌≡◌, ◌+◌, ◌≤◌, ℕ, List, drop, length}
+use Rattle.std.proofs.Common.{◌≡◌, ◌+◌, ◌≤◌, List, drop, length}
 use Rattle.std.specs.List.{flat_map}
 use Rattle.cn_spec.specs.declared.limits.TheConstants.{MOST_RECORDS}
 use Rattle.cn_record.specs.declared.record.EpochRecord.{EpochRecord}
