@@ -1,5 +1,6 @@
 //! What is written: the text of each job, and the loop that writes it.
 
+mod bounds;
 mod emitting;
 mod grants;
 mod heading;

@@ -6,7 +6,9 @@ use Rattle.std.proofs.lemmas.List.{take-append-le}
 use Rattle.std.specs.Io.KnownBytes.{Appends, Keeps}
 use Rattle.std.proofs.KnownBytes.{Appends-kept, Appends-nil, Appends-trans}
 use Rattle.cn_report.specs.declared.writing.emitting.EmitFault.{EmitFault}
-use Rattle.cn_report.specs.Writing.Pieces.{IsCutShort, IsOnItsWay, Pending, Puts, nothing_put}
+use Rattle.cn_report.specs.Writing.Written.{First, HasWritten, written_by}
+use Rattle.std.specs.Result.{MatchResult}
+use Rattle.cn_report.specs.Writing.Pieces.{IsCutShort, IsOnItsWay, Pending, nothing_put}
 
 -- a text that begins
 pub begins : (start : Option (List ℕ)) (text : List ℕ) → IsOnItsWay start start nothing_put text text
@@ -76,6 +78,12 @@ module _ (start now : Option (List ℕ)) (pending : Pending) (text : List ℕ) w
   pub apart : (part rest left : List ℕ) → IsOnItsWay start now pending text ((part ++ rest) ++ left) → IsOnItsWay start now pending text (part ++ (rest ++ left))
   apart part rest left way = subst (IsOnItsWay start now pending text) (append_assoc part rest left) way
 
+  -- or in three
+  pub apart-3 : (first second third left : List ℕ) → IsOnItsWay start now pending text ((first ++ (second ++ third)) ++ left)
+      → IsOnItsWay start now pending text (first ++ (second ++ (third ++ left)))
+  apart-3 first second third left way =
+      subst (IsOnItsWay start now pending text) (append_assoc first (second ++ third) left ∙ ap (λ (t : List ℕ). first ++ t) (append_assoc second third left)) way
+
   pub same-left : (left other : List ℕ) → left ≡ other → IsOnItsWay start now pending text left → IsOnItsWay start now pending text other
   same-left left other same way = subst (IsOnItsWay start now pending text) same way
 
@@ -100,3 +108,14 @@ module _ (start now : Option (List ℕ)) (pending : Pending) (text : List ℕ) w
   no-line f i n left over way =
       let none : n - i ≡ 0 = omega arith in
       same-left _ _ (ap (λ k. flat_map f (range_with_len i k) ++ left) none) way
+
+-- a text that was to be put is written, whole or its first bytes
+pub text-written : {U W : Type 0} (contents : W → Option (List ℕ)) (old new : W) (text : List ℕ) (result : Result U EmitFault) → length text < 2 ^ 64
+    → MatchResult result (λ done. Appends (contents old) (contents new) text) (IsCutShort (contents old) (contents new) text)
+    → HasWritten contents (λ t. t ≡ text) (written_by (λ fault. First fault.written) result) old new
+text-written contents old new text (Ok done) fits grows = (text, refl, grows)
+text-written contents old new text (Err fault) fits cut = let (few, grows) = cut fits in (text, refl, few, grows)
+
+pub text-cut : {W : Type 0} (contents : W → Option (List ℕ)) (old new : W) (text : List ℕ) (fault : EmitFault) → length text < 2 ^ 64 → IsCutShort (contents old) (contents new) text fault
+    → HasWritten contents (λ t. t ≡ text) (First fault.written) old new
+text-cut contents old new text fault fits cut = let (few, grows) = cut fits in (text, refl, few, grows)

@@ -12,6 +12,7 @@ ghost use Rattle.cn_report.specs.Writing.Text.{Grows};
 ghost use Rattle.cn_report.specs.Writing.Written.{First, HasWritten, written_by};
 
 use crate::reading::BatchEpoch;
+use crate::writing::bounds::grants_are_countable;
 use crate::writing::emitting::EmitFault;
 use crate::writing::line::{put_grant, send_grant};
 use crate::writing::pieces::Pieces;
@@ -170,6 +171,7 @@ pub fn write_grants<W: Write>(
         → let written = written_by (λ fault. First fault.written) result in
         HasWritten W.contents (λ text. text ≡ grants_text records) written writer.old writer.new }
 {
+    grants_are_countable(epochs, holders);
     let mut pieces = pieces;
     send_header(&mut pieces, writer)?;
     send_epochs(&mut pieces, writer, epochs, holders)?;

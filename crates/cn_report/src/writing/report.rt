@@ -3,6 +3,7 @@
 ghost use Rattle.std.specs.Prelude.{◌≡◌, ◌+◌, ◌≤◌, [], ◌∷◌, ◌++◌, All, List, OnOk, IfOk, length, string_bytes};
 ghost use Rattle.std.specs.List.{flat_map};
 ghost use Rattle.cn_spec.specs.Step.{shares_after};
+ghost use Rattle.cn_spec.specs.Sums.{when};
 ghost use Rattle.cn_spec.specs.declared.limits.TheConstants.{MOST_ENDS, MOST_RECORDS};
 ghost use Rattle.cn_record.specs.declared.record.EpochRecord.{EpochRecord};
 ghost use Rattle.cn_report.specs.Reading.Batch.{AreServable, clients_of};
@@ -14,6 +15,7 @@ ghost use Rattle.cn_report.specs.Writing.Written.{First, HasWritten, written_by}
 ghost use Rattle.cn_wiring.specs.Network.{Network};
 
 use crate::reading::BatchEpoch;
+use crate::writing::bounds::report_is_countable;
 use crate::writing::emitting::EmitFault;
 use crate::writing::heading::{put_heading, send_heading, send_number};
 use crate::writing::line::{put_line, send_line};
@@ -194,6 +196,13 @@ fn send_epoch<W: Write>(
     send_holders(pieces, writer, holders)
 }
 
+/// How many clients come before the next epoch, if so many have come.
+fn carried(carries: bool, clients: u64) -> u64
+    ensures { result ≡ when carries clients }
+{
+    if carries { clients } else { 0 }
+}
+
 fn send_epochs<W: Write>(
     pieces: &mut Pieces,
     writer: &mut W,
@@ -214,7 +223,7 @@ fn send_epochs<W: Write>(
     for epoch in epochs {
         let (own, others) = left.split_at(epoch.clients.len());
         send_epoch(pieces, writer, width, before, epoch.number, own)?;
-        before = if carries { before + own.len() as u64 } else { 0 };
+        before = carried(carries, before + own.len() as u64);
         left = others;
     }
     Ok(())
@@ -259,6 +268,7 @@ pub fn write_report<W: Write>(
         → let written = written_by (λ fault. First fault.written) result in
         HasWritten W.contents (λ text. text ≡ report_text network.now records) written writer.old writer.new }
 {
+    report_is_countable(network, epochs, holders);
     let mut pieces = pieces;
     send_heading(&mut pieces, writer, network)?;
     send_epochs(&mut pieces, writer, network.width(), carries, epochs, holders)?;

@@ -1,4 +1,4 @@
-use Rattle.std.proofs.Common.{arith, length}
+use Rattle.std.proofs.Common.{arith}
 use Rattle.cn_report.proofs.WritingLemmas.LineEnds.{length_stays, number_is_short}
 use Rattle.cn_report.proofs.writing.line.make_grant.Goals as goal
 

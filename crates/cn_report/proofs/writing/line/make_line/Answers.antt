@@ -1,4 +1,4 @@
-use Rattle.std.proofs.Common.{◌≡◌, ◌≤◌, ◌∙◌, ap, arith, length}
+use Rattle.std.proofs.Common.{arith}
 use Rattle.cn_report.proofs.WritingLemmas.LineEnds.{length_stays, number_is_short}
 use Rattle.cn_report.proofs.writing.line.make_line.Goals as goal
 

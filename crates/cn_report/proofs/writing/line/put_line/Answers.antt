@@ -1,4 +1,4 @@
-use Rattle.std.proofs.Common.{◌-◌, arith, drop, length, length-drop, take_all}
+use Rattle.std.proofs.Common.{◌-◌, arith, drop, length-drop, take_all}
 use Rattle.cn_report.proofs.WritingLemmas.LineEnds.{line_is_utf8}
 use Rattle.cn_report.proofs.writing.line.put_line.Goals as goal
 

@@ -1,4 +1,4 @@
-use Rattle.std.proofs.Common.{arith, length, slice_index}
+use Rattle.std.proofs.Common.{arith, slice_index}
 use Rattle.std.proofs.lemmas.Result.{err_from_is_err_and}
 use Rattle.cn_spec.specs.Step.{shares_after}
 use Rattle.cn_report.specs.Writing.Outcome.{exit_line}

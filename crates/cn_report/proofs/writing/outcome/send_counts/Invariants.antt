@@ -1,4 +1,4 @@
-use Rattle.std.proofs.Common.{◌-◌, length, slice_index}
+use Rattle.std.proofs.Common.{◌-◌, slice_index}
 use Rattle.std.specs.List.{flat_map, range_with_len}
 use Rattle.cn_spec.specs.Step.{shares_after}
 use Rattle.cn_report.specs.Writing.Outcome.{exit_line, exit_lines}

@@ -1,4 +1,4 @@
-use Rattle.std.proofs.Common.{[], ◌≡◌, ◌^◌, ◌<◌, IfErr, List, MatchResult, OnOk, Option, Result, Ok, Err, length, ℕ}
+use Rattle.std.proofs.Common.{[], ◌≡◌, IfErr, List, MatchResult, Option, Result, Ok, Err, ℕ}
 use Rattle.std.specs.Io.KnownBytes.{Appends, Keeps}
 use Rattle.std.proofs.KnownBytes.{Appends-kept}
 use Rattle.std.proofs.lemmas.Result.{err_from_is_err_and}
