@@ -1,18 +1,24 @@
 -- The epochs of a batch that were run.
-use Rattle.std.proofs.Common.{◌≡◌, ℕ, ◌+◌, ◌<◌, ◌≤◌, All, Bool, false, List, [], ◌∷◌, ◌++◌, drop, length, take, refl, subst, sym, arith, append-nil, ◌∙◌}
+use Rattle.std.proofs.Common.{◌≡◌, ℕ, ◌+◌, ◌<◌, ◌≤◌, All, Bool, false, Option, List, [], ◌∷◌, ◌++◌, drop, length, take, refl, subst, sym, arith, append-nil, ◌∙◌}
+use Rattle.std.specs.Prelude.{IfSome}
 use Rattle.std.specs.List.{flat_map}
 use Rattle.std.proofs.lemmas.List.{drop_at, take_at}
 use Rattle.std.proofs.lemmas.List.Concat.{flat_map-append}
 use Rattle.std.proofs.lemmas.List.Elements.{All-drop, All-head, All-take}
 use Rattle.std.proofs.lemmas.List.Sums.{sum_by-cons, sum_by-take-drop}
 use Rattle.cn_spec.specs.Sums.{when}
+use Rattle.cn_wiring.specs.Network.{Network}
 use Rattle.cn_record.specs.declared.record.EpochRecord.{EpochRecord}
-use Rattle.cn_report.specs.Reading.Batch.{MayCome, clients_of}
+use Rattle.cn_report.specs.Reading.Batch.{IsBatch, MayCome, clients_of}
+use Rattle.cn_report.specs.Reading.Records.{records_of}
 use Rattle.cn_report.specs.declared.reading.gathering.BatchEpoch.{BatchEpoch}
 use Rattle.cn_report.specs.Writing.Records.{AreRecordsOf}
-use Rattle.cn_renamer.specs.Headline.{AreServed, IsServed}
+use Rattle.cn_report.specs.Writing.Written.{HasWritten, Written}
+use Rattle.cn_cli.specs.Net.{Description, IsNetworkOf}
+use Rattle.cn_cli.specs.declared.options.Form.{Form}
+use Rattle.cn_renamer.specs.Headline.{AreServed, IsRunOfKnown, IsServed, text_in}
 use Rattle.cn_renamer.specs.Running.{AreHoldersOf, MayRunAll}
-use Rattle.cn_renamer.proofs.Headline.{as-many, none-served, served-both, served-next}
+use Rattle.cn_renamer.proofs.Headline.{as-many, none-served, run-is, served-both, served-next, written-as}
 
 -- before the first epoch nobody holds one
 pub none-listed : (carry : Bool) (w : ℕ) → AreHoldersOf carry w [] []
@@ -78,3 +84,18 @@ records-of carry w m (e ∷ epochs) (r ∷ records) (one, rest) =
       subst (λ (xs : List ℕ). AreRecordsOf carry w (when carry (m + length e.clients.items)) epochs records xs) (sym (drop_at r.holders.items others (length e.clients.items) many))
           (records-of carry w (when carry (m + length e.clients.items)) epochs records rest),
     )
+
+-- what is written of every list of records of these epochs is what a run writes that served them
+pub run-written : {W : Type 0} (contents : W → Option (List ℕ)) (old new : W) (net : Description) (form : Form) (carry : Bool) (network : Network) → IsNetworkOf net network
+    → (known : Option (List ℕ)) (epochs : List BatchEpoch) → IfSome known (λ bytes. IsBatch network.table.entries (records_of bytes) epochs)
+    → (holders : List ℕ) → AreHoldersOf carry network.table.width epochs holders
+    → (written : Written)
+    → ((records : List EpochRecord) → AreRecordsOf carry network.table.width 0 epochs records holders → HasWritten contents (λ text. text ≡ text_in form network records) written old new)
+    → HasWritten contents (IsRunOfKnown net form carry known) written old new
+run-written contents old new net form carry network built known epochs batch holders listed written writes =
+    let w : ℕ = network.table.width in
+    let records : List EpochRecord = listed.records in
+    let theirs : AreRecordsOf carry w 0 epochs records holders =
+    subst (λ (xs : List ℕ). AreRecordsOf carry w 0 epochs records xs) (sym listed.listed) (records-of carry w 0 epochs records listed.served) in
+    written-as contents old new (λ text. text ≡ text_in form network records) (IsRunOfKnown net form carry known)
+    (λ text is. run-is net form carry network built known epochs batch records listed.served text is) written (writes records theirs)

@@ -150,7 +150,7 @@ fn run_beside<G: Gate + Sync, R: Threads + Wait + Sync>(
         return run_in_turn(rt, alloc, network, false, epochs, crew, gate, holders);
     }
     let clients = holders.len();
-    // An odd crew has its smaller half first, which is to have no more than its share of the clients.
+    // The first part is to have the clients of half the crew, of an odd one the smaller half.
     let wanted = clients * (crew.workers / 2) as usize / crew.workers as usize;
     let (at, reached) = cut(epochs, wanted);
     let (crew, others) = crew.split(reached, clients);

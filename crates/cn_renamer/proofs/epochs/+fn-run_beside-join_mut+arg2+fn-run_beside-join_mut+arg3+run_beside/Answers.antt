@@ -29,6 +29,4 @@ join_mut-one-requires-after_bounds g t c κs within =
     search rules
 
 pub returns : goal.returns
-returns g t c =
-    listed-both c.args.network.now.table.width c.args.epochs.now c.split_at.result.0.now c.split_at.result.1.now _ _ c.split_at.ensures.by_index.0
-    (search rules) (search rules)
+returns g t c = let both = c.split_at.ensures.by_index.0 in search (rules, listed-both)
