@@ -52,7 +52,12 @@ pub(crate) fn send_heading<W: Write>(
     pieces.put(writer, b"network ")?;
     pieces.put(writer, network.kind().word().as_bytes())?;
     send_number(pieces, writer, " width ", u128::from(network.width()))?;
-    send_number(pieces, writer, " balancers ", u128::from(network.balancers()))?;
+    send_number(
+        pieces,
+        writer,
+        " balancers ",
+        u128::from(network.balancers()),
+    )?;
     send_number(pieces, writer, " depth ", u128::from(network.depth()))?;
     pieces.put(writer, b"\n")
 }

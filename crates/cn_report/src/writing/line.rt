@@ -30,13 +30,7 @@ fn write_word(word: &str, buffer: &mut [u8], end: usize) -> usize
 /// Makes a line of two words, each with a number after it, before the line feed at the end of a buffer, and returns where
 /// it starts.
 #[inline(always)]
-fn make_line(
-    line: &mut [u8],
-    first: &str,
-    number: u64,
-    second: &str,
-    other: u64,
-) -> usize
+fn make_line(line: &mut [u8], first: &str, number: u64, second: &str, other: u64) -> usize
     requires room { length line.old ≡ ROOM }
     requires feed { drop 63 line.old ≡ codes "\n" }
     requires words { length first.now + length second.now ≤ 23 }

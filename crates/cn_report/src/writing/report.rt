@@ -271,7 +271,19 @@ pub fn write_report<W: Write>(
     report_is_countable(network, epochs, holders);
     let mut pieces = pieces;
     send_heading(&mut pieces, writer, network)?;
-    send_epochs(&mut pieces, writer, network.width(), carries, epochs, holders)?;
-    send_end(&mut pieces, writer, epochs.len() as u64, holders.len() as u128)?;
+    send_epochs(
+        &mut pieces,
+        writer,
+        network.width(),
+        carries,
+        epochs,
+        holders,
+    )?;
+    send_end(
+        &mut pieces,
+        writer,
+        epochs.len() as u64,
+        holders.len() as u128,
+    )?;
     pieces.finish(writer)
 }

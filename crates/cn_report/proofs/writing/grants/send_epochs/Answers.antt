@@ -49,11 +49,15 @@ loop-epoch-preserved g c =
         sum_by-drop_more (λ (x : BatchEpoch). length x.clients.items) c.args.epochs.now c.loop-epoch.epoch-index e c.loop-epoch-test.true,
       );
       put = λ carry width records are.
-      let (m, later, rest, leads) = c.loop-epoch.invariant.put carry width records are in
-      let f = first-record (λ r. grant_lines r.number r.clients r.holders.items) carry width m c.args.epochs.now c.loop-epoch.epoch-index e later c.loop-epoch.left.now c.loop-epoch-test.true c.epoch-item.is rest in
-      let parts = record-lines carry width m e _ later c.loop-epoch.left.now c.split_at.result.0.now front (c.split_at.ensures.front_len ∙ count) f in
-      (when carry (m + length e.clients.items), f.later, subst (λ (t : List ℕ). AreRecordsOf carry width (when carry (m + length e.clients.items)) (drop (c.loop-epoch.epoch-index + 1) c.args.epochs.now) f.later t) (sym back) f.rest, λ start text left way.
-      c.in_ok-send_epoch.ensures start text _ (apart start _ _ text _ (lines f.later) left (same-left start _ _ text _ _ (ap (λ (t : List ℕ). t ++ left) parts) (leads start text left way))));
+          let (m, later, rest, leads) = c.loop-epoch.invariant.put carry width records are in
+          let f = first-record (λ r. grant_lines r.number r.clients r.holders.items) carry width m c.args.epochs.now c.loop-epoch.epoch-index e later c.loop-epoch.left.now c.loop-epoch-test.true c.epoch-item.is rest in
+          let parts = record-lines carry width m e _ later c.loop-epoch.left.now c.split_at.result.0.now front (c.split_at.ensures.front_len ∙ count) f in (
+            when carry (m + length e.clients.items),
+            f.later,
+            subst (λ (t : List ℕ). AreRecordsOf carry width (when carry (m + length e.clients.items)) (drop (c.loop-epoch.epoch-index + 1) c.args.epochs.now) f.later t) (sym back) f.rest,
+            λ start text left way.
+                c.in_ok-send_epoch.ensures start text _ (apart start _ _ text _ (lines f.later) left (same-left start _ _ text _ _ (ap (λ (t : List ℕ). t ++ left) parts) (leads start text left way))),
+          );
     }
 
 pub returns-in_err-send_epoch : goal.returns-in_err-send_epoch

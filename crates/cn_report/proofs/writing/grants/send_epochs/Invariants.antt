@@ -16,6 +16,6 @@ invariant-loop-epoch g l =
     record {
       as_many : clients_of (drop l.epoch-index l.epochs) ≡ length l.left;
       put : (carry : Bool) (width : ℕ) (records : List EpochRecord) → AreRecordsOf carry width 0 l.epochs records l.holders
-      → (m : ℕ) × (later : List EpochRecord) × AreRecordsOf carry width m (drop l.epoch-index l.epochs) later l.left
-      × Leads g.W.Write.contents l.initial.writer l.writer l.initial.pieces l.pieces (lines records) (lines later);
+          → (m : ℕ) × (later : List EpochRecord) × AreRecordsOf carry width m (drop l.epoch-index l.epochs) later l.left
+          × Leads g.W.Write.contents l.initial.writer l.writer l.initial.pieces l.pieces (lines records) (lines later);
     }

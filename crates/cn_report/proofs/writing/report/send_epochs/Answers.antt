@@ -58,13 +58,16 @@ loop-epoch-preserved g c =
       );
       few = omega (arith, count, c.split_at.ensures.back_len, c.loop-epoch.invariant.few, next, when-le c.args.carries (m + length e.clients.items));
       put = λ records are.
-      let (later, rest, leads) = c.loop-epoch.invariant.put records are in
-      let f = first-record (epoch_lines w) c.args.carries w m c.args.epochs.now c.loop-epoch.epoch-index e later c.loop-epoch.left.now c.loop-epoch-test.true c.epoch-item.is rest in
-      let parts = record-lines c.args.carries w m e _ later c.loop-epoch.left.now c.split_at.result.0.now front many f in
-      let epochs = drop (c.loop-epoch.epoch-index + 1) c.args.epochs.now in
-      let after = subst (λ (t : List ℕ). AreRecordsOf c.args.carries w (when c.args.carries (m + length e.clients.items)) epochs f.later t) (sym back) f.rest in
-      (f.later, subst (λ n. AreRecordsOf c.args.carries w n epochs f.later c.split_at.result.1.now) (sym next) after, λ start text left way.
-      c.in_ok-send_epoch.ensures start text _ (apart start _ _ text _ (flat_map (epoch_lines w) f.later) left (same-left start _ _ text _ _ (ap (λ (t : List ℕ). t ++ left) parts) (leads start text left way))));
+          let (later, rest, leads) = c.loop-epoch.invariant.put records are in
+          let f = first-record (epoch_lines w) c.args.carries w m c.args.epochs.now c.loop-epoch.epoch-index e later c.loop-epoch.left.now c.loop-epoch-test.true c.epoch-item.is rest in
+          let parts = record-lines c.args.carries w m e _ later c.loop-epoch.left.now c.split_at.result.0.now front many f in
+          let epochs = drop (c.loop-epoch.epoch-index + 1) c.args.epochs.now in
+          let after = subst (λ (t : List ℕ). AreRecordsOf c.args.carries w (when c.args.carries (m + length e.clients.items)) epochs f.later t) (sym back) f.rest in (
+            f.later,
+            subst (λ n. AreRecordsOf c.args.carries w n epochs f.later c.split_at.result.1.now) (sym next) after,
+            λ start text left way.
+                c.in_ok-send_epoch.ensures start text _ (apart start _ _ text _ (flat_map (epoch_lines w) f.later) left (same-left start _ _ text _ _ (ap (λ (t : List ℕ). t ++ left) parts) (leads start text left way))),
+          );
     }
 
 pub returns-in_err-send_epoch : goal.returns-in_err-send_epoch

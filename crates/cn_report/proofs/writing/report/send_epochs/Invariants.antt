@@ -15,6 +15,6 @@ invariant-loop-epoch g l =
       as_many : clients_of (drop l.epoch-index l.epochs) ≡ length l.left;
       few : l.before + length l.left ≤ MOST_RECORDS;
       put : (records : List EpochRecord) → AreRecordsOf l.carries l.width 0 l.epochs records l.holders
-      → (later : List EpochRecord) × AreRecordsOf l.carries l.width l.before (drop l.epoch-index l.epochs) later l.left
-      × Leads g.W.Write.contents l.initial.writer l.writer l.initial.pieces l.pieces (flat_map (epoch_lines l.width) records) (flat_map (epoch_lines l.width) later);
+          → (later : List EpochRecord) × AreRecordsOf l.carries l.width l.before (drop l.epoch-index l.epochs) later l.left
+          × Leads g.W.Write.contents l.initial.writer l.writer l.initial.pieces l.pieces (flat_map (epoch_lines l.width) records) (flat_map (epoch_lines l.width) later);
     }
