@@ -2,7 +2,7 @@
 """The memory of `renamer run` at its peak, as the kernel counts what is resident.
 
 The report of 1,048,576 epochs of one client on bitonic 256, in megabytes of a million bytes; and that of an epoch of
-262,144 clients there, beyond an empty batch and the text, by client. memory/peak.c starts the program and prints its peak:
+262,144 clients there, beyond an empty batch, by client. memory/peak.c starts the program and prints its peak:
 what a script starts would begin with the script's own.
 """
 import measure
@@ -21,9 +21,9 @@ def rows(bench):
 
     empty = of(bench.batch("empty", 0, 0, 256))
     epoch = bench.batch("epoch", 1, clients, 256)
-    most, text = of(epoch), len(bench.written(words, epoch))
-    detail = f"{most / 1e6:.1f} MB, empty {empty / 1e6:.1f} MB, text {text / 1e6:.1f} MB"
-    yield measure.Row(f"an epoch of {clients:,} clients", (most - empty - text) / clients, detail, " bytes a client")
+    most = of(epoch)
+    detail = f"{most / 1e6:.1f} MB, empty {empty / 1e6:.1f} MB"
+    yield measure.Row(f"an epoch of {clients:,} clients", (most - empty) / clients, detail, " bytes a client")
 
 
 if __name__ == "__main__":

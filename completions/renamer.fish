@@ -18,7 +18,7 @@ complete -c renamer -n '__fish_seen_subcommand_from run replay show' -l network 
 complete -c renamer -n '__fish_seen_subcommand_from run replay check show' -l width -x -a '2 4 8 16 32 64 128 256' \
     -d 'The width of the network'
 complete -c renamer -n '__fish_seen_subcommand_from run' -l workers -x -a '(seq 64)' \
-    -d 'How many workers walk each epoch'
+    -d 'How many workers share out the clients'
 complete -c renamer -n '__fish_seen_subcommand_from run' -l hand -x -a '(seq 64)' \
     -d 'How many tokens in hand each worker has'
 complete -c renamer -n '__fish_seen_subcommand_from run' -l form -x -a 'report grants' -d 'What is written'

@@ -30,8 +30,8 @@ impl Form {
     }
 }
 
-/// What a run is asked for beside its batch: a network, how many workers walk each epoch, how many
-/// tokens each of them has in hand at most, what is written, and whether the network's counters are
+/// What a run is asked for beside its batch: a network, how many workers share out the clients, how
+/// many tokens each of them has in hand at most, what is written, and whether the network's counters are
 /// carried from epoch to epoch. To contracts it is these five, and both numbers are within their
 /// limits.
 #[derive(Clone, Copy, Debug, PartialEq, Eq)]
@@ -131,7 +131,7 @@ impl Options {
         self.net
     }
 
-    /// How many workers walk each epoch.
+    /// How many workers share out the clients.
     pub fn workers(&self) -> u32
         ensures workers { result ≡ self.now.workers }
         ensures within { IsWithin self.now }

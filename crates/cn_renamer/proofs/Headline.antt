@@ -16,14 +16,10 @@ use Rattle.cn_report.specs.Reading.Records.{records_of}
 use Rattle.cn_report.specs.declared.reading.gathering.BatchEpoch.{BatchEpoch}
 use Rattle.cn_report.proofs.CallerLemmas.{known_map}
 use Rattle.cn_report.specs.Writing.Outcome.{IsWholeRecord}
-use Rattle.cn_report.specs.Writing.Written.{HasWritten, Whole}
+use Rattle.cn_report.specs.Writing.Written.{HasWritten, First, Nothing, Whole, Written}
 use Rattle.cn_cli.specs.Net.{Description, IsNetworkOf}
 use Rattle.cn_cli.specs.declared.options.Form.{Form}
-use Rattle.cn_renamer.specs.declared.output_fault.OutputFault.{OutputFault}
-use Rattle.cn_renamer.specs.declared.output_fault.OutputFault.TheVariants as output
 use Rattle.cn_renamer.specs.Headline.{AreServed, IsRunOf, IsRunOfKnown, IsServed, after, text_in}
-use Rattle.cn_renamer.specs.Outputs.{until_output}
-use Rattle.cn_renamer.specs.Serve.{fault_of_output, until_serve}
 
 -- who holds the names of an epoch that was served are as many as its clients
 pub as-many : (width m : ℕ) (epoch : BatchEpoch) (r : EpochRecord) → IsServed width m epoch r → length r.holders.items ≡ r.clients
@@ -82,6 +78,15 @@ pub served-next : (carry : Bool) (width : ℕ) (epochs : List BatchEpoch) (recor
 served-next false width epochs records e r served one = served-more false width 0 epochs records e r served (subst (λ (m : ℕ). IsServed width m e r) (sym (none-came epochs)) one)
 served-next true width epochs records e r served one = served-more true width 0 epochs records e r served (subst (λ (m : ℕ). IsServed width m e r) (sym (all-came 0 epochs ∙ omega arith)) one)
 
+-- without carry epochs may be served apart from those after them
+pub served-both : (width : ℕ) (first : List BatchEpoch) (rs : List EpochRecord) (second : List BatchEpoch) (ss : List EpochRecord) → AreServed false width 0 first rs → AreServed false width 0 second ss
+    → AreServed false width 0 (first ++ second) (rs ++ ss)
+unfolding AreServed
+served-both width [] [] second ss one other = other
+served-both width [] (r ∷ rs) second ss one other = absurd one
+served-both width (e ∷ first) [] second ss one other = absurd one
+served-both width (e ∷ first) (r ∷ rs) second ss (one, rest) other = (one, served-both width first rs second ss rest other)
+
 -- there are none before the first epoch
 pub none-served : (carry : Bool) (width m : ℕ) → AreServed carry width m [] []
 unfolding AreServed
@@ -104,13 +109,9 @@ run-is net form carry network built known epochs batch records served text writt
       written = written;
     })
 
-module _ {W : Type 0} (contents : W → Option (List ℕ)) (old new : W) (Is : List ℕ → Type 0) (text : List ℕ) (is : Is text) where
-  -- a text that was to be written is written
-  pub written-whole : HasWritten contents (λ out. out ≡ text) Whole old new → HasWritten contents Is Whole old new
-  written-whole (out, same, grows) = (out, subst Is (sym same) is, grows)
-
-  -- or a part of it
-  pub written-until : (fault : OutputFault) → HasWritten contents (λ out. out ≡ text) (until_output fault) old new
-      → HasWritten contents Is (until_serve (fault_of_output fault)) old new
-  written-until output.Memory same = same
-  written-until (output.Write count) (out, same, few, grows) = (out, subst Is (sym same) is, few, grows)
+-- what was written of a text with a property was written of one with any property that follows
+pub written-as : {W : Type 0} (contents : W → Option (List ℕ)) (old new : W) (P Q : List ℕ → Type 0) → ((text : List ℕ) → P text → Q text) → (written : Written)
+    → HasWritten contents P written old new → HasWritten contents Q written old new
+written-as contents old new P Q more Whole (text, is, grows) = (text, more text is, grows)
+written-as contents old new P Q more (First count) (text, is, few, grows) = (text, more text is, few, grows)
+written-as contents old new P Q more Nothing same = same

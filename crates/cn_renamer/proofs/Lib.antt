@@ -3,5 +3,5 @@ pub mod Built
 pub mod Headline
 pub mod OneText
 pub mod Replies
+pub mod Running
 pub mod Served
-pub mod Telling

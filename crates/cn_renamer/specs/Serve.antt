@@ -7,8 +7,6 @@ use Rattle.cn_report.specs.declared.reading.batch_fault.BatchCause.TheVariants a
 use Rattle.cn_report.specs.declared.reading.batch_fault.BatchFault.{BatchFault}
 use Rattle.cn_report.specs.Writing.Written.{Written, First, Nothing}
 use Rattle.cn_cli.specs.Net.{Description, entries_of}
-use Rattle.cn_renamer.specs.declared.output_fault.OutputFault.{OutputFault}
-use Rattle.cn_renamer.specs.declared.output_fault.OutputFault.TheVariants as output
 use Rattle.cn_renamer.specs.declared.serve_fault.ServeFault.{ServeFault}
 use Rattle.cn_renamer.specs.declared.serve_fault.ServeFault.TheVariants.{Batch, Memory, Write}
 
@@ -44,11 +42,6 @@ fault_of_cause fault cause.BatchFull = Batch fault
 -- the fault of a run by that of its batch
 abbrev pub fault_of_batch : BatchFault → ServeFault
 fault_of_batch fault = fault_of_cause fault fault.cause
-
--- and of a text that was not written whole
-abbrev pub fault_of_output : OutputFault → ServeFault
-fault_of_output output.Memory = Memory
-fault_of_output (output.Write written) = Write written
 
 -- the status that a fault ends the program with
 abbrev pub status_of_serve : ServeFault → ℕ

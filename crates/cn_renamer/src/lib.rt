@@ -2,8 +2,9 @@
 #![tactic(auto)]
 
 mod checking;
+mod crew;
+mod epochs;
 mod fault;
-mod forms;
 pub mod laws;
 mod output_fault;
 mod performing;

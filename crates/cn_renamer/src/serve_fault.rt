@@ -1,11 +1,10 @@
 //! What keeps a batch from being served to its end.
 
 ghost use Rattle.std.specs.Prelude.{◌≡◌};
-ghost use Rattle.cn_renamer.specs.declared.serve_fault.ServeFault.TheVariants.{Memory};
-ghost use Rattle.cn_renamer.specs.Serve.{fault_of_batch, fault_of_output, status_of_serve};
+ghost use Rattle.cn_renamer.specs.declared.serve_fault.ServeFault.TheVariants.{Memory, Write};
+ghost use Rattle.cn_renamer.specs.Serve.{fault_of_batch, status_of_serve};
 
-use crate::output_fault::OutputFault;
-use cn_report::{BatchCause, BatchFault};
+use cn_report::{BatchCause, BatchFault, EmitFault};
 use cn_wiring::BuildFault;
 use std::alloc::AllocError;
 use thiserror::Error;
@@ -68,13 +67,12 @@ impl From<AllocError> for ServeFault {
     }
 }
 
-impl From<OutputFault> for ServeFault {
-    ghost from_gives = { λ fault told. told ≡ fault_of_output fault };
+impl From<EmitFault> for ServeFault {
+    ghost from_gives = { λ fault told. told ≡ Write fault.written };
 
-    fn from(fault: OutputFault) -> Self {
-        match fault {
-            OutputFault::Memory => ServeFault::Memory,
-            OutputFault::Write { written } => ServeFault::Write { written },
+    fn from(fault: EmitFault) -> Self {
+        ServeFault::Write {
+            written: fault.written,
         }
     }
 }

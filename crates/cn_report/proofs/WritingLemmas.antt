@@ -1,7 +1,10 @@
 -- Lemmas on what is written.
 pub mod Appending
+pub mod Lengths
 pub mod LineEnds
 pub mod Lines
+pub mod Pieces
+pub mod Records
 pub mod Reports
 pub mod SameLines
 pub mod Words

@@ -1,6 +1,8 @@
 -- What is written: the lines of each text.
 pub mod Grants
 pub mod Outcome
+pub mod Pieces
+pub mod Records
 pub mod Replay
 pub mod Report
 pub mod Text

@@ -1,18 +1,21 @@
 //! What is written: the text of each job, and the loop that writes it.
 
+mod bounds;
 mod emitting;
 mod grants;
 mod heading;
 mod line;
 mod outcome;
+mod pieces;
 mod replay;
 mod report;
 mod tight;
 mod wiring;
 
 pub use emitting::{EmitFault, emit};
-pub use grants::{GrantsText, render_grants};
+pub use grants::{GrantsText, render_grants, write_grants};
+pub use pieces::Pieces;
 pub use replay::render_replay;
-pub use report::{ReportText, render_report};
+pub use report::{ReportText, render_report, write_report};
 pub use tight::render_tight;
 pub use wiring::render_wiring;

@@ -3,9 +3,13 @@
 ghost use Rattle.std.specs.Prelude.{◌≡◌, ◌+◌, ◌≤◌, ◌++◌, OnOk, codes, decimal, drop, length};
 ghost use Rattle.cn_report.specs.Writing.Text.{Grows};
 ghost use Rattle.cn_report.specs.Writing.Grants.{grant_line};
+ghost use Rattle.cn_report.specs.Writing.Pieces.{Puts};
 
+use crate::writing::emitting::EmitFault;
+use crate::writing::pieces::Pieces;
 use itoa::write_digits;
 use std::alloc::AllocError;
+use std::io::Write;
 
 /// Three numbers of 20 digits, and a byte after each; or two, and words of 23 bytes.
 const ROOM: usize = 64;
@@ -23,6 +27,39 @@ fn write_word(word: &str, buffer: &mut [u8], end: usize) -> usize
     start
 }
 
+/// Makes a line of two words, each with a number after it, before the line feed at the end of a buffer, and returns where
+/// it starts.
+#[inline(always)]
+fn make_line(line: &mut [u8], first: &str, number: u64, second: &str, other: u64) -> usize
+    requires room { length line.old ≡ ROOM }
+    requires feed { drop 63 line.old ≡ codes "\n" }
+    requires words { length first.now + length second.now ≤ 23 }
+    ensures written { drop result line.new
+        ≡ first.now ++ (decimal number ++ (second.now ++ (decimal other ++ codes "\n"))) }
+    ensures within { result ≤ ROOM }
+{
+    let end = write_digits(other, line, ROOM - 1);
+    let middle = write_word(second, line, end);
+    let after = write_digits(number, line, middle);
+    write_word(first, line, after)
+}
+
+/// Makes a record of three numbers before the line feed at the end of a buffer, and returns where it starts.
+#[inline(always)]
+#[tactic(auto, unfolding(crate::specs::Writing::Grants::grant_line))]
+fn make_grant(line: &mut [u8], epoch: u64, client: u64, name: u64) -> usize
+    requires room { length line.old ≡ ROOM }
+    requires feed { drop 63 line.old ≡ codes "\n" }
+    ensures written { drop result line.new ≡ grant_line epoch client name }
+    ensures within { result ≤ ROOM }
+{
+    let third = write_digits(name, line, ROOM - 1);
+    let comma = write_word(",", line, third);
+    let second = write_digits(client, line, comma);
+    let comma = write_word(",", line, second);
+    write_digits(epoch, line, comma)
+}
+
 /// Appends a line of two words, each with a number after it.
 #[inline(always)]
 pub(crate) fn put_line(
@@ -37,16 +74,12 @@ pub(crate) fn put_line(
         (first.now ++ decimal number ++ second.now ++ decimal other ++ codes "\n")) }
 {
     let mut line = [b'\n'; ROOM];
-    let end = write_digits(other, &mut line, ROOM - 1);
-    let middle = write_word(second, &mut line, end);
-    let after = write_digits(number, &mut line, middle);
-    let start = write_word(first, &mut line, after);
+    let start = make_line(&mut line, first, number, second, other);
     text.push_str(unsafe { str::from_utf8_unchecked(&line[start..]) })
 }
 
 /// Appends a record of three numbers.
 #[inline(always)]
-#[tactic(auto, unfolding(crate::specs::Writing::Grants::grant_line))]
 pub(crate) fn put_grant(
     text: &mut String,
     epoch: u64,
@@ -56,10 +89,42 @@ pub(crate) fn put_grant(
     ensures { OnOk result (Grows text.old text.new (grant_line epoch client name)) }
 {
     let mut line = [b'\n'; ROOM];
-    let third = write_digits(name, &mut line, ROOM - 1);
-    let comma = write_word(",", &mut line, third);
-    let second = write_digits(client, &mut line, comma);
-    let comma = write_word(",", &mut line, second);
-    let first = write_digits(epoch, &mut line, comma);
-    text.push_str(unsafe { str::from_utf8_unchecked(&line[first..]) })
+    let start = make_grant(&mut line, epoch, client, name);
+    text.push_str(unsafe { str::from_utf8_unchecked(&line[start..]) })
+}
+
+/// Sends a line of two words, each with a number after it.
+#[inline(always)]
+pub(crate) fn send_line<W: Write>(
+    pieces: &mut Pieces,
+    writer: &mut W,
+    first: &str,
+    number: u64,
+    second: &str,
+    other: u64,
+) -> Result<(), EmitFault>
+    requires { length first.now + length second.now ≤ 23 }
+    ensures { Puts W.contents writer.old writer.new pieces.old pieces.new result
+        (first.now ++ (decimal number ++ (second.now ++ (decimal other ++ codes "\n")))) }
+{
+    let mut line = [b'\n'; ROOM];
+    let start = make_line(&mut line, first, number, second, other);
+    pieces.put(writer, &line[start..])
+}
+
+/// Sends a record of three numbers.
+#[inline(always)]
+pub(crate) fn send_grant<W: Write>(
+    pieces: &mut Pieces,
+    writer: &mut W,
+    epoch: u64,
+    client: u64,
+    name: u64,
+) -> Result<(), EmitFault>
+    ensures { Puts W.contents writer.old writer.new pieces.old pieces.new result
+        (grant_line epoch client name) }
+{
+    let mut line = [b'\n'; ROOM];
+    let start = make_grant(&mut line, epoch, client, name);
+    pieces.put(writer, &line[start..])
 }

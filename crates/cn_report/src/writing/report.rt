@@ -1,17 +1,31 @@
 //! The text of a report.
 
-ghost use Rattle.std.specs.Prelude.{◌≡◌, [], ◌∷◌, ◌++◌, All, List, OnOk, IfOk, string_bytes};
+ghost use Rattle.std.specs.Prelude.{◌≡◌, ◌+◌, ◌≤◌, [], ◌∷◌, ◌++◌, All, List, OnOk, IfOk, length, string_bytes};
+ghost use Rattle.std.specs.List.{flat_map};
+ghost use Rattle.cn_spec.specs.Step.{shares_after};
+ghost use Rattle.cn_spec.specs.Sums.{when};
+ghost use Rattle.cn_spec.specs.declared.limits.TheConstants.{MOST_ENDS, MOST_RECORDS};
 ghost use Rattle.cn_record.specs.declared.record.EpochRecord.{EpochRecord};
-ghost use Rattle.cn_report.specs.Writing.Outcome.{IsWholeRecord};
+ghost use Rattle.cn_report.specs.Reading.Batch.{AreServable, clients_of};
+ghost use Rattle.cn_report.specs.Writing.Outcome.{IsWholeRecord, exit_lines, name_lines};
+ghost use Rattle.cn_report.specs.Writing.Pieces.{Puts, nothing_put};
+ghost use Rattle.cn_report.specs.Writing.Records.{AreRecordsOf};
 ghost use Rattle.cn_report.specs.Writing.Report.{epoch_line, epoch_lines, report_end, report_so_far, report_text};
+ghost use Rattle.cn_report.specs.Writing.Written.{First, HasWritten, written_by};
 ghost use Rattle.cn_wiring.specs.Network.{Network};
 
-use crate::writing::heading::put_heading;
-use crate::writing::line::put_line;
-use crate::writing::outcome::put_outcome;
+use crate::reading::BatchEpoch;
+use crate::writing::bounds::report_is_countable;
+use crate::writing::emitting::EmitFault;
+use crate::writing::heading::{put_heading, send_heading, send_number};
+use crate::writing::line::{put_line, send_line};
+use crate::writing::outcome::{put_outcome, send_counts, send_holders};
+use crate::writing::pieces::Pieces;
 use cn_record::EpochRecord;
+use cn_spec::limits::{MOST_ENDS, MOST_RECORDS};
 use cn_wiring::Counting;
 use std::alloc::{AllocError, Global};
+use std::io::Write;
 use std::marker::Model;
 
 #[tactic(auto, unfolding(crate::specs::Writing::Report::epoch_line))]
@@ -147,4 +161,129 @@ pub fn render_report(
         text = text.add(epoch)?;
     }
     text.end()
+}
+
+#[tactic(auto, unfolding(crate::specs::Writing::Report::epoch_line))]
+fn send_epoch_line<W: Write>(
+    pieces: &mut Pieces,
+    writer: &mut W,
+    number: u64,
+    clients: u64,
+) -> Result<(), EmitFault>
+    ensures { Puts W.contents writer.old writer.new pieces.old pieces.new result
+        (epoch_line number clients) }
+{
+    send_line(pieces, writer, "epoch ", number, " clients ", clients)
+}
+
+fn send_epoch<W: Write>(
+    pieces: &mut Pieces,
+    writer: &mut W,
+    width: u32,
+    before: u64,
+    number: u64,
+    holders: &[u64],
+) -> Result<(), EmitFault>
+    requires width { width ≤ MOST_ENDS }
+    requires few { before + length holders.now ≤ MOST_RECORDS }
+    ensures { let clients = length holders.now in
+        Puts W.contents writer.old writer.new pieces.old pieces.new result (epoch_line number clients
+        ++ (exit_lines width (shares_after before clients width) ++ name_lines clients holders.now)) }
+{
+    let clients = holders.len() as u64;
+    send_epoch_line(pieces, writer, number, clients)?;
+    send_counts(pieces, writer, width, before, clients)?;
+    send_holders(pieces, writer, holders)
+}
+
+/// How many clients come before the next epoch, if so many have come.
+fn carried(carries: bool, clients: u64) -> u64
+    ensures { result ≡ when carries clients }
+{
+    if carries { clients } else { 0 }
+}
+
+fn send_epochs<W: Write>(
+    pieces: &mut Pieces,
+    writer: &mut W,
+    width: u32,
+    carries: bool,
+    epochs: &[BatchEpoch],
+    holders: &[u64],
+) -> Result<(), EmitFault>
+    requires width { width ≤ MOST_ENDS }
+    requires as_many { clients_of epochs.now ≡ length holders.now }
+    requires few { clients_of epochs.now ≤ MOST_RECORDS }
+    ensures { (records : List EpochRecord)
+        → AreRecordsOf carries width 0 epochs.now records holders.now
+        → Puts W.contents writer.old writer.new pieces.old pieces.new result
+        (flat_map (epoch_lines width) records) }
+{
+    let (mut before, mut left) = (0, holders);
+    for epoch in epochs {
+        let (own, others) = left.split_at(epoch.clients.len());
+        send_epoch(pieces, writer, width, before, epoch.number, own)?;
+        before = carried(carries, before + own.len() as u64);
+        left = others;
+    }
+    Ok(())
+}
+
+fn send_end<W: Write>(
+    pieces: &mut Pieces,
+    writer: &mut W,
+    epochs: u64,
+    grants: u128,
+) -> Result<(), EmitFault>
+    ensures { Puts W.contents writer.old writer.new pieces.old pieces.new result
+        (report_end epochs grants) }
+{
+    send_number(pieces, writer, "end epochs ", u128::from(epochs))?;
+    send_number(pieces, writer, " grants ", grants)?;
+    pieces.put(writer, b"\n")
+}
+
+/// Writes the report of epochs on a network ([`render_report`]) in pieces, and flushes once at the end. Of an epoch of k
+/// clients that come after m others each exit has its share of m + k less its share of m: if the counters are carried, m is
+/// the number of all clients of the epochs before, else 0. The holders of each epoch's names follow those of the epoch
+/// before. It takes no memory.
+///
+/// # Errors
+/// `EmitFault` if a write fails, is interrupted or takes no byte, which ends it: the bytes written until then are the
+/// first of the text. A failed flush is reported with the whole length of the text.
+pub fn write_report<W: Write>(
+    writer: &mut W,
+    pieces: Pieces,
+    network: &Counting,
+    carries: bool,
+    epochs: &[BatchEpoch],
+    holders: &[u64],
+) -> Result<(), EmitFault>
+    requires fresh { pieces ≡ nothing_put }
+    requires servable { AreServable network.now.table.entries epochs.now }
+    requires as_many { clients_of epochs.now ≡ length holders.now }
+    requires few { clients_of epochs.now ≤ MOST_RECORDS }
+    ensures { (records : List EpochRecord)
+        → AreRecordsOf carries network.now.table.width 0 epochs.now records holders.now
+        → let written = written_by (λ fault. First fault.written) result in
+        HasWritten W.contents (λ text. text ≡ report_text network.now records) written writer.old writer.new }
+{
+    report_is_countable(network, epochs, holders);
+    let mut pieces = pieces;
+    send_heading(&mut pieces, writer, network)?;
+    send_epochs(
+        &mut pieces,
+        writer,
+        network.width(),
+        carries,
+        epochs,
+        holders,
+    )?;
+    send_end(
+        &mut pieces,
+        writer,
+        epochs.len() as u64,
+        holders.len() as u128,
+    )?;
+    pieces.finish(writer)
 }

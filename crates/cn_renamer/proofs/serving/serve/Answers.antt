@@ -1,21 +1,48 @@
-use Rattle.std.proofs.Common.{List, ℕ}
+use Rattle.std.proofs.Common.{◌≡◌, List, ℕ, rules}
+use Rattle.std.specs.Prelude.{IfSome}
 use Rattle.std.proofs.lemmas.Result.{err_from_is_err_and}
-use Rattle.cn_renamer.specs.Headline.{IsRunOfKnown}
-use Rattle.cn_renamer.proofs.Headline.{written-until, written-whole}
+use Rattle.cn_wiring.specs.Network.{Network}
+use Rattle.cn_record.specs.declared.record.EpochRecord.{EpochRecord}
+use Rattle.cn_report.specs.Reading.Batch.{IsBatch}
+use Rattle.cn_report.specs.Reading.Records.{records_of}
+use Rattle.cn_report.specs.Writing.Records.{AreRecordsOf}
+use Rattle.cn_report.specs.Writing.Written.{First, HasWritten, Whole}
+use Rattle.cn_report.specs.declared.reading.gathering.BatchEpoch.{BatchEpoch}
+use Rattle.cn_cli.specs.Net.{IsNetworkOf}
+use Rattle.cn_renamer.specs.Headline.{text_in}
+use Rattle.cn_renamer.specs.Running.{AreHoldersOf}
+use Rattle.cn_renamer.proofs.Running.{run-written}
 use Rattle.cn_renamer.proofs.serving.serve.Goals as goal
 
-pub returns-in_err-write_text-clause-headline : goal.returns-in_err-write_text-clause-headline
-returns-in_err-write_text-clause-headline g c =
-    let fault = err_from_is_err_and c.from_residual-in_err-write_text.result c.from_residual-in_err-write_text.ensures.1 in
+pub returns-in_err-write_epochs-clause-headline : goal.returns-in_err-write_epochs-clause-headline
+returns-in_err-write_epochs-clause-headline g c =
+    let fault = err_from_is_err_and c.from_residual-in_err-write_epochs.result c.from_residual-in_err-write_epochs.ensures.1 in
     let options = c.args.options.now in
-    let Is : List ℕ → Type 0 = IsRunOfKnown options.net options.form options.carry (g.I.Read.remaining c.args.reader) in
+    let network : Network = c.in_ok-network.network in
+    let known = g.I.Read.remaining c.args.reader in
+    let epochs : List BatchEpoch = c.in_ok-batch.batch.epochs.items in
+    let holders : List ℕ = c.in_ok-holders.holders.items in
+    let built : IsNetworkOf options.net network = search rules in
+    let batch : IfSome known (λ bytes. IsBatch network.table.entries (records_of bytes) epochs) = rw c.entries.ensures.value at c.in_ok-batch.ensures.answer in
+    let listed : AreHoldersOf options.carry network.table.width epochs holders = rw c.deref.ensures.value at c.in_ok-holders.ensures.listed in
+    let writes : (records : List EpochRecord) → AreRecordsOf options.carry network.table.width 0 epochs records holders
+        → HasWritten g.W.Write.contents (λ text. text ≡ text_in options.form network records) (First c.in_err-write_epochs.field-0.0.written) c.args.writer.now c.write_epochs.new.writer =
+    rw (c.deref-2.ensures.value, c.deref-3.ensures.value) at c.in_err-write_epochs.ensures in
     rw (fault.1, fault.2) (
-    written-until g.W.Write.contents c.args.writer.now c.write_text.new.writer Is c.in_ok-text.text.items c.in_ok-text.ensures.text
-    c.in_err-write_text.field-0.0 (rw c.deref.ensures.value at c.in_err-write_text.ensures))
+    run-written g.W.Write.contents c.args.writer.now c.write_epochs.new.writer options.net options.form options.carry network built known epochs batch holders listed
+    (First c.in_err-write_epochs.field-0.0.written) writes)
 
 pub returns-clause-headline : goal.returns-clause-headline
 returns-clause-headline g c =
     let options = c.args.options.now in
-    let Is : List ℕ → Type 0 = IsRunOfKnown options.net options.form options.carry (g.I.Read.remaining c.args.reader) in
-    written-whole g.W.Write.contents c.args.writer.now c.write_text.new.writer Is c.in_ok-text.text.items c.in_ok-text.ensures.text
-    (rw c.deref.ensures.value at c.in_ok-write_text.ensures)
+    let network : Network = c.in_ok-network.network in
+    let known = g.I.Read.remaining c.args.reader in
+    let epochs : List BatchEpoch = c.in_ok-batch.batch.epochs.items in
+    let holders : List ℕ = c.in_ok-holders.holders.items in
+    let built : IsNetworkOf options.net network = search rules in
+    let batch : IfSome known (λ bytes. IsBatch network.table.entries (records_of bytes) epochs) = rw c.entries.ensures.value at c.in_ok-batch.ensures.answer in
+    let listed : AreHoldersOf options.carry network.table.width epochs holders = rw c.deref.ensures.value at c.in_ok-holders.ensures.listed in
+    let writes : (records : List EpochRecord) → AreRecordsOf options.carry network.table.width 0 epochs records holders
+        → HasWritten g.W.Write.contents (λ text. text ≡ text_in options.form network records) Whole c.args.writer.now c.write_epochs.new.writer =
+    rw (c.deref-2.ensures.value, c.deref-3.ensures.value) at c.in_ok-write_epochs.ensures in
+    run-written g.W.Write.contents c.args.writer.now c.write_epochs.new.writer options.net options.form options.carry network built known epochs batch holders listed Whole writes

@@ -1,0 +1,205 @@
+//! The epochs of a batch, run by many workers: one after another, or beside one another.
+
+ghost use Rattle.std.specs.Prelude.{◌≡◌, ◌+◌, ◌++◌, ◌<◌, ◌≤◌, IfOk, OnOk, false, length, take};
+ghost use Rattle.cn_spec.specs.declared.limits.TheConstants.{MOST_CARRIED, MOST_RECORDS};
+ghost use Rattle.cn_spec.specs.Sums.{when};
+ghost use Rattle.cn_floor.specs.Carried.{client_count};
+ghost use Rattle.cn_report.specs.Reading.Batch.{AreServable, MayCome, clients_of};
+ghost use Rattle.cn_renamer.specs.Headline.{IsServed};
+ghost use Rattle.cn_renamer.specs.Running.{AreHoldersOf, IsCrew, MayRunAll};
+ghost use denote.Param.Send.{IsSync};
+
+use crate::crew::{Crew, CrewGate};
+use cn_cli::Options;
+use cn_epoch::EpochRecord;
+use cn_report::BatchEpoch;
+use cn_walk::{Gate, Outcome, RunFault, Runner};
+use cn_wiring::Counting;
+use std::alloc::{AllocError, Global};
+use std::sync::Wait;
+use std::thread::{Threads, join_mut};
+
+/// The record of an epoch of a batch, by what came of it.
+fn record_of(epoch: &BatchEpoch, outcome: Outcome) -> EpochRecord
+    ensures number { result.number ≡ epoch.now.number }
+    ensures clients { result.clients ≡ length epoch.now.clients.items }
+    ensures counts { result.counts.items ≡ outcome.counts }
+    ensures holders { result.holders.items ≡ outcome.holders }
+{
+    let (counts, holders) = outcome.into_lists();
+    EpochRecord {
+        number: epoch.number,
+        clients: epoch.clients.len() as u64,
+        counts,
+        holders,
+    }
+}
+
+/// Runs the next epoch of a batch by a crew: its record, and the runner for the one after it.
+fn run_next<'n, G: Gate + Sync, R: Threads + Wait + Sync>(
+    rt: &R,
+    alloc: Global,
+    runner: Runner<'n>,
+    epoch: &BatchEpoch,
+    crew: Crew,
+    gate: &G,
+) -> Result<(EpochRecord, Runner<'n>), AllocError>
+    requires come { MayCome runner.words.network.table.entries epoch.now.clients.items }
+    requires few { client_count runner.words ≤ MOST_CARRIED }
+    requires crew { IsCrew crew }
+    ensures served { IfOk result (λ r.
+        IsServed runner.entry.words.network.table.width (client_count runner.entry.words) epoch.now r.0) }
+    ensures network { IfOk result (λ r. r.1.words.network ≡ runner.entry.words.network) }
+    ensures carries { IfOk result (λ r. r.1.carries ≡ runner.entry.carries) }
+    ensures came { IfOk result (λ r. client_count r.1.words
+        ≡ client_count runner.entry.words + when runner.entry.carries (length epoch.now.clients.items)) }
+{
+    let gate = CrewGate {
+        gate,
+        first: crew.first,
+    };
+    let (runner, ended) = runner.run(rt, alloc, &epoch.clients, crew.workers, crew.hand, &gate);
+    match ended {
+        Ok(outcome) => Ok((record_of(epoch, outcome), runner)),
+        Err(fault) => {
+            // An epoch of a batch is refused only for want of memory.
+            prove!(matches!(fault, RunFault::Memory));
+            Err(AllocError)
+        }
+    }
+}
+
+/// Writes a list at a place.
+fn put(places: &mut [u64], at: usize, list: &[u64])
+    requires { at + length list.now ≤ length places.old }
+    ensures places { length places.new ≡ length places.old }
+    ensures written { take (at + length list.now) places.new ≡ take at places.old ++ list.now }
+{
+    places[at..at + list.len()].copy_from_slice(list);
+}
+
+/// Runs epochs one after another by a crew, and writes who has which name. Each epoch begins with counters of 0 or, if they
+/// are carried, with those of the one before.
+fn run_in_turn<G: Gate + Sync, R: Threads + Wait + Sync>(
+    rt: &R,
+    alloc: Global,
+    network: &Counting,
+    carries: bool,
+    epochs: &[BatchEpoch],
+    crew: Crew,
+    gate: &G,
+    holders: &mut [u64],
+) -> Result<(), AllocError>
+    requires epochs { MayRunAll network.now.table.entries epochs.now (length holders.old) }
+    requires crew { IsCrew crew }
+    ensures { OnOk result (AreHoldersOf carries network.now.table.width epochs.now holders.new) }
+{
+    let mut runner = Runner::new(alloc, network, carries)?;
+    let mut at = 0;
+    for epoch in epochs {
+        let (record, next) = run_next(rt, alloc, runner, epoch, crew, gate)?;
+        put(holders, at, &record.holders);
+        at += epoch.clients.len();
+        runner = next;
+    }
+    Ok(())
+}
+
+/// How many clients epochs have.
+fn clients_in(epochs: &[BatchEpoch]) -> usize
+    requires { clients_of epochs.now ≤ MOST_RECORDS }
+    ensures { result ≡ clients_of epochs.now }
+{
+    epochs.iter().map(|epoch| epoch.clients.len()).sum()
+}
+
+/// Where epochs are cut in two, each part with one at least: how many come before the cut, and how many clients these
+/// have. It is the first place at which so many clients are reached.
+fn cut(epochs: &[BatchEpoch], wanted: usize) -> (usize, usize)
+    requires two { 2 ≤ length epochs.now }
+    requires few { clients_of epochs.now ≤ MOST_RECORDS }
+    ensures both { (0 < result.0) × (result.0 < length epochs.now) }
+    ensures clients { result.1 ≡ clients_of (take result.0 epochs.now) }
+{
+    let mut at = 1;
+    let mut clients = epochs[0].clients.len();
+    while clients < wanted && at + 1 < epochs.len() {
+        clients += epochs[at].clients.len();
+        at += 1;
+    }
+    (at, clients)
+}
+
+/// Runs epochs that carry nothing by a crew, and writes who has which name: two parts of the epochs beside each other, each
+/// by a part of the crew, and so on in each. One worker runs its epochs one after another, and one epoch is run by the whole
+/// crew. If no thread can be had the parts are run one after the other.
+fn run_beside<G: Gate + Sync, R: Threads + Wait + Sync>(
+    rt: &R,
+    alloc: Global,
+    network: &Counting,
+    epochs: &[BatchEpoch],
+    crew: Crew,
+    gate: &G,
+    holders: &mut [u64],
+) -> Result<(), AllocError>
+    requires epochs { MayRunAll network.now.table.entries epochs.now (length holders.old) }
+    requires crew { IsCrew crew }
+    ensures { OnOk result (AreHoldersOf false network.now.table.width epochs.now holders.new) }
+{
+    if epochs.len() < 2 || crew.workers < 2 {
+        return run_in_turn(rt, alloc, network, false, epochs, crew, gate, holders);
+    }
+    let clients = holders.len();
+    // The first part is to have the clients of half the crew, of an odd one the smaller half.
+    let wanted = clients * (crew.workers / 2) as usize / crew.workers as usize;
+    let (at, reached) = cut(epochs, wanted);
+    let (crew, others) = crew.split(reached, clients);
+    let (first, second) = epochs.split_at(at);
+    let (front, back) = holders.split_at_mut(reached);
+    let (one, other) = join_mut(
+        rt,
+        &mut ||
+            requires { IsSync R.row × IsSync G.row × IsCrew crew
+                × MayRunAll network.now.table.entries first.now (length front.now) }
+            ensures { OnOk result (AreHoldersOf false network.entry.now.table.width first.entry.now front.exit.now) }
+        { run_beside(rt, alloc, network, first, crew, gate, front) },
+        &mut ||
+            requires { IsSync R.row × IsSync G.row × IsCrew others
+                × MayRunAll network.now.table.entries second.now (length back.now) }
+            ensures { OnOk result (AreHoldersOf false network.entry.now.table.width second.entry.now back.exit.now) }
+        { run_beside(rt, alloc, network, second, others, gate, back) },
+    );
+    one?;
+    other?;
+    Ok(())
+}
+
+/// Runs the epochs of a batch on a network, as the options say: who has which name, epoch after epoch, each by rising
+/// name. Epochs that carry counters run one after another, others beside one another.
+pub(crate) fn run_all<G: Gate + Sync, R: Threads + Wait + Sync>(
+    rt: &R,
+    alloc: Global,
+    network: &Counting,
+    options: &Options,
+    epochs: &[BatchEpoch],
+    gate: &G,
+) -> Result<Vec<u64>, AllocError>
+    requires servable { AreServable network.now.table.entries epochs.now }
+    requires few { clients_of epochs.now ≤ MOST_RECORDS }
+    ensures listed { IfOk result (λ holders.
+        AreHoldersOf options.now.carry network.now.table.width epochs.now holders.items) }
+    ensures many { IfOk result (λ holders. clients_of epochs.now ≡ length holders.items) }
+{
+    let mut holders = vec![in alloc; 0; clients_in(epochs)]?;
+    let crew = Crew {
+        first: 0,
+        workers: options.workers(),
+        hand: options.hand(),
+    };
+    if options.carries() {
+        run_in_turn(rt, alloc, network, true, epochs, crew, gate, &mut holders)?;
+    } else {
+        run_beside(rt, alloc, network, epochs, crew, gate, &mut holders)?;
+    }
+    Ok(holders)
+}
