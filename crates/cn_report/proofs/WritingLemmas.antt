@@ -5,7 +5,6 @@ pub mod LineEnds
 pub mod Lines
 pub mod Pieces
 pub mod Records
-pub mod Reports
 pub mod SameLines
 pub mod Words
 pub mod Writings

@@ -11,6 +11,6 @@ pub use reading::{
     TightEpoch, check_grants, read_batch, read_schedule,
 };
 pub use writing::{
-    EmitFault, GrantsText, Pieces, ReportText, emit, render_grants, render_replay, render_report,
-    render_tight, render_wiring, write_grants, write_report,
+    EmitFault, Pieces, emit, render_grants, render_replay, render_report, render_tight,
+    render_wiring, write_grants, write_report,
 };

@@ -13,9 +13,9 @@ mod tight;
 mod wiring;
 
 pub use emitting::{EmitFault, emit};
-pub use grants::{GrantsText, render_grants, write_grants};
+pub use grants::{render_grants, write_grants};
 pub use pieces::Pieces;
 pub use replay::render_replay;
-pub use report::{ReportText, render_report, write_report};
+pub use report::{render_report, write_report};
 pub use tight::render_tight;
 pub use wiring::render_wiring;

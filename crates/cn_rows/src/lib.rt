@@ -17,9 +17,9 @@ mod grants;
 #[cfg(test)]
 mod grants_form;
 #[cfg(test)]
-mod growing;
-#[cfg(test)]
 mod hostile;
+#[cfg(test)]
+mod listing;
 #[cfg(test)]
 mod meeting;
 #[cfg(test)]

@@ -1,8 +1,9 @@
 -- A text that is put in pieces, part by part.
-use Rattle.std.proofs.Common.{add-one, ◌≡◌, ℕ, ◌+◌, ◌-◌, ◌^◌, ◌<◌, ◌≤◌, List, [], ◌++◌, Option, Result, Ok, Err, length, take, min, ap, ◌∙◌, sym, subst, append_assoc, append-nil, arith, length-append, refl}
+use Rattle.std.proofs.Common.{add-one, ◌∷◌, OnOk, drop, get_or, ◌≡◌, ℕ, ◌+◌, ◌-◌, ◌^◌, ◌<◌, ◌≤◌, List, [], ◌++◌, Option, Result, Ok, Err, length, take, min, ap, ◌∙◌, sym, subst, append_assoc, append-nil, arith, length-append, refl}
 use Rattle.std.specs.List.{flat_map, range_with_len}
 use Rattle.std.proofs.Math.Seq.{take-append-add, take-length}
-use Rattle.std.proofs.lemmas.List.{take-append-le}
+use Rattle.std.proofs.Math.ListN.{drop_of_length-le}
+use Rattle.std.proofs.lemmas.List.{drop_more, take-append-le}
 use Rattle.std.specs.Io.KnownBytes.{Appends, Keeps}
 use Rattle.std.proofs.KnownBytes.{Appends-kept, Appends-nil, Appends-trans}
 use Rattle.cn_report.specs.declared.writing.emitting.EmitFault.{EmitFault}
@@ -10,9 +11,9 @@ use Rattle.cn_report.specs.Writing.Written.{First, HasWritten, written_by}
 use Rattle.std.specs.Result.{MatchResult}
 use Rattle.cn_report.specs.Writing.Pieces.{IsCutShort, IsOnItsWay, Pending, nothing_put}
 
--- a text that begins
-pub begins : (start : Option (List ℕ)) (text : List ℕ) → IsOnItsWay start start nothing_put text text
-begins start text = record { out = []; grown = Appends-nil start; counted = refl; whole = refl }
+-- a text that begins, in parts
+pub begun : (start : Option (List ℕ)) (pending : Pending) (text parts : List ℕ) → pending ≡ nothing_put → text ≡ parts → IsOnItsWay start start pending text parts
+begun start pending text parts fresh same = record { out = []; grown = Appends-nil start; counted = ap (λ (p : Pending). p.written) fresh; whole = same ∙ ap (λ (p : Pending). p.held ++ parts) (sym fresh) }
 
 -- the next bytes are held
 pub held-more : (start now : Option (List ℕ)) (from to : Pending) (bytes text left : List ℕ) → to.held ≡ from.held ++ bytes → to.written ≡ from.written
@@ -108,6 +109,23 @@ module _ (start now : Option (List ℕ)) (pending : Pending) (text : List ℕ) w
   no-line f i n left over way =
       let none : n - i ≡ 0 = omega arith in
       same-left _ _ (ap (λ k. flat_map f (range_with_len i k) ++ left) none) way
+
+module _ {X : Type 0} (f : X → List ℕ) (start now : Option (List ℕ)) (pending : Pending) (text : List ℕ) where
+  -- the lines of the element at i are the next
+  pub next-item : (xs : List X) (i : ℕ) (x : X) (left : List ℕ) → i < length xs → x ≡ get_or xs i x → IsOnItsWay start now pending text (flat_map f (drop i xs) ++ left)
+      → IsOnItsWay start now pending text (f x ++ (flat_map f (drop (i + 1) xs) ++ left))
+  next-item xs i x left within is way =
+      let more : drop i xs ≡ x ∷ drop (i + 1) xs = drop_more xs i x within ∙ ap (λ (y : X). y ∷ drop (i + 1) xs) (sym is) in
+      apart start now pending text (f x) (flat_map f (drop (i + 1) xs)) left (same-left start now pending text _ _ (ap (λ (ys : List X). flat_map f ys ++ left) more) way)
+
+  -- and after the last there is none
+  pub no-item : (xs : List X) (i : ℕ) (left : List ℕ) → length xs ≤ i → IsOnItsWay start now pending text (flat_map f (drop i xs) ++ left)
+      → IsOnItsWay start now pending text left
+  no-item xs i left over way = same-left start now pending text _ _ (ap (λ (ys : List X). flat_map f ys ++ left) (drop_of_length-le xs over)) way
+
+pub whole-at-ok : {U E : Type 0} (P : Type 0) (Q : E → Type 0) (result : Result U E) → MatchResult result (λ done. P) Q → OnOk result P
+whole-at-ok P Q (Ok done) whole = whole
+whole-at-ok P Q (Err fault) cut = tt
 
 -- a text that was to be put is written, whole or its first bytes
 pub text-written : {U W : Type 0} (contents : W → Option (List ℕ)) (old new : W) (text : List ℕ) (result : Result U EmitFault) → length text < 2 ^ 64

@@ -18,22 +18,6 @@ epoch_lines width r = epoch_line r.number r.clients ++ outcome_lines width r
 abbrev pub clients_of : List EpochRecord → ℕ
 clients_of records = sum_by (λ r. r.clients) records
 
--- what a report has so far: how wide its network is, its bytes, and how many epochs and grants they give
-pub record ReportSoFar : Type 0 where
-  pub width : ℕ
-  pub bytes : List ℕ
-  pub epochs : ℕ
-  pub grants : ℕ
-
--- the report of these epochs, before its end line
-abbrev pub report_so_far : Network → List EpochRecord → ReportSoFar
-report_so_far network records = record {
-  width = network.table.width;
-  bytes = heading network ++ flat_map (epoch_lines network.table.width) records;
-  epochs = length records;
-  grants = clients_of records;
-}
-
 -- how many epochs and grants there are
 unfoldable pub report_end : ℕ → ℕ → List ℕ
 report_end epochs grants = line (codes "end" ∷ codes "epochs" ∷ decimal epochs ∷ codes "grants" ∷ decimal grants ∷ [])

@@ -1,6 +1,7 @@
 //! The text of a grant list.
 
 ghost use Rattle.std.specs.Prelude.{◌≡◌, ◌≤◌, [], ◌∷◌, ◌++◌, ℕ, All, Bool, List, OnOk, IfOk, length};
+ghost use Rattle.std.specs.Io.KnownBytes.{Appends};
 ghost use Rattle.std.specs.List.{flat_map};
 ghost use Rattle.cn_spec.specs.declared.limits.TheConstants.{MOST_RECORDS};
 ghost use Rattle.cn_record.specs.declared.record.EpochRecord.{EpochRecord};
@@ -8,105 +9,16 @@ ghost use Rattle.cn_report.specs.Writing.Grants.{HasHolders, grant_lines, grants
 ghost use Rattle.cn_report.specs.Reading.Batch.{clients_of};
 ghost use Rattle.cn_report.specs.Writing.Pieces.{Puts, nothing_put};
 ghost use Rattle.cn_report.specs.Writing.Records.{AreRecordsOf};
-ghost use Rattle.cn_report.specs.Writing.Text.{Grows};
 ghost use Rattle.cn_report.specs.Writing.Written.{First, HasWritten, written_by};
 
 use crate::reading::BatchEpoch;
 use crate::writing::bounds::grants_are_countable;
 use crate::writing::emitting::EmitFault;
-use crate::writing::line::{put_grant, send_grant};
+use crate::writing::line::send_grant;
 use crate::writing::pieces::Pieces;
 use cn_record::EpochRecord;
 use std::alloc::{AllocError, Global};
 use std::io::Write;
-use std::marker::Model;
-
-#[tactic(auto, unfolding(crate::specs::Writing::Grants::grants_header))]
-fn put_header(text: &mut String) -> Result<(), AllocError>
-    ensures { OnOk result (Grows text.old text.new grants_header) }
-{
-    writeln!(text, "epoch,client,name")
-}
-
-fn put_epoch(text: &mut String, epoch: u64, clients: u64, holders: &[u64]) -> Result<(), AllocError>
-    requires { length holders.now ≡ clients }
-    ensures { OnOk result (Grows text.old text.new (grant_lines epoch clients holders.now)) }
-{
-    for name in 0..clients {
-        put_grant(text, epoch, holders[name as usize], name)?;
-    }
-    Ok(())
-}
-
-/// The text of a grant list that grows as epochs end: no epoch's record is needed once it is added.
-#[derive(Drop)]
-pub struct GrantsText {
-    text: String,
-}
-
-impl Model for GrantsText {
-    ghost use Rattle.std.specs.Prelude.{ℕ, List, string_bytes};
-
-    ghost Value = { List ℕ };
-
-    ghost view = { λ t. string_bytes t.text };
-}
-
-impl GrantsText {
-    /// The grant list of no epoch yet: its header.
-    ///
-    /// # Errors
-    /// `AllocError` if the text gets no memory.
-    pub fn begin(alloc: Global) -> Result<Self, AllocError>
-        ensures { IfOk result (λ text. text ≡ grants_text []) }
-    {
-        let mut text = String::new(alloc);
-        put_header(&mut text)?;
-        Ok(GrantsText { text })
-    }
-
-    /// The grant list with one epoch more: a record of each name and its holder, by rising name. The epoch has a holder for
-    /// each of its clients.
-    ///
-    /// # Errors
-    /// `AllocError` if the text gets no memory.
-    pub fn add(self, epoch: &EpochRecord) -> Result<Self, AllocError>
-        requires { HasHolders epoch.now }
-        ensures { (records : List EpochRecord) → self ≡ grants_text records
-            → IfOk result (λ text. text ≡ grants_text (records ++ epoch.now ∷ [])) }
-    {
-        let GrantsText { mut text } = self;
-        put_epoch(&mut text, epoch.number, epoch.clients, &epoch.holders)?;
-        Ok(GrantsText { text })
-    }
-
-    /// The whole text: it has no end line.
-    pub fn end(self) -> Vec<u8>
-        ensures { result.items ≡ self }
-    {
-        let GrantsText { text } = self;
-        text.into_bytes()
-    }
-}
-
-/// The grant list of epochs: a header `epoch,client,name`, and for each epoch a record of each name and its holder, by
-/// rising name. Each record has a holder for each of its clients.
-///
-/// If the epochs' numbers rise and each is tight, [`crate::check_grants`] takes it for a tight list
-/// ([`crate::laws::written_grants_are_tight`]).
-///
-/// # Errors
-/// `AllocError` if the text gets no memory.
-pub fn render_grants(alloc: Global, records: &[EpochRecord]) -> Result<Vec<u8>, AllocError>
-    requires { All HasHolders records.now }
-    ensures { IfOk result (λ text. text.items ≡ grants_text records.now) }
-{
-    let mut text = GrantsText::begin(alloc)?;
-    for epoch in records {
-        text = text.add(epoch)?;
-    }
-    Ok(text.end())
-}
 
 #[tactic(auto, unfolding(crate::specs::Writing::Grants::grants_header))]
 fn send_header<W: Write>(pieces: &mut Pieces, writer: &mut W) -> Result<(), EmitFault>
@@ -149,6 +61,57 @@ fn send_epochs<W: Write>(
         left = others;
     }
     Ok(())
+}
+
+fn send_records<W: Write>(
+    pieces: &mut Pieces,
+    writer: &mut W,
+    records: &[EpochRecord],
+) -> Result<(), EmitFault>
+    requires { All HasHolders records.now }
+    ensures { Puts W.contents writer.old writer.new pieces.old pieces.new result
+        (flat_map (λ r. grant_lines r.number r.clients r.holders.items) records.now) }
+{
+    for epoch in records {
+        send_epoch(pieces, writer, epoch.number, &epoch.holders)?;
+    }
+    Ok(())
+}
+
+fn send_grants<W: Write>(
+    pieces: Pieces,
+    writer: &mut W,
+    records: &[EpochRecord],
+) -> Result<(), EmitFault>
+    requires fresh { pieces ≡ nothing_put }
+    requires whole { All HasHolders records.now }
+    ensures { OnOk result (Appends (W.contents writer.old) (W.contents writer.new) (grants_text records.now)) }
+{
+    let mut pieces = pieces;
+    send_header(&mut pieces, writer)?;
+    send_records(&mut pieces, writer, records)?;
+    pieces.finish(writer)
+}
+
+/// The grant list of epochs: a header `epoch,client,name`, and for each epoch a record of each name and its holder, by
+/// rising name. Each record has a holder for each of its clients.
+///
+/// If the epochs' numbers rise and each is tight, [`crate::check_grants`] takes it for a tight list
+/// ([`crate::laws::written_grants_are_tight`]).
+///
+/// # Errors
+/// `AllocError` if the text gets no memory.
+pub fn render_grants(alloc: Global, records: &[EpochRecord]) -> Result<Vec<u8>, AllocError>
+    requires { All HasHolders records.now }
+    ensures { IfOk result (λ text. text.items ≡ grants_text records.now) }
+{
+    let pieces = Pieces::new(alloc)?;
+    let mut text = Vec::new(alloc);
+    match send_grants(pieces, &mut text, records) {
+        Ok(()) => Ok(text),
+        // A vector refuses a write only for want of memory.
+        Err(_) => Err(AllocError),
+    }
 }
 
 /// Writes the grant list of epochs ([`render_grants`]) in pieces, and flushes once at the end: of each epoch the holders of

@@ -78,21 +78,6 @@ pub(crate) fn put_line(
     text.push_str(unsafe { str::from_utf8_unchecked(&line[start..]) })
 }
 
-/// Appends a record of three numbers.
-#[inline(always)]
-pub(crate) fn put_grant(
-    text: &mut String,
-    epoch: u64,
-    client: u64,
-    name: u64,
-) -> Result<(), AllocError>
-    ensures { OnOk result (Grows text.old text.new (grant_line epoch client name)) }
-{
-    let mut line = [b'\n'; ROOM];
-    let start = make_grant(&mut line, epoch, client, name);
-    text.push_str(unsafe { str::from_utf8_unchecked(&line[start..]) })
-}
-
 /// Sends a line of two words, each with a number after it.
 #[inline(always)]
 pub(crate) fn send_line<W: Write>(

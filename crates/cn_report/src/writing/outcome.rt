@@ -76,6 +76,23 @@ fn send_count<W: Write>(
     send_line(pieces, writer, "exit ", u64::from(exit), " count ", count)
 }
 
+/// Sends a line for each exit and its count.
+pub(crate) fn send_exits<W: Write>(
+    pieces: &mut Pieces,
+    writer: &mut W,
+    width: u32,
+    counts: &[u64],
+) -> Result<(), EmitFault>
+    requires { length counts.now ≡ width }
+    ensures { Puts W.contents writer.old writer.new pieces.old pieces.new result
+        (exit_lines width counts.now) }
+{
+    for exit in 0..width {
+        send_count(pieces, writer, exit, counts[exit as usize])?;
+    }
+    Ok(())
+}
+
 /// How many of `clients` tokens that come after `before` others leave by an exit.
 #[inline]
 fn count_after(width: u32, before: u64, clients: u64, exit: u32) -> u64

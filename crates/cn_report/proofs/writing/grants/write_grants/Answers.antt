@@ -1,10 +1,9 @@
-use Rattle.std.proofs.Common.{◌≡◌, ℕ, List, [], ◌++◌, append-nil, ap, subst, sym}
+use Rattle.std.proofs.Common.{◌≡◌, ℕ, List, [], ◌++◌, append-nil, ap, sym}
 use Rattle.std.specs.List.{flat_map}
 use Rattle.std.proofs.lemmas.Result.{err_from_is_err_and}
 use Rattle.cn_report.specs.Writing.Grants.{grants_header, grants_text}
-use Rattle.cn_report.specs.Writing.Pieces.{IsOnItsWay, Pending, nothing_put}
 use Rattle.cn_report.proofs.WritingLemmas.Lengths.{grants-of}
-use Rattle.cn_report.proofs.WritingLemmas.Pieces.{begins, same-left, text-cut, text-written}
+use Rattle.cn_report.proofs.WritingLemmas.Pieces.{begun, text-cut, text-written}
 use Rattle.cn_report.proofs.writing.grants.write_grants.Goals as goal
 
 in-parts : (first second : List ℕ) → first ++ second ≡ first ++ (second ++ [])
@@ -16,8 +15,7 @@ returns-in_err-send_header g c carry width records are =
     let start = g.W.Write.contents c.args.writer.now in
     let text = grants_text records in
     let fits = c.grants_are_countable.ensures carry width records are in
-    let way0 = subst (λ (p : Pending). IsOnItsWay start start p text (grants_header ++ (flat_map grants-of records ++ []))) (sym c.requires.fresh)
-    (same-left start start nothing_put text text _ (in-parts grants_header (flat_map grants-of records)) (begins start text)) in
+    let way0 = begun start c.args.pieces text (grants_header ++ (flat_map grants-of records ++ [])) c.requires.fresh (in-parts grants_header (flat_map grants-of records)) in
     rw (fault.1, fault.2)
     (text-cut g.W.Write.contents c.args.writer.now c.send_header.new.writer text c.in_err-send_header.field-0.0 fits (c.in_err-send_header.ensures start text _ way0))
 
@@ -27,8 +25,7 @@ returns-in_err-send_epochs g c carry width records are =
     let start = g.W.Write.contents c.args.writer.now in
     let text = grants_text records in
     let fits = c.grants_are_countable.ensures carry width records are in
-    let way0 = subst (λ (p : Pending). IsOnItsWay start start p text (grants_header ++ (flat_map grants-of records ++ []))) (sym c.requires.fresh)
-    (same-left start start nothing_put text text _ (in-parts grants_header (flat_map grants-of records)) (begins start text)) in
+    let way0 = begun start c.args.pieces text (grants_header ++ (flat_map grants-of records ++ [])) c.requires.fresh (in-parts grants_header (flat_map grants-of records)) in
     let way1 = c.in_ok-send_header.ensures start text _ way0 in
     rw (fault.1, fault.2)
     (text-cut g.W.Write.contents c.args.writer.now c.send_epochs.new.writer text c.in_err-send_epochs.field-0.0 fits (c.in_err-send_epochs.ensures carry width records are start text [] way1))
@@ -38,8 +35,7 @@ returns g c carry width records are =
     let start = g.W.Write.contents c.args.writer.now in
     let text = grants_text records in
     let fits = c.grants_are_countable.ensures carry width records are in
-    let way0 = subst (λ (p : Pending). IsOnItsWay start start p text (grants_header ++ (flat_map grants-of records ++ []))) (sym c.requires.fresh)
-    (same-left start start nothing_put text text _ (in-parts grants_header (flat_map grants-of records)) (begins start text)) in
+    let way0 = begun start c.args.pieces text (grants_header ++ (flat_map grants-of records ++ [])) c.requires.fresh (in-parts grants_header (flat_map grants-of records)) in
     let way1 = c.in_ok-send_header.ensures start text _ way0 in
     let way2 = c.in_ok-send_epochs.ensures carry width records are start text [] way1 in
     text-written g.W.Write.contents c.args.writer.now c.finish.new.writer text c.finish.result fits (c.finish.ensures start text way2)

@@ -1,11 +1,10 @@
-use Rattle.std.proofs.Common.{◌≡◌, ℕ, List, [], ◌++◌, ◌∙◌, append_assoc, append-nil, ap, ap₂, arith, length, subst, sym}
+use Rattle.std.proofs.Common.{◌≡◌, ℕ, List, [], ◌++◌, ◌∙◌, append_assoc, append-nil, ap, ap₂, arith, length, sym}
 use Rattle.std.specs.List.{flat_map}
 use Rattle.std.proofs.lemmas.Result.{err_from_is_err_and}
-use Rattle.cn_report.specs.Writing.Pieces.{IsOnItsWay, Pending, nothing_put}
 use Rattle.cn_report.specs.Writing.Report.{clients_of, epoch_lines, report_end, report_text}
 use Rattle.cn_report.specs.Writing.Text.{heading}
 use Rattle.cn_report.proofs.WritingLemmas.Lengths.{as-many-records}
-use Rattle.cn_report.proofs.WritingLemmas.Pieces.{begins, same-left, text-cut, text-written}
+use Rattle.cn_report.proofs.WritingLemmas.Pieces.{begun, same-left, text-cut, text-written}
 use Rattle.cn_report.proofs.writing.report.write_report.Goals as goal
 
 in-parts : (first second third : List ℕ) → (first ++ second) ++ third ≡ first ++ (second ++ (third ++ []))
@@ -23,8 +22,7 @@ returns-in_err-send_heading g c records are =
     let fits = c.report_is_countable.ensures c.args.carries records are in
     let lines = flat_map (epoch_lines network.table.width) records in
     let end = report_end (length records) (clients_of records) in
-    let way0 = subst (λ (p : Pending). IsOnItsWay start start p text (heading network ++ (lines ++ (end ++ [])))) (sym c.requires.fresh)
-    (same-left start start nothing_put text text _ (in-parts (heading network) lines end) (begins start text)) in
+    let way0 = begun start c.args.pieces text (heading network ++ (lines ++ (end ++ []))) c.requires.fresh (in-parts (heading network) lines end) in
     rw (fault.1, fault.2)
     (text-cut g.W.Write.contents c.args.writer.now c.send_heading.new.writer text c.in_err-send_heading.field-0.0 fits (c.in_err-send_heading.ensures start text _ way0))
 
@@ -37,8 +35,7 @@ returns-in_err-send_epochs g c records are =
     let fits = c.report_is_countable.ensures c.args.carries records are in
     let lines = flat_map (epoch_lines network.table.width) records in
     let end = report_end (length records) (clients_of records) in
-    let way0 = subst (λ (p : Pending). IsOnItsWay start start p text (heading network ++ (lines ++ (end ++ [])))) (sym c.requires.fresh)
-    (same-left start start nothing_put text text _ (in-parts (heading network) lines end) (begins start text)) in
+    let way0 = begun start c.args.pieces text (heading network ++ (lines ++ (end ++ []))) c.requires.fresh (in-parts (heading network) lines end) in
     let way1 = c.in_ok-send_heading.ensures start text _ way0 in
     rw (fault.1, fault.2)
     (text-cut g.W.Write.contents c.args.writer.now c.send_epochs.new.writer text c.in_err-send_epochs.field-0.0 fits ((rw c.width.ensures.value at c.in_err-send_epochs.ensures) records are start text _ way1))
@@ -52,8 +49,7 @@ returns-in_err-send_end g c records are =
     let fits = c.report_is_countable.ensures c.args.carries records are in
     let lines = flat_map (epoch_lines network.table.width) records in
     let end = report_end (length records) (clients_of records) in
-    let way0 = subst (λ (p : Pending). IsOnItsWay start start p text (heading network ++ (lines ++ (end ++ [])))) (sym c.requires.fresh)
-    (same-left start start nothing_put text text _ (in-parts (heading network) lines end) (begins start text)) in
+    let way0 = begun start c.args.pieces text (heading network ++ (lines ++ (end ++ []))) c.requires.fresh (in-parts (heading network) lines end) in
     let way1 = c.in_ok-send_heading.ensures start text _ way0 in
     let way2 = (rw c.width.ensures.value at c.in_ok-send_epochs.ensures) records are start text _ way1 in
     let (many, clients) = as-many-records c.args.carries network.table.width 0 c.args.epochs.now records c.args.holders.now are in
@@ -70,8 +66,7 @@ returns g c records are =
     let fits = c.report_is_countable.ensures c.args.carries records are in
     let lines = flat_map (epoch_lines network.table.width) records in
     let end = report_end (length records) (clients_of records) in
-    let way0 = subst (λ (p : Pending). IsOnItsWay start start p text (heading network ++ (lines ++ (end ++ [])))) (sym c.requires.fresh)
-    (same-left start start nothing_put text text _ (in-parts (heading network) lines end) (begins start text)) in
+    let way0 = begun start c.args.pieces text (heading network ++ (lines ++ (end ++ []))) c.requires.fresh (in-parts (heading network) lines end) in
     let way1 = c.in_ok-send_heading.ensures start text _ way0 in
     let way2 = (rw c.width.ensures.value at c.in_ok-send_epochs.ensures) records are start text _ way1 in
     let (many, clients) = as-many-records c.args.carries network.table.width 0 c.args.epochs.now records c.args.holders.now are in
