@@ -67,9 +67,9 @@ impl Lane {
         self.raw.name(client, entry)
     }
 
-    /// Names clients by one call. If they are more than the network has entries, it lets them in, in this order, and then
-    /// out together, by one atomic add for all that are on a wire: fewer adds on words that several threads share, and not
-    /// less time by one thread. Else it names one after the other, as hardly two would be on one wire.
+    /// Names clients by one call. Those who follow one another in the list by one entry, up to 64 of them, go on together,
+    /// by one atomic add for all that are on a wire; one who has none of its entry beside it walks as by [`Lane::name`]. So
+    /// clients by one entry cost few adds each, and a list by entries in turn as many as single calls.
     ///
     /// Their grants come in the order in which they left, which has not to be that of the clients.
     ///

@@ -43,8 +43,8 @@ pub use words::Words;
 ///
 /// A lane belongs to the floor that made it, and each call has the condition that its lanes are its own. Only
 /// [`Floor::open`] and its like, [`Floor::split`], [`Floor::split_off`], [`Floor::join`], [`Floor::close`],
-/// [`Floor::close_for`], and a [`Floor::enter`] or a [`Floor::name`] without room take memory. Lanes can be sent to threads, and a floor can be
-/// shared by them.
+/// [`Floor::close_for`], and a [`Floor::enter`], a [`Floor::name`] or a [`Floor::name_all`] without room take memory. Lanes
+/// can be sent to threads, and a floor can be shared by them.
 #[derive(Drop)]
 pub struct Floor<'a> {
     alloc: Global,

@@ -11,6 +11,8 @@ mod dropped_lanes;
 #[cfg(test)]
 mod epochs;
 #[cfg(test)]
+mod lists;
+#[cfg(test)]
 mod missing_lane;
 #[cfg(test)]
 mod one_lane;

@@ -1,0 +1,50 @@
+//! The clients of a list, named by one call.
+
+ghost use Rattle.std.specs.Prelude.{◌≡◌};
+
+use crate::walks::{close, open};
+use cn_bitonic::bitonic;
+use cn_floor::LaneFault;
+use cn_tree::tree;
+use cn_walk::{Floor, Lane};
+use cn_wiring::Counting;
+use std::alloc::Global;
+use std::test::Fail;
+
+/// Names clients of a lane with nobody inside, if it has nobody inside.
+fn name_all(floor: &Floor<'_>, lane: &mut Lane, clients: &[u64], entry: u64) -> Option<Result<(), LaneFault>>
+    requires { lane.old.home ≡ floor.now }
+    ensures { lane.new.home ≡ lane.old.home }
+{
+    if lane.inside() == 0 {
+        Some(floor.name_all(lane, clients, entry))
+    } else {
+        None
+    }
+}
+
+/// Whether the quiet floor has these counts, after a refused list by entry 8, one of eight clients, and a list of the six by
+/// this entry, and each of the six has a name below 6.
+fn six_are_named(alloc: Global, network: &Counting, entry: u64, counts: &[u64]) -> Option<[bool; 4]> {
+    let (floor, mut lane) = open(alloc, network, 7)?;
+    let six = [60, 61, 62, 63, 64, 65];
+    let eight = [1, 2, 3, 4, 5, 6, 7, 8];
+    let no_entry = name_all(&floor, &mut lane, &six, 8)? == Err(LaneFault::NoSuchEntry);
+    let spent = name_all(&floor, &mut lane, &eight, entry)? == Err(LaneFault::QuotaSpent);
+    name_all(&floor, &mut lane, &six, entry)?.ok()?;
+    let quiet = close(floor, lane)?;
+    let holders = quiet.holders().ok()?;
+    let own = six.iter().all(|client| holders.contains(client));
+    Some([no_entry, spent, own, quiet.counts() == counts])
+}
+
+#[test]
+fn a_list_leaves_by_each_exit_its_share(rt: HostRuntime) -> Result<(), Fail> {
+    let tree = tree(rt.alloc(), 4)?;
+    let told = six_are_named(rt.alloc(), &tree, 0, &[2, 2, 1, 1]);
+    assert_eq!(&rt; told, Some([true; 4]));
+    let bitonic = bitonic(rt.alloc(), 8)?;
+    let told = six_are_named(rt.alloc(), &bitonic, 5, &[1, 1, 1, 1, 1, 1, 0, 0]);
+    assert_eq!(&rt; told, Some([true; 4]));
+    Ok(())
+}
