@@ -145,9 +145,9 @@ uint32_t renamer_reserve(renamer_lane *lane, uint64_t clients);
    numbers, and are not compared: a client that is named twice gets two names.
 
    Any entry will do. If threads name clients at once on a bitonic network of width w, it is best that each lets its clients
-   in by entries of its own, one after another: thread t of n by those from t * w / n up to, not including, (t + 1) * w / n.
-   That network is two of half the width, on the lower and the upper half of the entries, and a merger. So threads with
-   halves or quarters of the entries meet only in mergers.
+   in by entries of its own, one after another: thread t of n, which is at most w, by those from t * w / n up to, not
+   including, (t + 1) * w / n. That network is two of half the width, on the lower and the upper half of the entries, and a
+   merger. So threads with halves or quarters of the entries meet only in mergers.
    RENAMER_NONE, _STILL_WALKING, _NO_SUCH_ENTRY, _QUOTA_SPENT, _MEMORY. */
 uint32_t renamer_name(renamer_lane *lane, uint64_t client, uint64_t entry, uint64_t *name);
 

@@ -51,8 +51,8 @@ impl Lane {
     /// names.
     ///
     /// Any entry below [`Lane::entries`] will do. If threads name clients at once on a bitonic network of width w, it is
-    /// best that each lets its clients in by entries of its own, one after another: thread t of n by those of
-    /// `t * w / n..(t + 1) * w / n`. That network is two of half the width, on the lower and the upper half of the
+    /// best that each lets its clients in by entries of its own, one after another: thread t of n, which is at most w, by
+    /// those of `t * w / n..(t + 1) * w / n`. That network is two of half the width, on the lower and the upper half of the
     /// entries, and a merger. So threads with halves or quarters of the entries meet only in mergers.
     ///
     /// ```
