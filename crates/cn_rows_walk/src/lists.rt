@@ -12,7 +12,12 @@ use std::alloc::Global;
 use std::test::Fail;
 
 /// Names clients of a lane with nobody inside, if it has nobody inside.
-fn name_all(floor: &Floor<'_>, lane: &mut Lane, clients: &[u64], entry: u64) -> Option<Result<(), LaneFault>>
+fn name_all(
+    floor: &Floor<'_>,
+    lane: &mut Lane,
+    clients: &[u64],
+    entry: u64,
+) -> Option<Result<(), LaneFault>>
     requires { lane.old.home ≡ floor.now }
     ensures { lane.new.home ≡ lane.old.home }
 {
@@ -25,7 +30,12 @@ fn name_all(floor: &Floor<'_>, lane: &mut Lane, clients: &[u64], entry: u64) -> 
 
 /// Whether the quiet floor has these counts, after a refused list by entry 8, one of eight clients, and a list of the six by
 /// this entry, and each of the six has a name below 6.
-fn six_are_named(alloc: Global, network: &Counting, entry: u64, counts: &[u64]) -> Option<[bool; 4]> {
+fn six_are_named(
+    alloc: Global,
+    network: &Counting,
+    entry: u64,
+    counts: &[u64],
+) -> Option<[bool; 4]> {
     let (floor, mut lane) = open(alloc, network, 7)?;
     let six = [60, 61, 62, 63, 64, 65];
     let eight = [1, 2, 3, 4, 5, 6, 7, 8];

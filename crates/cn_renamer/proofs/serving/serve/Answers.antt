@@ -26,7 +26,7 @@ returns-in_err-write_epochs-clause-headline g c =
     let batch : IfSome known (λ bytes. IsBatch network.table.entries (records_of bytes) epochs) = rw c.entries.ensures.value at c.in_ok-batch.ensures.answer in
     let listed : AreHoldersOf options.carry network.table.width epochs holders = rw c.deref.ensures.value at c.in_ok-holders.ensures.listed in
     let writes : (records : List EpochRecord) → AreRecordsOf options.carry network.table.width 0 epochs records holders
-        → HasWritten g.W.Write.contents (λ text. text ≡ text_in options.form network records) (First c.in_err-write_epochs.field-0.0.written) c.args.writer.now c.write_epochs.new.writer =
+    → HasWritten g.W.Write.contents (λ text. text ≡ text_in options.form network records) (First c.in_err-write_epochs.field-0.0.written) c.args.writer.now c.write_epochs.new.writer =
     rw (c.deref-2.ensures.value, c.deref-3.ensures.value) at c.in_err-write_epochs.ensures in
     rw (fault.1, fault.2) (
     run-written g.W.Write.contents c.args.writer.now c.write_epochs.new.writer options.net options.form options.carry network built known epochs batch holders listed
@@ -43,6 +43,6 @@ returns-clause-headline g c =
     let batch : IfSome known (λ bytes. IsBatch network.table.entries (records_of bytes) epochs) = rw c.entries.ensures.value at c.in_ok-batch.ensures.answer in
     let listed : AreHoldersOf options.carry network.table.width epochs holders = rw c.deref.ensures.value at c.in_ok-holders.ensures.listed in
     let writes : (records : List EpochRecord) → AreRecordsOf options.carry network.table.width 0 epochs records holders
-        → HasWritten g.W.Write.contents (λ text. text ≡ text_in options.form network records) Whole c.args.writer.now c.write_epochs.new.writer =
+    → HasWritten g.W.Write.contents (λ text. text ≡ text_in options.form network records) Whole c.args.writer.now c.write_epochs.new.writer =
     rw (c.deref-2.ensures.value, c.deref-3.ensures.value) at c.in_ok-write_epochs.ensures in
     run-written g.W.Write.contents c.args.writer.now c.write_epochs.new.writer options.net options.form options.carry network built known epochs batch holders listed Whole writes
