@@ -30,7 +30,9 @@ impl HelpTexts {
             check: check_help(alloc)?,
             show: String::from_str(alloc, SHOW)?,
             width: format!(in alloc; "The width of the network: {}", Widths)?,
-            workers: format!(in alloc; "How many workers share out the clients: 1 to {MOST_WORKERS}")?,
+            workers: format!(in alloc;
+                "How many workers share out the clients: 1 to {MOST_WORKERS}"
+            )?,
             hand: format!(in alloc; "How many tokens in hand each worker has: 1 to {MOST_HAND}")?,
         })
     }
