@@ -6,7 +6,7 @@ use Rattle.std.proofs.lemmas.List.Elements.{All-push}
 use Rattle.std.proofs.lemmas.Simd.{map-map}
 use Rattle.std.specs.Sync.OnceLock.{Named}
 use Rattle.cn_spec.specs.Step.{IsEachBelow}
-use Rattle.cn_spec.proofs.CallerLemmas.{sum_below-zero}
+use Rattle.cn_spec.proofs.CallerLemmas.{sum-below-zero}
 use Rattle.cn_yard.specs.Lists.{empty, on, tokens_in}
 use Rattle.cn_floor.specs.declared.view.Grant.{Grant}
 use Rattle.cn_floor.specs.Lane.{LaneValue}
@@ -47,7 +47,7 @@ names-all slots a b clients filled none by =
 -- nobody is in an empty yard
 pub nobody-in : (n : ℕ) → tokens_in (empty n).lists ≡ 0
 nobody-in n =
-    sum_below-zero (length (empty n).lists) (λ u. length (on (empty n).lists u)) (λ u. ap (λ (es : List (ℕ × ℕ)). length es) (none u))
+    sum-below-zero (length (empty n).lists) (λ u. length (on (empty n).lists u)) (λ u. ap (λ (es : List (ℕ × ℕ)). length es) (none u))
   where
     none : (u : ℕ) → on (empty n).lists u ≡ []
     none u = elim (cases_lt u n) [ inl l ↦ get_or-replicate n u [] [] l | inr l ↦ get_or_past (replicate n []) u [] (omega (arith, length-replicate {A = List (ℕ × ℕ)} n [])) ]

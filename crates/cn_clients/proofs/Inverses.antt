@@ -14,8 +14,8 @@ use Rattle.cn_floor.specs.Ends.{ListsHolders}
 use Rattle.cn_walk.specs.Walks.{AreFor}
 use Rattle.cn_clients.specs.Tables.{AreInverse}
 
-abbrev pub no_grant : Grant
-no_grant = record { client = 0; exit = 0; visit = 0; name = 0 }
+abbrev pub no-grant : Grant
+no-grant = record { client = 0; exit = 0; visit = 0; name = 0 }
 
 -- the numbers below n, each once
 module _ (n : ℕ) (xs : List ℕ) (each : IsEachBelow n xs) where
@@ -49,13 +49,13 @@ for-each clients grants k ids for =
 module _ (grants : List Grant) (names clients : List ℕ) (each-client : IsEachBelow (length grants) (map (λ g. g.client) grants)) (each-name : IsEachBelow (length grants) (map (λ g. g.name) grants))
     (long : length names ≡ length grants) (lists : ListsHolders grants clients) (at : All (λ g. get_or names g.client 0 ≡ g.name) grants) where
   abbrev grant : ℕ → Grant
-  grant j = get_or grants j no_grant
+  grant j = get_or grants j no-grant
 
   client-at : (j : ℕ) → j < length grants → get_or (map (λ (g : Grant). g.client) grants) j 0 ≡ (grant j).client
-  client-at j less = get_or-map (λ (g : Grant). g.client) grants j no_grant 0 less
+  client-at j less = get_or-map (λ (g : Grant). g.client) grants j no-grant 0 less
 
   name-at : (j : ℕ) → j < length grants → get_or (map (λ (g : Grant). g.name) grants) j 0 ≡ (grant j).name
-  name-at j less = get_or-map (λ (g : Grant). g.name) grants j no_grant 0 less
+  name-at j less = get_or-map (λ (g : Grant). g.name) grants j no-grant 0 less
 
   pub inverse : AreInverse names clients
   inverse = record {
@@ -63,14 +63,14 @@ module _ (grants : List Grant) (names clients : List ℕ) (each-client : IsEachB
         let (j, inside, is) = place (length grants) (map (λ (g : Grant). g.client) grants) each-client i (omega (arith, long, less)) in
         let there : j < length grants = omega (arith, inside, length-map grants (λ (g : Grant). g.client)) in
         let its : (grant j).client ≡ i = sym (client-at j there) ∙ is in
-        let name : get_or names i 0 ≡ (grant j).name = ap (λ (c : ℕ). get_or names c 0) (sym its) ∙ at j no_grant there in
+        let name : get_or names i 0 ≡ (grant j).name = ap (λ (c : ℕ). get_or names c 0) (sym its) ∙ at j no-grant there in
         let below : (grant j).name < length grants = subst (λ (x : ℕ). x < length grants) (name-at j there) (low (length grants) (map (λ (g : Grant). g.name) grants) each-name j (omega (arith, there, length-map grants (λ (g : Grant). g.name)))) in
-        (omega (arith, name, below, lists.all), ap (λ (n : ℕ). get_or clients n 0) name ∙ lists.by_name j no_grant there ∙ its);
+        (omega (arith, name, below, lists.all), ap (λ (n : ℕ). get_or clients n 0) name ∙ lists.by_name j no-grant there ∙ its);
     by_name = λ n less.
         let (j, inside, is) = place (length grants) (map (λ (g : Grant). g.name) grants) each-name n (omega (arith, lists.all, less)) in
         let there : j < length grants = omega (arith, inside, length-map grants (λ (g : Grant). g.name)) in
         let its : (grant j).name ≡ n = sym (name-at j there) ∙ is in
-        let client : get_or clients n 0 ≡ (grant j).client = ap (λ (x : ℕ). get_or clients x 0) (sym its) ∙ lists.by_name j no_grant there in
+        let client : get_or clients n 0 ≡ (grant j).client = ap (λ (x : ℕ). get_or clients x 0) (sym its) ∙ lists.by_name j no-grant there in
         let below : (grant j).client < length grants = subst (λ (x : ℕ). x < length grants) (client-at j there) (low (length grants) (map (λ (g : Grant). g.client) grants) each-client j (omega (arith, there, length-map grants (λ (g : Grant). g.client)))) in
-        (omega (arith, client, below, long), ap (λ (c : ℕ). get_or names c 0) client ∙ at j no_grant there ∙ its);
+        (omega (arith, client, below, long), ap (λ (c : ℕ). get_or names c 0) client ∙ at j no-grant there ∙ its);
   }

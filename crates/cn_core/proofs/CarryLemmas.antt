@@ -5,7 +5,7 @@ use Rattle.std.proofs.lemmas.Bool.{cases_lt, eq-eqb, eqb-true, lt-ltb, ltb-true,
 use Rattle.cn_spec.specs.Step.{name_of, share}
 use Rattle.cn_spec.specs.Sums.{once_below, when}
 use Rattle.cn_spec.specs.declared.limits.TheConstants.{MOST_CARRIED}
-use Rattle.cn_spec.proofs.CallerLemmas.{sum_below-zero, total_where-agree}
+use Rattle.cn_spec.proofs.CallerLemmas.{sum-below-zero, total-where-agree}
 use Rattle.cn_wiring.specs.declared.end.End.{End}
 use Rattle.cn_wiring.specs.declared.end.End.TheVariants.{Balancer, Exit}
 use Rattle.cn_wiring.specs.Table.{Stands, is_end, sum_at}
@@ -70,7 +70,7 @@ module _ (s : State) (h : List Event) (earlier : List (List Event)) (is : IsCore
       rw (lt-ltb i w there) (omega arith)
 
   none-on : (end : End) → sum_at s.network.table end old.on ≡ sum_at s.network.table end new.on
-  none-on end = total_where-agree (is_end end) s.network.table.ends (Balancer 0) old.on new.on (λ u within at. omega (arith, on-inside u s.clients))
+  none-on end = total-where-agree (is_end end) s.network.table.ends (Balancer 0) old.on new.on (λ u within at. omega (arith, on-inside u s.clients))
 
   balanced : (end : End) → Stands s.network.table end → past (after_carry s) end + sum_at s.network.table end new.on ≡ sum_at s.network.table end (put s.network.table new)
   balanced (Balancer b) there = let was = sound.balanced (Balancer b) there in omega (arith, was, none-on (Balancer b))
@@ -79,7 +79,7 @@ module _ (s : State) (h : List Event) (earlier : List (List Event)) (is : IsCore
   pub sound-carried : IsSound s.network.table new
   sound-carried = record {
     balanced = balanced;
-    clients = λ u. (0, λ k l. sum_below-zero k (λ _. 0) (λ _. refl));
+    clients = λ u. (0, λ k l. sum-below-zero k (λ _. 0) (λ _. refl));
     numbered = numbered;
     named = λ c i v name g.
         let (p, q) = both-there (nat_lt i w) (name_of w i v == name) (when (0 == c) (given_before (after_carry s) i v) + 0) g in
@@ -98,5 +98,5 @@ IsCore-after_carry s is quiet room =
     }
 
 -- each exit has let out its share of the base
-pub visits-after_carry : (s : State) → IsCore s → inside_in s ≡ 0 → (i : ℕ) → i < s.network.table.width → slice_index s.visits i ≡ share (s.base + length s.clients) s.network.table.width i
-visits-after_carry s is quiet i within = (tight-state s is quiet).counts i within ∙ ap (λ m. share m s.network.table.width i) is.state.all
+pub visits-after-carry : (s : State) → IsCore s → inside_in s ≡ 0 → (i : ℕ) → i < s.network.table.width → slice_index s.visits i ≡ share (s.base + length s.clients) s.network.table.width i
+visits-after-carry s is quiet i within = (tight-state s is quiet).counts i within ∙ ap (λ m. share m s.network.table.width i) is.state.all

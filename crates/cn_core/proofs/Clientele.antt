@@ -88,7 +88,7 @@ not-its client e names none =
     let sum = sum_by-cons (λ (x : ℕ × Standing). cond (nat_eq client x.0) 1 0) e names in
     (λ same. let here : nat_eq client e.0 ≡ true = grind (arith, nat_tests) in let one : ◌≡◌ {A = ℕ} (cond (nat_eq client e.0) 1 0) 1 = rw here refl in omega arith, omega arith)
 
--- a change that leaves alone whoever is not the client
+-- a change that leaves as they were all who are not the client
 abbrev Spares : Lists → Lists → ℕ → Type 0
 Spares y z client = (e : ℕ × Standing) → StandsFor y e.0 e.1 → client ≢ e.0 → StaysFor y z e
 

@@ -17,8 +17,8 @@ use Rattle.cn_core.specs.State.{State, after_carry, after_enter, after_step, ins
 use Rattle.cn_core.specs.History.{Agrees, HasOneHolder, AreEpochs, ByHistories, Carried, IsHistory, carried_by, enters_of, is_accepted, position_after, step_answer}
 use Rattle.cn_core.specs.StateLedger.{IsCore}
 use Rattle.cn_core.specs.Tight.{HasShares}
-use Rattle.cn_core.proofs.CarryLemmas.{IsCore-after_carry, visits-after_carry}
-use Rattle.cn_core.proofs.HistoryLemmas.{Agrees-after_carry, Agrees-after_step, Agrees-start, AgreesAfter-after_enter, inside-by_history, inside_or_named, network-after_step}
+use Rattle.cn_core.proofs.CarryLemmas.{IsCore-after_carry, visits-after-carry}
+use Rattle.cn_core.proofs.HistoryLemmas.{Agrees-after_carry, Agrees-after_step, Agrees-start, AgreesAfter-after_enter, inside-by_history, inside-or-named, network-after_step}
 use Rattle.cn_core.proofs.OneHolder.{one-holder}
 use Rattle.cn_core.proofs.LedgerLemmas.{IsCore-after_enter, IsCore-after_step, IsCore-start}
 
@@ -29,7 +29,7 @@ pub record Reaches (network : Network) (h : List Event) (earlier : List (List Ev
   pub is : IsCore state
   pub agrees : Agrees state h earlier
 
--- what an accepted event tells
+-- what follows from an accepted event
 entered-by : (table : Table) (h : List Event) (k : Carried) (client entry : ℕ) (beyond there full : Bool)
     → is_accepted (if beyond then EnterRefused NoSuchEntry else if there then EnterRefused AlreadyIn else if full then EnterRefused EpochFull else Entered) ≡ true
     → (beyond ≡ false) × (there ≡ false) × (full ≡ false)
@@ -106,9 +106,9 @@ module _ (network : Network) (is : IsNetwork network) where
 -- where an epoch begins, the exits have let out their shares
 shares-at : (s : State) (earlier : List (List Event)) → IsCore s → Agrees s [] earlier → HasShares s.network.table.width (carried_by s.network.table earlier)
 shares-at s earlier is (epochs, a) i within =
-    let nobody : inside_in s ≡ 0 = omega (arith, a.total, inside_or_named s.clients) in
+    let nobody : inside_in s ≡ 0 = omega (arith, a.total, inside-or-named s.clients) in
     let came : s.base + length s.clients ≡ (carried_by s.network.table earlier).enters = omega (arith, a.base, a.total) in
-    sym (a.counts (Exit i)) ∙ visits-after_carry s is nobody i within ∙ ap (λ m. share m s.network.table.width i) came
+    sym (a.counts (Exit i)) ∙ visits-after-carry s is nobody i within ∙ ap (λ m. share m s.network.table.width i) came
 
 -- epochs that were accepted let out by each exit its share of their clients
 pub shares-of : (network : Network) (earlier : List (List Event)) → IsNetwork network → AreEpochs network.table earlier → (carried_by network.table earlier).enters ≤ MOST_CARRIED → HasShares network.table.width (carried_by network.table earlier)

@@ -6,7 +6,7 @@ use Rattle.std.proofs.lemmas.Bool.Decides.{nat_tests}
 use Rattle.std.proofs.lemmas.Map.{length-set_value}
 use Rattle.std.proofs.lemmas.List.Sums.{sum_by-cons}
 use Rattle.cn_spec.specs.declared.limits.TheConstants.{MOST_CLIENTS}
-use Rattle.cn_spec.proofs.CallerLemmas.{one_more_at, zero_at}
+use Rattle.cn_spec.proofs.CallerLemmas.{one_more-at, zero_at}
 use Rattle.cn_wiring.specs.declared.end.End.{End}
 use Rattle.cn_wiring.specs.declared.end.End.TheVariants.{Balancer, Exit}
 use Rattle.cn_wiring.specs.Table.{Table, end_of, is_end}
@@ -39,7 +39,7 @@ AgreesAfter-after_enter s h k client entry is within absent room a = record {
   base = a.base;
   accepted = (grind (arith, nat_tests, a.positions client, a.total), a.accepted);
   positions = λ q. rw (lookup-push s.clients client (On entry) q absent, a.positions q) refl;
-  entered = λ e. rw (one_more_at s.entered entry e (omega (arith, is.entries)), a.entered e) refl;
+  entered = λ e. rw (one_more-at s.entered entry e (omega (arith, is.entries)), a.entered e) refl;
   total = omega (arith, a.total, length-append s.clients ((client, On entry) ∷ []));
   left = omega (arith, a.left, count-push is_named s.clients client (On entry));
   counts = a.counts;
@@ -50,12 +50,12 @@ pub past-after_step : (s : State) (client wire : ℕ) (end other : End) → IsSt
     → past (after_step s client end) other ≡ past s other + cond (is_end other end) 1 0
 past-after_step s client wire (Balancer b) (Balancer a) is within ends =
     let there : b < s.network.table.balancers = stands-at s.network is.network wire (Balancer b) within ends in
-    grind (arith, nat_tests, one_more_at s.passes b a, is.balancers)
+    grind (arith, nat_tests, one_more-at s.passes b a, is.balancers)
 past-after_step s client wire (Balancer b) (Exit i) is within ends = omega arith
 past-after_step s client wire (Exit i) (Balancer b) is within ends = omega arith
 past-after_step s client wire (Exit i) (Exit j) is within ends =
     let there : i < s.network.table.width = stands-at s.network is.network wire (Exit i) within ends in
-    grind (arith, nat_tests, one_more_at s.visits i j, is.exits)
+    grind (arith, nat_tests, one_more-at s.visits i j, is.exits)
 
 pub network-after_step : (s : State) (client : ℕ) (end : End) → (after_step s client end).network ≡ s.network
 network-after_step s client (Balancer b) = refl
@@ -144,15 +144,15 @@ runs_to-at old mid new cs i d r rs within takes is runs =
     rw shown (mid, takes, is, runs)
 
 -- each client is inside or has a name
-pub inside_or_named : (clients : List (ℕ × Position)) → count_by is_inside (values_of clients) + count_by is_named (values_of clients) ≡ length clients
-inside_or_named [] = refl
-inside_or_named ((c, On wire) ∷ rest) =
-    omega (arith, inside_or_named rest, sum_by-cons (λ (p : Position). cond (is_inside p) 1 0) (On wire) (values_of rest), sum_by-cons (λ (p : Position). cond (is_named p) 1 0) (On wire) (values_of rest))
-inside_or_named ((c, Holds name) ∷ rest) =
-    omega (arith, inside_or_named rest, sum_by-cons (λ (p : Position). cond (is_inside p) 1 0) (Holds name) (values_of rest), sum_by-cons (λ (p : Position). cond (is_named p) 1 0) (Holds name) (values_of rest))
+pub inside-or-named : (clients : List (ℕ × Position)) → count_by is_inside (values_of clients) + count_by is_named (values_of clients) ≡ length clients
+inside-or-named [] = refl
+inside-or-named ((c, On wire) ∷ rest) =
+    omega (arith, inside-or-named rest, sum_by-cons (λ (p : Position). cond (is_inside p) 1 0) (On wire) (values_of rest), sum_by-cons (λ (p : Position). cond (is_named p) 1 0) (On wire) (values_of rest))
+inside-or-named ((c, Holds name) ∷ rest) =
+    omega (arith, inside-or-named rest, sum_by-cons (λ (p : Position). cond (is_inside p) 1 0) (Holds name) (values_of rest), sum_by-cons (λ (p : Position). cond (is_named p) 1 0) (Holds name) (values_of rest))
 
 pub inside-by_history : (s : State) (h : List Event) (k : Carried) → AgreesAfter s h k → inside_in s ≡ inside_of s.network.table h k
-inside-by_history s h k a = omega (arith, inside_or_named s.clients, a.total, a.left)
+inside-by_history s h k a = omega (arith, inside-or-named s.clients, a.total, a.left)
 
 -- an epoch that is over is one of the earlier ones
 pub Agrees-after_carry : (s : State) (h : List Event) (earlier : List (List Event)) → inside_in s ≡ 0 → Agrees s h earlier → Agrees (after_carry s) [] (h ∷ earlier)

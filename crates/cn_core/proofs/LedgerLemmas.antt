@@ -6,7 +6,7 @@ use Rattle.std.proofs.lemmas.Bool.{cases_eq, cases_lt, eq-eqb, ne_eqb, lt-ltb, l
 use Rattle.cn_spec.specs.Step.{name_of, share}
 use Rattle.cn_spec.specs.Sums.{when, once_below}
 use Rattle.cn_spec.specs.declared.limits.TheConstants.{MOST_CLIENTS}
-use Rattle.cn_spec.proofs.CallerLemmas.{exit_of-name_of, one_more_at, zero_at}
+use Rattle.cn_spec.proofs.CallerLemmas.{exit_of-name_of, one_more-at, zero_at}
 use Rattle.cn_wiring.specs.declared.end.End.{End}
 use Rattle.cn_wiring.specs.declared.end.End.TheVariants.{Balancer, Exit}
 use Rattle.cn_wiring.specs.Table.{end_of, is_end, Stands}
@@ -25,10 +25,10 @@ use Rattle.cn_record.specs.declared.reply.Reply.TheVariants.{Stepped}
 use Rattle.cn_ledger.specs.Moves.{IsMoveOf}
 use Rattle.cn_core.specs.Calls.{IsLedgerEvent, StepsTo}
 use Rattle.cn_core.specs.StateLedger.{is_on, holds, given_in, ledger_of, HasSoundLedger, IsCore}
-use Rattle.cn_yard.proofs.CallerLemmas.{count-push, count-set, count_pair-push, count_pair-set}
+use Rattle.cn_yard.proofs.CallerLemmas.{count-push, count-set, count-pair-push, count-pair-set}
 use Rattle.cn_core.proofs.StateLemmas.{given_before, name-later, share-zero, stands-at, IsState-start, IsState-after_enter, IsState-after_step}
 use Rattle.cn_core.proofs.HistoryLemmas.{past-after_step, Agrees-start, AgreesAfter-after_enter, AgreesAfter-after_step}
-use Rattle.cn_core.proofs.PassageLemmas.{sound_passages}
+use Rattle.cn_core.proofs.PassageLemmas.{sound-passages}
 use Rattle.cn_ledger.proofs.CallerLemmas.{eqb-sym, is_end-sym, sound-enters, sound-leaves, sound-nothing, sound-passes}
 
 and-sym : (a b : Bool) → (a && b) ≡ (b && a)
@@ -41,13 +41,13 @@ pub ledger-enters : (s : State) (h : List Event) (k : Carried) (client entry : �
     → Enters s.network.table (ledger_of s h k) (ledger_of (after_enter s client entry) (Enter client entry ∷ h) k) client entry
 ledger-enters s h k client entry is within = record {
   inside = within;
-  entered = λ e. one_more_at s.entered entry e (omega (arith, is.entries)) ∙ ap (λ (b : Bool). slice_index s.entered e + cond b 1 0) (eqb-sym e entry);
+  entered = λ e. one_more-at s.entered entry e (omega (arith, is.entries)) ∙ ap (λ (b : Bool). slice_index s.entered e + cond b 1 0) (eqb-sym e entry);
   count = λ end. refl;
   on = λ wire. count-push (is_on wire) s.clients client (On entry);
-  standing = λ wire d. count_pair-push (is_on wire) d s.clients client (On entry) ∙ ap (λ (b : Bool). count_by (λ e. nat_eq d e.0 && is_on wire e.1) s.clients + cond b 1 0) (and-sym (nat_eq d client) (entry == wire) ∙ ap (λ (b : Bool). (entry == wire) && b) (eqb-sym d client));
+  standing = λ wire d. count-pair-push (is_on wire) d s.clients client (On entry) ∙ ap (λ (b : Bool). count_by (λ e. nat_eq d e.0 && is_on wire e.1) s.clients + cond b 1 0) (and-sym (nat_eq d client) (entry == wire) ∙ ap (λ (b : Bool). (entry == wire) && b) (eqb-sym d client));
   given = given;
   granted = λ d i v name. ap (λ (n : ℕ). when (nat_lt i s.network.table.width && (name_of s.network.table.width i v == name)) (when (0 == d) (given_before s i v) + n))
-      (count_pair-push (holds s.base name) d s.clients client (On entry) ∙ none (nat_eq d client) (count_by (λ e. nat_eq d e.0 && holds s.base name e.1) s.clients));
+      (count-pair-push (holds s.base name) d s.clients client (On entry) ∙ none (nat_eq d client) (count_by (λ e. nat_eq d e.0 && holds s.base name e.1) s.clients));
 }
   where
     none : (b : Bool) (n : ℕ) → n + cond (b && false) 1 0 ≡ n
@@ -70,7 +70,7 @@ standing-after : (s : State) (client wire : ℕ) (to : Position) (u d : ℕ) →
 standing-after s client wire to u d on =
     let flip : (nat_eq d client && (wire == u)) ≡ ((wire == u) && (client == d)) = and-sym (nat_eq d client) (wire == u) ∙ ap (λ (b : Bool). (wire == u) && b) (eqb-sym d client) in
     let after : cond (nat_eq d client && is_on u to) 1 0 ≡ when (client == d) (when (is_on u to) 1) = both (nat_eq d client) (is_on u to) ∙ ap (λ (b : Bool). when b (when (is_on u to) 1)) (eqb-sym d client) in
-    omega (arith, count_pair-set (is_on u) d s.clients client to (On wire) on, ap {B = ℕ} (λ b. cond b 1 0) flip, after)
+    omega (arith, count-pair-set (is_on u) d s.clients client to (On wire) on, ap {B = ℕ} (λ b. cond b 1 0) flip, after)
   where
     both : (a b : Bool) → cond (a && b) 1 0 ≡ when a (when b 1)
     both true b = refl
@@ -88,9 +88,9 @@ held-after : (s : State) (name client wire : ℕ) (to : Position) → position_i
     → count_by (holds s.base name) (values_of (with_position s.clients client to)) ≡ count_by (holds s.base name) (values_of s.clients) + when (holds s.base name to) 1
 held-after s name client wire to on = omega (arith, count-set (holds s.base name) s.clients client to (On wire) on)
 
-held_pair-after : (s : State) (name client wire : ℕ) (to : Position) (d : ℕ) → position_in s.clients client ≡ Some (On wire)
+held-pair-after : (s : State) (name client wire : ℕ) (to : Position) (d : ℕ) → position_in s.clients client ≡ Some (On wire)
     → count_by (λ e. nat_eq d e.0 && holds s.base name e.1) (with_position s.clients client to) ≡ count_by (λ e. nat_eq d e.0 && holds s.base name e.1) s.clients + when (nat_eq d client && holds s.base name to) 1
-held_pair-after s name client wire to d on = omega (arith, count_pair-set (holds s.base name) d s.clients client to (On wire) on, none (nat_eq d client))
+held-pair-after s name client wire to d on = omega (arith, count-pair-set (holds s.base name) d s.clients client to (On wire) on, none (nat_eq d client))
   where
     none : (b : Bool) → ◌≡◌ {A = ℕ} (cond (b && false) 1 0) 0
     none true = refl
@@ -113,7 +113,7 @@ ledger-passes s h k client wire b is on ends a = record {
     given = given;
   };
   granted = λ d i v name. ap (λ (n : ℕ). when (nat_lt i s.network.table.width && (name_of s.network.table.width i v == name)) (when (0 == d) (given_before s i v) + n))
-      (held_pair-after s name client wire to d on ∙ ap (λ (q : Bool). count_by (λ e. nat_eq d e.0 && holds s.base name e.1) s.clients + when q 1) (and-false (nat_eq d client)) ∙ add-zero (count_by (λ e. nat_eq d e.0 && holds s.base name e.1) s.clients));
+      (held-pair-after s name client wire to d on ∙ ap (λ (q : Bool). count_by (λ e. nat_eq d e.0 && holds s.base name e.1) s.clients + when q 1) (and-false (nat_eq d client)) ∙ add-zero (count_by (λ e. nat_eq d e.0 && holds s.base name e.1) s.clients));
 }
   where
     to : Position
@@ -215,7 +215,7 @@ ledger-leaves s h k client wire i is on ends a = record {
       (when (0 == d) (given_before s j v) + count_by (λ e. nat_eq d e.0 && holds s.base name e.1) (with_position s.clients client to))
       below
       (ap (λ (n : ℕ). when (0 == d) (given_before s j v) + n)
-      (held_pair-after s name client wire to d on ∙ ap (λ (n : ℕ). count_by (λ e. nat_eq d e.0 && holds s.base name e.1) s.clients + when (nat_eq d client && (n == name)) 1) whole)
+      (held-pair-after s name client wire to d on ∙ ap (λ (n : ℕ). count_by (λ e. nat_eq d e.0 && holds s.base name e.1) s.clients + when (nat_eq d client && (n == name)) 1) whole)
       ∙ omega arith);
 }
   where
@@ -228,7 +228,7 @@ ledger-leaves s h k client wire i is on ends a = record {
     below : i < w
     below = stands-at s.network is.network wire (Exit i) (is.on_wires client wire on) ends
 
-    -- the name that is told, with the base
+    -- the name that is answered, with the base
     whole : name_of w i (slice_index s.visits i) - s.base + s.base ≡ name_of w i (slice_index s.visits i)
     whole = omega (arith, name-later s is i below)
 
@@ -259,7 +259,7 @@ sound-like s h g k m b sound = record {
 }
   where
     numbered : (end : End) (n : ℕ) → Stands s.network.table end → given_in s g m end n ≡ once_below (past s end) n
-    numbered (Balancer c) n there = sound_passages s.network.table g m c n ∙ ap (λ m. once_below m n) (sym (b.counts (Balancer c)))
+    numbered (Balancer c) n there = sound-passages s.network.table g m c n ∙ ap (λ m. once_below m n) (sym (b.counts (Balancer c)))
     numbered (Exit i) n there = sound.numbered (Exit i) n there
 
 -- by every history and earlier epochs that the state agrees with

@@ -57,7 +57,7 @@ module _ (network : Network) (carried : Carried) (is : IsNetwork network) (share
       by (Balancer b) ends past = absurd (cc)
       by (Exit i) ends past = record { exit = i; below = exit-below wire i ends; from = ap Some ends; named = let told : name_of network.table.width i (steps_before network.table h carried (Exit i)) - carried.enters ≡ name = cc in omega (arith, late h i (exit-below wire i ends)) }
 
-  -- what a step does to the positions: it changes its client's alone
+  -- what a step does to the positions: it changes only its client's
   mine : (h : List Event) (b name : ℕ) → position_after network.table (Step b ∷ h) carried b ≡ Some (Holds name) → Left h (position_after network.table h carried b) name
   mine h b name e = left h (position_after network.table h carried b) name (rw (eq-eqb b b refl) at e)
 

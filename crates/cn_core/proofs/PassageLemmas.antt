@@ -19,9 +19,9 @@ abbrev pub HasSoundPassages : Table → List Event → Carried → Type 0
 HasSoundPassages table history carried =
     (b n : ℕ) → once_below (carried.steps (Balancer b)) n + times_passed table history carried b n ≡ once_below (steps_before table history carried (Balancer b)) n
 
-pub sound_passages : (table : Table) (history : List Event) (carried : Carried) → HasSoundPassages table history carried
-sound_passages table [] carried b n = omega arith
-sound_passages table (Enter c entry ∷ history) carried b n = sound_passages table history carried b n
-sound_passages table (Step c ∷ history) carried b n =
+pub sound-passages : (table : Table) (history : List Event) (carried : Carried) → HasSoundPassages table history carried
+sound-passages table [] carried b n = omega arith
+sound-passages table (Enter c entry ∷ history) carried b n = sound-passages table history carried b n
+sound-passages table (Step c ∷ history) carried b n =
     one-more (once_below (carried.steps (Balancer b)) n) (times_passed table history carried b n) (steps_before table history carried (Balancer b)) n
-    (is_same_end (Balancer b) (end_at table (position_after table history carried c))) (sound_passages table history carried b n)
+    (is_same_end (Balancer b) (end_at table (position_after table history carried c))) (sound-passages table history carried b n)

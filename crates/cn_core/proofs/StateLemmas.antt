@@ -6,7 +6,7 @@ use Rattle.std.proofs.lemmas.Bool.Decides.{nat_tests}
 use Rattle.std.proofs.lemmas.List.{length-replicate}
 use Rattle.std.proofs.lemmas.Map.{length-set_value}
 use Rattle.cn_spec.specs.declared.limits.TheConstants.{MOST_CARRIED, MOST_CLIENTS}
-use Rattle.cn_spec.proofs.CallerLemmas.{name-below, one_more_at, sum_below-change, sum_below-zero, zero_at}
+use Rattle.cn_spec.proofs.CallerLemmas.{name-below, one_more-at, sum-below-change, sum-below-zero, zero_at}
 use Rattle.cn_spec.specs.Step.{name_of, share}
 use Rattle.cn_spec.specs.Sums.{once_below, one_more}
 use Rattle.cn_wiring.specs.declared.end.End.{End}
@@ -49,7 +49,7 @@ IsState-after_enter s client entry is within absent room = record {
     nat_tests,
     is.all,
     length-append s.clients ((client, On entry) ∷ []),
-    sum_below-change s.network.table.entries entry 1 (λ e. slice_index s.entered e) (λ e. slice_index (one_more s.entered entry) e) (λ u. one_more_at s.entered entry u (omega (arith, is.entries))),
+    sum-below-change s.network.table.entries entry 1 (λ e. slice_index s.entered e) (λ e. slice_index (one_more s.entered entry) e) (λ u. one_more-at s.entered entry u (omega (arith, is.entries))),
   );
   on_wires = λ q wire on. on-wire q wire on;
 }
@@ -100,7 +100,7 @@ IsState-after_step s client wire (Exit i) is on ends = record {
   exits = length-set s.visits i (slice_index s.visits i + 1) ∙ is.exits;
   few = rw (length-set_value (nat_eq client) s.clients to) is.few;
   carried = is.carried;
-  shares = λ j within. grind (arith, nat_tests, is.shares j within, one_more_at s.visits i j in_range);
+  shares = λ j within. grind (arith, nat_tests, is.shares j within, one_more-at s.visits i j in_range);
   once = λ q. rw (times-set s.clients client to q) (is.once q);
   all = rw (length-set_value (nat_eq client) s.clients to) is.all;
   on_wires = λ q w h. grind (arith, lookup-set s.clients client to (On wire) q on, is.on_wires q w);
@@ -132,7 +132,7 @@ IsState-start network is = record {
   carried = omega arith;
   shares = λ i within. omega (arith, share-zero network.table.width i within);
   once = λ q. omega arith;
-  all = sum_below-zero network.table.entries (λ e. slice_index (replicate network.table.entries 0) e) (zero_at network.table.entries);
+  all = sum-below-zero network.table.entries (λ e. slice_index (replicate network.table.entries 0) e) (zero_at network.table.entries);
   on_wires = λ q w h. cc;
 }
 

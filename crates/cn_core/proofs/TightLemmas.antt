@@ -7,7 +7,7 @@ use Rattle.std.proofs.lemmas.Nat.{mod_below}
 use Rattle.std.proofs.lemmas.List.Sums.{sum_by-cons}
 use Rattle.cn_spec.specs.Step.{name_of, share}
 use Rattle.cn_spec.specs.Sums.{once_below, times}
-use Rattle.cn_spec.proofs.CallerLemmas.{each_below, name-below, name_of-exit_of, sum_below-part, times-cons, times-nil}
+use Rattle.cn_spec.proofs.CallerLemmas.{each_below, name-below, name_of-exit_of, sum-below-part, times-cons, times-nil}
 use Rattle.cn_spec.specs.declared.limits.TheConstants.{MOST_ARRIVALS}
 use Rattle.cn_wiring.specs.declared.end.End.{End}
 use Rattle.cn_wiring.specs.Table.{Stands}
@@ -19,8 +19,8 @@ use Rattle.cn_core.specs.History.{carried_by}
 use Rattle.cn_core.specs.StateLedger.{is_on, holds, granted_in, ledger_of, IsCore}
 use Rattle.cn_core.specs.Tight.{grants_in, IsTightState, IsBoundedState}
 use Rattle.cn_ledger.proofs.CallerLemmas.{bounded, counts-few, names-differ, tight}
-use Rattle.cn_yard.proofs.CallerLemmas.{count_pair-found}
-use Rattle.cn_core.proofs.HistoryLemmas.{inside_or_named}
+use Rattle.cn_yard.proofs.CallerLemmas.{count-pair-found}
+use Rattle.cn_core.proofs.HistoryLemmas.{inside-or-named}
 use Rattle.cn_core.proofs.StateLemmas.{given_before}
 
 named-position : (p : Option Position) (name : ℕ) → name_at p ≡ Some name → p ≡ Some (Holds name)
@@ -36,7 +36,7 @@ granted-name s is client name e =
     let n : ℕ = name + s.base in
     let (least, most) = is.network.formed.width in
     let below : n % w < w = mod_below n w (omega arith) in
-    let found = count_pair-found (holds s.base n) client s.clients (Holds name) (named-position (position_in s.clients client) name e) (is.once client) in
+    let found = count-pair-found (holds s.base n) client s.clients (Holds name) (named-position (position_in s.clients client) name e) (is.once client) in
     let one : ◌≡◌ {A = ℕ} (cond (holds s.base n (Holds name)) 1 0) 1 = ap {B = ℕ} (λ b. cond b 1 0) (eq-eqb n n refl) in
     rw (lt-ltb (n % w) w below, eq-eqb (name_of w (n % w) (n / w)) n (name_of-exit_of w n)) (omega (arith, found, one))
 
@@ -50,7 +50,7 @@ bounded-state s is =
       passes = λ f brings. b.passes f brings.0 brings.1;
       counts = b.counts;
       carried = is.state.shares;
-      entries = λ entry within. sum_below-part s.network.table.entries entry (λ e. slice_index s.entered e) within;
+      entries = λ entry within. sum-below-part s.network.table.entries entry (λ e. slice_index s.entered e) within;
       ends = counts-few s.network.table is.state.network.formed l sound;
       below = λ client name e.
           let n : ℕ = name + s.base in
@@ -76,17 +76,17 @@ on-inside u ((c, Holds name) ∷ rest) =
     omega (arith, on-inside u rest, sum_by-cons (λ (p : Position). cond (is_on u p) 1 0) (Holds name) (values_of rest), sum_by-cons (λ (p : Position). cond (is_inside p) 1 0) (Holds name) (values_of rest))
 
 -- the grants are those of the clients that hold names
-length-grants_in : (clients : List (ℕ × Position)) → length (grants_in clients) ≡ count_by is_named (values_of clients)
-length-grants_in [] = refl
-length-grants_in ((c, On wire) ∷ rest) = omega (arith, length-grants_in rest, sum_by-cons (λ (p : Position). cond (is_named p) 1 0) (On wire) (values_of rest))
-length-grants_in ((c, Holds name) ∷ rest) = omega (arith, length-grants_in rest, sum_by-cons (λ (p : Position). cond (is_named p) 1 0) (Holds name) (values_of rest))
+length-grants-in : (clients : List (ℕ × Position)) → length (grants_in clients) ≡ count_by is_named (values_of clients)
+length-grants-in [] = refl
+length-grants-in ((c, On wire) ∷ rest) = omega (arith, length-grants-in rest, sum_by-cons (λ (p : Position). cond (is_named p) 1 0) (On wire) (values_of rest))
+length-grants-in ((c, Holds name) ∷ rest) = omega (arith, length-grants-in rest, sum_by-cons (λ (p : Position). cond (is_named p) 1 0) (Holds name) (values_of rest))
 
-clients-grants_in : (q : ℕ) (clients : List (ℕ × Position)) → count_by (λ grant. nat_eq q grant.1) (grants_in clients) ≤ times_entered q clients
-clients-grants_in q [] = omega arith
-clients-grants_in q ((c, On wire) ∷ rest) =
-    omega (arith, clients-grants_in q rest, sum_by-cons (λ (e : ℕ × Position). cond (nat_eq q e.0) 1 0) (c, On wire) rest)
-clients-grants_in q ((c, Holds name) ∷ rest) =
-    omega (arith, clients-grants_in q rest, sum_by-cons (λ (e : ℕ × Position). cond (nat_eq q e.0) 1 0) (c, Holds name) rest, sum_by-cons (λ (grant : ℕ × ℕ). cond (nat_eq q grant.1) 1 0) (name, c) (grants_in rest))
+clients-grants-in : (q : ℕ) (clients : List (ℕ × Position)) → count_by (λ grant. nat_eq q grant.1) (grants_in clients) ≤ times_entered q clients
+clients-grants-in q [] = omega arith
+clients-grants-in q ((c, On wire) ∷ rest) =
+    omega (arith, clients-grants-in q rest, sum_by-cons (λ (e : ℕ × Position). cond (nat_eq q e.0) 1 0) (c, On wire) rest)
+clients-grants-in q ((c, Holds name) ∷ rest) =
+    omega (arith, clients-grants-in q rest, sum_by-cons (λ (e : ℕ × Position). cond (nat_eq q e.0) 1 0) (c, Holds name) rest, sum_by-cons (λ (grant : ℕ × ℕ). cond (nat_eq q grant.1) 1 0) (name, c) (grants_in rest))
 
 eqb-shift : (m n base : ℕ) → (m + base == n + base) ≡ (m == n)
 eqb-shift m n base = elim (cases_eq m n) [
@@ -94,13 +94,13 @@ eqb-shift m n base = elim (cases_eq m n) [
   | inr d ↦ ne_eqb (m + base) (n + base) (λ e. d (omega arith)) ∙ sym (ne_eqb m n d)
 ]
 
-names-grants_in : (base n : ℕ) (clients : List (ℕ × Position)) → times n (map (λ grant. grant.0) (grants_in clients)) ≡ count_by (holds base (n + base)) (values_of clients)
-names-grants_in base n [] = times-nil n
-names-grants_in base n ((c, On wire) ∷ rest) =
-    omega (arith, names-grants_in base n rest, sum_by-cons (λ (p : Position). cond (holds base (n + base) p) 1 0) (On wire) (values_of rest))
-names-grants_in base n ((c, Holds name) ∷ rest) =
+names-grants-in : (base n : ℕ) (clients : List (ℕ × Position)) → times n (map (λ grant. grant.0) (grants_in clients)) ≡ count_by (holds base (n + base)) (values_of clients)
+names-grants-in base n [] = times-nil n
+names-grants-in base n ((c, On wire) ∷ rest) =
+    omega (arith, names-grants-in base n rest, sum_by-cons (λ (p : Position). cond (holds base (n + base) p) 1 0) (On wire) (values_of rest))
+names-grants-in base n ((c, Holds name) ∷ rest) =
     let same : ◌≡◌ {A = ℕ} (cond (name + base == n + base) 1 0) (cond (name == n) 1 0) = ap {B = ℕ} (λ b. cond b 1 0) (eqb-shift name n base) in
-    omega (arith, names-grants_in base n rest, times-cons n name (map (λ grant. grant.0) (grants_in rest)), sum_by-cons (λ (p : Position). cond (holds base (n + base) p) 1 0) (Holds name) (values_of rest))
+    omega (arith, names-grants-in base n rest, times-cons n name (map (λ grant. grant.0) (grants_in rest)), sum_by-cons (λ (p : Position). cond (holds base (n + base) p) 1 0) (Holds name) (values_of rest))
 
 -- a name from the base on was not given before
 not-before : (base w n : ℕ) → n % w < w → base ≤ n → once_below (share base w (n % w)) (n / w) ≡ 0
@@ -127,23 +127,23 @@ tight-state s is none =
     let (least, most) = is.state.network.formed.width in
     record {
       counts = t.counts;
-      everyone = omega (arith, length-grants_in s.clients, inside_or_named s.clients);
+      everyone = omega (arith, length-grants-in s.clients, inside-or-named s.clients);
       tight = record {
-        clients = λ q. omega (arith, clients-grants_in q s.clients, is.state.once q);
+        clients = λ q. omega (arith, clients-grants-in q s.clients, is.state.once q);
         names = each_below (length s.clients) (map (λ grant. grant.0) (grants_in s.clients)) (λ n.
             let m : ℕ = n + s.base in
             let below : m % w < w = mod_below m w (omega arith) in
             let before : given_before s (m % w) (m / w) ≡ 0 = not-before s.base w m below (omega arith) in
             let given : times_given s.network.table l m ≡ given_before s (m % w) (m / w) + count_by (holds s.base m) (values_of s.clients) = rw (lt-ltb (m % w) w below, name_of-exit_of w m) refl in
             let among : once_below (came_in s) m ≡ once_below (length s.clients) n = once-shift s.base (length s.clients) n (came_in s) is.state.all in
-            omega (arith, names-grants_in s.base n s.clients, given, t.names m, before, among));
+            omega (arith, names-grants-in s.base n s.clients, given, t.names m, before, among));
       };
     }
 
 -- each count has room for one more
 pub room-entered : (s : State) → IsState s → (entry : ℕ) → entry < s.network.table.entries → slice_index s.entered entry < MOST_ARRIVALS
 room-entered s is entry within =
-    omega (arith, is.few, is.carried, is.all, sum_below-part s.network.table.entries entry (λ e. slice_index s.entered e) within)
+    omega (arith, is.few, is.carried, is.all, sum-below-part s.network.table.entries entry (λ e. slice_index s.entered e) within)
 
 pub room-past : (s : State) → IsCore s → (end : End) → Stands s.network.table end → past s end < MOST_ARRIVALS
 room-past s is end there = omega (arith, is.state.few, is.state.carried, is.state.all, (bounded-state s is).ends end there)

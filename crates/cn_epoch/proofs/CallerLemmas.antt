@@ -1,4 +1,4 @@
 -- What proofs of other crates cite of this one. They cite nothing else of proofs/.
 
 -- commands have one list of answers, and leave one history
-pub use Rattle.cn_epoch.proofs.OneRecord.{history_by-same, one-list, turns_by-same}
+pub use Rattle.cn_epoch.proofs.OneRecord.{history-by-same, one-list, turns-by-same}

@@ -131,7 +131,7 @@ module _ (network : Network) (is : IsNetwork network) where
   kept_by-next None h command commands answer answers = refl
   kept_by-next (Some earlier) h command commands answer answers = refl
 
-  -- answers that tell the same leave the same
+  -- answers that say the same leave the same
   left-same : (turns : ℕ) (history : List Event) (event : Event) (answer other : Answer) → IsSameAnswer answer other
       → (turns_after turns answer ≡ turns_after turns other) × (replied_to history event answer ≡ replied_to history event other) × (cut_by history answer ≡ cut_by history other)
   left-same turns history event (Replied reply) (Replied other) same = (refl, ap (core.history_after history event) same, refl)
@@ -185,18 +185,18 @@ module _ (network : Network) (is : IsNetwork network) where
   one-list turns history kept (command ∷ commands) epochs was [] others told also may might few = absurd may
   one-list turns history kept (command ∷ commands) epochs was (answer ∷ answers) [] told also may might few = absurd might
 
-  -- the turns that a list of answers tells, and the history that it leaves
-  pub turns_by-same : (turns : ℕ) (answers others : List Answer) → AllZip IsSameAnswer answers others → turns_by turns answers ≡ turns_by turns others
-  turns_by-same turns [] [] same = refl
-  turns_by-same turns (answer ∷ answers) (other ∷ others) (same, rest) =
-      ap (λ n. turns_by n answers) (turns-same turns answer other same) ∙ turns_by-same (turns_after turns other) answers others rest
-  turns_by-same turns [] (other ∷ others) same = absurd same
-  turns_by-same turns (answer ∷ answers) [] same = absurd same
+  -- the turns in a list of answers, and the history that it leaves
+  pub turns-by-same : (turns : ℕ) (answers others : List Answer) → AllZip IsSameAnswer answers others → turns_by turns answers ≡ turns_by turns others
+  turns-by-same turns [] [] same = refl
+  turns-by-same turns (answer ∷ answers) (other ∷ others) (same, rest) =
+      ap (λ n. turns_by n answers) (turns-same turns answer other same) ∙ turns-by-same (turns_after turns other) answers others rest
+  turns-by-same turns [] (other ∷ others) same = absurd same
+  turns-by-same turns (answer ∷ answers) [] same = absurd same
 
-  pub history_by-same : (history : List Event) (commands : List Command) (answers others : List Answer) → AllZip IsSameAnswer answers others → history_by history commands answers ≡ history_by history commands others
-  history_by-same history [] answers others same = refl
-  history_by-same history (command ∷ commands) [] [] same = refl
-  history_by-same history (command ∷ commands) (answer ∷ answers) (other ∷ others) (same, rest) =
-      ap (λ h. history_by h commands answers) (history-same history command answer other same) ∙ history_by-same (history_after history command other) commands answers others rest
-  history_by-same history (command ∷ commands) [] (other ∷ others) same = absurd same
-  history_by-same history (command ∷ commands) (answer ∷ answers) [] same = absurd same
+  pub history-by-same : (history : List Event) (commands : List Command) (answers others : List Answer) → AllZip IsSameAnswer answers others → history_by history commands answers ≡ history_by history commands others
+  history-by-same history [] answers others same = refl
+  history-by-same history (command ∷ commands) [] [] same = refl
+  history-by-same history (command ∷ commands) (answer ∷ answers) (other ∷ others) (same, rest) =
+      ap (λ h. history_by h commands answers) (history-same history command answer other same) ∙ history-by-same (history_after history command other) commands answers others rest
+  history-by-same history (command ∷ commands) [] (other ∷ others) same = absurd same
+  history-by-same history (command ∷ commands) (answer ∷ answers) [] same = absurd same

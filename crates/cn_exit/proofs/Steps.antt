@@ -10,9 +10,9 @@ abbrev pub NeverRises : List ℕ → Type 0
 NeverRises x = (i j : ℕ) → i < j → j < length x → get_or x j 0 ≤ get_or x i 0
 
 -- it is where each entry is at least the next
-next_to_later : (x : List ℕ) → ((i : ℕ) → i + 1 < length x → get_or x (i + 1) 0 ≤ get_or x i 0) → NeverRises x
-next_to_later x next i zero l m = omega arith
-next_to_later x next i (suc j) l m = elim (eq-or-lt_of_le before) [ inl e ↦ omega (arith, here, ap (λ k. get_or x k 0) e) | inr k ↦ omega (arith, here, next_to_later x next i j k (omega arith)) ]
+next-to-later : (x : List ℕ) → ((i : ℕ) → i + 1 < length x → get_or x (i + 1) 0 ≤ get_or x i 0) → NeverRises x
+next-to-later x next i zero l m = omega arith
+next-to-later x next i (suc j) l m = elim (eq-or-lt_of_le before) [ inl e ↦ omega (arith, here, ap (λ k. get_or x k 0) e) | inr k ↦ omega (arith, here, next-to-later x next i j k (omega arith)) ]
   where
     before : i ≤ j
     before = omega arith
@@ -20,11 +20,11 @@ next_to_later x next i (suc j) l m = elim (eq-or-lt_of_le before) [ inl e ↦ om
     here : get_or x (suc j) 0 ≤ get_or x j 0
     here = let same : suc j ≡ j + 1 = omega arith in omega (arith, next j (omega arith), ap (λ k. get_or x k 0) same)
 
--- so tests of each entry and the next tell it
-pub never_rises_by_tests : (x : List ℕ) (b : Bool) → IsAllAdjacentAnswer (λ earlier later r. r ≡ nat_le later earlier) x b → IsTrue b ↔ NeverRises x
-never_rises_by_tests x true h =
-    (λ t. next_to_later x (λ i l. let passed : true ≡ nat_le (get_or x (i + 1) 0) (get_or x i 0) = h i 0 l in grind (arith, nat_tests)), λ never. grind (arith, nat_tests))
-never_rises_by_tests x false h = (
+-- so tests of each entry and the next decide it
+pub never_rises-by_tests : (x : List ℕ) (b : Bool) → IsAllAdjacentAnswer (λ earlier later r. r ≡ nat_le later earlier) x b → IsTrue b ↔ NeverRises x
+never_rises-by_tests x true h =
+    (λ t. next-to-later x (λ i l. let passed : true ≡ nat_le (get_or x (i + 1) 0) (get_or x i 0) = h i 0 l in grind (arith, nat_tests)), λ never. grind (arith, nat_tests))
+never_rises-by_tests x false h = (
   λ t. grind (arith, nat_tests),
   λ never.
       let failed : false ≡ nat_le (get_or x (h.0 + 1) 0) (get_or x h.0 0) = h.2 0 in
@@ -32,16 +32,16 @@ never_rises_by_tests x false h = (
       grind (arith, nat_tests),
 )
 
-pub last_at_most_first : (x : List ℕ) → 0 < length x → NeverRises x → get_or x (length x - 1) 0 ≤ get_or x 0 0
-last_at_most_first x some never = by_last (length x - 1) refl
+pub last_at-most-first : (x : List ℕ) → 0 < length x → NeverRises x → get_or x (length x - 1) 0 ≤ get_or x 0 0
+last_at-most-first x some never = by_last (length x - 1) refl
   where
     by_last : (last : ℕ) → last ≡ length x - 1 → get_or x last 0 ≤ get_or x 0 0
     by_last zero e = omega arith
     by_last (suc last) e = never 0 (suc last) (omega arith) (omega arith)
 
 -- a row that never rises has the step property where its first entry is at most one more than its last
-pub step_by_ends : (x : List ℕ) → NeverRises x → get_or x 0 0 ≤ get_or x (length x - 1) 0 + 1 → IsStep x
-step_by_ends x never ends = record {
+pub step_by-ends : (x : List ℕ) → NeverRises x → get_or x 0 0 ≤ get_or x (length x - 1) 0 + 1 → IsStep x
+step_by-ends x never ends = record {
   no_less = never;
   at_most_one_more = λ i j l m. omega (arith, from_first i (omega arith), to_last j m);
 }
@@ -56,8 +56,8 @@ step_by_ends x never ends = record {
         elim (eq-or-lt_of_le within) [ inl e ↦ omega (arith, ap (λ k. get_or x k 0) e) | inr k ↦ never j (length x - 1) k (omega arith) ]
 
 -- and only there
-pub step_ends : (x : List ℕ) → IsStep x → get_or x 0 0 ≤ get_or x (length x - 1) 0 + 1
-step_ends x step = by_last (length x - 1) refl
+pub step-ends : (x : List ℕ) → IsStep x → get_or x 0 0 ≤ get_or x (length x - 1) 0 + 1
+step-ends x step = by_last (length x - 1) refl
   where
     by_last : (last : ℕ) → last ≡ length x - 1 → get_or x 0 0 ≤ get_or x last 0 + 1
     by_last zero e = omega arith

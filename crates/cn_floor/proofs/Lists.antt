@@ -19,8 +19,8 @@ module _ (lists : List (List (ℕ × ℕ))) (make : ℕ → List (ℕ × ℕ)) w
   pub made_at : (u : ℕ) → u < length lists → get_or (map make (range_with_len 0 (length lists))) u [] ≡ make u
   made_at u l = get_or-map-range_with_len make 0 (length lists) u u [] l (omega arith)
 
-  pub made_beyond : (u : ℕ) → length lists ≤ u → get_or (map make (range_with_len 0 (length lists))) u [] ≡ []
-  made_beyond u l = get_or_past (map make (range_with_len 0 (length lists))) u [] (omega (arith, length-map-range_with_len make 0 (length lists)))
+  pub made-beyond : (u : ℕ) → length lists ≤ u → get_or (map make (range_with_len 0 (length lists))) u [] ≡ []
+  made-beyond u l = get_or_past (map make (range_with_len 0 (length lists))) u [] (omega (arith, length-map-range_with_len make 0 (length lists)))
 
   -- the lists of another yard are these where they are so on each wire
   pub made : (news : List (List (ℕ × ℕ))) → length news ≡ length lists → ((u : ℕ) → get_or news u [] ≡ make u) → news ≡ map make (range_with_len 0 (length lists))
@@ -34,7 +34,7 @@ weigh-come lists token client wire inside u f =
     let make : ℕ → List (ℕ × ℕ) = λ x. get_or lists x [] ++ last_on token client wire x in
     elim (cases_lt u (length lists)) [
       | inl l ↦ ap (λ es. sum_by f es) (made_at lists make u l) ∙ sum_by-append f (get_or lists u []) (last_on token client wire u) ∙ omega (arith, last_on-sum token client wire u f)
-      | inr l ↦ rw (made_beyond lists make u l, get_or_past lists u [] l, ne_eqb wire u (λ e. omega arith)) refl
+      | inr l ↦ rw (made-beyond lists make u l, get_or_past lists u [] l, ne_eqb wire u (λ e. omega arith)) refl
     ]
 
 -- the lists, from which a token is taken, and to which `more` is added at each wire
@@ -51,7 +51,7 @@ weigh-pass lists token client wire to is inside u f =
           let at : sum_by f (get_or (map make (range_with_len 0 (length lists))) u []) ≡ sum_by f (make u) = ap (λ es. sum_by f es) (made_at lists make u l) in
           let parts = sum_by-append f (without token (get_or lists u [])) (last_on token client to u) in
           omega (arith, last_on-sum token client to u f, is.less u f)
-      | inr l ↦ rw (made_beyond lists make u l, get_or_past lists u [] l, ne_eqb wire u (λ e. omega (arith, is.inside)), ne_eqb to u (λ e. omega arith)) refl
+      | inr l ↦ rw (made-beyond lists make u l, get_or_past lists u [] l, ne_eqb wire u (λ e. omega (arith, is.inside)), ne_eqb to u (λ e. omega arith)) refl
     ]
 
 -- who leaves is on no wire
@@ -64,5 +64,5 @@ weigh-leave lists token client wire is u f =
           let at : sum_by f (get_or (map make (range_with_len 0 (length lists))) u []) ≡ sum_by f (make u) = ap (λ es. sum_by f es) (made_at lists make u l) in
           let parts = sum_by-append f (without token (get_or lists u [])) [] in
           omega (arith, is.less u f)
-      | inr l ↦ rw (made_beyond lists make u l, get_or_past lists u [] l, ne_eqb wire u (λ e. omega (arith, is.inside))) refl
+      | inr l ↦ rw (made-beyond lists make u l, get_or_past lists u [] l, ne_eqb wire u (λ e. omega (arith, is.inside))) refl
     ]

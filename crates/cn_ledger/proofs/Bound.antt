@@ -5,13 +5,13 @@ use Rattle.std.proofs.lemmas.Nat.{mod_below}
 use Rattle.std.proofs.lemmas.List.FromFn.{sum_by-map-range_with_len_more, get_or-map-range_with_len, length-map-range_with_len}
 use Rattle.std.specs.List.{range_with_len, sum}
 use Rattle.cn_spec.specs.Step.{half, share, shares, name_of}
-use Rattle.cn_spec.proofs.CallerLemmas.{exit_of-name_of, get_or-shares, half-mono, name-below, name_of-exit_of, row_is_shares, sum_below-same, total_where-agree, total_where-mono, total_where-zero}
+use Rattle.cn_spec.proofs.CallerLemmas.{exit_of-name_of, get-or-shares, half-mono, name-below, name_of-exit_of, row_is-shares, sum-below-same, total-where-agree, total-where-mono, total-where-zero}
 use Rattle.cn_wiring.specs.declared.end.End.{End}
 use Rattle.cn_wiring.specs.declared.end.End.TheVariants.{Balancer, Exit}
 use Rattle.cn_spec.specs.Sums.{when, sum_below, Agree, once_below}
 use Rattle.cn_wiring.specs.Table.{Table, is_end, sum_at, Stands, IsWellFormed, IsFullFlow}
 use Rattle.cn_wiring.specs.Network.{Counts}
-use Rattle.cn_wiring.proofs.CallerLemmas.{full_flow-exists, full_flow-sum, full_flow-unique, older}
+use Rattle.cn_wiring.proofs.CallerLemmas.{full-flow-exists, full-flow-sum, full-flow-unique, older}
 use Rattle.cn_ledger.specs.Ledger.{Ledger, put, IsSound, all_entered, IsQuiescent, IsBounded, IsTight, times_given}
 
 pub put-entry : (t : Table) (l : Ledger) (u : ℕ) → u < t.entries → put t l u ≡ l.entered u
@@ -35,7 +35,7 @@ module _ (t : Table) (w : IsWellFormed t) (l : Ledger) (sound : IsSound t l) (f 
   passed-bound : (b : ℕ) → b < t.balancers → ((u : ℕ) → u < t.entries + 2 * b → put t l u ≤ f u) → l.count (Balancer b) ≤ sum_at t (Balancer b) f
   passed-bound b h before =
       let s = sound.balanced (Balancer b) h in
-      let m = total_where-mono (is_end (Balancer b)) t.ends (Balancer 0) (put t l) f (λ u j q. before u (older t w b u j q)) in
+      let m = total-where-mono (is_end (Balancer b)) t.ends (Balancer 0) (put t l) f (λ u j q. before u (older t w b u j q)) in
       omega arith
 
   put-upto : (b : ℕ) → b ≤ t.balancers → (u : ℕ) → u < t.entries + 2 * b → put t l u ≤ f u
@@ -56,7 +56,7 @@ module _ (t : Table) (w : IsWellFormed t) (l : Ledger) (sound : IsSound t l) (f 
   count-at_most end h =
       let s = sound.balanced end h in
       let wires = w.wires in
-      let m = total_where-mono (is_end end) t.ends (Balancer 0) (put t l) f (λ u j q. put-upto t.balancers (omega arith) u (omega arith)) in
+      let m = total-where-mono (is_end end) t.ends (Balancer 0) (put t l) f (λ u j q. put-upto t.balancers (omega arith) u (omega arith)) in
       omega arith
 
 -- Where no token is inside, what has been put on the wires is the full flow.
@@ -64,7 +64,7 @@ module _ (t : Table) (w : IsWellFormed t) (l : Ledger) (sound : IsSound t l) (qu
   quiet-count : (end : End) → Stands t end → l.count end ≡ sum_at t end (put t l)
   quiet-count end h =
       let s = sound.balanced end h in
-      let none = total_where-agree (is_end end) t.ends (Balancer 0) l.on (λ _. 0) (λ u j q. quiet u j) ∙ total_where-zero (is_end end) t.ends in
+      let none = total-where-agree (is_end end) t.ends (Balancer 0) l.on (λ _. 0) (λ u j q. quiet u j) ∙ total-where-zero (is_end end) t.ends in
       omega arith
 
   pub quiet-flow : IsFullFlow t (put t l)
@@ -77,19 +77,19 @@ module _ (t : Table) (w : IsWellFormed t) (l : Ledger) (sound : IsSound t l) (qu
   -- the counts are those of any full flow of what entered
   pub quiet-same : (f : ℕ → ℕ) → IsFullFlow t f → Agree t.entries f l.entered → (end : End) → Stands t end → l.count end ≡ sum_at t end f
   quiet-same f flow inputs end h =
-      let same = full_flow-unique t w (put t l) f quiet-flow flow (λ u k. put-entry t l u k ∙ sym (inputs u k)) in
+      let same = full-flow-unique t w (put t l) f quiet-flow flow (λ u k. put-entry t l u k ∙ sym (inputs u k)) in
       let wires = w.wires in
-      quiet-count end h ∙ total_where-agree (is_end end) t.ends (Balancer 0) (put t l) f (λ u j q. same u (omega arith))
+      quiet-count end h ∙ total-where-agree (is_end end) t.ends (Balancer 0) (put t l) f (λ u j q. same u (omega arith))
 
 -- ---- the step property
 
-sum_row : (f : ℕ → ℕ) (n : ℕ) → sum (map f (range_with_len 0 n)) ≡ sum_below n f
+sum-row : (f : ℕ → ℕ) (n : ℕ) → sum (map f (range_with_len 0 n)) ≡ sum_below n f
 unfolding sum_below
-sum_row f zero = refl
-sum_row f (suc n) = rw (ap (λ (k : ℕ). sum (map f (range_with_len 0 k))) (suc_is n) ∙ sum_by-map-range_with_len_more (λ (y : ℕ). y) f 0 n n (omega arith)) (omega (arith, sum_row f n))
+sum-row f zero = refl
+sum-row f (suc n) = rw (ap (λ (k : ℕ). sum (map f (range_with_len 0 k))) (suc-is n) ∙ sum_by-map-range_with_len_more (λ (y : ℕ). y) f 0 n n (omega arith)) (omega (arith, sum-row f n))
   where
-    suc_is : (n : ℕ) → suc n ≡ n + 1
-    suc_is n = omega arith
+    suc-is : (n : ℕ) → suc n ≡ n + 1
+    suc-is n = omega arith
 
 -- each full flow brings each exit its share of the inputs
 pub exit-shares : (t : Table) → IsWellFormed t → Counts t → (f : ℕ → ℕ) → IsFullFlow t f → (i : ℕ) → i < t.width → sum_at t (Exit i) f ≡ share (sum_below t.entries f) t.width i
@@ -97,9 +97,9 @@ exit-shares t w counts f flow i h =
     let row : List ℕ = map (λ j. sum_at t (Exit j) f) (range_with_len 0 t.width) in
     let at : get_or row i 0 ≡ sum_at t (Exit i) f = get_or-map-range_with_len (λ j. sum_at t (Exit j) f) 0 t.width i i 0 h (omega arith) in
     let long : length row ≡ t.width = length-map-range_with_len (λ j. sum_at t (Exit j) f) 0 t.width in
-    let all : sum row ≡ sum_below t.entries f = sum_row (λ j. sum_at t (Exit j) f) t.width ∙ full_flow-sum t w f flow in
-    let is : row ≡ shares (sum_below t.entries f) t.width = row_is_shares row (counts f flow) ∙ ap (λ n. shares n (length row)) all ∙ ap (shares (sum_below t.entries f)) long in
-    sym at ∙ ap (λ (xs : List ℕ). get_or xs i 0) is ∙ get_or-shares (sum_below t.entries f) t.width i h
+    let all : sum row ≡ sum_below t.entries f = sum-row (λ j. sum_at t (Exit j) f) t.width ∙ full-flow-sum t w f flow in
+    let is : row ≡ shares (sum_below t.entries f) t.width = row_is-shares row (counts f flow) ∙ ap (λ n. shares n (length row)) all ∙ ap (shares (sum_below t.entries f)) long in
+    sym at ∙ ap (λ (xs : List ℕ). get_or xs i 0) is ∙ get-or-shares (sum_below t.entries f) t.width i h
 
 once-given : (c v : ℕ) → 1 ≤ once_below c v → v < c
 once-given c v h = elim (cases_lt v c) [ inl l ↦ l | inr l ↦ absurd (let z = le-ltb v c l in omega (arith, ap {B = ℕ} (λ b. cond b 1 0) z)) ]
@@ -108,7 +108,7 @@ once-given c v h = elim (cases_lt v c) [ inl l ↦ l | inr l ↦ absurd (let z =
 
 pub bounded : (t : Table) → IsWellFormed t → Counts t → (l : Ledger) → IsSound t l → IsBounded t l
 bounded t w counts l sound =
-    let (f, flow, inputs) = full_flow-exists t w l.entered in
+    let (f, flow, inputs) = full-flow-exists t w l.entered in
     record {
       passes = λ g within same b h. count-at_most t w l sound g within same (Balancer b) h;
       counts = λ i h. count i h f flow inputs;
@@ -121,7 +121,7 @@ bounded t w counts l sound =
     count : (i : ℕ) → i < t.width → (f : ℕ → ℕ) → IsFullFlow t f → Agree t.entries f l.entered → l.count (Exit i) ≤ share (all_entered t l) t.width i
     count i h f flow inputs =
         let most = count-at_most t w l sound f flow inputs (Exit i) h in
-        let same : sum_below t.entries f ≡ all_entered t l = sum_below-same t.entries f l.entered inputs in
+        let same : sum_below t.entries f ≡ all_entered t l = sum-below-same t.entries f l.entered inputs in
         let even : sum_at t (Exit i) f ≡ share (all_entered t l) t.width i = exit-shares t w counts f flow i h ∙ ap (λ n. share n t.width i) same in
         rw even at most
 
@@ -134,7 +134,7 @@ bounded t w counts l sound =
 pub tight : (t : Table) → IsWellFormed t → Counts t → (l : Ledger) → IsSound t l → IsQuiescent t l → IsTight t l
 tight t w counts l sound quiet =
     let flow = quiet-flow t w l sound quiet in
-    let same : sum_below t.entries (put t l) ≡ all_entered t l = sum_below-same t.entries (put t l) l.entered (put-entry t l) in
+    let same : sum_below t.entries (put t l) ≡ all_entered t l = sum-below-same t.entries (put t l) l.entered (put-entry t l) in
     record {
       counts = λ i h. count i h flow same;
       names = λ name. given name flow same;

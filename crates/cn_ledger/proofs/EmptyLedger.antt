@@ -2,7 +2,7 @@
 use Rattle.std.proofs.Common.{◌≡◌, ℕ, ◌-◌, ◌/◌, inl, inr, cond, sym, refl, ap, arith, ◌∙◌}
 use Rattle.std.proofs.lemmas.Bool.{cases_lt, lt-ltb, le-ltb}
 use Rattle.cn_spec.specs.Step.{name_of}
-use Rattle.cn_spec.proofs.CallerLemmas.{sum_below-zero, total_where-agree, total_where-zero}
+use Rattle.cn_spec.proofs.CallerLemmas.{sum-below-zero, total-where-agree, total-where-zero}
 use Rattle.cn_wiring.specs.declared.end.End.{End}
 use Rattle.cn_wiring.specs.declared.end.End.TheVariants.{Balancer, Exit}
 use Rattle.cn_wiring.specs.Table.{Table, is_end}
@@ -29,11 +29,11 @@ sound-nothing t l none = record {
   balanced = λ end h. omega (
     arith,
     none.count end,
-    total_where-zero (is_end end) t.ends,
-    total_where-agree (is_end end) t.ends (Balancer 0) (put t l) (λ _. 0) (λ u k e. put-nothing t l none u),
-    total_where-agree (is_end end) t.ends (Balancer 0) l.on (λ _. 0) (λ u k e. none.on u),
+    total-where-zero (is_end end) t.ends,
+    total-where-agree (is_end end) t.ends (Balancer 0) (put t l) (λ _. 0) (λ u k e. put-nothing t l none u),
+    total-where-agree (is_end end) t.ends (Balancer 0) l.on (λ _. 0) (λ u k e. none.on u),
   );
-  clients = λ u. (0, λ k h. sum_below-zero k (l.standing u) (none.standing u) ∙ sym (none.on u));
+  clients = λ u. (0, λ k h. sum-below-zero k (l.standing u) (none.standing u) ∙ sym (none.on u));
   numbered = λ end n h. rw (none.given end n, none.count end) (sym (ap {B = ℕ} (λ q. cond q 1 0) (le-ltb n 0 (omega arith))));
   named = λ c i v name g. absurd (omega (arith, none.granted c i v name));
   once = λ c i v name. omega (arith, none.granted c i v name);

@@ -7,7 +7,7 @@ use Rattle.cn_wiring.specs.declared.end.End.{End}
 use Rattle.cn_wiring.specs.declared.end.End.TheVariants.{Balancer, Exit}
 use Rattle.cn_spec.specs.Sums.{sum_below, when, total_where, once_below}
 use Rattle.cn_wiring.specs.Table.{Table, IsWellFormed, Stands, is_end, sum_at, end_of, output_wire}
-use Rattle.cn_spec.proofs.CallerLemmas.{once-next, sum_below-pick, sum_below-same, total_where-agree, total_where-shift, total_where-zero}
+use Rattle.cn_spec.proofs.CallerLemmas.{once-next, sum-below-pick, sum-below-same, total-where-agree, total-where-shift, total-where-zero}
 use Rattle.cn_wiring.proofs.CallerLemmas.{older}
 use Rattle.cn_ledger.specs.Ledger.{Ledger, IsSound, put}
 use Rattle.cn_ledger.specs.Events.{Enters, Goes, Passes, Leaves, one_at}
@@ -15,36 +15,36 @@ use Rattle.cn_ledger.specs.Events.{Enters, Goes, Passes, Leaves, one_at}
 -- ---- sums at an end, where the numbers change
 
 -- one place counts where its member passes
-pub total_where-point : {A : Type 0} → (p : A → Bool) (xs : List A) (d : A) (w : ℕ) → w < length xs → total_where p xs (one_at w) ≡ when (p (get_or xs w d)) 1
+pub total-where-point : {A : Type 0} → (p : A → Bool) (xs : List A) (d : A) (w : ℕ) → w < length xs → total_where p xs (one_at w) ≡ when (p (get_or xs w d)) 1
 unfolding total_where
-total_where-point p [] d w h = absurd (omega arith)
-total_where-point p (x ∷ xs) d zero h =
-    let rest = total_where-agree p xs d (λ u. one_at 0 (suc u)) (λ _. 0) (λ u k e. ap (λ q. cond q 1 0) (ne_eqb 0 (suc u) (λ z. omega arith))) ∙ total_where-zero p xs in
+total-where-point p [] d w h = absurd (omega arith)
+total-where-point p (x ∷ xs) d zero h =
+    let rest = total-where-agree p xs d (λ u. one_at 0 (suc u)) (λ _. 0) (λ u k e. ap (λ q. cond q 1 0) (ne_eqb 0 (suc u) (λ z. omega arith))) ∙ total-where-zero p xs in
     let first : when (p x) (one_at 0 0) ≡ when (p x) 1 = refl in
     omega arith
-total_where-point p (x ∷ xs) d (suc w) h =
-    let rest = total_where-agree p xs d (λ u. one_at (suc w) (suc u)) (one_at w) (λ u k e. grind (arith, nat_tests)) ∙ total_where-point p xs d w (omega arith) in
+total-where-point p (x ∷ xs) d (suc w) h =
+    let rest = total-where-agree p xs d (λ u. one_at (suc w) (suc u)) (one_at w) (λ u k e. grind (arith, nat_tests)) ∙ total-where-point p xs d w (omega arith) in
     let first : one_at (suc w) 0 ≡ 0 = ap (λ q. cond q 1 0) (ne_eqb (suc w) 0 (λ z. omega arith)) in
     let none : when (p x) (one_at (suc w) 0) ≡ 0 = ap (λ n. when (p x) n) first ∙ elim (p x) as (λ q. when q 0 ≡ 0) [ true ↦ refl | false ↦ refl ] in
     let same : when (p (get_or (x ∷ xs) (suc w) d)) 1 ≡ when (p (get_or xs w d)) 1 = refl in
     omega arith
 
 -- what was put on the wires with this end and what went by there rise together
-pub balanced_after : (t : Table) (end : End) (old_on new_on old_put new_put from to : ℕ → ℕ) (old_count new_count : ℕ)
+pub balanced-after : (t : Table) (end : End) (old_on new_on old_put new_put from to : ℕ → ℕ) (old_count new_count : ℕ)
     → ((u : ℕ) → u < length t.ends → new_on u + from u ≡ old_on u + to u)
     → ((u : ℕ) → u < length t.ends → new_put u ≡ old_put u + to u)
     → new_count ≡ old_count + sum_at t end from
     → old_count + sum_at t end old_on ≡ sum_at t end old_put
     → new_count + sum_at t end new_on ≡ sum_at t end new_put
-balanced_after t end old_on new_on old_put new_put from to old_count new_count on puts counts was =
-    let a = total_where-shift (is_end end) t.ends new_on from old_on to on in
-    let b = total_where-shift (is_end end) t.ends new_put (λ _. 0) old_put to (λ u h. omega (arith, puts u h)) in
-    omega (arith, total_where-zero (is_end end) t.ends)
+balanced-after t end old_on new_on old_put new_put from to old_count new_count on puts counts was =
+    let a = total-where-shift (is_end end) t.ends new_on from old_on to on in
+    let b = total-where-shift (is_end end) t.ends new_put (λ _. 0) old_put to (λ u h. omega (arith, puts u h)) in
+    omega (arith, total-where-zero (is_end end) t.ends)
 
 -- ---- what is put on a wire
 
-same_half : (m n p : ℕ) → m ≡ n → half m p ≡ half n p
-same_half m n p e = ap (λ (k : ℕ). half k p) e
+same-half : (m n p : ℕ) → m ≡ n → half m p ≡ half n p
+same-half m n p e = ap (λ (k : ℕ). half k p) e
 
 half-more : (n p : ℕ) → p < 2 → half (n + 1) p ≡ half n p + one_at (n % 2) p
 half-more n p few = grind (arith, nat_tests)
@@ -61,7 +61,7 @@ put-enter t old new c e ev u =
     elim (cases_lt u t.entries) [
       | inl l ↦ omega (arith, put-low t old u l, put-low t new u l, ev.entered u)
       | inr h ↦
-          let same = same_half (new.count (Balancer b)) (old.count (Balancer b)) ((u - t.entries) % 2) (ev.count (Balancer b)) in
+          let same = same-half (new.count (Balancer b)) (old.count (Balancer b)) ((u - t.entries) % 2) (ev.count (Balancer b)) in
           let none : one_at e u ≡ 0 = ap (λ q. cond q 1 0) (ne_eqb e u (λ q. let i = ev.inside in omega arith)) in
           omega (arith, put-high t old u h, put-high t new u h)
     ]
@@ -85,11 +85,11 @@ put-pass t old new c w b ev u =
                 let at : one_at (output_wire t b (n % 2)) u ≡ one_at (n % 2) p = here ∙ ap (λ z. cond z (one_at (n % 2) p) 0) (eq-eqb q b e) in
                 let now : new.count (Balancer q) ≡ n + 1 = rw e (ev.goes.count (Balancer b) ∙ ap (λ z. n + cond z 1 0) (eq-eqb b b refl)) in
                 let was : old.count (Balancer q) ≡ n = rw e refl in
-                omega (arith, put-high t old u h, put-high t new u h, same_half (new.count (Balancer q)) (n + 1) p now, same_half (old.count (Balancer q)) n p was, half-more n p (omega arith))
+                omega (arith, put-high t old u h, put-high t new u h, same-half (new.count (Balancer q)) (n + 1) p now, same-half (old.count (Balancer q)) n p was, half-more n p (omega arith))
             | inr d ↦
                 let at : one_at (output_wire t b (n % 2)) u ≡ 0 = here ∙ ap (λ z. cond z (one_at (n % 2) p) 0) (ne_eqb q b d) in
                 let same : new.count (Balancer q) ≡ old.count (Balancer q) = ev.goes.count (Balancer q) ∙ ap (λ z. old.count (Balancer q) + cond z 1 0) (ne_eqb q b d) ∙ add-zero (old.count (Balancer q)) in
-                omega (arith, put-high t old u h, put-high t new u h, same_half (new.count (Balancer q)) (old.count (Balancer q)) p same)
+                omega (arith, put-high t old u h, put-high t new u h, same-half (new.count (Balancer q)) (old.count (Balancer q)) p same)
           ]
     ]
 
@@ -98,7 +98,7 @@ put-leave t old new c w i ev u =
     let b : ℕ = (u - t.entries) / 2 in
     elim (cases_lt u t.entries) [
       | inl l ↦ put-low t new u l ∙ ev.goes.entered u ∙ sym (put-low t old u l)
-      | inr h ↦ put-high t new u h ∙ same_half (new.count (Balancer b)) (old.count (Balancer b)) ((u - t.entries) % 2) (ev.goes.count (Balancer b) ∙ add-zero (old.count (Balancer b))) ∙ sym (put-high t old u h)
+      | inr h ↦ put-high t new u h ∙ same-half (new.count (Balancer b)) (old.count (Balancer b)) ((u - t.entries) % 2) (ev.goes.count (Balancer b) ∙ add-zero (old.count (Balancer b))) ∙ sym (put-high t old u h)
     ]
 
 -- ---- ends
@@ -123,7 +123,7 @@ is_end-sym (Exit i) (Exit j) = eqb-sym j i
 count-from : (t : Table) (old new : Ledger) (c u : ℕ) (end : End) (to : ℕ → ℕ) → Goes t old new c u end to → (other : End) → new.count other ≡ old.count other + sum_at t other (one_at u)
 count-from t old new c u end to ev other =
     ev.count other ∙ ap (λ (k : ℕ). old.count other + k)
-    (ap (λ q. cond q 1 0) (is_end-sym end other) ∙ ap (λ e. cond (is_end other e) 1 0) (sym ev.ends) ∙ sym (total_where-point (is_end other) t.ends (Balancer 0) u ev.inside))
+    (ap (λ q. cond q 1 0) (is_end-sym end other) ∙ ap (λ e. cond (is_end other e) 1 0) (sym ev.ends) ∙ sym (total-where-point (is_end other) t.ends (Balancer 0) u ev.inside))
 
 once-more : (here : Bool) (k n c : ℕ) → (here ≡ true → c ≡ n) → once_below (c + cond here 1 0) k ≡ once_below c k + cond (here && eqb n k) 1 0
 once-more false k n c h = ap (λ (m : ℕ). once_below m k) (add-zero c) ∙ sym (add-zero (once_below c k))
@@ -172,15 +172,15 @@ all-same c i j n v a b ij nv ab = rw (eq-eqb c c refl, eq-eqb i j ij, eq-eqb n v
 
 -- ---- the clients on a wire
 
--- the sum where client c alone is in one more
+-- the sum if only client c is in one more
 one_more-sum : (c v k : ℕ) (f g : ℕ → ℕ) → c < k → ((d : ℕ) → f d ≡ g d + when (eqb c d) v) → sum_below k f ≡ sum_below k g + v
 one_more-sum c v k f g h same =
-    let a = sum_below-same k f (λ d. when (eqb c d) v + g d) (λ d j. omega (arith, same d)) in
-    omega (arith, sum_below-pick k c v g h)
+    let a = sum-below-same k f (λ d. when (eqb c d) v + g d) (λ d j. omega (arith, same d)) in
+    omega (arith, sum-below-pick k c v g h)
 
 -- the two ways to say that client c stands once more on wire u
-once_there : (u w c d : ℕ) → when (eqb u w && eqb c d) 1 ≡ when (eqb c d) (one_at u w)
-once_there u w c d = grind (arith, nat_tests)
+once-there : (u w c d : ℕ) → when (eqb u w && eqb c d) 1 ≡ when (eqb c d) (one_at u w)
+once-there u w c d = grind (arith, nat_tests)
 
 -- numbers f 0, f 1, f 2 .. add up to m: each sum of enough of them is m
 abbrev AddsUpTo : (ℕ → ℕ) → ℕ → Type 0
@@ -190,7 +190,7 @@ clients-enter : (t : Table) (old new : Ledger) (c u : ℕ) → Enters t old new 
 clients-enter t old new c u ev w (n, sums) = (
   n + suc c,
   λ k h.
-      let more = one_more-sum c (one_at u w) k (new.standing w) (old.standing w) (omega arith) (λ d. omega (arith, ev.standing w d, once_there u w c d)) in
+      let more = one_more-sum c (one_at u w) k (new.standing w) (old.standing w) (omega arith) (λ d. omega (arith, ev.standing w d, once-there u w c d)) in
       omega (arith, sums k (omega arith), ev.on w),
 )
 
@@ -199,7 +199,7 @@ clients-go t old new c u end to ev w (n, sums) = (
   n + suc c,
   λ k h.
       let whole = λ (d : ℕ). old.standing w d + when (eqb c d) (to w) in
-      let less = one_more-sum c (one_at u w) k whole (new.standing w) (omega arith) (λ d. omega (arith, ev.standing w d, once_there u w c d)) in
+      let less = one_more-sum c (one_at u w) k whole (new.standing w) (omega arith) (λ d. omega (arith, ev.standing w d, once-there u w c d)) in
       let more = one_more-sum c (to w) k whole (old.standing w) (omega arith) (λ d. refl) in
       omega (arith, sums k (omega arith), ev.on w),
 )
@@ -209,8 +209,8 @@ clients-go t old new c u end to ev w (n, sums) = (
 pub sound-enters : (t : Table) (old new : Ledger) (c u : ℕ) → Enters t old new c u → IsSound t old → IsSound t new
 sound-enters t old new c u ev sound = record {
   balanced = λ end h.
-      balanced_after t end old.on new.on (put t old) (put t new) (λ _. 0) (one_at u) (old.count end) (new.count end)
-      (λ w k. omega (arith, ev.on w)) (λ w k. put-enter t old new c u ev w) (omega (arith, ev.count end, total_where-zero (is_end end) t.ends)) (sound.balanced end h);
+      balanced-after t end old.on new.on (put t old) (put t new) (λ _. 0) (one_at u) (old.count end) (new.count end)
+      (λ w k. omega (arith, ev.on w)) (λ w k. put-enter t old new c u ev w) (omega (arith, ev.count end, total-where-zero (is_end end) t.ends)) (sound.balanced end h);
   clients = λ w. clients-enter t old new c u ev w (sound.clients w);
   numbered = λ end n h. ev.given end n ∙ sound.numbered end n h ∙ ap (λ m. once_below m n) (sym (ev.count end));
   named = λ d i v name g. sound.named d i v name (rw (ev.granted d i v name) at g);
@@ -226,7 +226,7 @@ sound-passes t old new c u b ev sound =
     let to : ℕ → ℕ = one_at (output_wire t b (old.count (Balancer b) % 2)) in
     record {
       balanced = λ end h.
-          balanced_after t end old.on new.on (put t old) (put t new) (one_at u) to (old.count end) (new.count end)
+          balanced-after t end old.on new.on (put t old) (put t new) (one_at u) to (old.count end) (new.count end)
           (λ w k. ev.goes.on w) (λ w k. put-pass t old new c u b ev w) (count-from t old new c u (Balancer b) to ev.goes end) (sound.balanced end h);
       clients = λ w. clients-go t old new c u (Balancer b) to ev.goes w (sound.clients w);
       numbered = λ end n h. numbered-after t old new c u (Balancer b) to ev.goes end n (sound.numbered end n h);
@@ -243,7 +243,7 @@ sound-leaves t w old new c u i ev sound =
     let n : ℕ = old.count (Exit i) in
     record {
       balanced = λ end h.
-          balanced_after t end old.on new.on (put t old) (put t new) (one_at u) (λ _. 0) (old.count end) (new.count end)
+          balanced-after t end old.on new.on (put t old) (put t new) (one_at u) (λ _. 0) (old.count end) (new.count end)
           (λ x k. ev.goes.on x) (λ x k. omega (arith, put-leave t old new c u i ev x)) (count-from t old new c u (Exit i) (λ _. 0) ev.goes end) (sound.balanced end h);
       clients = λ w. clients-go t old new c u (Exit i) (λ _. 0) ev.goes w (sound.clients w);
       numbered = λ end m h. numbered-after t old new c u (Exit i) (λ _. 0) ev.goes end m (sound.numbered end m h);

@@ -4,7 +4,7 @@ use Rattle.std.proofs.lemmas.Bool.{cases_eq, eq-eqb, ne_eqb}
 use Rattle.std.proofs.lemmas.Bool.Decides.{nat_tests}
 use Rattle.cn_spec.specs.Step.{name_of}
 use Rattle.cn_spec.specs.Sums.{when}
-use Rattle.cn_spec.proofs.CallerLemmas.{sum_below-part}
+use Rattle.cn_spec.proofs.CallerLemmas.{sum-below-part}
 use Rattle.cn_wiring.specs.declared.end.End.{End}
 use Rattle.cn_wiring.specs.declared.end.End.TheVariants.{Balancer, Exit}
 use Rattle.cn_wiring.specs.Table.{Table, is_end, end_of, output_wire}
@@ -14,7 +14,7 @@ use Rattle.cn_ledger.specs.Events.{Enters, Goes, Passes, Leaves, one_at}
 pub standing-le-on : (t : Table) (l : Ledger) → IsSound t l → (u c : ℕ) → l.standing u c ≤ l.on u
 standing-le-on t l sound u c =
     let (n, sums) = sound.clients u in
-    omega (arith, sums (n + suc c) (omega arith), sum_below-part (n + suc c) c (l.standing u) (omega arith))
+    omega (arith, sums (n + suc c) (omega arith), sum-below-part (n + suc c) c (l.standing u) (omega arith))
 
 pub entering : (t : Table) (old : Ledger) (c u : ℕ) → u < t.entries → (new : Ledger) × Enters t old new c u
 entering t old c u h = (
@@ -49,8 +49,8 @@ after old c u end to granted = record {
 }
 
 -- what is taken off is there
-taken_off : (u w : ℕ) (f : ℕ → ℕ) → 1 ≤ f u → one_at u w ≤ f w
-taken_off u w f h =
+taken-off : (u w : ℕ) (f : ℕ → ℕ) → 1 ≤ f u → one_at u w ≤ f w
+taken-off u w f h =
     elim (cases_eq u w) [
       | inl e ↦ let k : 1 ≤ f w = rw e at h in omega (arith, most (eqb u w))
       | inr n ↦ let z : one_at u w ≡ 0 = ap {B = ℕ} (λ q. cond q 1 0) (ne_eqb u w n) in omega arith
@@ -60,10 +60,10 @@ taken_off u w f h =
     most true = omega arith
     most false = omega arith
 
-taken_off_client : (u w c d : ℕ) (f : ℕ → ℕ → ℕ) → 1 ≤ f u c → when (eqb u w && eqb c d) 1 ≤ f w d
-taken_off_client u w c d f h =
+taken-off-client : (u w c d : ℕ) (f : ℕ → ℕ → ℕ) → 1 ≤ f u c → when (eqb u w && eqb c d) 1 ≤ f w d
+taken-off-client u w c d f h =
     elim (cases_eq c d) [
-      | inl e ↦ let k : 1 ≤ f u d = rw e at h in let r = taken_off u w (λ x. f x d) k in rw (eq-eqb c d e) (grind (arith, nat_tests))
+      | inl e ↦ let k : 1 ≤ f u d = rw e at h in let r = taken-off u w (λ x. f x d) k in rw (eq-eqb c d e) (grind (arith, nat_tests))
       | inr n ↦ rw (ne_eqb c d n) (grind (arith, nat_tests))
     ]
 
@@ -75,8 +75,8 @@ going t old c u end to granted h ends stands some = record {
   ends = ends;
   entered = λ e. refl;
   count = λ other. refl;
-  on = λ w. omega (arith, taken_off u w old.on some);
-  standing = λ w d. omega (arith, taken_off_client u w c d old.standing stands);
+  on = λ w. omega (arith, taken-off u w old.on some);
+  standing = λ w d. omega (arith, taken-off-client u w c d old.standing stands);
   given = λ other n. refl;
 }
 

@@ -2,19 +2,19 @@
 use Rattle.std.proofs.Common.{◌≡◌, ℕ, zero, suc, ◌+◌, ◌*◌, ◌≤◌, length, sym, refl, ap, ◌∙◌, arith}
 use Rattle.cn_spec.specs.Step.{half}
 use Rattle.cn_spec.specs.Sums.{sum_below}
-use Rattle.cn_spec.proofs.CallerLemmas.{half-sum, sum_below-plus, sum_below-same}
+use Rattle.cn_spec.proofs.CallerLemmas.{half-sum, sum-below-plus, sum-below-same}
 use Rattle.cn_wiring.specs.declared.end.End.{End}
 use Rattle.cn_wiring.specs.declared.end.End.TheVariants.{Balancer, Exit}
 use Rattle.cn_wiring.specs.Table.{Table, IsWellFormed, Stands, sum_at}
-use Rattle.cn_wiring.proofs.CallerLemmas.{count-twice, full_flow-exists, full_flow-few}
+use Rattle.cn_wiring.proofs.CallerLemmas.{count-twice, full-flow-exists, full-flow-few}
 use Rattle.cn_ledger.specs.Ledger.{Ledger, IsSound, all_entered, put}
 use Rattle.cn_ledger.proofs.Bound.{count-at_most, put-entry, put-output}
 
 pub counts-few : (t : Table) → IsWellFormed t → (l : Ledger) → IsSound t l → (end : End) → Stands t end → l.count end ≤ all_entered t l
 counts-few t w l sound end h =
-    let (f, flow, inputs) = full_flow-exists t w l.entered in
-    let same : sum_below t.entries f ≡ all_entered t l = sum_below-same t.entries f l.entered inputs in
-    omega (arith, count-at_most t w l sound f flow inputs end h, full_flow-few t w f flow end h)
+    let (f, flow, inputs) = full-flow-exists t w l.entered in
+    let same : sum_below t.entries f ≡ all_entered t l = sum-below-same t.entries f l.entered inputs in
+    omega (arith, count-at_most t w l sound f flow inputs end h, full-flow-few t w f flow end h)
 
 -- what has been put on the wires is what came in and what passed the balancers
 put-sum : (t : Table) (l : Ledger) (n : ℕ) → n ≤ t.balancers
@@ -22,7 +22,7 @@ put-sum : (t : Table) (l : Ledger) (n : ℕ) → n ≤ t.balancers
 unfolding sum_below
 put-sum t l zero k =
     let z : t.entries + 2 * 0 ≡ t.entries = omega arith in
-    rw z (omega (arith, sum_below-same t.entries (put t l) l.entered (put-entry t l)))
+    rw z (omega (arith, sum-below-same t.entries (put t l) l.entered (put-entry t l)))
 put-sum t l (suc n) k =
     let before = put-sum t l n (omega arith) in
     let first : put t l (t.entries + 2 * n) ≡ half (l.count (Balancer n)) 0 = let e : t.entries + 2 * n + 0 ≡ t.entries + 2 * n = omega arith in rw e at (put-output t l n 0 (omega arith)) in
@@ -38,8 +38,8 @@ nobody-lost t w l sound =
     let there = count-twice t t.ends l.on w.stands in
     let came = count-twice t t.ends (put t l) w.stands in
     let balancers : sum_below t.balancers (λ b. l.count (Balancer b)) + sum_below t.balancers (λ b. sum_at t (Balancer b) l.on) ≡ sum_below t.balancers (λ b. sum_at t (Balancer b) (put t l)) =
-    sym (sum_below-plus t.balancers (λ b. l.count (Balancer b)) (λ b. sum_at t (Balancer b) l.on)) ∙ sum_below-same t.balancers _ _ (λ b h. sound.balanced (Balancer b) h) in
+    sym (sum-below-plus t.balancers (λ b. l.count (Balancer b)) (λ b. sum_at t (Balancer b) l.on)) ∙ sum-below-same t.balancers _ _ (λ b h. sound.balanced (Balancer b) h) in
     let exits : sum_below t.width (λ i. l.count (Exit i)) + sum_below t.width (λ i. sum_at t (Exit i) l.on) ≡ sum_below t.width (λ i. sum_at t (Exit i) (put t l)) =
-    sym (sum_below-plus t.width (λ i. l.count (Exit i)) (λ i. sum_at t (Exit i) l.on)) ∙ sum_below-same t.width _ _ (λ i h. sound.balanced (Exit i) h) in
+    sym (sum-below-plus t.width (λ i. l.count (Exit i)) (λ i. sum_at t (Exit i) l.on)) ∙ sum-below-same t.width _ _ (λ i h. sound.balanced (Exit i) h) in
     let wires : sum_below (length t.ends) (put t l) ≡ sum_below (t.entries + 2 * t.balancers) (put t l) = ap (λ n. sum_below n (put t l)) w.wires in
     omega (arith, put-sum t l t.balancers (omega arith))

@@ -5,7 +5,7 @@ use Rattle.std.proofs.lemmas.Bool.{cases_eq, cases_lt, eq-eqb, ne_eqb, lt-ltb, l
 use Rattle.std.proofs.lemmas.List.Sums.{get_or-le-sum_by, sum_by-cons}
 use Rattle.cn_spec.specs.Step.{IsEachBelow}
 use Rattle.cn_spec.specs.Sums.{when}
-use Rattle.cn_spec.proofs.CallerLemmas.{each_below, sum_by-same, times-map}
+use Rattle.cn_spec.proofs.CallerLemmas.{each_below, sum-by-same, times-map}
 use Rattle.cn_wiring.specs.Table.{Table}
 use Rattle.cn_ledger.specs.Ledger.{Ledger, IsTight, all_entered}
 use Rattle.cn_ledger.specs.Grants.{Grant, ListsGrants, is_grant}
@@ -14,9 +14,9 @@ use Rattle.cn_ledger.specs.Grants.{Grant, ListsGrants, is_grant}
 is-itself : (base : ℕ) (g : Grant) → is_grant base g.client g.exit g.visit (g.name + base) g ≡ true
 is-itself base g = rw (eq-eqb g.client g.client refl, eq-eqb g.exit g.exit refl, eq-eqb g.visit g.visit refl, eq-eqb (g.name + base) (g.name + base) refl) refl
 
-sum_by-none : (gs : List Grant) → sum_by (λ _. 0) gs ≡ 0
-sum_by-none [] = refl
-sum_by-none (g ∷ gs) = omega (arith, sum_by-none gs, sum_by-cons (λ (x : Grant). 0) g gs)
+sum-by-none : (gs : List Grant) → sum_by (λ _. 0) gs ≡ 0
+sum-by-none [] = refl
+sum-by-none (g ∷ gs) = omega (arith, sum-by-none gs, sum_by-cons (λ (x : Grant). 0) g gs)
 
 none-last : (a b c : Bool) → (a && (b && (c && false))) ≡ false
 none-last false b c = refl
@@ -42,16 +42,16 @@ module _ (t : Table) (old new : Ledger) (grants : List Grant) (k : ℕ) (was : I
       let one : ◌≡◌ {A = ℕ} (cond (is_grant base g.client g.exit g.visit (g.name + base) g) 1 0) 1 = ap {B = ℕ} (λ b. cond b 1 0) (is-itself base g) in
       omega (arith, get_or-le-sum_by (λ x. cond (is_grant base g.client g.exit g.visit (g.name + base) x) 1 0) grants j nobody h, lists g.client g.exit g.visit (g.name + base))
 
-  -- a name beyond the last was told to nobody
+  -- nobody has a name beyond the last
   beyond : (n : ℕ) → k ≤ n → count_by (λ g. eqb g.name n) grants ≡ 0
   beyond n h =
-      sum_by-same (λ (g : Grant). cond (eqb g.name n) 1 0) (λ _. 0) grants nobody (λ j l.
+      sum-by-same (λ (g : Grant). cond (eqb g.name n) 1 0) (λ _. 0) grants nobody (λ j l.
       let g : Grant = get_or grants j nobody in
       let low = (is.only g.client g.exit g.visit (g.name + base) (made j l)).0 in
       ap {B = ℕ} (λ b. cond b 1 0) (ne_eqb g.name n (λ e. omega arith)))
-      ∙ sum_by-none grants
+      ∙ sum-by-none grants
 
-  -- a name below was told by its holder's grant alone
+  -- a name below stands only in its holder's grant
   below : (n : ℕ) → n < k → count_by (λ g. eqb g.name n) grants ≡ 1
   below n h =
       let name : ℕ = n + base in
@@ -64,7 +64,7 @@ module _ (t : Table) (old new : Ledger) (grants : List Grant) (k : ℕ) (was : I
       ] in
       let one : ◌≡◌ {A = ℕ} (when (eqb c c) 1) 1 = ap {B = ℕ} (λ b. cond b 1 0) (eq-eqb c c refl) in
       let same : count_by (λ g. eqb g.name n) grants ≡ count_by (is_grant base c i v name) grants =
-      sum_by-same (λ (g : Grant). cond (eqb g.name n) 1 0) (λ g. cond (is_grant base c i v name g) 1 0) grants nobody (λ j l.
+      sum-by-same (λ (g : Grant). cond (eqb g.name n) 1 0) (λ g. cond (is_grant base c i v name g) 1 0) grants nobody (λ j l.
       let g : Grant = get_or grants j nobody in
       let once = made j l in
       ap {B = ℕ} (λ b. cond b 1 0) (elim (cases_eq g.name n) [
@@ -83,7 +83,7 @@ module _ (t : Table) (old new : Ledger) (grants : List Grant) (k : ℕ) (was : I
       ])) in
       omega (arith, held c, lists c i v name)
 
-  -- the names that were told are the numbers below k, each once
+  -- the granted names are the numbers below k, each once
   pub names-each : IsEachBelow k (map (λ g. g.name) grants)
   names-each = each_below k (map (λ g. g.name) grants) (λ n. times-map (λ (g : Grant). g.name) n grants ∙ elim (cases_lt n k) [
     | inl h ↦ below n h ∙ sym (ap {B = ℕ} (λ b. cond b 1 0) (lt-ltb n k h))

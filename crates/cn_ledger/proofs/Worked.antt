@@ -40,8 +40,8 @@ module _ (a b c d e f : Ledger) (ea : Enters two_wide empty_ledger a 7 0) (eb : 
   one_left : f.count (Exit 0) ≡ 1
   one_left = omega (arith, lf.goes.count (Exit 0), le.goes.count (Exit 0), d0)
 
-  other_left : f.count (Exit 1) ≡ 1
-  other_left = omega (arith, lf.goes.count (Exit 1), e1)
+  other-left : f.count (Exit 1) ≡ 1
+  other-left = omega (arith, lf.goes.count (Exit 1), e1)
 
   nine : f.granted 9 0 0 0 ≡ 1
   nine =
@@ -54,11 +54,11 @@ module _ (a b c d e f : Ledger) (ea : Enters two_wide empty_ledger a 7 0) (eb : 
       omega (arith, le.granted 7 1 0 1, none 7 1 0 1)
 
   pub two_clients : IsQuiescent two_wide f × (all_entered two_wide f ≡ 2) × (f.count (Exit 0) ≡ 1) × (f.count (Exit 1) ≡ 1) × (f.granted 9 0 0 0 ≡ 1) × (f.granted 7 1 0 1 ≡ 1)
-  two_clients = (quiet, two, one_left, other_left, nine, seven)
+  two_clients = (quiet, two, one_left, other-left, nine, seven)
 
 pub lost : IsSound two_wide (record empty_ledger { entered = one_at 0 }) → ⊥
 unfolding total_where
 lost sound = let s = sound.balanced (Balancer 0) (omega arith) in absurd (omega arith)
 
-pub from_nowhere : (l : Ledger) → IsSound two_wide l → l.on 2 ≡ 0 → 1 ≤ l.standing 2 7 → ⊥
-from_nowhere l sound none some = absurd (omega (arith, standing-le-on two_wide l sound 2 7))
+pub from-nowhere : (l : Ledger) → IsSound two_wide l → l.on 2 ≡ 0 → 1 ≤ l.standing 2 7 → ⊥
+from-nowhere l sound none some = absurd (omega (arith, standing-le-on two_wide l sound 2 7))

@@ -22,8 +22,8 @@ by_parts a b Equal Equal first second not_less = inr (omega arith, omega arith)
 by_parts a b Equal Greater first second not_less = inr (omega arith, omega arith)
 by_parts a b Greater s first second not_less = inl first
 
-pub rising_from_sorted : (grants : List (ℕ × ℕ)) → IsSorted pair_cmp grants → IsRising grants
-rising_from_sorted grants sorted i j d before within =
+pub rising-from_sorted : (grants : List (ℕ × ℕ)) → IsSorted pair_cmp grants → IsRising grants
+rising-from_sorted grants sorted i j d before within =
     let order = ranks_by (then_total (on_total (λ (p : ℕ × ℕ). p.0) nat_cmp_total) (on_total (λ (p : ℕ × ℕ). p.1) nat_cmp_total)) (λ (p : ℕ × ℕ). p) in
     let a = get_or grants i d in
     let b = get_or grants j d in

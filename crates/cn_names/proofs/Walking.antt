@@ -22,26 +22,26 @@ behind other client s names token differ found =
       | inr apart ↦ rw (ne_eqb other client apart) found
     ]
 
-pub walking_from_any : (names : List (ℕ × Standing)) → IsDistinct nat_eq (keys_of names) → list_any is_walking (values_of names) ≡ true → (client : ℕ) × IsWalking names client
-walking_from_any [] distinct any = absurd (cc)
-walking_from_any ((client, Walking token) ∷ names) distinct any = (client, (token, rw (eq-eqb client client refl) refl))
-walking_from_any ((client, Holds name) ∷ names) distinct any =
-    let later = walking_from_any names (IsDistinct-tail nat_eq client (keys_of names) distinct) any in
+pub walking-from-any : (names : List (ℕ × Standing)) → IsDistinct nat_eq (keys_of names) → list_any is_walking (values_of names) ≡ true → (client : ℕ) × IsWalking names client
+walking-from-any [] distinct any = absurd (cc)
+walking-from-any ((client, Walking token) ∷ names) distinct any = (client, (token, rw (eq-eqb client client refl) refl))
+walking-from-any ((client, Holds name) ∷ names) distinct any =
+    let later = walking-from-any names (IsDistinct-tail nat_eq client (keys_of names) distinct) any in
     (later.0, (later.1.0, behind later.0 client (Holds name) names later.1.0 (IsDistinct-head nat_eq client (keys_of names) distinct) later.1.1))
 
 -- a standing that walks is not that of a client that holds a name
-past_a_name : (here : Bool) (name token : ℕ) (rest : Option Standing) → cond here (Some (Holds name)) rest ≡ Some (Walking token) → rest ≡ Some (Walking token)
-past_a_name true name token rest found = cc
-past_a_name false name token rest found = found
+past-a-name : (here : Bool) (name token : ℕ) (rest : Option Standing) → cond here (Some (Holds name)) rest ≡ Some (Walking token) → rest ≡ Some (Walking token)
+past-a-name true name token rest found = cc
+past-a-name false name token rest found = found
 
-pub any_from_walking : (names : List (ℕ × Standing)) (client token : ℕ) → standing_in names client ≡ Some (Walking token) → list_any is_walking (values_of names) ≡ true
-any_from_walking [] client token found = cc
-any_from_walking ((first, Walking other) ∷ names) client token found = refl
-any_from_walking ((first, Holds name) ∷ names) client token found =
-    any_from_walking names client token (past_a_name (nat_eq client first) name token (standing_in names client) found)
+pub any-from-walking : (names : List (ℕ × Standing)) (client token : ℕ) → standing_in names client ≡ Some (Walking token) → list_any is_walking (values_of names) ≡ true
+any-from-walking [] client token found = cc
+any-from-walking ((first, Walking other) ∷ names) client token found = refl
+any-from-walking ((first, Holds name) ∷ names) client token found =
+    any-from-walking names client token (past-a-name (nat_eq client first) name token (standing_in names client) found)
 
 -- where nobody walks, each client holds a name
-pub length-grants_in : (names : List (ℕ × Standing)) → list_any is_walking (values_of names) ≡ false → length (grants_in names) ≡ length names
-length-grants_in [] none = refl
-length-grants_in ((client, Walking token) ∷ names) none = cc
-length-grants_in ((client, Holds name) ∷ names) none = ap suc (length-grants_in names none)
+pub length-grants-in : (names : List (ℕ × Standing)) → list_any is_walking (values_of names) ≡ false → length (grants_in names) ≡ length names
+length-grants-in [] none = refl
+length-grants-in ((client, Walking token) ∷ names) none = cc
+length-grants-in ((client, Holds name) ∷ names) none = ap suc (length-grants-in names none)

@@ -6,7 +6,7 @@ use Rattle.std.proofs.lemmas.List.Sums.{sum_by-cons}
 use Rattle.cn_spec.specs.Step.{counts_after, shares, shares_after}
 use Rattle.cn_ledger.specs.declared.client.Client.{Client}
 use Rattle.cn_record.specs.declared.record.EpochRecord.{EpochRecord}
-use Rattle.cn_report.proofs.CallerLemmas.{IsSmallEpoch, batch_numbers, tight_after, told_back, written_tight}
+use Rattle.cn_report.proofs.CallerLemmas.{IsSmallEpoch, batch-numbers, tight-after, told-back, written-tight}
 use Rattle.cn_report.specs.Reading.Batch.{AreRising}
 use Rattle.cn_report.specs.Reading.Grants.{IsTightList}
 use Rattle.cn_report.specs.Reading.Records.{records_of}
@@ -51,7 +51,7 @@ all-names width (e ∷ epochs) [] served small = absurd served
 all-names width (e ∷ epochs) (r ∷ records) served small =
     (own-names width served.0.0 e r served.0.1 small.0, all-names width epochs records served.1 small.1)
 
--- they tell as many clients as came
+-- they list as many clients as came
 all-clients : (width : ℕ) (epochs : List BatchEpoch) (records : List EpochRecord) → AllZip (AfterSome width) epochs records
     → clients_of records ≡ sum_by (λ e. length e.clients.items) epochs
 all-clients width [] [] served = refl
@@ -89,7 +89,7 @@ module _ (net : Description) (carry : Bool) (bytes text : List ℕ) (run : IsRun
   tight : AreTight run.records
   tight =
       let width = run.network.table.width in
-      let numbers = batch_numbers (entries_of net.kind net.width) (records_of bytes) run.epochs run.batch in
+      let numbers = batch-numbers (entries_of net.kind net.width) (records_of bytes) run.epochs run.batch in
       record {
         rising = rising width run.epochs run.records each run.batch.holds.rising;
         names = all-names width run.epochs run.records each numbers.0;
@@ -98,16 +98,16 @@ module _ (net : Description) (carry : Bool) (bytes text : List ℕ) (run : IsRun
 
   -- a check finds no flaw in it
   pub accepted : IsTightList (records_of text)
-  accepted = rw run.written (written_tight run.records tight)
+  accepted = rw run.written (written-tight run.records tight)
 
-  -- and tells the epochs of the batch
+  -- and lists the epochs of the batch
   pub told : (w : ℕ) → told_epochs w (records_of text) ≡ map (served_epoch w) run.epochs
   told w =
       let width = run.network.table.width in
       ap (λ (t : List ℕ). told_epochs w (records_of t)) run.written
-      ∙ told_back w run.records tight (some-clients width run.epochs run.records each run.batch.holds.some)
+      ∙ told-back w run.records tight (some-clients width run.epochs run.records each run.batch.holds.some)
       ∙ told-alike width w run.epochs run.records each
 
   -- each epoch's names are shared out, after any number of clients
   pub counted_after : (w m epoch : ℕ) → counts_after m w (names_in epoch (records_of text)) ≡ shares_after m (length (names_in epoch (records_of text))) w
-  counted_after = tight_after (records_of text) accepted
+  counted_after = tight-after (records_of text) accepted

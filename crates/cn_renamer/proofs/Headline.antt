@@ -14,7 +14,7 @@ use Rattle.cn_record.specs.declared.record.EpochRecord.{EpochRecord}
 use Rattle.cn_report.specs.Reading.Batch.{IsBatch, clients_of}
 use Rattle.cn_report.specs.Reading.Records.{records_of}
 use Rattle.cn_report.specs.declared.reading.gathering.BatchEpoch.{BatchEpoch}
-use Rattle.cn_report.proofs.CallerLemmas.{known_map}
+use Rattle.cn_report.proofs.CallerLemmas.{known-map}
 use Rattle.cn_report.specs.Writing.Outcome.{IsWholeRecord}
 use Rattle.cn_report.specs.Writing.Written.{HasWritten, First, Nothing, Whole, Written}
 use Rattle.cn_cli.specs.Net.{Description, IsNetworkOf}
@@ -98,7 +98,7 @@ pub run-is : (net : Description) (form : Form) (carry : Bool) (network : Network
     → (records : List EpochRecord) → AreServed carry network.table.width 0 epochs records
     → (text : List ℕ) → text ≡ text_in form network records → IsRunOfKnown net form carry known text
 run-is net form carry network built known epochs batch records served text written =
-    known_map known (λ bytes. IsBatch network.table.entries (records_of bytes) epochs) (λ bytes. IsRunOf net form carry bytes text)
+    known-map known (λ bytes. IsBatch network.table.entries (records_of bytes) epochs) (λ bytes. IsRunOf net form carry bytes text)
     batch (λ bytes is. record {
       epochs = epochs;
       batch = subst (λ (entries : ℕ). IsBatch entries (records_of bytes) epochs) built.2.entries is;

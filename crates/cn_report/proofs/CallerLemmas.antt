@@ -1,17 +1,17 @@
 -- What proofs of other crates cite of this one. They cite nothing else of proofs/.
 
--- answers that tell the same have the same lines
+-- answers that say the same have the same lines
 pub use Rattle.cn_report.proofs.WritingLemmas.SameLines.{lines-same}
 -- what follows of bytes that are known
-pub use Rattle.cn_report.proofs.ReadingLemmas.FirstFaults.{known_map}
+pub use Rattle.cn_report.proofs.ReadingLemmas.FirstFaults.{known-map}
 -- a batch's numbers, and how many clients it has
-pub use Rattle.cn_report.proofs.ReadBack.Batches.{IsSmallEpoch, batch_numbers}
--- a grant list that is written of tight epochs is tight, and what a check tells of it
-pub use Rattle.cn_report.proofs.ReadBack.Tight.{written_tight}
-pub use Rattle.cn_report.proofs.ReadBack.Told.{told_back}
+pub use Rattle.cn_report.proofs.ReadBack.Batches.{IsSmallEpoch, batch-numbers}
+-- a grant list that is written of tight epochs is tight, and what a check finds of it
+pub use Rattle.cn_report.proofs.ReadBack.Tight.{written-tight}
+pub use Rattle.cn_report.proofs.ReadBack.Told.{told-back}
 -- of a tight list each epoch's names are shared out, after any number of clients
-pub use Rattle.cn_report.proofs.ReadBack.Told.{tight_after}
+pub use Rattle.cn_report.proofs.ReadBack.Told.{tight-after}
 -- records spell one list of commands
 pub use Rattle.cn_report.proofs.ReadingLemmas.OneSchedule.{one-schedule}
 -- what was written of a text
-pub use Rattle.cn_report.proofs.WritingLemmas.Writings.{written_map}
+pub use Rattle.cn_report.proofs.WritingLemmas.Writings.{written-map}

@@ -6,7 +6,7 @@ use cn_bitonic::bitonic;
 use cn_walk::{Floor, Grant, Lane, LaneFault};
 use std::alloc::Global;
 
-/// The grants of two lanes, how many came in, and what each refused client was told.
+/// The grants of two lanes, how many came in, and why each client was refused who was.
 type Told = (Option<Grant>, Option<Grant>, u64, [Option<LaneFault>; 2]);
 
 /// Names a client, if nobody of the lane is inside.

@@ -3,33 +3,33 @@ use Rattle.std.proofs.Common.{◌≡◌, ℕ, zero, suc, ◌+◌, ◌≤◌, ◌
 use Rattle.std.specs.List.{sum}
 use Rattle.cn_spec.specs.Step.{half, IsStep}
 use Rattle.cn_spec.specs.Networks.{IsRow, layer, a_cochain, b_cochain, block, tree, HasStepChains}
-use Rattle.cn_spec.proofs.Tree.{step_tree, tree_is_step, sum_tree}
-use Rattle.cn_spec.proofs.Pairs.{firsts, seconds, same_firsts, same_seconds, firsts_is_step, seconds_is_step}
-use Rattle.cn_spec.proofs.Layers.{sum_layer}
-use Rattle.cn_spec.proofs.Rows.{firsts_row, seconds_row, layer_row, sum_pairs}
-use Rattle.cn_spec.proofs.Merger.{firsts_tree, seconds_tree, layer_tree}
-use Rattle.cn_spec.proofs.Cochains.{a_row, b_row, sum_cochains, firsts_a, seconds_a, firsts_b, seconds_b}
+use Rattle.cn_spec.proofs.Tree.{step-tree, tree_is-step, sum-tree}
+use Rattle.cn_spec.proofs.Pairs.{firsts, seconds, same-firsts, same-seconds, firsts-is_step, seconds-is_step}
+use Rattle.cn_spec.proofs.Layers.{sum-layer}
+use Rattle.cn_spec.proofs.Rows.{firsts-row, seconds-row, layer_row, sum_pairs}
+use Rattle.cn_spec.proofs.Merger.{firsts-tree, seconds-tree, layer-tree}
+use Rattle.cn_spec.proofs.Cochains.{a_row, b-row, sum-cochains, firsts-a, seconds-a, firsts-b, seconds-b}
 use Rattle.cn_spec.proofs.Chains.{StepChains, by_place, by_halves}
 
 -- ---- length and sum
 
-pub block_row : (level : ℕ) (x : List ℕ) → IsRow level x → IsRow level (block level x)
+pub block-row : (level : ℕ) (x : List ℕ) → IsRow level x → IsRow level (block level x)
 unfolding block
-block_row zero x e = e
-block_row (suc level) x e = layer_row level _ _ (block_row level (a_cochain x) (a_row level x e)) (block_row level (b_cochain x) (b_row level x e))
+block-row zero x e = e
+block-row (suc level) x e = layer_row level _ _ (block-row level (a_cochain x) (a_row level x e)) (block-row level (b_cochain x) (b-row level x e))
 
-pub sum_block : (level : ℕ) (x : List ℕ) → IsRow level x → sum (block level x) ≡ sum x
+pub sum-block : (level : ℕ) (x : List ℕ) → IsRow level x → sum (block level x) ≡ sum x
 unfolding block
-sum_block zero x e = refl
-sum_block (suc level) x e =
+sum-block zero x e = refl
+sum-block (suc level) x e =
     let a = a_row level x e in
-    let b = b_row level x e in
+    let b = b-row level x e in
     omega (
       arith,
-      sum_layer (block level (a_cochain x)) (block level (b_cochain x)) (block_row level _ a ∙ sym (block_row level _ b)),
-      sum_block level (a_cochain x) a,
-      sum_block level (b_cochain x) b,
-      sum_cochains level x e,
+      sum-layer (block level (a_cochain x)) (block level (b_cochain x)) (block-row level _ a ∙ sym (block-row level _ b)),
+      sum-block level (a_cochain x) a,
+      sum-block level (b_cochain x) b,
+      sum-cochains level x e,
     )
 
 -- ---- the even and the odd outputs of a layer are the halves of the sums
@@ -77,72 +77,72 @@ length-halves p [] y e = refl
 length-halves p (a ∷ x) [] e = absurd (omega arith)
 length-halves p (a ∷ x) (b ∷ y) e = ap suc (length-halves p x y (omega arith))
 
-get_or-halves : (p : ℕ) (x y : List ℕ) (i : ℕ) → length x ≡ length y → get_or (halves p x y) i 0 ≡ half (get_or x i 0 + get_or y i 0) p
+get-or-halves : (p : ℕ) (x y : List ℕ) (i : ℕ) → length x ≡ length y → get_or (halves p x y) i 0 ≡ half (get_or x i 0 + get_or y i 0) p
 unfolding halves
-get_or-halves p [] [] i e = omega arith
-get_or-halves p [] (b ∷ y) i e = absurd (omega arith)
-get_or-halves p (a ∷ x) [] i e = absurd (omega arith)
-get_or-halves p (a ∷ x) (b ∷ y) zero e = refl
-get_or-halves p (a ∷ x) (b ∷ y) (suc i) e = get_or-halves p x y i (omega arith)
+get-or-halves p [] [] i e = omega arith
+get-or-halves p [] (b ∷ y) i e = absurd (omega arith)
+get-or-halves p (a ∷ x) [] i e = absurd (omega arith)
+get-or-halves p (a ∷ x) (b ∷ y) zero e = refl
+get-or-halves p (a ∷ x) (b ∷ y) (suc i) e = get-or-halves p x y i (omega arith)
 
 -- the half of the sum of two rows with the step property has it
 halves-is_step : (p : ℕ) (x y : List ℕ) → length x ≡ length y → IsStep x → IsStep y → IsStep (halves p x y)
 halves-is_step p x y e s t = record {
   no_less = λ i j l h. let k : j < length x = omega (arith, length-halves p x y e) in
-      omega (arith, get_or-halves p x y i e, get_or-halves p x y j e, s.no_less i j l k, t.no_less i j l (omega arith));
+      omega (arith, get-or-halves p x y i e, get-or-halves p x y j e, s.no_less i j l k, t.no_less i j l (omega arith));
   at_most_one_more = λ i j l h. let k : j < length x = omega (arith, length-halves p x y e) in
-      omega (arith, get_or-halves p x y i e, get_or-halves p x y j e, s.at_most_one_more i j l k, t.at_most_one_more i j l (omega arith));
+      omega (arith, get-or-halves p x y i e, get-or-halves p x y j e, s.at_most_one_more i j l k, t.at_most_one_more i j l (omega arith));
 }
 
 chains-halves : (i p : ℕ) (x y : List ℕ) → length x ≡ length y → StepChains i x → StepChains i y → StepChains i (halves p x y)
 chains-halves zero p x y e s t = halves-is_step p x y e s t
 chains-halves (suc i) p x y e s t = (
-  subst (StepChains i) (sym (firsts-halves p x y e)) (chains-halves i p (firsts x) (firsts y) (same_firsts x y e) s.0 t.0),
-  subst (StepChains i) (sym (seconds-halves p x y e)) (chains-halves i p (seconds x) (seconds y) (same_seconds x y e) s.1 t.1),
+  subst (StepChains i) (sym (firsts-halves p x y e)) (chains-halves i p (firsts x) (firsts y) (same-firsts x y e) s.0 t.0),
+  subst (StepChains i) (sym (seconds-halves p x y e)) (chains-halves i p (seconds x) (seconds y) (same-seconds x y e) s.1 t.1),
 )
 
 -- ---- the cochains have the step chains of one level less
 
 chains-a : (i : ℕ) (x : List ℕ) → StepChains (suc (suc i)) x → StepChains (suc i) (a_cochain x)
-chains-a i x h = (subst (StepChains i) (sym (firsts_a x)) h.0.0, subst (StepChains i) (sym (seconds_a x)) h.1.1)
+chains-a i x h = (subst (StepChains i) (sym (firsts-a x)) h.0.0, subst (StepChains i) (sym (seconds-a x)) h.1.1)
 
 chains-b : (i : ℕ) (x : List ℕ) → StepChains (suc (suc i)) x → StepChains (suc i) (b_cochain x)
-chains-b i x h = (subst (StepChains i) (sym (firsts_b x)) h.1.0, subst (StepChains i) (sym (seconds_b x)) h.0.1)
+chains-b i x h = (subst (StepChains i) (sym (firsts-b x)) h.1.0, subst (StepChains i) (sym (seconds-b x)) h.0.1)
 
 -- and those of level 1 they keep
 steps-a : (x : List ℕ) → StepChains 1 x → StepChains 1 (a_cochain x)
-steps-a x h = (subst IsStep (sym (firsts_a x)) (firsts_is_step (firsts x) h.0), subst IsStep (sym (seconds_a x)) (seconds_is_step (seconds x) h.1))
+steps-a x h = (subst IsStep (sym (firsts-a x)) (firsts-is_step (firsts x) h.0), subst IsStep (sym (seconds-a x)) (seconds-is_step (seconds x) h.1))
 
 steps-b : (x : List ℕ) → StepChains 1 x → StepChains 1 (b_cochain x)
-steps-b x h = (subst IsStep (sym (firsts_b x)) (firsts_is_step (seconds x) h.1), subst IsStep (sym (seconds_b x)) (seconds_is_step (firsts x) h.0))
+steps-b x h = (subst IsStep (sym (firsts-b x)) (firsts-is_step (seconds x) h.1), subst IsStep (sym (seconds-b x)) (seconds-is_step (firsts x) h.0))
 
 -- then their sums are at most one apart
 sum-firsts : (level : ℕ) (x : List ℕ) → IsRow (suc level) x → IsStep x → sum (firsts x) ≡ half (sum x) 0
-sum-firsts level x e s = ap (λ r. sum (firsts r)) (step_tree (suc level) x e s) ∙ ap sum (firsts_tree level (sum x)) ∙ sum_tree level (half (sum x) 0)
+sum-firsts level x e s = ap (λ r. sum (firsts r)) (step-tree (suc level) x e s) ∙ ap sum (firsts-tree level (sum x)) ∙ sum-tree level (half (sum x) 0)
 
 sum-seconds : (level : ℕ) (x : List ℕ) → IsRow (suc level) x → IsStep x → sum (seconds x) ≡ half (sum x) 1
-sum-seconds level x e s = ap (λ r. sum (seconds r)) (step_tree (suc level) x e s) ∙ ap sum (seconds_tree level (sum x)) ∙ sum_tree level (half (sum x) 1)
+sum-seconds level x e s = ap (λ r. sum (seconds r)) (step-tree (suc level) x e s) ∙ ap sum (seconds-tree level (sum x)) ∙ sum-tree level (half (sum x) 1)
 
 sum-a : (level : ℕ) (x : List ℕ) → IsRow (suc (suc level)) x → StepChains 1 x → sum (a_cochain x) ≡ half (sum (firsts x)) 0 + half (sum (seconds x)) 1
 sum-a level x e h =
     omega (
       arith,
       sum_pairs level (a_cochain x) (a_row (suc level) x e),
-      ap sum (firsts_a x),
-      ap sum (seconds_a x),
-      sum-firsts level (firsts x) (firsts_row (suc level) x e) h.0,
-      sum-seconds level (seconds x) (seconds_row (suc level) x e) h.1,
+      ap sum (firsts-a x),
+      ap sum (seconds-a x),
+      sum-firsts level (firsts x) (firsts-row (suc level) x e) h.0,
+      sum-seconds level (seconds x) (seconds-row (suc level) x e) h.1,
     )
 
 sum-b : (level : ℕ) (x : List ℕ) → IsRow (suc (suc level)) x → StepChains 1 x → sum (b_cochain x) ≡ half (sum (seconds x)) 0 + half (sum (firsts x)) 1
 sum-b level x e h =
     omega (
       arith,
-      sum_pairs level (b_cochain x) (b_row (suc level) x e),
-      ap sum (firsts_b x),
-      ap sum (seconds_b x),
-      sum-firsts level (seconds x) (seconds_row (suc level) x e) h.1,
-      sum-seconds level (firsts x) (firsts_row (suc level) x e) h.0,
+      sum_pairs level (b_cochain x) (b-row (suc level) x e),
+      ap sum (firsts-b x),
+      ap sum (seconds-b x),
+      sum-firsts level (seconds x) (seconds-row (suc level) x e) h.1,
+      sum-seconds level (firsts x) (firsts-row (suc level) x e) h.0,
     )
 
 -- ---- the law
@@ -150,45 +150,45 @@ sum-b level x e h =
 -- a layer over two rows whose sums are at most one apart
 near-layer : (level : ℕ) (x y : List ℕ) → IsRow level x → IsRow level y → IsStep x → IsStep y → sum x ≤ sum y + 1 → sum y ≤ sum x + 1 → IsStep (layer x y)
 near-layer level x y e f s t p q =
-    subst IsStep (sym (ap₂ layer (step_tree level x e s) (step_tree level y f t) ∙ layer_tree level (sum x) (sum y) p q)) (tree_is_step (suc level) (sum x + sum y))
+    subst IsStep (sym (ap₂ layer (step-tree level x e s) (step-tree level y f t) ∙ layer-tree level (sum x) (sum y) p q)) (tree_is-step (suc level) (sum x + sum y))
 
 -- one balancer, over any two entries
 pair-is_step : (x y : List ℕ) → length x ≡ 1 → length y ≡ 1 → IsStep (layer x y)
 unfolding tree
 pair-is_step [] y e f = absurd (omega arith)
 pair-is_step (a ∷ x) [] e f = absurd (omega arith)
-pair-is_step (a ∷ []) (b ∷ []) e f = tree_is_step 1 (a + b)
+pair-is_step (a ∷ []) (b ∷ []) e f = tree_is-step 1 (a + b)
 pair-is_step (a ∷ []) (b ∷ c ∷ y) e f = absurd (omega arith)
 pair-is_step (a ∷ c ∷ x) (b ∷ y) e f = absurd (omega arith)
 
 pub block-chains : (level i : ℕ) (x : List ℕ) → i < level → IsRow level x → StepChains (suc i) x → StepChains i (block level x)
 unfolding block
 block-chains zero i x l e h = absurd (omega arith)
-block-chains (suc zero) zero x l e h = pair-is_step (a_cochain x) (b_cochain x) (a_row 0 x e) (b_row 0 x e)
+block-chains (suc zero) zero x l e h = pair-is_step (a_cochain x) (b_cochain x) (a_row 0 x e) (b-row 0 x e)
 block-chains (suc (suc level)) zero x l e h =
     let a = a_row (suc level) x e in
-    let b = b_row (suc level) x e in
+    let b = b-row (suc level) x e in
     let s = block-chains (suc level) zero (a_cochain x) (omega arith) a (steps-a x h) in
     let t = block-chains (suc level) zero (b_cochain x) (omega arith) b (steps-b x h) in
-    let m : sum (block (suc level) (a_cochain x)) ≡ half (sum (firsts x)) 0 + half (sum (seconds x)) 1 = sum_block (suc level) (a_cochain x) a ∙ sum-a level x e h in
-    let n : sum (block (suc level) (b_cochain x)) ≡ half (sum (seconds x)) 0 + half (sum (firsts x)) 1 = sum_block (suc level) (b_cochain x) b ∙ sum-b level x e h in
-    near-layer (suc level) (block (suc level) (a_cochain x)) (block (suc level) (b_cochain x)) (block_row (suc level) _ a) (block_row (suc level) _ b) s t (omega arith) (omega arith)
+    let m : sum (block (suc level) (a_cochain x)) ≡ half (sum (firsts x)) 0 + half (sum (seconds x)) 1 = sum-block (suc level) (a_cochain x) a ∙ sum-a level x e h in
+    let n : sum (block (suc level) (b_cochain x)) ≡ half (sum (seconds x)) 0 + half (sum (firsts x)) 1 = sum-block (suc level) (b_cochain x) b ∙ sum-b level x e h in
+    near-layer (suc level) (block (suc level) (a_cochain x)) (block (suc level) (b_cochain x)) (block-row (suc level) _ a) (block-row (suc level) _ b) s t (omega arith) (omega arith)
 block-chains (suc level) (suc i) x l e h =
     let a = a_row level x e in
-    let b = b_row level x e in
+    let b = b-row level x e in
     let z = block level (a_cochain x) in
     let z' = block level (b_cochain x) in
     let s = block-chains level i (a_cochain x) (omega arith) a (chains-a i x h) in
     let t = block-chains level i (b_cochain x) (omega arith) b (chains-b i x h) in
-    let same = block_row level (a_cochain x) a ∙ sym (block_row level (b_cochain x) b) in
+    let same = block-row level (a_cochain x) a ∙ sym (block-row level (b_cochain x) b) in
     (subst (StepChains i) (sym (firsts-layer z z')) (chains-halves i 0 z z' same s t), subst (StepChains i) (sym (seconds-layer z z')) (chains-halves i 1 z z' same s t))
 
-pub block_step_chains : (level i : ℕ) (x : List ℕ) → i < level → IsRow level x → HasStepChains (suc i) x → HasStepChains i (block level x)
-block_step_chains level i x l e h =
-    by_place level i (block level x) (omega arith) (block_row level x e) (block-chains level i x l e (by_halves level (suc i) x (omega arith) e h))
+pub block-step-chains : (level i : ℕ) (x : List ℕ) → i < level → IsRow level x → HasStepChains (suc i) x → HasStepChains i (block level x)
+block-step-chains level i x l e h =
+    by_place level i (block level x) (omega arith) (block-row level x e) (block-chains level i x l e (by_halves level (suc i) x (omega arith) e h))
 
 -- ---- the block of two wires
 
-pub block_one : (a b : ℕ) → block 1 (a ∷ b ∷ []) ≡ half (a + b) 0 ∷ half (a + b) 1 ∷ []
+pub block-one : (a b : ℕ) → block 1 (a ∷ b ∷ []) ≡ half (a + b) 0 ∷ half (a + b) 1 ∷ []
 unfolding block
-block_one a b = refl
+block-one a b = refl

@@ -6,7 +6,7 @@ use Rattle.std.proofs.lemmas.List.Sums.{sum_by-cons}
 use Rattle.std.specs.List.{sum}
 use Rattle.cn_spec.specs.Networks.{IsRow, a_cochain, b_cochain}
 use Rattle.cn_spec.proofs.Pairs.{firsts, seconds}
-use Rattle.cn_spec.proofs.Rows.{half_row}
+use Rattle.cn_spec.proofs.Rows.{half-row}
 
 abbrev pub in_turn : List ℕ → Bool → List ℕ
 in_turn [] t = []
@@ -14,45 +14,45 @@ in_turn (a ∷ []) t = []
 in_turn (a ∷ b ∷ x) true = a ∷ in_turn x false
 in_turn (a ∷ b ∷ x) false = b ∷ in_turn x true
 
-length_in_turn : (x : List ℕ) (t : Bool) → length (in_turn x t) ≡ length x / 2
-length_in_turn [] t = refl
-length_in_turn (a ∷ []) t = refl
-length_in_turn (a ∷ b ∷ x) true = omega (arith, length_in_turn x false)
-length_in_turn (a ∷ b ∷ x) false = omega (arith, length_in_turn x true)
+length-in-turn : (x : List ℕ) (t : Bool) → length (in_turn x t) ≡ length x / 2
+length-in-turn [] t = refl
+length-in-turn (a ∷ []) t = refl
+length-in-turn (a ∷ b ∷ x) true = omega (arith, length-in-turn x false)
+length-in-turn (a ∷ b ∷ x) false = omega (arith, length-in-turn x true)
 
-get_or-in_turn : (x : List ℕ) (j : ℕ) → j < length x / 2 → (get_or (in_turn x true) j 0 ≡ get_or x (2 * j + j % 2) 0) × (get_or (in_turn x false) j 0 ≡ get_or x (2 * j + 1 - j % 2) 0)
-get_or-in_turn [] j h = absurd (omega arith)
-get_or-in_turn (a ∷ []) j h = absurd (omega arith)
-get_or-in_turn (a ∷ b ∷ x) zero h = (refl, refl)
-get_or-in_turn (a ∷ b ∷ x) (suc j) h =
-    let r = get_or-in_turn x j (omega arith) in
+get-or-in-turn : (x : List ℕ) (j : ℕ) → j < length x / 2 → (get_or (in_turn x true) j 0 ≡ get_or x (2 * j + j % 2) 0) × (get_or (in_turn x false) j 0 ≡ get_or x (2 * j + 1 - j % 2) 0)
+get-or-in-turn [] j h = absurd (omega arith)
+get-or-in-turn (a ∷ []) j h = absurd (omega arith)
+get-or-in-turn (a ∷ b ∷ x) zero h = (refl, refl)
+get-or-in-turn (a ∷ b ∷ x) (suc j) h =
+    let r = get-or-in-turn x j (omega arith) in
     let k : 2 * suc j + suc j % 2 ≡ suc (suc (2 * j + 1 - j % 2)) = omega arith in
     let l : 2 * suc j + 1 - suc j % 2 ≡ suc (suc (2 * j + j % 2)) = omega arith in
     (rw k r.1, rw l r.0)
 
-pub a_in_turn : (x : List ℕ) → a_cochain x ≡ in_turn x true
-a_in_turn x = sym (fill_by_all (λ j. get_or x (2 * j + j % 2) 0) (in_turn x true) (length x / 2) 0 (length_in_turn x true) (λ j h. (get_or-in_turn x j h).0))
+pub a-in-turn : (x : List ℕ) → a_cochain x ≡ in_turn x true
+a-in-turn x = sym (fill_by_all (λ j. get_or x (2 * j + j % 2) 0) (in_turn x true) (length x / 2) 0 (length-in-turn x true) (λ j h. (get-or-in-turn x j h).0))
 
-pub b_in_turn : (x : List ℕ) → b_cochain x ≡ in_turn x false
-b_in_turn x = sym (fill_by_all (λ j. get_or x (2 * j + 1 - j % 2) 0) (in_turn x false) (length x / 2) 0 (length_in_turn x false) (λ j h. (get_or-in_turn x j h).1))
+pub b-in-turn : (x : List ℕ) → b_cochain x ≡ in_turn x false
+b-in-turn x = sym (fill_by_all (λ j. get_or x (2 * j + 1 - j % 2) 0) (in_turn x false) (length x / 2) 0 (length-in-turn x false) (λ j h. (get-or-in-turn x j h).1))
 
 -- ---- rows and sums
 
 pub a_row : (level : ℕ) (x : List ℕ) → IsRow (suc level) x → IsRow level (a_cochain x)
-a_row level x e = ap length (a_in_turn x) ∙ length_in_turn x true ∙ half_row level x e
+a_row level x e = ap length (a-in-turn x) ∙ length-in-turn x true ∙ half-row level x e
 
-pub b_row : (level : ℕ) (x : List ℕ) → IsRow (suc level) x → IsRow level (b_cochain x)
-b_row level x e = ap length (b_in_turn x) ∙ length_in_turn x false ∙ half_row level x e
+pub b-row : (level : ℕ) (x : List ℕ) → IsRow (suc level) x → IsRow level (b_cochain x)
+b-row level x e = ap length (b-in-turn x) ∙ length-in-turn x false ∙ half-row level x e
 
-sum-in_turn : (n : ℕ) (x : List ℕ) → length x ≡ n * 2 → sum (in_turn x true) + sum (in_turn x false) ≡ sum x
-sum-in_turn n [] e = refl
-sum-in_turn n (a ∷ []) e = absurd (omega arith)
-sum-in_turn zero (a ∷ b ∷ x) e = absurd (omega arith)
-sum-in_turn (suc n) (a ∷ b ∷ x) e =
-    omega (arith, sum-in_turn n x (omega arith), sum_by-cons (λ (y : ℕ). y) a (in_turn x false), sum_by-cons (λ (y : ℕ). y) b (in_turn x true), sum_by-cons (λ (y : ℕ). y) a (b ∷ x), sum_by-cons (λ (y : ℕ). y) b x)
+sum-in-turn : (n : ℕ) (x : List ℕ) → length x ≡ n * 2 → sum (in_turn x true) + sum (in_turn x false) ≡ sum x
+sum-in-turn n [] e = refl
+sum-in-turn n (a ∷ []) e = absurd (omega arith)
+sum-in-turn zero (a ∷ b ∷ x) e = absurd (omega arith)
+sum-in-turn (suc n) (a ∷ b ∷ x) e =
+    omega (arith, sum-in-turn n x (omega arith), sum_by-cons (λ (y : ℕ). y) a (in_turn x false), sum_by-cons (λ (y : ℕ). y) b (in_turn x true), sum_by-cons (λ (y : ℕ). y) a (b ∷ x), sum_by-cons (λ (y : ℕ). y) b x)
 
-pub sum_cochains : (level : ℕ) (x : List ℕ) → IsRow (suc level) x → sum (a_cochain x) + sum (b_cochain x) ≡ sum x
-sum_cochains level x e = rw (a_in_turn x, b_in_turn x) (sum-in_turn (2 ^ level) x (e ∙ pow-suc 2 level))
+pub sum-cochains : (level : ℕ) (x : List ℕ) → IsRow (suc level) x → sum (a_cochain x) + sum (b_cochain x) ≡ sum x
+sum-cochains level x e = rw (a-in-turn x, b-in-turn x) (sum-in-turn (2 ^ level) x (e ∙ pow-suc 2 level))
 
 -- ---- their even and odd entries
 
@@ -84,14 +84,14 @@ seconds-false (a ∷ b ∷ []) = refl
 seconds-false (a ∷ b ∷ c ∷ []) = refl
 seconds-false (a ∷ b ∷ c ∷ d ∷ x) = ap (λ r. c ∷ r) (seconds-false x)
 
-pub firsts_a : (x : List ℕ) → firsts (a_cochain x) ≡ firsts (firsts x)
-firsts_a x = ap firsts (a_in_turn x) ∙ firsts-true x
+pub firsts-a : (x : List ℕ) → firsts (a_cochain x) ≡ firsts (firsts x)
+firsts-a x = ap firsts (a-in-turn x) ∙ firsts-true x
 
-pub seconds_a : (x : List ℕ) → seconds (a_cochain x) ≡ seconds (seconds x)
-seconds_a x = ap seconds (a_in_turn x) ∙ seconds-true x
+pub seconds-a : (x : List ℕ) → seconds (a_cochain x) ≡ seconds (seconds x)
+seconds-a x = ap seconds (a-in-turn x) ∙ seconds-true x
 
-pub firsts_b : (x : List ℕ) → firsts (b_cochain x) ≡ firsts (seconds x)
-firsts_b x = ap firsts (b_in_turn x) ∙ firsts-false x
+pub firsts-b : (x : List ℕ) → firsts (b_cochain x) ≡ firsts (seconds x)
+firsts-b x = ap firsts (b-in-turn x) ∙ firsts-false x
 
-pub seconds_b : (x : List ℕ) → seconds (b_cochain x) ≡ seconds (firsts x)
-seconds_b x = ap seconds (b_in_turn x) ∙ seconds-false x
+pub seconds-b : (x : List ℕ) → seconds (b_cochain x) ≡ seconds (firsts x)
+seconds-b x = ap seconds (b-in-turn x) ∙ seconds-false x

@@ -4,13 +4,13 @@ use Rattle.std.proofs.lemmas.List.{length-map, get_or-map}
 use Rattle.std.proofs.lemmas.List.FromFn.{fill_by_all, get_or-map-range_with_len, length-map-range_with_len}
 use Rattle.cn_spec.specs.Sums.{times}
 use Rattle.cn_spec.specs.Networks.{entries_at, evens, odds, interleave, a_cochain, b_cochain}
-use Rattle.cn_spec.proofs.Pairs.{firsts, seconds, evens_firsts, odds_seconds}
-use Rattle.cn_spec.proofs.Cochains.{in_turn, a_in_turn, b_in_turn}
+use Rattle.cn_spec.proofs.Pairs.{firsts, seconds, evens-firsts, odds-seconds}
+use Rattle.cn_spec.proofs.Cochains.{in_turn, a-in-turn, b-in-turn}
 
 -- ---- flows
 
-pub map_entries_at : (f p : ℕ → ℕ) (n m : ℕ) (x : List ℕ) → n ≡ m → ((j : ℕ) → j < n → p j < length x) → map f (entries_at p n x) ≡ entries_at p m (map f x)
-map_entries_at f p n m x e h = fill_by_all (λ j. get_or (map f x) (p j) 0) (map f (entries_at p n x)) m 0 (length-map (entries_at p n x) f ∙ length-map-range_with_len _ 0 n ∙ e) at
+pub map-entries-at : (f p : ℕ → ℕ) (n m : ℕ) (x : List ℕ) → n ≡ m → ((j : ℕ) → j < n → p j < length x) → map f (entries_at p n x) ≡ entries_at p m (map f x)
+map-entries-at f p n m x e h = fill_by_all (λ j. get_or (map f x) (p j) 0) (map f (entries_at p n x)) m 0 (length-map (entries_at p n x) f ∙ length-map-range_with_len _ 0 n ∙ e) at
   where
     at : (k : ℕ) → k < m → get_or (map f (entries_at p n x)) k 0 ≡ get_or (map f x) (p k) 0
     at k l =
@@ -19,22 +19,22 @@ map_entries_at f p n m x e h = fill_by_all (λ j. get_or (map f x) (p j) 0) (map
         ∙ ap f (get_or-map-range_with_len (λ j. get_or x (p j) 0) 0 n k k 0 b (omega arith))
         ∙ sym (get_or-map f x (p k) 0 0 (h k b))
 
-pub map_evens : (f : ℕ → ℕ) (x : List ℕ) → map f (evens x) ≡ evens (map f x)
-map_evens f x = map_entries_at f _ _ _ x (ap (λ n. n / 2) (sym (length-map x f))) (λ j h. omega arith)
+pub map-evens : (f : ℕ → ℕ) (x : List ℕ) → map f (evens x) ≡ evens (map f x)
+map-evens f x = map-entries-at f _ _ _ x (ap (λ n. n / 2) (sym (length-map x f))) (λ j h. omega arith)
 
-pub map_odds : (f : ℕ → ℕ) (x : List ℕ) → map f (odds x) ≡ odds (map f x)
-map_odds f x = map_entries_at f _ _ _ x (ap (λ n. n / 2) (sym (length-map x f))) (λ j h. omega arith)
+pub map-odds : (f : ℕ → ℕ) (x : List ℕ) → map f (odds x) ≡ odds (map f x)
+map-odds f x = map-entries-at f _ _ _ x (ap (λ n. n / 2) (sym (length-map x f))) (λ j h. omega arith)
 
-pub map_a_cochain : (f : ℕ → ℕ) (x : List ℕ) → map f (a_cochain x) ≡ a_cochain (map f x)
-map_a_cochain f x = map_entries_at f _ _ _ x (ap (λ n. n / 2) (sym (length-map x f))) (λ j h. omega arith)
+pub map-a_cochain : (f : ℕ → ℕ) (x : List ℕ) → map f (a_cochain x) ≡ a_cochain (map f x)
+map-a_cochain f x = map-entries-at f _ _ _ x (ap (λ n. n / 2) (sym (length-map x f))) (λ j h. omega arith)
 
-pub map_b_cochain : (f : ℕ → ℕ) (x : List ℕ) → map f (b_cochain x) ≡ b_cochain (map f x)
-map_b_cochain f x = map_entries_at f _ _ _ x (ap (λ n. n / 2) (sym (length-map x f))) (λ j h. omega arith)
+pub map-b_cochain : (f : ℕ → ℕ) (x : List ℕ) → map f (b_cochain x) ≡ b_cochain (map f x)
+map-b_cochain f x = map-entries-at f _ _ _ x (ap (λ n. n / 2) (sym (length-map x f))) (λ j h. omega arith)
 
-pub map_interleave : (f : ℕ → ℕ) (x y : List ℕ) → map f (interleave x y) ≡ interleave (map f x) (map f y)
-map_interleave f [] y = refl
-map_interleave f (a ∷ x) [] = refl
-map_interleave f (a ∷ x) (b ∷ y) = ap (λ r. f a ∷ f b ∷ r) (map_interleave f x y)
+pub map-interleave : (f : ℕ → ℕ) (x y : List ℕ) → map f (interleave x y) ≡ interleave (map f x) (map f y)
+map-interleave f [] y = refl
+map-interleave f (a ∷ x) [] = refl
+map-interleave f (a ∷ x) (b ∷ y) = ap (λ r. f a ∷ f b ∷ r) (map-interleave f x y)
 
 -- ---- how often a wire stands in the parts
 
@@ -45,22 +45,22 @@ times-pairs w n (a ∷ []) e = absurd (omega arith)
 times-pairs w zero (a ∷ b ∷ x) e = absurd (omega arith)
 times-pairs w (suc n) (a ∷ b ∷ x) e = omega (arith, times-pairs w n x (omega arith))
 
-pub times_evens_odds : (w n : ℕ) (x : List ℕ) → length x ≡ n * 2 → times w (evens x) + times w (odds x) ≡ times w x
-times_evens_odds w n x e = rw (evens_firsts x, odds_seconds x) (times-pairs w n x e)
+pub times-evens-odds : (w n : ℕ) (x : List ℕ) → length x ≡ n * 2 → times w (evens x) + times w (odds x) ≡ times w x
+times-evens-odds w n x e = rw (evens-firsts x, odds-seconds x) (times-pairs w n x e)
 
-times-in_turn : (w n : ℕ) (x : List ℕ) → length x ≡ n * 2 → times w (in_turn x true) + times w (in_turn x false) ≡ times w x
+times-in-turn : (w n : ℕ) (x : List ℕ) → length x ≡ n * 2 → times w (in_turn x true) + times w (in_turn x false) ≡ times w x
 unfolding times
-times-in_turn w n [] e = refl
-times-in_turn w n (a ∷ []) e = absurd (omega arith)
-times-in_turn w zero (a ∷ b ∷ x) e = absurd (omega arith)
-times-in_turn w (suc n) (a ∷ b ∷ x) e = omega (arith, times-in_turn w n x (omega arith))
+times-in-turn w n [] e = refl
+times-in-turn w n (a ∷ []) e = absurd (omega arith)
+times-in-turn w zero (a ∷ b ∷ x) e = absurd (omega arith)
+times-in-turn w (suc n) (a ∷ b ∷ x) e = omega (arith, times-in-turn w n x (omega arith))
 
-pub times_cochains : (w n : ℕ) (x : List ℕ) → length x ≡ n * 2 → times w (a_cochain x) + times w (b_cochain x) ≡ times w x
-times_cochains w n x e = rw (a_in_turn x, b_in_turn x) (times-in_turn w n x e)
+pub times-cochains : (w n : ℕ) (x : List ℕ) → length x ≡ n * 2 → times w (a_cochain x) + times w (b_cochain x) ≡ times w x
+times-cochains w n x e = rw (a-in-turn x, b-in-turn x) (times-in-turn w n x e)
 
-pub times_interleave : (w : ℕ) (x y : List ℕ) → length x ≡ length y → times w (interleave x y) ≡ times w x + times w y
+pub times-interleave : (w : ℕ) (x y : List ℕ) → length x ≡ length y → times w (interleave x y) ≡ times w x + times w y
 unfolding times
-times_interleave w [] [] e = refl
-times_interleave w [] (b ∷ y) e = absurd (omega arith)
-times_interleave w (a ∷ x) [] e = absurd (omega arith)
-times_interleave w (a ∷ x) (b ∷ y) e = omega (arith, times_interleave w x y (omega arith))
+times-interleave w [] [] e = refl
+times-interleave w [] (b ∷ y) e = absurd (omega arith)
+times-interleave w (a ∷ x) [] e = absurd (omega arith)
+times-interleave w (a ∷ x) (b ∷ y) e = omega (arith, times-interleave w x y (omega arith))

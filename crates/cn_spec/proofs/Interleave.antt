@@ -2,27 +2,27 @@
 use Rattle.std.proofs.Common.{◌≡◌, ℕ, zero, suc, ◌+◌, ◌≤◌, ◌<◌, List, [], ◌∷◌, length, get_or, drop, refl, arith}
 use Rattle.cn_spec.specs.Networks.{interleave}
 
-pub length_interleave : (x y : List ℕ) → length x ≡ length y → length (interleave x y) ≡ length x + length x
-length_interleave [] y e = refl
-length_interleave (a ∷ x) [] e = absurd (omega arith)
-length_interleave (a ∷ x) (b ∷ y) e = omega (arith, length_interleave x y (omega arith))
+pub length-interleave : (x y : List ℕ) → length x ≡ length y → length (interleave x y) ≡ length x + length x
+length-interleave [] y e = refl
+length-interleave (a ∷ x) [] e = absurd (omega arith)
+length-interleave (a ∷ x) (b ∷ y) e = omega (arith, length-interleave x y (omega arith))
 
-pub get_or-even : (x y : List ℕ) (i : ℕ) → length x ≡ length y → get_or (interleave x y) (i + i) 0 ≡ get_or x i 0
-get_or-even [] y i e = refl
-get_or-even (a ∷ x) [] i e = absurd (omega arith)
-get_or-even (a ∷ x) (b ∷ y) zero e = refl
-get_or-even (a ∷ x) (b ∷ y) (suc i) e =
+pub get-or-even : (x y : List ℕ) (i : ℕ) → length x ≡ length y → get_or (interleave x y) (i + i) 0 ≡ get_or x i 0
+get-or-even [] y i e = refl
+get-or-even (a ∷ x) [] i e = absurd (omega arith)
+get-or-even (a ∷ x) (b ∷ y) zero e = refl
+get-or-even (a ∷ x) (b ∷ y) (suc i) e =
     let k : suc i + suc i ≡ suc (suc (i + i)) = omega arith in
-    rw k (get_or-even x y i (omega arith))
+    rw k (get-or-even x y i (omega arith))
 
-pub get_or-odd : (x y : List ℕ) (i : ℕ) → length x ≡ length y → get_or (interleave x y) (i + i + 1) 0 ≡ get_or y i 0
-get_or-odd [] [] i e = refl
-get_or-odd [] (b ∷ y) i e = absurd (omega arith)
-get_or-odd (a ∷ x) [] i e = absurd (omega arith)
-get_or-odd (a ∷ x) (b ∷ y) zero e = refl
-get_or-odd (a ∷ x) (b ∷ y) (suc i) e =
+pub get-or-odd : (x y : List ℕ) (i : ℕ) → length x ≡ length y → get_or (interleave x y) (i + i + 1) 0 ≡ get_or y i 0
+get-or-odd [] [] i e = refl
+get-or-odd [] (b ∷ y) i e = absurd (omega arith)
+get-or-odd (a ∷ x) [] i e = absurd (omega arith)
+get-or-odd (a ∷ x) (b ∷ y) zero e = refl
+get-or-odd (a ∷ x) (b ∷ y) (suc i) e =
     let k : suc i + suc i + 1 ≡ suc (suc (i + i + 1)) = omega arith in
-    rw k (get_or-odd x y i (omega arith))
+    rw k (get-or-odd x y i (omega arith))
 
 -- ---- one turn of a loop, and its end
 

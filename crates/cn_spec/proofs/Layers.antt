@@ -5,21 +5,21 @@ use Rattle.std.specs.List.{sum}
 use Rattle.cn_spec.specs.Step.{half}
 use Rattle.cn_spec.specs.Networks.{layer}
 
-pub length_layer : (x y : List ℕ) → length x ≡ length y → length (layer x y) ≡ length x * 2
-length_layer [] y e = refl
-length_layer (a ∷ x) [] e = absurd (omega arith)
-length_layer (a ∷ x) (b ∷ y) e = omega (arith, length_layer x y (omega arith))
+pub length-layer : (x y : List ℕ) → length x ≡ length y → length (layer x y) ≡ length x * 2
+length-layer [] y e = refl
+length-layer (a ∷ x) [] e = absurd (omega arith)
+length-layer (a ∷ x) (b ∷ y) e = omega (arith, length-layer x y (omega arith))
 
-pub sum_layer : (x y : List ℕ) → length x ≡ length y → sum (layer x y) ≡ sum x + sum y
-sum_layer [] [] e = refl
-sum_layer [] (b ∷ y) e = absurd (omega arith)
-sum_layer (a ∷ x) [] e = absurd (omega arith)
-sum_layer (a ∷ x) (b ∷ y) e =
-    omega (arith, sum_layer x y (omega arith), sum_by-cons (λ (y : ℕ). y) (half (a + b) 0) (half (a + b) 1 ∷ layer x y), sum_by-cons (λ (y : ℕ). y) (half (a + b) 1) (layer x y), sum_by-cons (λ (y : ℕ). y) a x, sum_by-cons (λ (y : ℕ). y) b y)
+pub sum-layer : (x y : List ℕ) → length x ≡ length y → sum (layer x y) ≡ sum x + sum y
+sum-layer [] [] e = refl
+sum-layer [] (b ∷ y) e = absurd (omega arith)
+sum-layer (a ∷ x) [] e = absurd (omega arith)
+sum-layer (a ∷ x) (b ∷ y) e =
+    omega (arith, sum-layer x y (omega arith), sum_by-cons (λ (y : ℕ). y) (half (a + b) 0) (half (a + b) 1 ∷ layer x y), sum_by-cons (λ (y : ℕ). y) (half (a + b) 1) (layer x y), sum_by-cons (λ (y : ℕ). y) a x, sum_by-cons (λ (y : ℕ). y) b y)
 
 -- one more balancer
-pub layer_push : (x y : List ℕ) (a b : ℕ) → length x ≡ length y → layer (x ++ a ∷ []) (y ++ b ∷ []) ≡ layer x y ++ half (a + b) 0 ∷ half (a + b) 1 ∷ []
-layer_push [] [] a b e = refl
-layer_push [] (d ∷ y) a b e = absurd (omega arith)
-layer_push (c ∷ x) [] a b e = absurd (omega arith)
-layer_push (c ∷ x) (d ∷ y) a b e = ap (λ r. half (c + d) 0 ∷ half (c + d) 1 ∷ r) (layer_push x y a b (omega arith))
+pub layer-push : (x y : List ℕ) (a b : ℕ) → length x ≡ length y → layer (x ++ a ∷ []) (y ++ b ∷ []) ≡ layer x y ++ half (a + b) 0 ∷ half (a + b) 1 ∷ []
+layer-push [] [] a b e = refl
+layer-push [] (d ∷ y) a b e = absurd (omega arith)
+layer-push (c ∷ x) [] a b e = absurd (omega arith)
+layer-push (c ∷ x) (d ∷ y) a b e = ap (λ r. half (c + d) 0 ∷ half (c + d) 1 ∷ r) (layer-push x y a b (omega arith))

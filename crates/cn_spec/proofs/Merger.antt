@@ -3,26 +3,26 @@ use Rattle.std.proofs.Common.{◌≡◌, ℕ, zero, suc, ◌+◌, ◌≤◌, ◌
 use Rattle.std.specs.List.{sum}
 use Rattle.cn_spec.specs.Step.{half, shares, IsStep}
 use Rattle.cn_spec.specs.Networks.{IsRow, evens, odds, interleave, layer, merge, tree}
-use Rattle.cn_spec.proofs.Pairs.{firsts, seconds, evens_firsts, odds_seconds, firsts_interleave, seconds_interleave}
-use Rattle.cn_spec.proofs.Layers.{sum_layer}
-use Rattle.cn_spec.proofs.Rows.{evens_row, odds_row, layer_row, sum_evens_odds}
-use Rattle.cn_spec.proofs.Tree.{tree_shares, tree_lengths, tree_is_step, step_tree}
+use Rattle.cn_spec.proofs.Pairs.{firsts, seconds, evens-firsts, odds-seconds, firsts-interleave, seconds-interleave}
+use Rattle.cn_spec.proofs.Layers.{sum-layer}
+use Rattle.cn_spec.proofs.Rows.{evens-row, odds-row, layer_row, sum-evens-odds}
+use Rattle.cn_spec.proofs.Tree.{tree-shares, tree-lengths, tree_is-step, step-tree}
 
 -- ---- the tree's rows taken apart
 
-pub firsts_tree : (level m : ℕ) → firsts (tree (suc level) m) ≡ tree level (half m 0)
+pub firsts-tree : (level m : ℕ) → firsts (tree (suc level) m) ≡ tree level (half m 0)
 unfolding tree
-firsts_tree level m = firsts_interleave _ _ (tree_lengths level (half m 0) (half m 1))
+firsts-tree level m = firsts-interleave _ _ (tree-lengths level (half m 0) (half m 1))
 
-pub seconds_tree : (level m : ℕ) → seconds (tree (suc level) m) ≡ tree level (half m 1)
+pub seconds-tree : (level m : ℕ) → seconds (tree (suc level) m) ≡ tree level (half m 1)
 unfolding tree
-seconds_tree level m = seconds_interleave _ _ (tree_lengths level (half m 0) (half m 1))
+seconds-tree level m = seconds-interleave _ _ (tree-lengths level (half m 0) (half m 1))
 
-evens_tree : (level m : ℕ) → evens (tree (suc level) m) ≡ tree level (half m 0)
-evens_tree level m = evens_firsts (tree (suc level) m) ∙ firsts_tree level m
+evens-tree : (level m : ℕ) → evens (tree (suc level) m) ≡ tree level (half m 0)
+evens-tree level m = evens-firsts (tree (suc level) m) ∙ firsts-tree level m
 
-odds_tree : (level m : ℕ) → odds (tree (suc level) m) ≡ tree level (half m 1)
-odds_tree level m = odds_seconds (tree (suc level) m) ∙ seconds_tree level m
+odds-tree : (level m : ℕ) → odds (tree (suc level) m) ≡ tree level (half m 1)
+odds-tree level m = odds-seconds (tree (suc level) m) ∙ seconds-tree level m
 
 -- ---- a layer over two of the tree's rows whose sums are at most one apart
 
@@ -68,12 +68,12 @@ layer-below (a ∷ x) (b ∷ y) p =
     let f : half (b + a) 1 ≡ b = omega arith in
     ap₂ (λ s t. s ∷ t) e (ap₂ (λ s t. s ∷ t) f (layer-below x y p.2))
 
-pub layer_tree : (level a b : ℕ) → a ≤ b + 1 → b ≤ a + 1 → layer (tree level a) (tree level b) ≡ tree (suc level) (a + b)
+pub layer-tree : (level a b : ℕ) → a ≤ b + 1 → b ≤ a + 1 → layer (tree level a) (tree level b) ≡ tree (suc level) (a + b)
 unfolding tree
-layer_tree level a b p q = elim (le_or_ge a b) [ inl h ↦ below h | inr h ↦ above h ]
+layer-tree level a b p q = elim (le-or-ge a b) [ inl h ↦ below h | inr h ↦ above h ]
   where
-    le_or_ge : (a b : ℕ) → (a ≤ b) ⊎ (b ≤ a)
-    le_or_ge a b = grind arith
+    le-or-ge : (a b : ℕ) → (a ≤ b) ⊎ (b ≤ a)
+    le-or-ge a b = grind arith
 
     above : b ≤ a → layer (tree level a) (tree level b) ≡ tree (suc level) (a + b)
     above h = layer-above _ _ (above-tree level a b h p) ∙ ap₂ (λ s t. interleave (tree level s) (tree level t)) (omega arith) (omega arith)
@@ -83,48 +83,48 @@ layer_tree level a b p q = elim (le_or_ge a b) [ inl h ↦ below h | inr h ↦ a
 
 -- ---- the law
 
-pub merge_tree : (level a b : ℕ) → merge level (tree level a) (tree level b) ≡ tree (suc level) (a + b)
+pub merge-tree : (level a b : ℕ) → merge level (tree level a) (tree level b) ≡ tree (suc level) (a + b)
 unfolding merge tree
-merge_tree zero a b = refl
-merge_tree (suc level) a b =
+merge-tree zero a b = refl
+merge-tree (suc level) a b =
     ap₂ layer
-    (ap₂ (merge level) (evens_tree level a) (odds_tree level b) ∙ merge_tree level (half a 0) (half b 1))
-    (ap₂ (merge level) (odds_tree level a) (evens_tree level b) ∙ merge_tree level (half a 1) (half b 0))
-    ∙ layer_tree (suc level) (half a 0 + half b 1) (half a 1 + half b 0) (omega arith) (omega arith)
+    (ap₂ (merge level) (evens-tree level a) (odds-tree level b) ∙ merge-tree level (half a 0) (half b 1))
+    (ap₂ (merge level) (odds-tree level a) (evens-tree level b) ∙ merge-tree level (half a 1) (half b 0))
+    ∙ layer-tree (suc level) (half a 0 + half b 1) (half a 1 + half b 0) (omega arith) (omega arith)
     ∙ ap (tree (suc (suc level))) (omega arith)
 
-merge-step_tree : (level : ℕ) (x y : List ℕ) → IsRow level x → IsRow level y → IsStep x → IsStep y → merge level x y ≡ tree (suc level) (sum x + sum y)
-merge-step_tree level x y e f s t = ap₂ (merge level) (step_tree level x e s) (step_tree level y f t) ∙ merge_tree level (sum x) (sum y)
+merge-step-tree : (level : ℕ) (x y : List ℕ) → IsRow level x → IsRow level y → IsStep x → IsStep y → merge level x y ≡ tree (suc level) (sum x + sum y)
+merge-step-tree level x y e f s t = ap₂ (merge level) (step-tree level x e s) (step-tree level y f t) ∙ merge-tree level (sum x) (sum y)
 
-pub merge_is_step : (level : ℕ) (x y : List ℕ) → IsRow level x → IsRow level y → IsStep x → IsStep y → IsStep (merge level x y)
-merge_is_step level x y e f s t = subst IsStep (sym (merge-step_tree level x y e f s t)) (tree_is_step (suc level) (sum x + sum y))
+pub merge-is_step : (level : ℕ) (x y : List ℕ) → IsRow level x → IsRow level y → IsStep x → IsStep y → IsStep (merge level x y)
+merge-is_step level x y e f s t = subst IsStep (sym (merge-step-tree level x y e f s t)) (tree_is-step (suc level) (sum x + sum y))
 
-pub merge_shares : (level : ℕ) (x y : List ℕ) → IsRow level x → IsRow level y → IsStep x → IsStep y → merge level x y ≡ shares (sum x + sum y) (2 ^ suc level)
-merge_shares level x y e f s t = merge-step_tree level x y e f s t ∙ tree_shares (suc level) (sum x + sum y)
+pub merge-shares : (level : ℕ) (x y : List ℕ) → IsRow level x → IsRow level y → IsStep x → IsStep y → merge level x y ≡ shares (sum x + sum y) (2 ^ suc level)
+merge-shares level x y e f s t = merge-step-tree level x y e f s t ∙ tree-shares (suc level) (sum x + sum y)
 
 -- ---- length and sum
 
-pub merge_row : (level : ℕ) (x y : List ℕ) → IsRow level x → IsRow level y → IsRow (suc level) (merge level x y)
+pub merge-row : (level : ℕ) (x y : List ℕ) → IsRow level x → IsRow level y → IsRow (suc level) (merge level x y)
 unfolding merge
-merge_row zero x y e f = layer_row zero x y e f
-merge_row (suc level) x y e f =
+merge-row zero x y e f = layer_row zero x y e f
+merge-row (suc level) x y e f =
     layer_row (suc level) _ _
-    (merge_row level (evens x) (odds y) (evens_row level x e) (odds_row level y f))
-    (merge_row level (odds x) (evens y) (odds_row level x e) (evens_row level y f))
+    (merge-row level (evens x) (odds y) (evens-row level x e) (odds-row level y f))
+    (merge-row level (odds x) (evens y) (odds-row level x e) (evens-row level y f))
 
-pub sum_merge : (level : ℕ) (x y : List ℕ) → IsRow level x → IsRow level y → sum (merge level x y) ≡ sum x + sum y
+pub sum-merge : (level : ℕ) (x y : List ℕ) → IsRow level x → IsRow level y → sum (merge level x y) ≡ sum x + sum y
 unfolding merge
-sum_merge zero x y e f = sum_layer x y (e ∙ sym f)
-sum_merge (suc level) x y e f =
-    let ex = evens_row level x e in
-    let ox = odds_row level x e in
-    let ey = evens_row level y f in
-    let oy = odds_row level y f in
+sum-merge zero x y e f = sum-layer x y (e ∙ sym f)
+sum-merge (suc level) x y e f =
+    let ex = evens-row level x e in
+    let ox = odds-row level x e in
+    let ey = evens-row level y f in
+    let oy = odds-row level y f in
     omega (
       arith,
-      sum_layer (merge level (evens x) (odds y)) (merge level (odds x) (evens y)) (merge_row level _ _ ex oy ∙ sym (merge_row level _ _ ox ey)),
-      sum_merge level (evens x) (odds y) ex oy,
-      sum_merge level (odds x) (evens y) ox ey,
-      sum_evens_odds level x e,
-      sum_evens_odds level y f,
+      sum-layer (merge level (evens x) (odds y)) (merge level (odds x) (evens y)) (merge-row level _ _ ex oy ∙ sym (merge-row level _ _ ox ey)),
+      sum-merge level (evens x) (odds y) ex oy,
+      sum-merge level (odds x) (evens y) ox ey,
+      sum-evens-odds level x e,
+      sum-evens-odds level y f,
     )

@@ -7,7 +7,7 @@ use Rattle.std.proofs.lemmas.List.Sorted.{IsPermutation-refl, IsPermutation-tran
 use Rattle.std.specs.List.{range_with_len, flat_map}
 use Rattle.std.specs.List.Sorted.{IsPermutation}
 use Rattle.cn_spec.specs.Step.{share, name_of, names_at, names, IsEachBelow}
-use Rattle.cn_spec.proofs.Shares.{share_is}
+use Rattle.cn_spec.proofs.Shares.{share-is}
 
 -- a name is below m where its visit is below the share of its exit
 pub name-below : (m w i v : ℕ) → i < w → (v < share m w i) ↔ (name_of w i v < m)
@@ -38,13 +38,13 @@ range_more a zero = ap (λ k. k ∷ []) (omega arith)
 range_more a (suc n) = ap (λ r. a ∷ r) (range_more (a + 1) n ∙ ap (λ k. range_with_len (a + 1) n ++ k ∷ []) (omega arith))
 
 -- the share of the exit m mod w grows by one, and no other
-pub share_next : (m w i : ℕ) → i < w → i ≡ m % w → (share m w i ≡ m / w) × (share (suc m) w i ≡ m / w + 1)
-share_next m w i h e =
+pub share-next : (m w i : ℕ) → i < w → i ≡ m % w → (share m w i ≡ m / w) × (share (suc m) w i ≡ m / w + 1)
+share-next m w i h e =
     let k : m / w * w + m % w ≡ m = div-add-mod' m w in
-    (share_is m w i (m / w) h (omega arith) (omega arith), share_is (suc m) w i (m / w + 1) h (omega arith) (omega arith))
+    (share-is m w i (m / w) h (omega arith) (omega arith), share-is (suc m) w i (m / w + 1) h (omega arith) (omega arith))
 
-pub share_stays : (m w i : ℕ) → i < w → i ≢ m % w → share (suc m) w i ≡ share m w i
-share_stays m w i h e = elim (below_or_above i (m % w) e) [ inl l ↦ low l | inr l ↦ high l ]
+pub share-stays : (m w i : ℕ) → i < w → i ≢ m % w → share (suc m) w i ≡ share m w i
+share-stays m w i h e = elim (below_or_above i (m % w) e) [ inl l ↦ low l | inr l ↦ high l ]
   where
     below_or_above : (a b : ℕ) → a ≢ b → (a < b) ⊎ (b < a)
     below_or_above a b n = grind arith
@@ -56,44 +56,44 @@ share_stays m w i h e = elim (below_or_above i (m % w) e) [ inl l ↦ low l | in
     r = mod_below m w (omega arith)
 
     low : i < m % w → share (suc m) w i ≡ share m w i
-    low l = share_is (suc m) w i (m / w + 1) h (omega arith) (omega arith) ∙ sym (share_is m w i (m / w + 1) h (omega arith) (omega arith))
+    low l = share-is (suc m) w i (m / w + 1) h (omega arith) (omega arith) ∙ sym (share-is m w i (m / w + 1) h (omega arith) (omega arith))
 
     high : m % w < i → share (suc m) w i ≡ share m w i
-    high l = share_is (suc m) w i (m / w) h (omega arith) (omega arith) ∙ sym (share_is m w i (m / w) h (omega arith) (omega arith))
+    high l = share-is (suc m) w i (m / w) h (omega arith) (omega arith) ∙ sym (share-is m w i (m / w) h (omega arith) (omega arith))
 
-names_next : (m w i : ℕ) → i < w → i ≡ m % w → names_at (suc m) w i ≡ names_at m w i ++ m ∷ []
-names_next m w i h e =
-    let s : (share m w i ≡ m / w) × (share (suc m) w i ≡ m / w + 1) = share_next m w i h e in
+names-next : (m w i : ℕ) → i < w → i ≡ m % w → names_at (suc m) w i ≡ names_at m w i ++ m ∷ []
+names-next m w i h e =
+    let s : (share m w i ≡ m / w) × (share (suc m) w i ≡ m / w + 1) = share-next m w i h e in
     let n : name_of w i (m / w) ≡ m = ap (λ j. name_of w j (m / w)) e ∙ name_of-exit_of w m in
     ap (λ c. map (name_of w i) (range_with_len 0 c)) s.1
     ∙ map-range_with_len_more (name_of w i) 0 (m / w) (m / w) (omega arith)
     ∙ ap₂ (λ c j. map (name_of w i) (range_with_len 0 c) ++ j ∷ []) (sym s.0) n
 
-names_stay : (m w i : ℕ) → i < w → i ≢ m % w → names_at (suc m) w i ≡ names_at m w i
-names_stay m w i h e = ap (λ c. map (name_of w i) (range_with_len 0 c)) (share_stays m w i h e)
+names-stay : (m w i : ℕ) → i < w → i ≢ m % w → names_at (suc m) w i ≡ names_at m w i
+names-stay m w i h e = ap (λ c. map (name_of w i) (range_with_len 0 c)) (share-stays m w i h e)
 
 -- f and g agree but at k, where g has one more
-same_flat_map : (f g : ℕ → List ℕ) (a n : ℕ) → ((i : ℕ) → a ≤ i → i < a + n → g i ≡ f i) → flat_map g (range_with_len a n) ≡ flat_map f (range_with_len a n)
-same_flat_map f g a zero e = refl
-same_flat_map f g a (suc n) e = ap₂ (λ s t. s ++ t) (e a (omega arith) (omega arith)) (same_flat_map f g (a + 1) n (λ i l h. e i (omega arith) (omega arith)))
+same-flat-map : (f g : ℕ → List ℕ) (a n : ℕ) → ((i : ℕ) → a ≤ i → i < a + n → g i ≡ f i) → flat_map g (range_with_len a n) ≡ flat_map f (range_with_len a n)
+same-flat-map f g a zero e = refl
+same-flat-map f g a (suc n) e = ap₂ (λ s t. s ++ t) (e a (omega arith) (omega arith)) (same-flat-map f g (a + 1) n (λ i l h. e i (omega arith) (omega arith)))
 
 one_more : (f g : ℕ → List ℕ) (k x a n : ℕ) → a ≤ k → k < a + n → g k ≡ f k ++ x ∷ [] → ((i : ℕ) → i < a + n → i ≢ k → g i ≡ f i)
     → IsPermutation (flat_map f (range_with_len a n) ++ x ∷ []) (flat_map g (range_with_len a n))
 one_more f g k x a zero l h e s = absurd (omega arith)
-one_more f g k x a (suc n) l h e s = elim (here_or_later a k l) [ inl i ↦ here i | inr i ↦ later i (one_more f g k x (a + 1) n) ]
+one_more f g k x a (suc n) l h e s = elim (here-or_later a k l) [ inl i ↦ here i | inr i ↦ later i (one_more f g k x (a + 1) n) ]
   where
     rest : List ℕ
     rest = flat_map f (range_with_len (a + 1) n)
 
-    here_or_later : (a k : ℕ) → a ≤ k → (a ≡ k) ⊎ (a < k)
-    here_or_later a k l = grind arith
+    here-or_later : (a k : ℕ) → a ≤ k → (a ≡ k) ⊎ (a < k)
+    here-or_later a k l = grind arith
 
     here : a ≡ k → IsPermutation (flat_map f (range_with_len a (suc n)) ++ x ∷ []) (flat_map g (range_with_len a (suc n)))
     here i =
         let p : IsPermutation (f a ++ (rest ++ x ∷ [])) (f a ++ (x ∷ [] ++ rest)) = IsPermutation-append_right (f a) (rest ++ x ∷ []) (x ∷ [] ++ rest) (IsPermutation-append_comm rest (x ∷ [])) in
         let q : f a ++ (x ∷ [] ++ rest) ≡ flat_map g (range_with_len a (suc n)) =
         sym (append_assoc (f a) (x ∷ []) rest)
-        ∙ ap₂ (λ s t. s ++ t) (sym (ap g i ∙ e ∙ ap (λ j. f j ++ x ∷ []) (sym i))) (sym (same_flat_map f g (a + 1) n (λ j l h. s j (omega arith) (omega arith)))) in
+        ∙ ap₂ (λ s t. s ++ t) (sym (ap g i ∙ e ∙ ap (λ j. f j ++ x ∷ []) (sym i))) (sym (same-flat-map f g (a + 1) n (λ j l h. s j (omega arith) (omega arith)))) in
         subst₂ IsPermutation (sym (append_assoc (f a) rest (x ∷ []))) q p
 
     later : a < k → (a + 1 ≤ k → k < a + 1 + n → g k ≡ f k ++ x ∷ [] → ((i : ℕ) → i < a + 1 + n → i ≢ k → g i ≡ f i) → IsPermutation (rest ++ x ∷ []) (flat_map g (range_with_len (a + 1) n)))
@@ -105,7 +105,7 @@ one_more f g k x a (suc n) l h e s = elim (here_or_later a k l) [ inl i ↦ here
 no_names : (w a n : ℕ) → a + n ≤ w → flat_map (names_at 0 w) (range_with_len a n) ≡ []
 no_names w a zero l = refl
 no_names w a (suc n) l =
-    let e : share 0 w a ≡ 0 = share_is 0 w a 0 (omega arith) (omega arith) (omega arith) in
+    let e : share 0 w a ≡ 0 = share-is 0 w a 0 (omega arith) (omega arith) (omega arith) in
     ap₂ (λ c r. map (name_of w a) (range_with_len 0 c) ++ r) e (no_names w (a + 1) n (omega arith))
 
 -- the names of m tokens over w exits
@@ -115,4 +115,4 @@ names-each_below (suc m) w h =
     let r : m % w < w = mod_below m w h in
     IsPermutation-trans _ _ _
     (subst (λ xs. IsPermutation xs (names m w ++ m ∷ [])) (sym (range_more 0 m ∙ ap (λ k. range_with_len 0 m ++ k ∷ []) (omega arith))) (IsPermutation-append_left (m ∷ []) (range_with_len 0 m) (names m w) (names-each_below m w h)))
-    (one_more (names_at m w) (names_at (suc m) w) (m % w) m 0 w (omega arith) (omega arith) (names_next m w (m % w) r refl) (λ i l n. names_stay m w i (omega arith) n))
+    (one_more (names_at m w) (names_at (suc m) w) (m % w) m 0 w (omega arith) (omega arith) (names-next m w (m % w) r refl) (λ i l n. names-stay m w i (omega arith) n))

@@ -18,76 +18,76 @@ seconds (a ∷ b ∷ x) = b ∷ seconds x
 
 -- ---- places
 
-pub length_firsts : (x : List ℕ) → length (firsts x) ≡ length x / 2
-length_firsts [] = refl
-length_firsts (a ∷ []) = refl
-length_firsts (a ∷ b ∷ x) = omega (arith, length_firsts x)
+pub length-firsts : (x : List ℕ) → length (firsts x) ≡ length x / 2
+length-firsts [] = refl
+length-firsts (a ∷ []) = refl
+length-firsts (a ∷ b ∷ x) = omega (arith, length-firsts x)
 
-pub length_seconds : (x : List ℕ) → length (seconds x) ≡ length x / 2
-length_seconds [] = refl
-length_seconds (a ∷ []) = refl
-length_seconds (a ∷ b ∷ x) = omega (arith, length_seconds x)
+pub length-seconds : (x : List ℕ) → length (seconds x) ≡ length x / 2
+length-seconds [] = refl
+length-seconds (a ∷ []) = refl
+length-seconds (a ∷ b ∷ x) = omega (arith, length-seconds x)
 
-pub get_or-firsts : (x : List ℕ) (i : ℕ) → i < length x / 2 → get_or (firsts x) i 0 ≡ get_or x (2 * i) 0
-get_or-firsts [] i h = absurd (omega arith)
-get_or-firsts (a ∷ []) i h = absurd (omega arith)
-get_or-firsts (a ∷ b ∷ x) zero h = refl
-get_or-firsts (a ∷ b ∷ x) (suc i) h = let k : 2 * suc i ≡ suc (suc (2 * i)) = omega arith in rw k (get_or-firsts x i (omega arith))
+pub get-or-firsts : (x : List ℕ) (i : ℕ) → i < length x / 2 → get_or (firsts x) i 0 ≡ get_or x (2 * i) 0
+get-or-firsts [] i h = absurd (omega arith)
+get-or-firsts (a ∷ []) i h = absurd (omega arith)
+get-or-firsts (a ∷ b ∷ x) zero h = refl
+get-or-firsts (a ∷ b ∷ x) (suc i) h = let k : 2 * suc i ≡ suc (suc (2 * i)) = omega arith in rw k (get-or-firsts x i (omega arith))
 
-pub get_or-seconds : (x : List ℕ) (i : ℕ) → i < length x / 2 → get_or (seconds x) i 0 ≡ get_or x (2 * i + 1) 0
-get_or-seconds [] i h = absurd (omega arith)
-get_or-seconds (a ∷ []) i h = absurd (omega arith)
-get_or-seconds (a ∷ b ∷ x) zero h = refl
-get_or-seconds (a ∷ b ∷ x) (suc i) h = let k : 2 * suc i + 1 ≡ suc (suc (2 * i + 1)) = omega arith in rw k (get_or-seconds x i (omega arith))
+pub get-or-seconds : (x : List ℕ) (i : ℕ) → i < length x / 2 → get_or (seconds x) i 0 ≡ get_or x (2 * i + 1) 0
+get-or-seconds [] i h = absurd (omega arith)
+get-or-seconds (a ∷ []) i h = absurd (omega arith)
+get-or-seconds (a ∷ b ∷ x) zero h = refl
+get-or-seconds (a ∷ b ∷ x) (suc i) h = let k : 2 * suc i + 1 ≡ suc (suc (2 * i + 1)) = omega arith in rw k (get-or-seconds x i (omega arith))
 
-pub evens_firsts : (x : List ℕ) → evens x ≡ firsts x
-evens_firsts x = sym (fill_by_all (λ j. get_or x (2 * j) 0) (firsts x) (length x / 2) 0 (length_firsts x) (get_or-firsts x))
+pub evens-firsts : (x : List ℕ) → evens x ≡ firsts x
+evens-firsts x = sym (fill_by_all (λ j. get_or x (2 * j) 0) (firsts x) (length x / 2) 0 (length-firsts x) (get-or-firsts x))
 
-pub odds_seconds : (x : List ℕ) → odds x ≡ seconds x
-odds_seconds x = sym (fill_by_all (λ j. get_or x (2 * j + 1) 0) (seconds x) (length x / 2) 0 (length_seconds x) (get_or-seconds x))
+pub odds-seconds : (x : List ℕ) → odds x ≡ seconds x
+odds-seconds x = sym (fill_by_all (λ j. get_or x (2 * j + 1) 0) (seconds x) (length x / 2) 0 (length-seconds x) (get-or-seconds x))
 
-pub same_firsts : (x y : List ℕ) → length x ≡ length y → length (firsts x) ≡ length (firsts y)
-same_firsts x y e = length_firsts x ∙ ap (λ n. n / 2) e ∙ sym (length_firsts y)
+pub same-firsts : (x y : List ℕ) → length x ≡ length y → length (firsts x) ≡ length (firsts y)
+same-firsts x y e = length-firsts x ∙ ap (λ n. n / 2) e ∙ sym (length-firsts y)
 
-pub same_seconds : (x y : List ℕ) → length x ≡ length y → length (seconds x) ≡ length (seconds y)
-same_seconds x y e = length_seconds x ∙ ap (λ n. n / 2) e ∙ sym (length_seconds y)
+pub same-seconds : (x y : List ℕ) → length x ≡ length y → length (seconds x) ≡ length (seconds y)
+same-seconds x y e = length-seconds x ∙ ap (λ n. n / 2) e ∙ sym (length-seconds y)
 
 -- ---- of rows put together
 
-pub firsts_interleave : (x y : List ℕ) → length x ≡ length y → firsts (interleave x y) ≡ x
-firsts_interleave [] y e = refl
-firsts_interleave (a ∷ x) [] e = absurd (omega arith)
-firsts_interleave (a ∷ x) (b ∷ y) e = ap (λ r. a ∷ r) (firsts_interleave x y (omega arith))
+pub firsts-interleave : (x y : List ℕ) → length x ≡ length y → firsts (interleave x y) ≡ x
+firsts-interleave [] y e = refl
+firsts-interleave (a ∷ x) [] e = absurd (omega arith)
+firsts-interleave (a ∷ x) (b ∷ y) e = ap (λ r. a ∷ r) (firsts-interleave x y (omega arith))
 
-pub seconds_interleave : (x y : List ℕ) → length x ≡ length y → seconds (interleave x y) ≡ y
-seconds_interleave [] [] e = refl
-seconds_interleave [] (b ∷ y) e = absurd (omega arith)
-seconds_interleave (a ∷ x) [] e = absurd (omega arith)
-seconds_interleave (a ∷ x) (b ∷ y) e = ap (λ r. b ∷ r) (seconds_interleave x y (omega arith))
+pub seconds-interleave : (x y : List ℕ) → length x ≡ length y → seconds (interleave x y) ≡ y
+seconds-interleave [] [] e = refl
+seconds-interleave [] (b ∷ y) e = absurd (omega arith)
+seconds-interleave (a ∷ x) [] e = absurd (omega arith)
+seconds-interleave (a ∷ x) (b ∷ y) e = ap (λ r. b ∷ r) (seconds-interleave x y (omega arith))
 
 -- ---- sums
 
-pub sum_firsts_seconds : (n : ℕ) (x : List ℕ) → length x ≡ n * 2 → sum (firsts x) + sum (seconds x) ≡ sum x
-sum_firsts_seconds n [] e = refl
-sum_firsts_seconds n (a ∷ []) e = absurd (omega arith)
-sum_firsts_seconds zero (a ∷ b ∷ x) e = absurd (omega arith)
-sum_firsts_seconds (suc n) (a ∷ b ∷ x) e =
-    omega (arith, sum_firsts_seconds n x (omega arith), sum_by-cons (λ (y : ℕ). y) a (firsts x), sum_by-cons (λ (y : ℕ). y) b (seconds x), sum_by-cons (λ (y : ℕ). y) a (b ∷ x), sum_by-cons (λ (y : ℕ). y) b x)
+pub sum-firsts-seconds : (n : ℕ) (x : List ℕ) → length x ≡ n * 2 → sum (firsts x) + sum (seconds x) ≡ sum x
+sum-firsts-seconds n [] e = refl
+sum-firsts-seconds n (a ∷ []) e = absurd (omega arith)
+sum-firsts-seconds zero (a ∷ b ∷ x) e = absurd (omega arith)
+sum-firsts-seconds (suc n) (a ∷ b ∷ x) e =
+    omega (arith, sum-firsts-seconds n x (omega arith), sum_by-cons (λ (y : ℕ). y) a (firsts x), sum_by-cons (λ (y : ℕ). y) b (seconds x), sum_by-cons (λ (y : ℕ). y) a (b ∷ x), sum_by-cons (λ (y : ℕ). y) b x)
 
 -- ---- they keep the step property
 
-pub firsts_is_step : (x : List ℕ) → IsStep x → IsStep (firsts x)
-firsts_is_step x s = record {
-  no_less = λ i j l h. let k : j < length x / 2 = omega (arith, length_firsts x) in
-      rw (get_or-firsts x i (omega arith), get_or-firsts x j k) (s.no_less (2 * i) (2 * j) (omega arith) (omega arith));
-  at_most_one_more = λ i j l h. let k : j < length x / 2 = omega (arith, length_firsts x) in
-      rw (get_or-firsts x i (omega arith), get_or-firsts x j k) (s.at_most_one_more (2 * i) (2 * j) (omega arith) (omega arith));
+pub firsts-is_step : (x : List ℕ) → IsStep x → IsStep (firsts x)
+firsts-is_step x s = record {
+  no_less = λ i j l h. let k : j < length x / 2 = omega (arith, length-firsts x) in
+      rw (get-or-firsts x i (omega arith), get-or-firsts x j k) (s.no_less (2 * i) (2 * j) (omega arith) (omega arith));
+  at_most_one_more = λ i j l h. let k : j < length x / 2 = omega (arith, length-firsts x) in
+      rw (get-or-firsts x i (omega arith), get-or-firsts x j k) (s.at_most_one_more (2 * i) (2 * j) (omega arith) (omega arith));
 }
 
-pub seconds_is_step : (x : List ℕ) → IsStep x → IsStep (seconds x)
-seconds_is_step x s = record {
-  no_less = λ i j l h. let k : j < length x / 2 = omega (arith, length_seconds x) in
-      rw (get_or-seconds x i (omega arith), get_or-seconds x j k) (s.no_less (2 * i + 1) (2 * j + 1) (omega arith) (omega arith));
-  at_most_one_more = λ i j l h. let k : j < length x / 2 = omega (arith, length_seconds x) in
-      rw (get_or-seconds x i (omega arith), get_or-seconds x j k) (s.at_most_one_more (2 * i + 1) (2 * j + 1) (omega arith) (omega arith));
+pub seconds-is_step : (x : List ℕ) → IsStep x → IsStep (seconds x)
+seconds-is_step x s = record {
+  no_less = λ i j l h. let k : j < length x / 2 = omega (arith, length-seconds x) in
+      rw (get-or-seconds x i (omega arith), get-or-seconds x j k) (s.no_less (2 * i + 1) (2 * j + 1) (omega arith) (omega arith));
+  at_most_one_more = λ i j l h. let k : j < length x / 2 = omega (arith, length-seconds x) in
+      rw (get-or-seconds x i (omega arith), get-or-seconds x j k) (s.at_most_one_more (2 * i + 1) (2 * j + 1) (omega arith) (omega arith));
 }

@@ -4,35 +4,35 @@ use Rattle.std.specs.List.{sum}
 use Rattle.cn_spec.specs.Step.{shares, IsStep}
 use Rattle.cn_spec.specs.Networks.{IsRow, block, blocks, periodic}
 use Rattle.cn_spec.proofs.Bitonic.{row_steps}
-use Rattle.cn_spec.proofs.Chains.{StepChains, all_step_chains}
-use Rattle.cn_spec.proofs.Blocks.{block_row, sum_block, block-chains}
+use Rattle.cn_spec.proofs.Chains.{StepChains, all-step-chains}
+use Rattle.cn_spec.proofs.Blocks.{block-row, sum-block, block-chains}
 
-pub blocks_row : (n level : ℕ) (x : List ℕ) → IsRow level x → IsRow level (blocks n level x)
+pub blocks-row : (n level : ℕ) (x : List ℕ) → IsRow level x → IsRow level (blocks n level x)
 unfolding blocks
-blocks_row zero level x e = e
-blocks_row (suc n) level x e = blocks_row n level (block level x) (block_row level x e)
+blocks-row zero level x e = e
+blocks-row (suc n) level x e = blocks-row n level (block level x) (block-row level x e)
 
-pub sum_blocks : (n level : ℕ) (x : List ℕ) → IsRow level x → sum (blocks n level x) ≡ sum x
+pub sum-blocks : (n level : ℕ) (x : List ℕ) → IsRow level x → sum (blocks n level x) ≡ sum x
 unfolding blocks
-sum_blocks zero level x e = refl
-sum_blocks (suc n) level x e = sum_blocks n level (block level x) (block_row level x e) ∙ sum_block level x e
+sum-blocks zero level x e = refl
+sum-blocks (suc n) level x e = sum-blocks n level (block level x) (block-row level x e) ∙ sum-block level x e
 
 blocks-is_step : (n level : ℕ) (x : List ℕ) → n ≤ level → IsRow level x → StepChains n x → IsStep (blocks n level x)
 unfolding blocks
 blocks-is_step zero level x l e h = h
-blocks-is_step (suc n) level x l e h = blocks-is_step n level (block level x) (omega arith) (block_row level x e) (block-chains level n x l e h)
+blocks-is_step (suc n) level x l e h = blocks-is_step n level (block level x) (omega arith) (block-row level x e) (block-chains level n x l e h)
 
-pub periodic_row : (level : ℕ) (x : List ℕ) → IsRow level x → IsRow level (periodic level x)
+pub periodic-row : (level : ℕ) (x : List ℕ) → IsRow level x → IsRow level (periodic level x)
 unfolding periodic
-periodic_row level x e = blocks_row level level x e
+periodic-row level x e = blocks-row level level x e
 
-pub sum_periodic : (level : ℕ) (x : List ℕ) → IsRow level x → sum (periodic level x) ≡ sum x
+pub sum-periodic : (level : ℕ) (x : List ℕ) → IsRow level x → sum (periodic level x) ≡ sum x
 unfolding periodic
-sum_periodic level x e = sum_blocks level level x e
+sum-periodic level x e = sum-blocks level level x e
 
-pub periodic_is_step : (level : ℕ) (x : List ℕ) → IsRow level x → IsStep (periodic level x)
+pub periodic-is_step : (level : ℕ) (x : List ℕ) → IsRow level x → IsStep (periodic level x)
 unfolding periodic
-periodic_is_step level x e = blocks-is_step level level x (le_refl level) e (all_step_chains level x e)
+periodic-is_step level x e = blocks-is_step level level x (le_refl level) e (all-step-chains level x e)
 
-pub periodic_shares : (level : ℕ) (x : List ℕ) → IsRow level x → periodic level x ≡ shares (sum x) (2 ^ level)
-periodic_shares level x e = row_steps level (sum x) (periodic level x) (periodic_row level x e) (sum_periodic level x e) (periodic_is_step level x e)
+pub periodic-shares : (level : ℕ) (x : List ℕ) → IsRow level x → periodic level x ≡ shares (sum x) (2 ^ level)
+periodic-shares level x e = row_steps level (sum x) (periodic level x) (periodic-row level x e) (sum-periodic level x e) (periodic-is_step level x e)

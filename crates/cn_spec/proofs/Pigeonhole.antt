@@ -22,21 +22,21 @@ all_below (suc m) xs size there =
     let other : ◌≡◌ {A = ℕ} (cond (eqb m n) 1 0) 0 = ap {B = ℕ} (λ q. cond q 1 0) (ne_eqb m n (λ x. omega (arith, x, h))) in
     omega (arith, there n (omega (arith, h)), whole, other, times-append n front (m ∷ back), times-cons n m back, times-append n front back)))
 
-once_range : (m n : ℕ) → times n (range_with_len 0 m) ≡ once_below m n
-once_range zero n = times-nil n ∙ grind (arith, nat_tests)
-once_range (suc m) n =
+once-range : (m n : ℕ) → times n (range_with_len 0 m) ≡ once_below m n
+once-range zero n = times-nil n ∙ grind (arith, nat_tests)
+once-range (suc m) n =
     let last : range_with_len 0 (suc m) ≡ range_with_len 0 m ++ m ∷ [] = range_more 0 m ∙ ap (λ k. range_with_len 0 m ++ k ∷ []) (omega arith) in
     let list : times n (range_with_len 0 (suc m)) ≡ times n (range_with_len 0 m ++ m ∷ []) = ap (times n) last in
-    omega (arith, list, once_range m n, once-next m n, times-append n (range_with_len 0 m) (m ∷ []), times-cons n m [], times-nil n)
+    omega (arith, list, once-range m n, once-next m n, times-append n (range_with_len 0 m) (m ∷ []), times-cons n m [], times-nil n)
 
 pub once_each : (m : ℕ) (xs : List ℕ) → IsEachBelow m xs → IsOnceBelow m xs
-once_each m xs each n = times-order (range_with_len 0 m) xs n each ∙ once_range m n
+once_each m xs each n = times-order (range_with_len 0 m) xs n each ∙ once-range m n
 
 pub at_most_once : (m n : ℕ) → once_below m n ≤ 1
 at_most_once m n = grind (arith, nat_tests)
 
-pub once_there : (m n : ℕ) → n < m → once_below m n ≡ 1
-once_there m n h = grind (arith, nat_tests)
+pub once-there : (m n : ℕ) → n < m → once_below m n ≡ 1
+once-there m n h = grind (arith, nat_tests)
 
-pub once_in : (m n : ℕ) → 1 ≤ once_below m n → n < m
-once_in m n h = grind (arith, nat_tests)
+pub once-in : (m n : ℕ) → 1 ≤ once_below m n → n < m
+once-in m n h = grind (arith, nat_tests)

@@ -6,32 +6,32 @@ use Rattle.std.proofs.lemmas.Nat.{pow_below, pow_pos}
 use Rattle.std.proofs.lemmas.List.Sums.{sum_by-take-drop}
 use Rattle.std.specs.List.{sum}
 use Rattle.cn_spec.specs.Networks.{IsRow, evens, odds, layer}
-use Rattle.cn_spec.proofs.Pairs.{firsts, seconds, length_firsts, length_seconds, evens_firsts, odds_seconds, sum_firsts_seconds}
-use Rattle.cn_spec.proofs.Layers.{length_layer}
+use Rattle.cn_spec.proofs.Pairs.{firsts, seconds, length-firsts, length-seconds, evens-firsts, odds-seconds, sum-firsts-seconds}
+use Rattle.cn_spec.proofs.Layers.{length-layer}
 
-pub half_row : (level : ℕ) (x : List ℕ) → IsRow (suc level) x → length x / 2 ≡ 2 ^ level
-half_row level x e = omega (arith, pow-suc 2 level)
+pub half-row : (level : ℕ) (x : List ℕ) → IsRow (suc level) x → length x / 2 ≡ 2 ^ level
+half-row level x e = omega (arith, pow-suc 2 level)
 
-pub firsts_row : (level : ℕ) (x : List ℕ) → IsRow (suc level) x → IsRow level (firsts x)
-firsts_row level x e = length_firsts x ∙ half_row level x e
+pub firsts-row : (level : ℕ) (x : List ℕ) → IsRow (suc level) x → IsRow level (firsts x)
+firsts-row level x e = length-firsts x ∙ half-row level x e
 
-pub seconds_row : (level : ℕ) (x : List ℕ) → IsRow (suc level) x → IsRow level (seconds x)
-seconds_row level x e = length_seconds x ∙ half_row level x e
+pub seconds-row : (level : ℕ) (x : List ℕ) → IsRow (suc level) x → IsRow level (seconds x)
+seconds-row level x e = length-seconds x ∙ half-row level x e
 
-pub evens_row : (level : ℕ) (x : List ℕ) → IsRow (suc level) x → IsRow level (evens x)
-evens_row level x e = ap length (evens_firsts x) ∙ firsts_row level x e
+pub evens-row : (level : ℕ) (x : List ℕ) → IsRow (suc level) x → IsRow level (evens x)
+evens-row level x e = ap length (evens-firsts x) ∙ firsts-row level x e
 
-pub odds_row : (level : ℕ) (x : List ℕ) → IsRow (suc level) x → IsRow level (odds x)
-odds_row level x e = ap length (odds_seconds x) ∙ seconds_row level x e
+pub odds-row : (level : ℕ) (x : List ℕ) → IsRow (suc level) x → IsRow level (odds x)
+odds-row level x e = ap length (odds-seconds x) ∙ seconds-row level x e
 
-pub front_row : (level : ℕ) (x : List ℕ) → IsRow (suc level) x → IsRow level (take (2 ^ level) x)
-front_row level x e = length-take-le (2 ^ level) x (omega (arith, pow-suc 2 level))
+pub front-row : (level : ℕ) (x : List ℕ) → IsRow (suc level) x → IsRow level (take (2 ^ level) x)
+front-row level x e = length-take-le (2 ^ level) x (omega (arith, pow-suc 2 level))
 
-pub back_row : (level : ℕ) (x : List ℕ) → IsRow (suc level) x → IsRow level (drop (2 ^ level) x)
-back_row level x e = omega (arith, length-drop (2 ^ level) x, pow-suc 2 level)
+pub back-row : (level : ℕ) (x : List ℕ) → IsRow (suc level) x → IsRow level (drop (2 ^ level) x)
+back-row level x e = omega (arith, length-drop (2 ^ level) x, pow-suc 2 level)
 
 pub layer_row : (level : ℕ) (x y : List ℕ) → IsRow level x → IsRow level y → IsRow (suc level) (layer x y)
-layer_row level x y e f = length_layer x y (e ∙ sym f) ∙ ap (λ n. n * 2) e ∙ sym (pow-suc 2 level)
+layer_row level x y e f = length-layer x y (e ∙ sym f) ∙ ap (λ n. n * 2) e ∙ sym (pow-suc 2 level)
 
 pub power_below : (level : ℕ) → 0 < level → 2 ^ (level - 1) * 2 ≡ 2 ^ level
 power_below zero h = absurd (omega arith)
@@ -46,8 +46,8 @@ pub shorter : (n : ℕ) (x part : List ℕ) → IsRow (suc n) x → IsRow n part
 shorter n x part row r = let l : length x ≡ 2 * 2 ^ n = row ∙ pow-succ' 2 n in omega (arith, pow_pos n, r)
 
 -- a length has one level
-pub same_level : (n m level : ℕ) → n ≡ 2 ^ m → n ≡ 2 ^ level → level ≡ m
-same_level n m level p q =
+pub same-level : (n m level : ℕ) → n ≡ 2 ^ m → n ≡ 2 ^ level → level ≡ m
+same-level n m level p q =
     elim (cases_order level m) [
       | inl e ↦ e
       | inr o ↦ elim o [ inl l ↦ absurd (omega (arith, pow_below level m l)) | inr l ↦ absurd (omega (arith, pow_below m level l)) ]
@@ -56,10 +56,10 @@ same_level n m level p q =
 -- ---- sums
 
 pub sum_pairs : (level : ℕ) (x : List ℕ) → IsRow (suc level) x → sum (firsts x) + sum (seconds x) ≡ sum x
-sum_pairs level x e = sum_firsts_seconds (2 ^ level) x (e ∙ pow-suc 2 level)
+sum_pairs level x e = sum-firsts-seconds (2 ^ level) x (e ∙ pow-suc 2 level)
 
-pub sum_evens_odds : (level : ℕ) (x : List ℕ) → IsRow (suc level) x → sum (evens x) + sum (odds x) ≡ sum x
-sum_evens_odds level x e = rw (evens_firsts x, odds_seconds x) (sum_pairs level x e)
+pub sum-evens-odds : (level : ℕ) (x : List ℕ) → IsRow (suc level) x → sum (evens x) + sum (odds x) ≡ sum x
+sum-evens-odds level x e = rw (evens-firsts x, odds-seconds x) (sum_pairs level x e)
 
-pub sum_take_drop : (n : ℕ) (x : List ℕ) → sum (take n x) + sum (drop n x) ≡ sum x
-sum_take_drop n x = omega (arith, sum_by-take-drop (λ (y : ℕ). y) x n)
+pub sum-take-drop : (n : ℕ) (x : List ℕ) → sum (take n x) + sum (drop n x) ≡ sum x
+sum-take-drop n x = omega (arith, sum_by-take-drop (λ (y : ℕ). y) x n)

@@ -6,7 +6,7 @@ use Rattle.std.proofs.lemmas.Bool.{cases_eq, eq-eqb, ne_eqb}
 use Rattle.std.proofs.lemmas.List.Sorted.{IsPermutation-cons, IsPermutation-middle, IsPermutation-refl, IsPermutation-sym, IsPermutation-trans, sum_by-IsPermutation}
 use Rattle.std.proofs.lemmas.List.Sums.{sum_by-cons}
 use Rattle.cn_spec.specs.Sums.{sum_below, times, when}
-use Rattle.cn_spec.proofs.Sums.{sum_below-one, sum_below-plus, sum_below-same, sum_below-zero}
+use Rattle.cn_spec.proofs.Sums.{sum-below-one, sum-below-plus, sum-below-same, sum-below-zero}
 
 pub times-nil : (w : ℕ) → times w [] ≡ 0
 unfolding times
@@ -113,9 +113,9 @@ times-inside w a (suc n) l h =
 -- members below n, counted by what they are
 pub times-below : (n : ℕ) (es : List ℕ) → All (λ (u : ℕ). u < n) es → sum_below n (λ u. times u es) ≡ length es
 unfolding times
-times-below n [] all = sum_below-zero n (λ _. 0) (λ _. refl)
+times-below n [] all = sum-below-zero n (λ _. 0) (λ _. refl)
 times-below n (e ∷ es) all =
-    let one = sum_below-one n e 1 (all 0 0 (omega arith)) in
+    let one = sum-below-one n e 1 (all 0 0 (omega arith)) in
     let rest = times-below n es (λ k d less. all (suc k) d (omega arith)) in
-    let swap = sum_below-same n (λ u. when (eqb e u) 1 + times u es) (λ u. when (eqb e u) 1 + times u es) (λ u l. refl) in
-    omega (arith, sum_below-plus n (λ u. when (eqb e u) 1) (λ u. times u es))
+    let swap = sum-below-same n (λ u. when (eqb e u) 1 + times u es) (λ u. when (eqb e u) 1 + times u es) (λ u l. refl) in
+    omega (arith, sum-below-plus n (λ u. when (eqb e u) 1) (λ u. times u es))

@@ -6,8 +6,8 @@ use Rattle.std.proofs.lemmas.List.FromFn.{fill_by_all}
 use Rattle.std.specs.List.{sum}
 use Rattle.cn_spec.specs.Step.{half, share, shares, IsStep}
 use Rattle.cn_spec.specs.Networks.{IsRow, interleave, tree}
-use Rattle.cn_spec.proofs.Shares.{length-shares, get_or-shares, row_is_shares, shares-is_step, sum-shares}
-use Rattle.cn_spec.proofs.Interleave.{length_interleave, get_or-even, get_or-odd}
+use Rattle.cn_spec.proofs.Shares.{length-shares, get-or-shares, row_is-shares, shares-is_step, sum-shares}
+use Rattle.cn_spec.proofs.Interleave.{length-interleave, get-or-even, get-or-odd}
 
 -- ---- the shares of the even exits and of the odd ones are those of the halves
 
@@ -23,11 +23,11 @@ share-odd m h i l =
     ∙ sym (div-div-eq-div-mul (m + h * 2 - 1 - (i + i + 1)) 2 h)
     ∙ ap (λ n. n / h) (omega arith)
 
-pub even_or_odd : (k : ℕ) → (k ≡ k / 2 + k / 2) ⊎ (k ≡ k / 2 + k / 2 + 1)
-even_or_odd k = grind arith
+pub even-or-odd : (k : ℕ) → (k ≡ k / 2 + k / 2) ⊎ (k ≡ k / 2 + k / 2 + 1)
+even-or-odd k = grind arith
 
 interleave-steps : (m h : ℕ) → interleave (shares (half m 0) h) (shares (half m 1) h) ≡ shares m (h * 2)
-interleave-steps m h = fill_by_all (share m (h * 2)) (interleave x y) (h * 2) 0 (omega (arith, length_interleave x y same, length-shares (half m 0) h)) (λ k l. elim (even_or_odd k) [ inl e ↦ even k l e | inr e ↦ odd k l e ])
+interleave-steps m h = fill_by_all (share m (h * 2)) (interleave x y) (h * 2) 0 (omega (arith, length-interleave x y same, length-shares (half m 0) h)) (λ k l. elim (even-or-odd k) [ inl e ↦ even k l e | inr e ↦ odd k l e ])
   where
     x : List ℕ
     x = shares (half m 0) h
@@ -40,46 +40,46 @@ interleave-steps m h = fill_by_all (share m (h * 2)) (interleave x y) (h * 2) 0 
 
     even : (k : ℕ) → k < h * 2 → k ≡ k / 2 + k / 2 → get_or (interleave x y) k 0 ≡ share m (h * 2) k
     even k l e =
-        ap (λ n. get_or (interleave x y) n 0) e ∙ get_or-even x y (k / 2) same
-        ∙ get_or-shares (half m 0) h (k / 2) (omega arith) ∙ sym (share-even m h (k / 2) (omega arith)) ∙ ap (share m (h * 2)) (sym e)
+        ap (λ n. get_or (interleave x y) n 0) e ∙ get-or-even x y (k / 2) same
+        ∙ get-or-shares (half m 0) h (k / 2) (omega arith) ∙ sym (share-even m h (k / 2) (omega arith)) ∙ ap (share m (h * 2)) (sym e)
 
     odd : (k : ℕ) → k < h * 2 → k ≡ k / 2 + k / 2 + 1 → get_or (interleave x y) k 0 ≡ share m (h * 2) k
     odd k l e =
-        ap (λ n. get_or (interleave x y) n 0) e ∙ get_or-odd x y (k / 2) same
-        ∙ get_or-shares (half m 1) h (k / 2) (omega arith) ∙ sym (share-odd m h (k / 2) (omega arith)) ∙ ap (share m (h * 2)) (sym e)
+        ap (λ n. get_or (interleave x y) n 0) e ∙ get-or-odd x y (k / 2) same
+        ∙ get-or-shares (half m 1) h (k / 2) (omega arith) ∙ sym (share-odd m h (k / 2) (omega arith)) ∙ ap (share m (h * 2)) (sym e)
 
 -- ---- the law
 
-pub tree_shares : (level m : ℕ) → tree level m ≡ shares m (2 ^ level)
+pub tree-shares : (level m : ℕ) → tree level m ≡ shares m (2 ^ level)
 unfolding tree
-tree_shares zero m = ap (λ k. k ∷ []) (omega arith)
-tree_shares (suc level) m =
-    ap₂ interleave (tree_shares level (half m 0)) (tree_shares level (half m 1))
+tree-shares zero m = ap (λ k. k ∷ []) (omega arith)
+tree-shares (suc level) m =
+    ap₂ interleave (tree-shares level (half m 0)) (tree-shares level (half m 1))
     ∙ interleave-steps m (2 ^ level) ∙ ap (shares m) (sym (pow-suc 2 level))
 
-pub tree_row : (level m : ℕ) → IsRow level (tree level m)
-tree_row level m = ap length (tree_shares level m) ∙ length-shares m (2 ^ level)
+pub tree-row : (level m : ℕ) → IsRow level (tree level m)
+tree-row level m = ap length (tree-shares level m) ∙ length-shares m (2 ^ level)
 
-pub tree_is_step : (level m : ℕ) → IsStep (tree level m)
-tree_is_step level m = subst IsStep (sym (tree_shares level m)) (shares-is_step m (2 ^ level))
+pub tree_is-step : (level m : ℕ) → IsStep (tree level m)
+tree_is-step level m = subst IsStep (sym (tree-shares level m)) (shares-is_step m (2 ^ level))
 
-pub sum_tree : (level m : ℕ) → sum (tree level m) ≡ m
-sum_tree level m = ap sum (tree_shares level m) ∙ sum-shares m (2 ^ level) (pow_pos level)
+pub sum-tree : (level m : ℕ) → sum (tree level m) ≡ m
+sum-tree level m = ap sum (tree-shares level m) ∙ sum-shares m (2 ^ level) (pow_pos level)
 
 -- a row with the step property is the tree's of its sum
-pub step_tree : (level : ℕ) (x : List ℕ) → IsRow level x → IsStep x → x ≡ tree level (sum x)
-step_tree level x e s = row_is_shares x s ∙ ap (shares (sum x)) e ∙ sym (tree_shares level (sum x))
+pub step-tree : (level : ℕ) (x : List ℕ) → IsRow level x → IsStep x → x ≡ tree level (sum x)
+step-tree level x e s = row_is-shares x s ∙ ap (shares (sum x)) e ∙ sym (tree-shares level (sum x))
 
 -- ---- its recursion
 
-pub tree_zero : (m : ℕ) → tree 0 m ≡ m ∷ []
+pub tree-zero : (m : ℕ) → tree 0 m ≡ m ∷ []
 unfolding tree
-tree_zero m = refl
+tree-zero m = refl
 
-pub tree_turn : (level m : ℕ) → 0 < level → tree level m ≡ interleave (tree (level - 1) (half m 0)) (tree (level - 1) (half m 1))
+pub tree-turn : (level m : ℕ) → 0 < level → tree level m ≡ interleave (tree (level - 1) (half m 0)) (tree (level - 1) (half m 1))
 unfolding tree
-tree_turn zero m h = absurd (omega arith)
-tree_turn (suc level) m h = let e : level ≡ suc level - 1 = omega arith in ap (λ k. interleave (tree k (half m 0)) (tree k (half m 1))) e
+tree-turn zero m h = absurd (omega arith)
+tree-turn (suc level) m h = let e : level ≡ suc level - 1 = omega arith in ap (λ k. interleave (tree k (half m 0)) (tree k (half m 1))) e
 
-pub tree_lengths : (level a b : ℕ) → length (tree level a) ≡ length (tree level b)
-tree_lengths level a b = tree_row level a ∙ sym (tree_row level b)
+pub tree-lengths : (level a b : ℕ) → length (tree level a) ≡ length (tree level b)
+tree-lengths level a b = tree-row level a ∙ sym (tree-row level b)

@@ -2,7 +2,7 @@
 use Rattle.std.proofs.Common.{◌≡◌, ℕ, ◌*◌, ◌-◌, ◌≤◌, inl, inr, eqb, [], length, sum_by, sym, ap, ◌∙◌, arith, append-nil}
 use Rattle.std.proofs.lemmas.Bool.{cases_eq, eq-eqb, ne_eqb}
 use Rattle.cn_spec.specs.Sums.{when}
-use Rattle.cn_spec.proofs.CallerLemmas.{sum_below-one, sum_below-same}
+use Rattle.cn_spec.proofs.CallerLemmas.{sum-below-one, sum-below-same}
 use Rattle.cn_yard.specs.Lists.{last_on, on}
 use Rattle.cn_yard.proofs.CallerLemmas.{last_on-sum}
 use Rattle.cn_floor.specs.declared.view.View.{View}
@@ -13,15 +13,15 @@ use Rattle.cn_walk.specs.Walks.{Walks, inside_by, steps_left}
 
 weight-alone : (f : ℕ → ℕ) (v : View) (token client wire : ℕ) → IsAlone v.tokens token client wire → inside_by f v ≡ f client
 weight-alone f v token client wire is =
-    sum_below-same (length v.tokens) (λ u. sum_by (λ (e : ℕ × ℕ). f e.1) (on v.tokens u)) (λ u. when (eqb wire u) (f client))
+    sum-below-same (length v.tokens) (λ u. sum_by (λ (e : ℕ × ℕ). f e.1) (on v.tokens u)) (λ u. when (eqb wire u) (f client))
     (λ u l. ap (sum_by (λ (e : ℕ × ℕ). f e.1)) (is.only u) ∙ last_on-sum token client wire u (λ (e : ℕ × ℕ). f e.1))
-    ∙ sum_below-one (length v.tokens) wire (f client) is.inside
+    ∙ sum-below-one (length v.tokens) wire (f client) is.inside
 
 left-alone : (v : View) (token client wire : ℕ) → IsAlone v.tokens token client wire → steps_left v ≡ length v.tokens - wire
 left-alone v token client wire is =
     let m : ℕ = length v.tokens in
-    sum_below-same m (λ u. (m - u) * length (on v.tokens u)) (λ u. when (eqb wire u) (m - wire)) (λ u l. by u)
-    ∙ sum_below-one m wire (m - wire) is.inside
+    sum-below-same m (λ u. (m - u) * length (on v.tokens u)) (λ u. when (eqb wire u) (m - wire)) (λ u l. by u)
+    ∙ sum-below-one m wire (m - wire) is.inside
   where
     by : (u : ℕ) → (length v.tokens - u) * length (on v.tokens u) ≡ when (eqb wire u) (length v.tokens - wire)
     by u = elim (cases_eq wire u) [

@@ -13,7 +13,7 @@ use Rattle.cn_floor.specs.Lane.{FloorValue, LaneValue, empty_lane, with_room}
 use Rattle.cn_floor.specs.Views.{after_look, after_split, split_off}
 use Rattle.cn_walk.specs.Walks.{WalksAll}
 use Rattle.cn_floor.proofs.InLane.Yards.{nobody-in}
-use Rattle.cn_walk.proofs.Walks.{length_both}
+use Rattle.cn_walk.proofs.Walks.{length-both}
 
 -- how many pairs of halves there are
 abbrev pub nodes : Lanes → ℕ
@@ -25,24 +25,24 @@ put_last : {X : Type 0} (a b xs ys : List X) → b ≡ [] → (a ++ xs) ++ (b ++
 put_last a b xs ys none =
     ap (λ (zs : List _). (a ++ xs) ++ (zs ++ ys)) none ∙ append_assoc a xs ys ∙ ap (λ (zs : List _). zs ++ (xs ++ ys)) (sym (append-nil a)) ∙ ap (λ (zs : List _). (a ++ zs) ++ (xs ++ ys)) (sym none)
 
-pub both_walked : (a b c d : LaneValue) (xs ys : List Client) → b.view.entries ≡ [] → b.view.grants ≡ [] → WalksAll a c xs → WalksAll b d ys → WalksAll (together a b) (together c d) (xs ++ ys)
-both_walked a b c d xs ys no_entries no_grants p q =
+pub both-walked : (a b c d : LaneValue) (xs ys : List Client) → b.view.entries ≡ [] → b.view.grants ≡ [] → WalksAll a c xs → WalksAll b d ys → WalksAll (together a b) (together c d) (xs ++ ys)
+both-walked a b c d xs ys no_entries no_grants p q =
     let (more, grants, for) = p.grants in
     let (later, grants2, for2) = q.grants in
     let entry : Client → ℕ = λ k. k.entry in
-    let many : length d.view.grants ≡ length b.view.grants + length later = ap length grants2 ∙ length_both b.view.grants later in
+    let many : length d.view.grants ≡ length b.view.grants + length later = ap length grants2 ∙ length-both b.view.grants later in
     record {
       home = p.home;
       out = p.out;
-      quota = omega (arith, p.quota, q.quota, length_both xs ys);
-      room = omega (arith, p.room, length_both xs ys, many, for2.as_many, ap length no_grants);
+      quota = omega (arith, p.quota, q.quota, length-both xs ys);
+      room = omega (arith, p.room, length-both xs ys, many, for2.as_many, ap length no_grants);
       entries = (λ i. p.entries i ++ q.entries i) ∙ put_last a.view.entries b.view.entries (map entry xs) (map entry ys) no_entries ∙ ap (λ (es : List ℕ). (a.view.entries ++ b.view.entries) ++ es) (sym (map-append entry xs ys));
       seen = λ i. max (p.seen i) (q.seen i);
       grants = (
         more ++ later,
         (λ i. grants i ++ grants2 i) ∙ put_last a.view.grants b.view.grants more later no_grants,
         record {
-          as_many = omega (arith, length_both more later, length_both xs ys, for.as_many, for2.as_many);
+          as_many = omega (arith, length-both more later, length-both xs ys, for.as_many, for2.as_many);
           as_often = λ id.
               omega (
                 arith,
@@ -56,13 +56,13 @@ both_walked a b c d xs ys no_entries no_grants p q =
     }
 
 -- lanes that are ready are so as one
-pub whole_ready : (home : FloorValue) (n : ℕ) (lanes : Lanes) → AreReady home n lanes → IsReady home n (whole lanes)
-whole_ready home n (One lane worker) r = r
-whole_ready home n (Halves' at p left q right) r = r.0
+pub whole-ready : (home : FloorValue) (n : ℕ) (lanes : Lanes) → AreReady home n lanes → IsReady home n (whole lanes)
+whole-ready home n (One lane worker) r = r
+whole-ready home n (Halves' at p left q right) r = r.0
 
 -- a later worker's clients come later
-pub first_later : (k w a b : ℕ) → 0 < w → a ≤ b → first_of k w a ≤ first_of k w b
-first_later k w a b some h = le-div (a * k / w) (b * k) w some (omega (arith, div-mul-le_self (a * k) w, mul-le-mul_right k h))
+pub first-later : (k w a b : ℕ) → 0 < w → a ≤ b → first_of k w a ≤ first_of k w b
+first-later k w a b some h = le-div (a * k / w) (b * k) w some (omega (arith, div-mul-le_self (a * k) w, mul-le-mul_right k h))
 
 -- workers before, or after, who have no clients: the lanes are of them too
 pub none_before : (k w from middle to : ℕ) (lanes : Lanes) → from ≤ middle → first_of k w middle ≡ first_of k w from → AreOf k w middle to lanes → AreOf k w from to lanes
@@ -76,20 +76,20 @@ none_after k w from middle to (Halves' at p left q right) after same (m, low, hi
     (m, low, omega (arith, after, high), is, one, none_after k w m middle to right after same two)
 
 -- a lane for which more is reserved, of which some is split off, and the one that is split off
-pub reserved_nothing : (n : ℕ) (a b : LaneValue) → HasNothing a → b ≡ with_room n a → HasNothing b
-reserved_nothing n a b is same = subst HasNothing (sym same) (record { inside = is.inside; entries = is.entries; grants = is.grants })
+pub reserved-nothing : (n : ℕ) (a b : LaneValue) → HasNothing a → b ≡ with_room n a → HasNothing b
+reserved-nothing n a b is same = subst HasNothing (sym same) (record { inside = is.inside; entries = is.entries; grants = is.grants })
 
-pub left_nothing : (q : ℕ) (a b : LaneValue) → HasNothing a → b ≡ record a { view = after_look (after_split q a.view) } → HasNothing b
-left_nothing q a b is same = subst HasNothing (sym same) (record { inside = is.inside; entries = is.entries; grants = is.grants })
+pub left-nothing : (q : ℕ) (a b : LaneValue) → HasNothing a → b ≡ record a { view = after_look (after_split q a.view) } → HasNothing b
+left-nothing q a b is same = subst HasNothing (sym same) (record { inside = is.inside; entries = is.entries; grants = is.grants })
 
-pub right_nothing : (q : ℕ) (a b : LaneValue) → b ≡ record (empty_lane a.home q) { view = after_look (split_off q a.view) } → HasNothing b
-right_nothing q a b same = subst HasNothing (sym same) (record { inside = nobody-in (length a.home.start.network.table.ends); entries = refl; grants = refl })
+pub right-nothing : (q : ℕ) (a b : LaneValue) → b ≡ record (empty_lane a.home q) { view = after_look (split_off q a.view) } → HasNothing b
+right-nothing q a b same = subst HasNothing (sym same) (record { inside = nobody-in (length a.home.start.network.table.ends); entries = refl; grants = refl })
 
 -- two halves that are ready
-pub both_ready : (home : FloorValue) (n at : ℕ) (left right : Lanes) → at ≤ n → n ≤ (whole left).room → AreReady home at left → AreReady home (n - at) right → IsReady home n (together (whole left) (whole right))
-both_ready home n at left right h room a b =
-    let x = whole_ready home at left a in
-    let y = whole_ready home (n - at) right b in
+pub both-ready : (home : FloorValue) (n at : ℕ) (left right : Lanes) → at ≤ n → n ≤ (whole left).room → AreReady home at left → AreReady home (n - at) right → IsReady home n (together (whole left) (whole right))
+both-ready home n at left right h room a b =
+    let x = whole-ready home at left a in
+    let y = whole-ready home (n - at) right b in
     record {
       home_is = x.home_is;
       nothing = record {
@@ -102,11 +102,11 @@ both_ready home n at left right h room a b =
     }
 
 -- what a pair is ready for
-pub pair_ready : (home : FloorValue) (n at r : ℕ) (left right lanes : Lanes) → IsPair at left right lanes → at ≤ n → n ≤ (whole left).room → AreReady home at left → AreReady home r right → r ≡ n - at
+pub pair-ready : (home : FloorValue) (n at r : ℕ) (left right lanes : Lanes) → IsPair at left right lanes → at ≤ n → n ≤ (whole left).room → AreReady home at left → AreReady home r right → r ≡ n - at
     → AreReady home n lanes
-pair_ready home n at r left right lanes is less room a b rest =
+pair-ready home n at r left right lanes is less room a b rest =
     let second : AreReady home (n - at) right = subst (λ (k : ℕ). AreReady home k right) rest b in
-    is.ready home n (both_ready home n at left right less room a second) less a second
+    is.ready home n (both-ready home n at left right less room a second) less a second
 
 pub some_so : {X : Type 0} (P Q : X → Type 0) (o : Option X) → ((x : X) → P x → Q x) → IfSome o P → IfSome o Q
 some_so P Q None f p = search rules

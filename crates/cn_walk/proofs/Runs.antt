@@ -3,7 +3,7 @@ use Rattle.std.proofs.Common.{◌≡◌, ℕ, ◌+◌, ◌-◌, ◌*◌, ◌/◌
 use Rattle.std.proofs.lemmas.Nat.{div-mul-add}
 use Rattle.cn_spec.specs.Step.{IsEachBelow, shares_after}
 use Rattle.cn_spec.specs.Sums.{Agree, times}
-use Rattle.cn_spec.proofs.CallerLemmas.{first_shares}
+use Rattle.cn_spec.proofs.CallerLemmas.{first-shares}
 use Rattle.cn_wiring.specs.declared.end.End.TheVariants.{Balancer}
 use Rattle.cn_wiring.specs.Network.{Network}
 use Rattle.cn_wiring.specs.Table.{Table, sum_at}
@@ -34,8 +34,8 @@ all-first k w some =
     omega (arith, one, none)
 
 -- a lane that is new has done nothing
-pub new_nothing : (home : FloorValue) (q : ℕ) (yard : Yard) (a : LaneValue) → a ≡ record (empty_lane home q) { yard = yard } → IsIdle home.start.network yard.lists → HasNothing a
-new_nothing home q yard a is idle =
+pub new-nothing : (home : FloorValue) (q : ℕ) (yard : Yard) (a : LaneValue) → a ≡ record (empty_lane home q) { yard = yard } → IsIdle home.start.network yard.lists → HasNothing a
+new-nothing home q yard a is idle =
     subst HasNothing (sym is) (record { inside = ap tokens_in idle ∙ nobody-in (length home.start.network.table.ends); entries = refl; grants = refl })
 
 -- a lane that has as many grants as the floor may let in misses nothing
@@ -93,7 +93,7 @@ from-zero network clients q is =
     record {
       over = is.over;
       counts = is.counts
-          ∙ (ap (λ (m : ℕ). shares_after m k t.width) nobody ∙ first_shares k t.width);
+          ∙ (ap (λ (m : ℕ). shares_after m k t.width) nobody ∙ first-shares k t.width);
       passes = λ f full from.
           is.passes f full (λ u l. omega (arith, from u l, none-entered t u))
           ∙ map-same (λ b. sum_at t (Balancer b) f - count_in t zero.words (Balancer b)) (λ b. sum_at t (Balancer b) f) 0 t.balancers (λ b l h. omega (arith, none-counted t (Balancer b)));

@@ -18,12 +18,12 @@ use Rattle.cn_floor.specs.Views.{after_step, base}
 use Rattle.cn_walk.specs.Walks.{Walks, inside_by, steps_left}
 use Rattle.cn_floor.proofs.AtMoments.Sweeps.{MayGo, goes-there, rest-may}
 use Rattle.cn_floor.proofs.InLane.Swept.{grants-kept, grants-left, kin-by, some-inside}
-use Rattle.cn_walk.proofs.Walks.{IsHeld, left_by, less_left, less_passed, passed_by}
+use Rattle.cn_walk.proofs.Walks.{IsHeld, left_by, less-left, less-passed, passed_by}
 
 -- what the clients of tokens weigh that leave by an end
-abbrev out_by : (ℕ → ℕ) → End → List (ℕ × ℕ) → ℕ
-out_by f (Balancer b) tokens = 0
-out_by f (Exit i) tokens = sum_by (λ e. f e.1) tokens
+abbrev out-by : (ℕ → ℕ) → End → List (ℕ × ℕ) → ℕ
+out-by f (Balancer b) tokens = 0
+out-by f (Exit i) tokens = sum_by (λ e. f e.1) tokens
 
 granted-by : (f : ℕ → ℕ) (width less i n : ℕ) (tokens : List (ℕ × ℕ)) → sum_by (λ g. f g.client) (grants_out width less i n tokens) ≡ sum_by (λ e. f e.1) tokens
 unfolding grants_out
@@ -53,22 +53,22 @@ module _ (start : Start) (wire : ℕ) (end : End) (formed : IsWellFormed start.n
 
   -- nobody is lost or made
   one-weighs : (f : ℕ → ℕ) (n token client : ℕ) (v : View) (rest : List (ℕ × ℕ)) → May v ((token, client) ∷ rest)
-      → inside_by f (after_step token client end n v) + out_by f end ((token, client) ∷ []) ≡ inside_by f v
+      → inside_by f (after_step token client end n v) + out-by f end ((token, client) ∷ []) ≡ inside_by f v
   one-weighs f n token client v rest may = by end refl
     where
       is : IsThere v.tokens token client wire
       is = goes-there start wire end formed low ends stands v token client rest may
 
-      by : (e : End) → end ≡ e → inside_by f (after_step token client e n v) + out_by f e ((token, client) ∷ []) ≡ inside_by f v
+      by : (e : End) → end ≡ e → inside_by f (after_step token client e n v) + out-by f e ((token, client) ∷ []) ≡ inside_by f v
       by (Balancer b) at = omega (arith, passed_by token client wire n v is f b (lands b n at v ((token, client) ∷ rest) may).0)
       by (Exit i) at = omega (arith, left_by token client wire n v is f i)
 
   pub all-weigh : (f : ℕ → ℕ) (tokens : List (ℕ × ℕ)) (v : View) (n : ℕ) → May v tokens
-      → inside_by f (after_steps end n tokens v) + out_by f end tokens ≡ inside_by f v
+      → inside_by f (after_steps end n tokens v) + out-by f end tokens ≡ inside_by f v
   unfolding after_steps
   all-weigh f [] v n may = by end
     where
-      by : (e : End) → inside_by f v + out_by f e [] ≡ inside_by f v
+      by : (e : End) → inside_by f v + out-by f e [] ≡ inside_by f v
       by (Balancer b) = omega arith
       by (Exit i) = omega arith
   all-weigh f ((token, client) ∷ rest) v n may =
@@ -76,7 +76,7 @@ module _ (start : Start) (wire : ℕ) (end : End) (formed : IsWellFormed start.n
       let more = all-weigh f rest (after_step token client end n v) (n + 1) (rest-may start wire end formed low ends stands n v token client rest may) in
       omega (arith, one, more, parts end)
     where
-      parts : (e : End) → out_by f e ((token, client) ∷ rest) ≡ out_by f e ((token, client) ∷ []) + out_by f e rest
+      parts : (e : End) → out-by f e ((token, client) ∷ rest) ≡ out-by f e ((token, client) ∷ []) + out-by f e rest
       parts (Balancer b) = omega arith
       parts (Exit i) = omega (arith, sum_by-cons (λ (x : ℕ × ℕ). f x.1) (token, client) rest, sum_by-cons (λ (x : ℕ × ℕ). f x.1) (token, client) [])
 
@@ -93,8 +93,8 @@ module _ (start : Start) (wire : ℕ) (end : End) (formed : IsWellFormed start.n
       by : (e : End) → end ≡ e → steps_left (after_step token client e n v) < steps_left v
       by (Balancer b) at =
           let on = lands b n at v ((token, client) ∷ rest) may in
-          less_passed token client wire n v is there b on.0 on.1
-      by (Exit i) at = less_left token client wire n v is there i
+          less-passed token client wire n v is there b on.0 on.1
+      by (Exit i) at = less-left token client wire n v is there i
 
   no-more : (tokens : List (ℕ × ℕ)) (v : View) (n : ℕ) → May v tokens → steps_left (after_steps end n tokens v) ≤ steps_left v
   unfolding after_steps
@@ -156,7 +156,7 @@ module _ (a b : LaneValue) (wire n : ℕ) (answer : Sweep) (formed : IsWellForme
       )
     where
       weighed : (e : End) (ends : end_of a.home.start.network.table wire ≡ e) (stands : Stands a.home.start.network.table e) → b.view ≡ after_sweep wire e n v → (f : ℕ → ℕ)
-          → inside_by f b.view + out_by f e tokens ≡ inside_by f v
+          → inside_by f b.view + out-by f e tokens ≡ inside_by f v
       weighed e ends stands view f =
           omega (arith, ap (λ (x : View). inside_by f x) view, all-weigh a.home.start wire e formed inside ends stands f tokens v n (may e ends stands))
 

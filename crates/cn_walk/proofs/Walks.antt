@@ -4,7 +4,7 @@ use Rattle.std.proofs.lemmas.List.{append_assoc, map-append, take_more}
 use Rattle.std.proofs.lemmas.List.FromFn.{length-map-range_with_len}
 use Rattle.std.proofs.lemmas.List.Sums.{sum_by-append}
 use Rattle.cn_spec.specs.Sums.{sum_below, when}
-use Rattle.cn_spec.proofs.CallerLemmas.{sum_below-one, sum_below-plus, sum_below-same, sum_below-shift, sum_below-zero}
+use Rattle.cn_spec.proofs.CallerLemmas.{sum-below-one, sum-below-plus, sum-below-same, sum-below-shift, sum-below-zero}
 use Rattle.cn_wiring.specs.declared.end.End.{End}
 use Rattle.cn_wiring.specs.declared.end.End.TheVariants.{Balancer, Exit}
 use Rattle.cn_wiring.specs.Table.{IsWellFormed, output_wire}
@@ -31,20 +31,20 @@ stays a = record {
   grants = ([], sym (append-nil a.view.grants), λ f. omega arith);
 }
 
-pub length_both : {X : Type 0} (us vs : List X) → length (us ++ vs) ≡ length us + length vs
-length_both [] vs = omega arith
-length_both (u ∷ us) vs = omega (arith, length_both us vs)
+pub length-both : {X : Type 0} (us vs : List X) → length (us ++ vs) ≡ length us + length vs
+length-both [] vs = omega arith
+length-both (u ∷ us) vs = omega (arith, length-both us vs)
 
 -- one walk and then another
-pub walks_on : (a b c : LaneValue) (xs ys : List Client) → Walks a b xs → Walks b c ys → Walks a c (xs ++ ys)
-walks_on a b c xs ys p q =
+pub walks-on : (a b c : LaneValue) (xs ys : List Client) → Walks a b xs → Walks b c ys → Walks a c (xs ++ ys)
+walks-on a b c xs ys p q =
     let (more, grants, even) = p.grants in
     let (later, grants2, even2) = q.grants in
     let entry : Client → ℕ = λ k. k.entry in
     record {
       home = q.home ∙ p.home;
-      quota = omega (arith, p.quota, q.quota, length_both xs ys);
-      room = omega (arith, p.room, q.room, length_both xs ys);
+      quota = omega (arith, p.quota, q.quota, length-both xs ys);
+      room = omega (arith, p.room, q.room, length-both xs ys);
       entries = q.entries ∙ ap (λ (es : List ℕ). es ++ map entry ys) p.entries ∙ append_assoc a.view.entries (map entry xs) (map entry ys)
           ∙ ap (λ (es : List ℕ). a.view.entries ++ es) (sym (map-append entry xs ys));
       seen = q.seen ∙ p.seen;
@@ -55,7 +55,7 @@ walks_on a b c xs ys p q =
       );
     }
 
--- what the laws of a lane tell of it
+-- what the laws of a lane say of it
 pub record IsHeld (a : LaneValue) : Type 0 where
   pub start : a.view.start ≡ a.home.start
   pub tokens : a.yard.lists ≡ a.view.tokens
@@ -65,16 +65,16 @@ pub record IsHeld (a : LaneValue) : Type 0 where
 
 -- ---- a client comes in
 
-came_by : (f : ℕ → ℕ) (token client entry : ℕ) (v : View) → entry < length v.tokens → inside_by f (after_enter token client entry v) ≡ inside_by f v + f client
-came_by f token client entry v inside =
+came-by : (f : ℕ → ℕ) (token client entry : ℕ) (v : View) → entry < length v.tokens → inside_by f (after_enter token client entry v) ≡ inside_by f v + f client
+came-by f token client entry v inside =
     let m : ℕ = length v.tokens in
     let w : View = after_enter token client entry v in
     let weight : ℕ → ℕ = λ u. sum_by (λ (e : ℕ × ℕ). f e.1) (on v.tokens u) in
     let wires : length w.tokens ≡ m = length-map-range_with_len (λ u. on v.tokens u ++ last_on token client entry u) 0 m in
     let same : sum_below m (λ u. sum_by (λ (e : ℕ × ℕ). f e.1) (on w.tokens u)) ≡ sum_below m (λ u. weight u + when (eqb entry u) (f client)) =
-    sum_below-same m (λ u. sum_by (λ (e : ℕ × ℕ). f e.1) (on w.tokens u)) (λ u. weight u + when (eqb entry u) (f client)) (λ u l. weigh-come v.tokens token client entry inside u (λ e. f e.1)) in
+    sum-below-same m (λ u. sum_by (λ (e : ℕ × ℕ). f e.1) (on w.tokens u)) (λ u. weight u + when (eqb entry u) (f client)) (λ u l. weigh-come v.tokens token client entry inside u (λ e. f e.1)) in
     ap (λ (k : ℕ). sum_below k (λ u. sum_by (λ (e : ℕ × ℕ). f e.1) (on w.tokens u))) wires ∙ same
-    ∙ omega (arith, sum_below-plus m weight (λ u. when (eqb entry u) (f client)), sum_below-one m entry (f client) inside)
+    ∙ omega (arith, sum-below-plus m weight (λ u. when (eqb entry u) (f client)), sum-below-one m entry (f client) inside)
 
 pub comes : (a b : LaneValue) (token client entry : ℕ) → IsWellFormed a.home.start.network.table → IsHeld a → 0 < a.view.quota → entry < a.home.start.network.table.entries → LetsIn a b token client entry
     → Walks a b (record { id = client; entry = entry } ∷ [])
@@ -89,15 +89,15 @@ comes a b token client entry formed held some low is =
       grants = (
         [],
         ap (λ (v : View). v.grants) is.view ∙ sym (append-nil a.view.grants),
-        λ f. omega (arith, ap (λ (v : View). inside_by f v) is.view, came_by f token client entry a.view wire),
+        λ f. omega (arith, ap (λ (v : View). inside_by f v) is.view, came-by f token client entry a.view wire),
       );
     }
 
 -- the next client of a list comes in
-pub comes_next : (a b c : LaneValue) (i : ℕ) (d : Client) (xs : List Client) → i < length xs → Walks a b (take i xs)
+pub comes-next : (a b c : LaneValue) (i : ℕ) (d : Client) (xs : List Client) → i < length xs → Walks a b (take i xs)
     → Walks b c (record { id = (get_or xs i d).id; entry = (get_or xs i d).entry } ∷ []) → Walks a c (take (i + 1) xs)
-comes_next a b c i d xs l p is =
-    subst (λ (ys : List Client). Walks a c ys) (sym (take_more xs i d l)) (walks_on a b c (take i xs) (get_or xs i d ∷ []) p is)
+comes-next a b c i d xs l p is =
+    subst (λ (ys : List Client). Walks a c ys) (sym (take_more xs i d l)) (walks-on a b c (take i xs) (get_or xs i d ∷ []) p is)
 
 -- ---- a token goes on
 
@@ -111,18 +111,18 @@ module _ (token client wire n : ℕ) (v : View) (is : IsThere v.tokens token cli
       let m : ℕ = length v.tokens in
       let w : View = after_step token client (Balancer b) n v in
       let to : ℕ = output_wire v.start.network.table b (n % 2) in
-      let moved = sum_below-shift m (λ u. sum_by (λ (e : ℕ × ℕ). f e.1) (on w.tokens u)) (λ u. when (eqb wire u) (f client)) (λ u. sum_by (λ (e : ℕ × ℕ). f e.1) (on v.tokens u)) (λ u. when (eqb to u) (f client))
+      let moved = sum-below-shift m (λ u. sum_by (λ (e : ℕ × ℕ). f e.1) (on w.tokens u)) (λ u. when (eqb wire u) (f client)) (λ u. sum_by (λ (e : ℕ × ℕ). f e.1) (on v.tokens u)) (λ u. when (eqb to u) (f client))
       (λ u l. weigh-pass v.tokens token client wire to is lands u (λ e. f e.1)) in
-      ap (λ (k : ℕ). sum_below k (λ u. sum_by (λ (e : ℕ × ℕ). f e.1) (on w.tokens u))) (long (Balancer b)) ∙ omega (arith, moved, sum_below-one m wire (f client) is.inside, sum_below-one m to (f client) lands)
+      ap (λ (k : ℕ). sum_below k (λ u. sum_by (λ (e : ℕ × ℕ). f e.1) (on w.tokens u))) (long (Balancer b)) ∙ omega (arith, moved, sum-below-one m wire (f client) is.inside, sum-below-one m to (f client) lands)
 
   pub left_by : (i : ℕ) → inside_by f (after_step token client (Exit i) n v) + f client ≡ inside_by f v
   left_by i =
       let m : ℕ = length v.tokens in
       let w : View = after_step token client (Exit i) n v in
-      let moved = sum_below-shift m (λ u. sum_by (λ (e : ℕ × ℕ). f e.1) (on w.tokens u)) (λ u. when (eqb wire u) (f client)) (λ u. sum_by (λ (e : ℕ × ℕ). f e.1) (on v.tokens u)) (λ u. 0)
+      let moved = sum-below-shift m (λ u. sum_by (λ (e : ℕ × ℕ). f e.1) (on w.tokens u)) (λ u. when (eqb wire u) (f client)) (λ u. sum_by (λ (e : ℕ × ℕ). f e.1) (on v.tokens u)) (λ u. 0)
       (λ u l. omega (arith, weigh-leave v.tokens token client wire is u (λ e. f e.1))) in
       let same = ap (λ (k : ℕ). sum_below k (λ u. sum_by (λ (e : ℕ × ℕ). f e.1) (on w.tokens u))) (long (Exit i)) in
-      omega (arith, same, moved, sum_below-one m wire (f client) is.inside, sum_below-zero m (λ _. 0) (λ _. refl))
+      omega (arith, same, moved, sum-below-one m wire (f client) is.inside, sum-below-zero m (λ _. 0) (λ _. refl))
 
 -- how much less is left
 module _ (token client wire n : ℕ) (v : View) (is : IsThere v.tokens token client wire) (there : wire < length v.start.network.table.ends) where
@@ -134,12 +134,12 @@ module _ (token client wire n : ℕ) (v : View) (is : IsThere v.tokens token cli
       let w : View = after_step token client end n v in
       ap (λ (k : ℕ). sum_below (length w.tokens) (λ u. (k - u) * on_in u w)) (sym (long token client wire n v is (λ _. 0) end))
 
-  pub less_passed : (b : ℕ) → Lands n v (Balancer b) → wire < output_wire v.start.network.table b (n % 2) → steps_left (after_step token client (Balancer b) n v) < steps_left v
-  less_passed b lands on =
+  pub less-passed : (b : ℕ) → Lands n v (Balancer b) → wire < output_wire v.start.network.table b (n % 2) → steps_left (after_step token client (Balancer b) n v) < steps_left v
+  less-passed b lands on =
       omega (arith, left (Balancer b), weighed-went v.start.network token client wire n v is there refl g (Balancer b) lands, at-one (length v.tokens) (output_wire v.start.network.table b (n % 2)) g lands)
 
-  pub less_left : (i : ℕ) → steps_left (after_step token client (Exit i) n v) < steps_left v
-  less_left i =
+  pub less-left : (i : ℕ) → steps_left (after_step token client (Exit i) n v) < steps_left v
+  less-left i =
       omega (arith, left (Exit i), weighed-went v.start.network token client wire n v is there refl g (Exit i) tt, at-none (length v.tokens) g, is.inside)
 
 -- ---- whole walks
@@ -147,11 +147,11 @@ module _ (token client wire n : ℕ) (v : View) (is : IsThere v.tokens token cli
 -- where no token stands, nobody weighs anything
 pub none_by : (a : LaneValue) → IsHeld a → tokens_in a.yard.lists ≡ 0 → (f : ℕ → ℕ) → inside_by f a.view ≡ 0
 none_by a held none f =
-    sum_below-zero (length a.view.tokens) (λ u. sum_by (λ (e : ℕ × ℕ). f e.1) (on a.view.tokens u)) (λ u. empty_by (on a.view.tokens u) (none-on a.view (inside-yard a.yard a.view held.tokens ∙ none) u))
+    sum-below-zero (length a.view.tokens) (λ u. sum_by (λ (e : ℕ × ℕ). f e.1) (on a.view.tokens u)) (λ u. empty-by (on a.view.tokens u) (none-on a.view (inside-yard a.yard a.view held.tokens ∙ none) u))
   where
-    empty_by : (es : List (ℕ × ℕ)) → length es ≡ 0 → sum_by (λ (e : ℕ × ℕ). f e.1) es ≡ 0
-    empty_by [] h = refl
-    empty_by (e ∷ es) h = absurd (omega arith)
+    empty-by : (es : List (ℕ × ℕ)) → length es ≡ 0 → sum_by (λ (e : ℕ × ℕ). f e.1) es ≡ 0
+    empty-by [] h = refl
+    empty-by (e ∷ es) h = absurd (omega arith)
 
 pub walked : (a b : LaneValue) (xs : List Client) → Walks a b xs → tokens_in b.yard.lists ≡ 0 → ((f : ℕ → ℕ) → inside_by f a.view ≡ 0) → ((f : ℕ → ℕ) → inside_by f b.view ≡ 0)
     → WalksAll a b xs

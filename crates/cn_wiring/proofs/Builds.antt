@@ -4,7 +4,7 @@ use Rattle.std.proofs.lemmas.Bool.{cases_lt}
 use Rattle.cn_spec.specs.Sums.{times}
 use Rattle.cn_wiring.specs.Plan.{Plan, AllLoose, Builds}
 use Rattle.cn_spec.proofs.CallerLemmas.{times-append}
-use Rattle.cn_wiring.proofs.Join.{below_from_loose}
+use Rattle.cn_wiring.proofs.Join.{below_from-loose}
 
 pub Builds-none : (d : Plan) (depth : ℕ) → Builds d d [] [] depth 0
 unfolding times
@@ -79,9 +79,9 @@ Builds-beside {a} {b} {c} {xs} {ys} {us} {vs} {d} {m} {n} there p q = record {
   kept = λ l w k h. q.kept l w (let j = p.wires in omega arith) (p.kept l w k h);
   level = λ l h w k.
       elim (cases_lt 0 (times w ys)) [
-        | inl i ↦ q.kept (l + d) w (below_from_loose b.ends w (let t = there w in let j = p.loosed w in omega (arith, times-append w xs us)))
+        | inl i ↦ q.kept (l + d) w (below_from-loose b.ends w (let t = there w in let j = p.loosed w in omega (arith, times-append w xs us)))
             (p.level l (λ u j. h u (omega (arith, times-append u xs us))) w i)
-        | inr i ↦ q.level l (λ u j. p.kept l u (below_from_loose a.ends u (let t = there u in omega (arith, times-append u xs us))) (h u (omega (arith, times-append u xs us)))) w (omega (arith, times-append w ys vs))
+        | inr i ↦ q.level l (λ u j. p.kept l u (below_from-loose a.ends u (let t = there u in omega (arith, times-append u xs us))) (h u (omega (arith, times-append u xs us)))) w (omega (arith, times-append w ys vs))
       ];
 }
 

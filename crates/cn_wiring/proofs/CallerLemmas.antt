@@ -1,14 +1,14 @@
 -- What proofs of other crates cite of this one. They cite nothing else of proofs/.
 
 -- full flows of tables
-pub use Rattle.cn_wiring.proofs.Conserve.{count-twice, full_flow-sum}
-pub use Rattle.cn_wiring.proofs.Few.{full_flow-few}
-pub use Rattle.cn_wiring.proofs.Flow.{full_flow-draft, full_flow-exists, full_flow-paths, full_flow-unique, older}
+pub use Rattle.cn_wiring.proofs.Conserve.{count-twice, full-flow-sum}
+pub use Rattle.cn_wiring.proofs.Few.{full-flow-few}
+pub use Rattle.cn_wiring.proofs.Flow.{full-flow-draft, full-flow-exists, full-flow-paths, full-flow-unique, older}
 -- levels of wires
 pub use Rattle.cn_wiring.proofs.Levels.{levels}
 -- parts of networks, and networks that are finished
 pub use Rattle.cn_wiring.proofs.Builds.{Builds-beside, Builds-giving, Builds-like, Builds-loose, Builds-loose_with, Builds-same}
 pub use Rattle.cn_wiring.proofs.Builds.{Builds-sized, Builds-then}
-pub use Rattle.cn_wiring.proofs.Finished.{Drawn, drawn, drawn_built, drawn_counts}
-pub use Rattle.cn_wiring.proofs.Rows.{all_ok, entries_row, flows_row, outputs_count}
+pub use Rattle.cn_wiring.proofs.Finished.{Drawn, drawn, drawn-built, drawn-counts}
+pub use Rattle.cn_wiring.proofs.Rows.{all_ok, entries-row, flows-row, outputs-count}
 pub use Rattle.cn_wiring.proofs.Unique.{same_table}

@@ -10,8 +10,8 @@ use Rattle.cn_wiring.specs.Plan.{Plan, ends_at, passages, IsFlow, loose, Each, H
 use Rattle.cn_wiring.specs.Table.{Table, is_end, sum_at, Stands, LeadsOn, IsWellFormed, IsFullFlow, balancer_of, plan_of_table, EndsInOrder, HasDepth}
 use Rattle.cn_wiring.specs.InsideDraft.{IsOrderly}
 use Rattle.cn_spec.specs.declared.limits.TheConstants.{MOST_ENDS}
-use Rattle.cn_spec.proofs.CallerLemmas.{times-member, times-place, times-two, total_where-map, total_where-one, total_where-tests}
-use Rattle.cn_wiring.proofs.Join.{below_from_loose, loose_in}
+use Rattle.cn_spec.proofs.CallerLemmas.{times-member, times-place, times-two, total-where-map, total-where-one, total-where-tests}
+use Rattle.cn_wiring.proofs.Join.{below_from-loose, loose_in}
 
 at_most_one : (es : List (Option ℕ)) (w : ℕ) → loose_in es w ≤ 1
 at_most_one es w = elim (is_none (get_or es w (Some 0))) as (λ t. when t 1 ≤ 1) [ true ↦ omega arith | false ↦ omega arith ]
@@ -20,8 +20,8 @@ at_most_one es w = elim (is_none (get_or es w (Some 0))) as (λ t. when t 1 ≤ 
 abbrev pub Apart : List (Option ℕ) → List ℕ → Type 0
 Apart es ws = (w : ℕ) → times w ws ≤ when (is_none (get_or es w (Some 0))) 1
 
-pub exit_below : (es : List (Option ℕ)) (ws : List ℕ) (i : ℕ) → Apart es ws → i < length ws → get_or ws i 0 < length es
-exit_below es ws i h k = below_from_loose es (get_or ws i 0) (let a = h (get_or ws i 0) in let b = times-member ws i k in omega arith)
+pub exit-below : (es : List (Option ℕ)) (ws : List ℕ) (i : ℕ) → Apart es ws → i < length ws → get_or ws i 0 < length es
+exit-below es ws i h k = below_from-loose es (get_or ws i 0) (let a = h (get_or ws i 0) in let b = times-member ws i k in omega arith)
 
 none_there : (es : List (Option ℕ)) (ws : List ℕ) (i : ℕ) → Apart es ws → i < length ws → get_or es (get_or ws i 0) (Some 0) ≡ None
 none_there es ws i h k =
@@ -42,7 +42,7 @@ Closed-more ends exits closed i h k c =
     let w : ℕ = get_or exits i 0 in
     let same : set ends w None ≡ ends = rw (← none_there ends exits i h k) (set-get_or ends w (Some 0)) in
     let n : length closed ≡ length ends = sym (length-map closed balancer_of) ∙ ap length c.plan in
-    let here : w < length closed = let b = exit_below ends exits i h k in omega arith in
+    let here : w < length closed = let b = exit-below ends exits i h k in omega arith in
     record {
       plan = map-set balancer_of closed w (Exit i) ∙ ap (λ es. set es w None) c.plan ∙ same;
       at_exits = λ j l.
@@ -59,27 +59,27 @@ same_test b (Balancer c) = refl
 same_test b (Exit i) = refl
 
 pub into-passages : (t : Table) (b : ℕ) (f : ℕ → ℕ) → passages (plan_of_table t) b f ≡ sum_at t (Balancer b) f
-into-passages t b f = total_where-map (ends_at b) balancer_of t.ends f ∙ total_where-tests _ (is_end (Balancer b)) t.ends f (same_test b)
+into-passages t b f = total-where-map (ends_at b) balancer_of t.ends f ∙ total-where-tests _ (is_end (Balancer b)) t.ends f (same_test b)
 
 pub flow-plan : (t : Table) (f : ℕ → ℕ) → IsFullFlow t f → IsFlow (plan_of_table t) f
 flow-plan t f p b h =
     let q = p b h in
     rw (into-passages t b f, add-zero) q
 
-is_exit : (i : ℕ) (e : End) → is_end (Exit i) e ≡ true → e ≡ Exit i
-is_exit i (Balancer b) q = absurd (cc)
-is_exit i (Exit j) q = ap Exit (eqb-true j i q)
+is-exit : (i : ℕ) (e : End) → is_end (Exit i) e ≡ true → e ≡ Exit i
+is-exit i (Balancer b) q = absurd (cc)
+is-exit i (Exit j) q = ap Exit (eqb-true j i q)
 
 -- a table whose plan is d, and in which exits, all loose wires of d, end in order
 module _ (t : Table) (d : Plan) (exits : List ℕ) (o : IsOrderly d) (plan : plan_of_table t ≡ d) (all : (w : ℕ) → times w exits ≡ loose d w) (order : EndsInOrder t exits) where
-  ends_map : map balancer_of t.ends ≡ d.ends
-  ends_map = ap (λ e. e.ends) plan
+  ends-map : map balancer_of t.ends ≡ d.ends
+  ends-map = ap (λ e. e.ends) plan
 
   wires : length t.ends ≡ length d.ends
-  wires = sym (length-map t.ends balancer_of) ∙ ap length ends_map
+  wires = sym (length-map t.ends balancer_of) ∙ ap length ends-map
 
   told : (u : ℕ) → u < length t.ends → balancer_of (get_or t.ends u (Balancer 0)) ≡ get_or d.ends u None
-  told u h = sym (get_or-map balancer_of t.ends u (Balancer 0) None h) ∙ ap (λ es. get_or es u None) ends_map
+  told u h = sym (get_or-map balancer_of t.ends u (Balancer 0) None h) ∙ ap (λ es. get_or es u None) ends-map
 
   -- an exit's wire is the one that the list has
   only : (u i : ℕ) → u < length t.ends → get_or t.ends u (Balancer 0) ≡ Exit i → (i < length exits) × (u ≡ get_or exits i 0)
@@ -96,16 +96,16 @@ module _ (t : Table) (d : Plan) (exits : List ℕ) (o : IsOrderly d) (plan : pla
 
   pub out-is : (i : ℕ) (f : ℕ → ℕ) → i < length exits → sum_at t (Exit i) f ≡ f (get_or exits i 0)
   out-is i f h =
-      total_where-one (is_end (Exit i)) t.ends (get_or exits i 0) (Balancer 0) f
-      (let b = exit_below d.ends exits i (λ w. let a = all w in omega arith) h in omega (arith, wires))
+      total-where-one (is_end (Exit i)) t.ends (get_or exits i 0) (Balancer 0) f
+      (let b = exit-below d.ends exits i (λ w. let a = all w in omega arith) h in omega (arith, wires))
       (rw (order i h, eq-eqb i i refl))
-      (λ u k q. (only u i k (is_exit i (get_or t.ends u (Balancer 0)) q)).1)
+      (λ u k q. (only u i k (is-exit i (get_or t.ends u (Balancer 0)) q)).1)
 
-  entries_is : t.entries ≡ d.entries
-  entries_is = ap (λ e. e.entries) plan
+  entries-is : t.entries ≡ d.entries
+  entries-is = ap (λ e. e.entries) plan
 
-  balancers_is : t.balancers ≡ d.balancers
-  balancers_is = ap (λ e. e.balancers) plan
+  balancers-is : t.balancers ≡ d.balancers
+  balancers-is = ap (λ e. e.balancers) plan
 
   was : (u b : ℕ) → u < length t.ends → get_or t.ends u (Balancer 0) ≡ Balancer b → get_or d.ends u None ≡ Some b
   was u b h e = sym (told u h) ∙ ap balancer_of e
@@ -115,21 +115,21 @@ module _ (t : Table) (d : Plan) (exits : List ℕ) (o : IsOrderly d) (plan : pla
 
   pub closed-formed : (1 ≤ length exits) × (length exits ≤ MOST_ENDS) → t.width ≡ length exits → IsWellFormed t
   closed-formed count width = record {
-    entries = let a = o.entries in (omega (arith, entries_is), omega (arith, entries_is));
+    entries = let a = o.entries in (omega (arith, entries-is), omega (arith, entries-is));
     width = (omega arith, omega arith);
-    balancers = let a = o.balancers in omega (arith, balancers_is);
-    wires = let a = o.wires in omega (arith, wires, entries_is, balancers_is);
+    balancers = let a = o.balancers in omega (arith, balancers-is);
+    wires = let a = o.wires in omega (arith, wires, entries-is, balancers-is);
     stands = λ u h.
         elim (get_or t.ends u (Balancer 0)) as (λ e. get_or t.ends u (Balancer 0) ≡ e → Stands t e) [
-          | Balancer b ↦ λ e. let a = (o.ends u b (was u b h e)).0 in omega (arith, balancers_is)
+          | Balancer b ↦ λ e. let a = (o.ends u b (was u b h e)).0 in omega (arith, balancers-is)
           | Exit i ↦ λ e. let a = (only u i h e).0 in omega arith
         ] refl;
     forward = λ u h.
         elim (get_or t.ends u (Balancer 0)) as (λ e. get_or t.ends u (Balancer 0) ≡ e → LeadsOn t u e) [
-          | Balancer b ↦ λ e. let a = (o.ends u b (was u b h e)).1 in omega (arith, entries_is)
+          | Balancer b ↦ λ e. let a = (o.ends u b (was u b h e)).1 in omega (arith, entries-is)
           | Exit i ↦ λ e. tt
         ] refl;
-    degree = λ b h. rw (into-is b (λ _. 1)) (o.degree b (omega (arith, balancers_is)));
+    degree = λ b h. rw (into-is b (λ _. 1)) (o.degree b (omega (arith, balancers-is)));
     exits = λ i h. out-is i (λ _. 1) (omega arith);
   }
 

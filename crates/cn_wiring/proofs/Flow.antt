@@ -17,16 +17,16 @@ older t w b u k e =
     [ Balancer c ↦ λ l q. let s = eqb-true c b q in omega arith | Exit i ↦ λ l q. absurd (cc) ]
     (w.forward u k) e
 
-pub full_flow-unique : (t : Table) → IsWellFormed t → (f g : ℕ → ℕ) → IsFullFlow t f → IsFullFlow t g → Agree t.entries f g → Agree (t.entries + 2 * t.balancers) f g
-full_flow-unique t w f g p q h = flow-unique (plan_of_table t) (orderly-table t w) f g (flow-plan t f p) (flow-plan t g q) h
+pub full-flow-unique : (t : Table) → IsWellFormed t → (f g : ℕ → ℕ) → IsFullFlow t f → IsFullFlow t g → Agree t.entries f g → Agree (t.entries + 2 * t.balancers) f g
+full-flow-unique t w f g p q h = flow-unique (plan_of_table t) (orderly-table t w) f g (flow-plan t f p) (flow-plan t g q) h
 
-pub full_flow-exists : (t : Table) → IsWellFormed t → (x : ℕ → ℕ) → (f : ℕ → ℕ) × IsFullFlow t f × Agree t.entries f x
-full_flow-exists t w x =
+pub full-flow-exists : (t : Table) → IsWellFormed t → (x : ℕ → ℕ) → (f : ℕ → ℕ) × IsFullFlow t f × Agree t.entries f x
+full-flow-exists t w x =
     let (f, flows, inputs) = flow-exists (plan_of_table t) (orderly-table t w) x in
     (f, plan-flow t f flows, inputs)
 
-pub full_flow-draft : (t : Table) (f : ℕ → ℕ) → IsFullFlow t f ↔ IsFlow (plan_of_table t) f
-full_flow-draft t f = (flow-plan t f, plan-flow t f)
+pub full-flow-draft : (t : Table) (f : ℕ → ℕ) → IsFullFlow t f ↔ IsFlow (plan_of_table t) f
+full-flow-draft t f = (flow-plan t f, plan-flow t f)
 
-pub full_flow-paths : (t : Table) → IsWellFormed t → (u : ℕ) → u < length t.ends → (us : List ℕ) × IsPath (plan_of_table t) u us
-full_flow-paths t w u h = paths (plan_of_table t) (orderly-table t w) u (omega (arith, length-map t.ends balancer_of))
+pub full-flow-paths : (t : Table) → IsWellFormed t → (u : ℕ) → u < length t.ends → (us : List ℕ) × IsPath (plan_of_table t) u us
+full-flow-paths t w u h = paths (plan_of_table t) (orderly-table t w) u (omega (arith, length-map t.ends balancer_of))

@@ -19,8 +19,8 @@ module _ (t : Table) (w : IsWellFormed t) where
   feeds u b x h e (inl q) = (b, plan-end u b h e, inl (omega arith))
   feeds u b x h e (inr q) = (b, plan-end u b h e, inr (omega arith))
 
-  path_to : (x : ℕ) → x < length t.ends → (us : List ℕ) × IsPath (plan_of_table t) x us
-  path_to x h = paths (plan_of_table t) (orderly-table t w) x (omega (arith, length-map t.ends balancer_of))
+  path-to : (x : ℕ) → x < length t.ends → (us : List ℕ) × IsPath (plan_of_table t) x us
+  path-to x h = paths (plan_of_table t) (orderly-table t w) x (omega (arith, length-map t.ends balancer_of))
 
   module _ (n : ℕ) (deep : HasDepth t n) where
     -- from each wire there is a way on to an exit, of one length for all paths that come there
@@ -59,12 +59,12 @@ module _ (t : Table) (w : IsWellFormed t) where
         entry = λ u h. let k : u < length t.ends = omega (arith, w.wires) in sym (level-paths u k [] h);
         output = λ u b p h e few.
             let (before, there) = ahead t w u b h e in
-            let (us, path) = path_to u h in
+            let (us, path) = path-to u h in
             let in_range : t.entries + 2 * b + p < length t.ends = omega (arith, w.wires) in
             let here = level-paths u h us path in
             let next = level-paths (t.entries + 2 * b + p) in_range (u ∷ us) (feeds u b (t.entries + 2 * b + p) h e (zero-or-one (t.entries + 2 * b) p few), path) in
             omega arith;
-        exit = λ u i h e. let (us, path) = path_to u h in sym (level-paths u h us path) ∙ deep i u h e us path;
+        exit = λ u i h e. let (us, path) = path-to u h in sym (level-paths u h us path) ∙ deep i u h e us path;
       },
       level-paths,
     )

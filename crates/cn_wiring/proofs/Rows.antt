@@ -8,18 +8,18 @@ use Rattle.std.proofs.lemmas.Nat.{pow_pos}
 use Rattle.cn_spec.specs.Networks.{IsRow}
 use Rattle.cn_spec.specs.declared.limits.TheConstants.{MOST_ENDS, MOST_LEVEL}
 use Rattle.cn_wiring.specs.Widths.{IsWidthOf}
-use Rattle.cn_wiring.proofs.WidthLemmas.{width_few}
+use Rattle.cn_wiring.proofs.WidthLemmas.{width-few}
 
 -- the entries of a width are a row of its level, and so are their flows
-pub entries_row : (width level : ℕ) → IsWidthOf level width → IsRow level (range_with_len 0 width)
-entries_row width level l = length-range_with_len 0 width ∙ l.wide
+pub entries-row : (width level : ℕ) → IsWidthOf level width → IsRow level (range_with_len 0 width)
+entries-row width level l = length-range_with_len 0 width ∙ l.wide
 
-pub flows_row : (f : ℕ → ℕ) (width level : ℕ) → IsWidthOf level width → IsRow level (map f (range_with_len 0 width))
-flows_row f width level l = length-map (range_with_len 0 width) f ∙ entries_row width level l
+pub flows-row : (f : ℕ → ℕ) (width level : ℕ) → IsWidthOf level width → IsRow level (map f (range_with_len 0 width))
+flows-row f width level l = length-map (range_with_len 0 width) f ∙ entries-row width level l
 
 -- what finishing a draft asks of the wires that came out of a part over all of its entries
-pub outputs_count : (level : ℕ) (y : List ℕ) → level ≤ MOST_LEVEL → IsRow level y → (1 ≤ length y) × (length y ≤ MOST_ENDS)
-outputs_count level y small row = (omega (arith, row, pow_pos level), omega (arith, row, width_few level small))
+pub outputs-count : (level : ℕ) (y : List ℕ) → level ≤ MOST_LEVEL → IsRow level y → (1 ≤ length y) × (length y ≤ MOST_ENDS)
+outputs-count level y small row = (omega (arith, row, pow_pos level), omega (arith, row, width-few level small))
 
 -- what holds of a result by three of its clauses
 pub all_ok : {T E : Type 0} (r : Result T E) (P Q R S : T → Type 0) → ((x : T) → P x → Q x → R x → S x) → IfOk r P → IfOk r Q → IfOk r R → IfOk r S

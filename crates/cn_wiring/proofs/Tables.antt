@@ -9,9 +9,9 @@ use Rattle.cn_wiring.specs.Table.{Table, IsWellFormed, IsFullFlow, Stands, Leads
 use Rattle.cn_wiring.specs.InsideDraft.{IsOrderly}
 use Rattle.cn_wiring.proofs.Close.{into-passages}
 
-pub from_balancer : (e : End) (b : ℕ) → balancer_of e ≡ Some b → e ≡ Balancer b
-from_balancer (Balancer c) b e = let s : c ≡ b = cc in ap Balancer s
-from_balancer (Exit i) b e = absurd (cc)
+pub from-balancer : (e : End) (b : ℕ) → balancer_of e ≡ Some b → e ≡ Balancer b
+from-balancer (Balancer c) b e = let s : c ≡ b = cc in ap Balancer s
+from-balancer (Exit i) b e = absurd (cc)
 
 pub plan-flow : (t : Table) (f : ℕ → ℕ) → IsFlow (plan_of_table t) f → IsFullFlow t f
 plan-flow t f p b h = rw (into-passages t b f, add-zero) at (p b h)
@@ -24,7 +24,7 @@ module _ (t : Table) (w : IsWellFormed t) where
   end-plan : (u b : ℕ) → get_or (map balancer_of t.ends) u None ≡ Some b → (u < length t.ends) × (end_of t u ≡ Balancer b)
   end-plan u b e =
       elim (cases_lt u (length t.ends)) [
-        | inl h ↦ (h, from_balancer (end_of t u) b (sym (get_or-map balancer_of t.ends u (Balancer 0) None h) ∙ e))
+        | inl h ↦ (h, from-balancer (end_of t u) b (sym (get_or-map balancer_of t.ends u (Balancer 0) None h) ∙ e))
         | inr g ↦
             let past : get_or (map balancer_of t.ends) u None ≡ None = get_or_past (map balancer_of t.ends) u None (omega (arith, length-map t.ends balancer_of)) in
             let no : None ≡ Some b = sym past ∙ e in absurd (cc)

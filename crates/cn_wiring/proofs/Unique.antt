@@ -2,59 +2,59 @@
 use Rattle.std.proofs.Common.{◌≡◌, ℕ, ◌<◌, inl, inr, List, length, get_or, map, refl, sym, ap, ◌∙◌, subst, arith, None, true}
 use Rattle.std.proofs.lemmas.Bool.{cases_eq, cases_lt, eq-eqb}
 use Rattle.std.proofs.lemmas.List.{ext_get_or, get_or-map, get_or_past, length-map}
-use Rattle.cn_spec.proofs.CallerLemmas.{total_where-parts}
+use Rattle.cn_spec.proofs.CallerLemmas.{total-where-parts}
 use Rattle.cn_wiring.specs.declared.end.End.{End}
 use Rattle.cn_wiring.specs.declared.end.End.TheVariants.{Balancer, Exit}
 use Rattle.cn_wiring.specs.Made.{IsTableOf}
 use Rattle.cn_wiring.specs.Plan.{Plan}
 use Rattle.cn_wiring.specs.Table.{Table, IsWellFormed, Stands, balancer_of, end_of, is_end, plan_of_table}
-use Rattle.cn_wiring.proofs.Tables.{from_balancer}
+use Rattle.cn_wiring.proofs.Tables.{from-balancer}
 
 -- a wire that ends at an exit is one of the table
-ends_there : (t : Table) (u i : ℕ) → end_of t u ≡ Exit i → u < length t.ends
-ends_there t u i e = elim (cases_lt u (length t.ends)) [
+ends-there : (t : Table) (u i : ℕ) → end_of t u ≡ Exit i → u < length t.ends
+ends-there t u i e = elim (cases_lt u (length t.ends)) [
   | inl h ↦ h
   | inr past ↦ let no : Balancer 0 ≡ Exit i = sym (get_or_past t.ends u (Balancer 0) past) ∙ e in absurd (cc)
 ]
 
 -- two wires of a table that end at one exit are one wire
-one_wire : (t : Table) → IsWellFormed t → (i u v : ℕ) → i < t.width → u < length t.ends → v < length t.ends → end_of t u ≡ Exit i → end_of t v ≡ Exit i → u ≡ v
-one_wire t w i u v h k l a b = elim (cases_eq u v) [
+one-wire : (t : Table) → IsWellFormed t → (i u v : ℕ) → i < t.width → u < length t.ends → v < length t.ends → end_of t u ≡ Exit i → end_of t v ≡ Exit i → u ≡ v
+one-wire t w i u v h k l a b = elim (cases_eq u v) [
   | inl e ↦ e
   | inr d ↦
       let here : is_end (Exit i) (end_of t u) ≡ true = rw a (eq-eqb i i refl) in
       let there : is_end (Exit i) (end_of t v) ≡ true = rw b (eq-eqb i i refl) in
-      absurd (omega (arith, w.exits i h, total_where-parts (is_end (Exit i)) t.ends (Balancer 0) (λ _. 1) u v k l d here there))
+      absurd (omega (arith, w.exits i h, total-where-parts (is_end (Exit i)) t.ends (Balancer 0) (λ _. 1) u v k l d here there))
 ]
 
 module _ {t s : Table} {made : Plan × List ℕ} (w : IsWellFormed t) (v : IsWellFormed s) (a : IsTableOf t made) (b : IsTableOf s made) where
   plans : plan_of_table t ≡ plan_of_table s
   plans = a.plan ∙ sym b.plan
 
-  balancers_alike : map balancer_of t.ends ≡ map balancer_of s.ends
-  balancers_alike = ap (λ p. p.ends) plans
+  balancers-alike : map balancer_of t.ends ≡ map balancer_of s.ends
+  balancers-alike = ap (λ p. p.ends) plans
 
   lengths : length t.ends ≡ length s.ends
-  lengths = sym (length-map t.ends balancer_of) ∙ ap length balancers_alike ∙ length-map s.ends balancer_of
+  lengths = sym (length-map t.ends balancer_of) ∙ ap length balancers-alike ∙ length-map s.ends balancer_of
 
   alike : (u : ℕ) → u < length t.ends → balancer_of (end_of t u) ≡ balancer_of (end_of s u)
   alike u h =
       sym (get_or-map balancer_of t.ends u (Balancer 0) None h)
-      ∙ ap (λ es. get_or es u None) balancers_alike
+      ∙ ap (λ es. get_or es u None) balancers-alike
       ∙ get_or-map balancer_of s.ends u (Balancer 0) None (omega (arith, lengths))
 
   same_end : (u : ℕ) → u < length t.ends → end_of t u ≡ end_of s u
   same_end u h = by (end_of t u) refl
     where
       by : (e : End) → end_of t u ≡ e → end_of t u ≡ end_of s u
-      by (Balancer c) e = e ∙ sym (from_balancer (end_of s u) c (sym (alike u h) ∙ ap balancer_of e))
+      by (Balancer c) e = e ∙ sym (from-balancer (end_of s u) c (sym (alike u h) ∙ ap balancer_of e))
       by (Exit i) e =
           let at : i < t.width = subst (Stands t) e (w.stands u h) in
           let listed : i < length made.1 = omega (arith, at, a.width) in
           let wire : ℕ = get_or made.1 i 0 in
           let here : end_of t wire ≡ Exit i = a.exits i listed in
           let there : end_of s wire ≡ Exit i = b.exits i listed in
-          let same : u ≡ wire = one_wire t w i u wire at h (ends_there t wire i here) e here in
+          let same : u ≡ wire = one-wire t w i u wire at h (ends-there t wire i here) e here in
           rw same (here ∙ sym there)
 
   pub same_table : t ≡ s

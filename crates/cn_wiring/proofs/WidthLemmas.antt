@@ -8,8 +8,8 @@ use Rattle.cn_spec.specs.declared.limits.TheConstants.{MOST_ENDS, MOST_LEVEL}
 use Rattle.cn_wiring.specs.Widths.{IsWidth}
 
 -- the level of a number that is a power of two, by the greatest power of two that is not above it
-pub level_is_log : (n log level : ℕ) → 2 ^ log ≤ n → n < 2 * 2 ^ log → n ≡ 2 ^ level → level ≡ log
-level_is_log n log level low high e =
+pub level-is-log : (n log level : ℕ) → 2 ^ log ≤ n → n < 2 * 2 ^ log → n ≡ 2 ^ level → level ≡ log
+level-is-log n log level low high e =
     elim (cases_order level log) [
       | inl same ↦ same
       | inr o ↦ elim o [
@@ -22,11 +22,11 @@ level_is_log n log level low high e =
     ]
 
 -- a width is at least 2, and there may be as many ends
-pub width_some : (width : ℕ) → IsWidth width → 2 ≤ width
-width_some width (level, w) = let least : 2 ^ 1 ≤ 2 ^ level = pow_mono w.some in omega (arith, w.wide)
+pub width-some : (width : ℕ) → IsWidth width → 2 ≤ width
+width-some width (level, w) = let least : 2 ^ 1 ≤ 2 ^ level = pow_mono w.some in omega (arith, w.wide)
 
-pub width_few : (level : ℕ) → level ≤ MOST_LEVEL → 2 ^ level ≤ MOST_ENDS
-width_few level small =
+pub width-few : (level : ℕ) → level ≤ MOST_LEVEL → 2 ^ level ≤ MOST_ENDS
+width-few level small =
     let most : 2 ^ level ≤ 2 ^ MOST_LEVEL = pow_mono small in
     let all : 2 ^ MOST_LEVEL ≤ MOST_ENDS = lit≤ tt in
     omega arith

@@ -4,7 +4,7 @@ use Rattle.std.proofs.lemmas.Bool.{cases_eq, cases_lt}
 use Rattle.std.proofs.lemmas.Bool.Decides.{nat_tests}
 use Rattle.std.proofs.lemmas.List.{append-nil, get_or_append_left, length-append, length_push}
 use Rattle.cn_spec.specs.Sums.{sum_below, times, when}
-use Rattle.cn_spec.proofs.CallerLemmas.{sum_below-part, sum_below-pick, sum_below-same, times-append}
+use Rattle.cn_spec.proofs.CallerLemmas.{sum-below-part, sum-below-pick, sum-below-same, times-append}
 use Rattle.cn_yard.specs.declared.records.Record.{Record}
 use Rattle.cn_yard.specs.declared.lines.Line.{Line}
 use Rattle.cn_yard.specs.Chains.{but, last_of, put_last}
@@ -22,15 +22,15 @@ use Rattle.cn_yard.proofs.Appended.{times-last}
 sum-more : (n w : ℕ) (f g : ℕ → ℕ) → ((u : ℕ) → u < n → g u ≡ f u + cond (eqb u w) 1 0) → w < n
     → sum_below n g ≡ sum_below n f + 1
 sum-more n w f g each h =
-    let same = sum_below-same n g (λ u. when (eqb w u) 1 + f u) (λ u l. let here = each u l in grind (arith, nat_tests)) in
-    omega (arith, same, sum_below-pick n w 1 f h)
+    let same = sum-below-same n g (λ u. when (eqb w u) 1 + f u) (λ u l. let here = each u l in grind (arith, nat_tests)) in
+    omega (arith, same, sum-below-pick n w 1 f h)
 
 -- no more stand on a line than there are records
 pub count-le : (records : List Record) (lines : List Line) (order : ℕ → List ℕ) → IsLinks records lines order → (u : ℕ)
     → u < length lines → count_of lines u ≤ length records
 count-le records lines order is u h =
     let c = (is.linked.ends u h).count in
-    let p = sum_below-part (length lines) u (λ v. length (order v)) h in
+    let p = sum-below-part (length lines) u (λ v. length (order v)) h in
     let a = is.all in
     omega arith
 

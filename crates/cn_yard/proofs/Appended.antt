@@ -63,7 +63,7 @@ cases-zero : (n : ℕ) → (n ≡ 0) ⊎ (1 ≤ n)
 cases-zero zero = inl refl
 cases-zero (suc n) = inr (omega arith)
 
--- then the records but the links, and the counts, are as told
+-- then the records but the links, and the counts, are as stated
 pub on-kept : (records : List Record) (lines : List Line) (mid records' : List Record) (lines' : List Line) (t to : ℕ)
     → to < length lines → Appends records lines mid records' lines' t to → IsOn records lines records' lines' t to
 on-kept records lines mid records' lines' t to h ap' =

@@ -60,9 +60,9 @@ count-set p es k x y here = sum_by-set_value (λ z. cond (p z) 1 0) (nat_eq k) e
 -- ---- counts of entries, by key and value
 
 -- a sum over the entries after a new one
-pub sum_by-push : {X : Type 0} (f : ℕ × X → ℕ) (es : List (ℕ × X)) (k : ℕ) (x : X) → sum_by f (es ++ (k, x) ∷ []) ≡ sum_by f es + f (k, x)
-sum_by-push f [] k x = grind arith
-sum_by-push f (e ∷ es) k x = omega (arith, sum_by-push f es k x, sum_by-cons f e (es ++ (k, x) ∷ []), sum_by-cons f e es)
+pub sum-by-push : {X : Type 0} (f : ℕ × X → ℕ) (es : List (ℕ × X)) (k : ℕ) (x : X) → sum_by f (es ++ (k, x) ∷ []) ≡ sum_by f es + f (k, x)
+sum-by-push f [] k x = grind arith
+sum-by-push f (e ∷ es) k x = omega (arith, sum-by-push f es k x, sum_by-cons f e (es ++ (k, x) ∷ []), sum_by-cons f e es)
 
 -- a sum over the entries after a change of one key's value
 pub sum_by-set : {X : Type 0} (f : ℕ × X → ℕ) (es : List (ℕ × X)) (k : ℕ) (x y : X)
@@ -80,45 +80,45 @@ sum_by-set f ((j, z) ∷ es) k x y here = by (nat_eq k j) (eqb-true k j) here (�
     by false e h rest = omega (arith, rest h, sum_by-cons f (j, z) (set_value (nat_eq k) es x), sum_by-cons f (j, z) es)
 
 -- how many entries have this key and a value that passes, after a new key
-pub count_pair-push : {X : Type 0} (p : X → Bool) (q : ℕ) (es : List (ℕ × X)) (k : ℕ) (x : X)
+pub count-pair-push : {X : Type 0} (p : X → Bool) (q : ℕ) (es : List (ℕ × X)) (k : ℕ) (x : X)
     → count_by (λ e. nat_eq q e.0 && p e.1) (es ++ (k, x) ∷ []) ≡ count_by (λ e. nat_eq q e.0 && p e.1) es + cond (nat_eq q k && p x) 1 0
-count_pair-push p q es k x = sum_by-push (λ e. cond (nat_eq q e.0 && p e.1) 1 0) es k x
+count-pair-push p q es k x = sum-by-push (λ e. cond (nat_eq q e.0 && p e.1) 1 0) es k x
 
 -- the same after a change of one key's value
-pub count_pair-set : {X : Type 0} (p : X → Bool) (q : ℕ) (es : List (ℕ × X)) (k : ℕ) (x y : X)
+pub count-pair-set : {X : Type 0} (p : X → Bool) (q : ℕ) (es : List (ℕ × X)) (k : ℕ) (x y : X)
     → lookup (nat_eq k) es ≡ Some y
     → count_by (λ e. nat_eq q e.0 && p e.1) (set_value (nat_eq k) es x) + cond (nat_eq q k && p y) 1 0
     ≡ count_by (λ e. nat_eq q e.0 && p e.1) es + cond (nat_eq q k && p x) 1 0
-count_pair-set p q es k x y here = sum_by-set (λ e. cond (nat_eq q e.0 && p e.1) 1 0) es k x y here
+count-pair-set p q es k x y here = sum_by-set (λ e. cond (nat_eq q e.0 && p e.1) 1 0) es k x y here
 
 -- no more entries have a key and a value that passes than have such a value
-pub count_pair-le : {X : Type 0} (p : X → Bool) (q : ℕ) (es : List (ℕ × X)) → count_by (λ e. nat_eq q e.0 && p e.1) es ≤ count_by p (values_of es)
-count_pair-le p q [] = omega arith
-count_pair-le p q (e ∷ es) =
+pub count-pair-le : {X : Type 0} (p : X → Bool) (q : ℕ) (es : List (ℕ × X)) → count_by (λ e. nat_eq q e.0 && p e.1) es ≤ count_by p (values_of es)
+count-pair-le p q [] = omega arith
+count-pair-le p q (e ∷ es) =
     let first = less (nat_eq q e.0) (p e.1) in
-    omega (arith, count_pair-le p q es, sum_by-cons (λ y. cond (nat_eq q y.0 && p y.1) 1 0) e es, sum_by-cons (λ y. cond (p y) 1 0) e.1 (values_of es))
+    omega (arith, count-pair-le p q es, sum_by-cons (λ y. cond (nat_eq q y.0 && p y.1) 1 0) e es, sum_by-cons (λ y. cond (p y) 1 0) e.1 (values_of es))
   where
     less : (a b : Bool) → cond (a && b) 1 0 ≤ cond b 1 0
     less true b = omega arith
     less false b = omega arith
 
 -- nor do the entries of two keys together
-pub count_pair-apart : {X : Type 0} (p : X → Bool) (q r : ℕ) (es : List (ℕ × X)) → q ≢ r
+pub count-pair-apart : {X : Type 0} (p : X → Bool) (q r : ℕ) (es : List (ℕ × X)) → q ≢ r
     → count_by (λ e. nat_eq q e.0 && p e.1) es + count_by (λ e. nat_eq r e.0 && p e.1) es ≤ count_by p (values_of es)
-count_pair-apart p q r [] differ = omega arith
-count_pair-apart p q r (e ∷ es) differ =
+count-pair-apart p q r [] differ = omega arith
+count-pair-apart p q r (e ∷ es) differ =
     let first = less e.0 (p e.1) in
-    omega (arith, count_pair-apart p q r es differ, sum_by-cons (λ y. cond (nat_eq q y.0 && p y.1) 1 0) e es, sum_by-cons (λ y. cond (nat_eq r y.0 && p y.1) 1 0) e es, sum_by-cons (λ y. cond (p y) 1 0) e.1 (values_of es))
+    omega (arith, count-pair-apart p q r es differ, sum_by-cons (λ y. cond (nat_eq q y.0 && p y.1) 1 0) e es, sum_by-cons (λ y. cond (nat_eq r y.0 && p y.1) 1 0) e es, sum_by-cons (λ y. cond (p y) 1 0) e.1 (values_of es))
   where
     less : (k : ℕ) (b : Bool) → cond (nat_eq q k && b) 1 0 + cond (nat_eq r k && b) 1 0 ≤ cond b 1 0
     less k b = grind (arith, nat_tests)
 
 -- no more entries have a key and a value that passes than have the key
-pub count_pair-le_times : {X : Type 0} (p : X → Bool) (q : ℕ) (es : List (ℕ × X)) → count_by (λ e. nat_eq q e.0 && p e.1) es ≤ count_by (λ e. nat_eq q e.0) es
-count_pair-le_times p q [] = omega arith
-count_pair-le_times p q (e ∷ es) =
+pub count-pair-le-times : {X : Type 0} (p : X → Bool) (q : ℕ) (es : List (ℕ × X)) → count_by (λ e. nat_eq q e.0 && p e.1) es ≤ count_by (λ e. nat_eq q e.0) es
+count-pair-le-times p q [] = omega arith
+count-pair-le-times p q (e ∷ es) =
     let first = less (nat_eq q e.0) (p e.1) in
-    omega (arith, count_pair-le_times p q es, sum_by-cons (λ y. cond (nat_eq q y.0 && p y.1) 1 0) e es, sum_by-cons (λ y. cond (nat_eq q y.0) 1 0) e es)
+    omega (arith, count-pair-le-times p q es, sum_by-cons (λ y. cond (nat_eq q y.0 && p y.1) 1 0) e es, sum_by-cons (λ y. cond (nat_eq q y.0) 1 0) e es)
   where
     less : (a b : Bool) → cond (a && b) 1 0 ≤ cond a 1 0
     less true true = omega arith
@@ -126,10 +126,10 @@ count_pair-le_times p q (e ∷ es) =
     less false b = omega arith
 
 -- a key that is there once has an entry that passes exactly where its value does
-pub count_pair-found : {X : Type 0} (p : X → Bool) (q : ℕ) (es : List (ℕ × X)) (x : X)
+pub count-pair-found : {X : Type 0} (p : X → Bool) (q : ℕ) (es : List (ℕ × X)) (x : X)
     → lookup (nat_eq q) es ≡ Some x → count_by (λ e. nat_eq q e.0) es ≤ 1 → count_by (λ e. nat_eq q e.0 && p e.1) es ≡ cond (p x) 1 0
-count_pair-found p q [] x found few = cc
-count_pair-found p q ((k, y) ∷ es) x found few = by (nat_eq q k) refl found (λ h few. count_pair-found p q es x h few)
+count-pair-found p q [] x found few = cc
+count-pair-found p q ((k, y) ∷ es) x found few = by (nat_eq q k) refl found (λ h few. count-pair-found p q es x h few)
   where
     by : (b : Bool) → nat_eq q k ≡ b → cond b (Some y) (lookup (nat_eq q) es) ≡ Some x
         → (lookup (nat_eq q) es ≡ Some x → count_by (λ e. nat_eq q e.0) es ≤ 1 → count_by (λ e. nat_eq q e.0 && p e.1) es ≡ cond (p x) 1 0)
@@ -138,7 +138,7 @@ count_pair-found p q ((k, y) ∷ es) x found few = by (nat_eq q k) refl found (�
         let value : y ≡ x = cc in
         let one : ◌≡◌ {A = ℕ} (cond (nat_eq q k) 1 0) 1 = rw is refl in
         let here : ◌≡◌ {A = ℕ} (cond (nat_eq q k && p y) 1 0) (cond (p x) 1 0) = rw (is, value) refl in
-        omega (arith, few, count_pair-le_times p q es, sum_by-cons (λ e. cond (nat_eq q e.0 && p e.1) 1 0) (k, y) es, sum_by-cons (λ e. cond (nat_eq q e.0) 1 0) (k, y) es)
+        omega (arith, few, count-pair-le-times p q es, sum_by-cons (λ e. cond (nat_eq q e.0 && p e.1) 1 0) (k, y) es, sum_by-cons (λ e. cond (nat_eq q e.0) 1 0) (k, y) es)
     by false is h rest =
         let none : ◌≡◌ {A = ℕ} (cond (nat_eq q k) 1 0) 0 = rw is refl in
         let no : ◌≡◌ {A = ℕ} (cond (nat_eq q k && p y) 1 0) 0 = rw is refl in

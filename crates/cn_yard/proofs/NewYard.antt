@@ -5,7 +5,7 @@ use Rattle.std.specs.Prelude.{replicate}
 use Rattle.std.specs.Int.{bit_at}
 use Rattle.std.proofs.lemmas.List.{ext_get_or, get_or-replicate, length-replicate}
 use Rattle.std.proofs.lemmas.Nat.Bits.{bit_at-zero}
-use Rattle.cn_spec.proofs.CallerLemmas.{times-nil, sum_below-zero}
+use Rattle.cn_spec.proofs.CallerLemmas.{times-nil, sum-below-zero}
 use Rattle.cn_yard.specs.declared.yard.Yard.TheInside.{Inside}
 use Rattle.cn_yard.specs.declared.lines.Line.{Line}
 use Rattle.cn_yard.specs.Lists.{Lists, Yard, empty, tokens_in}
@@ -41,7 +41,7 @@ new-keeps y r l m fits =
           };
           within = λ n h. absurd (omega arith);
           there = λ n h. absurd (omega arith);
-          all = sum_below-zero (length y.lines.items) (λ u. 0) (λ u. refl) ∙ sym none;
+          all = sum-below-zero (length y.lines.items) (λ u. 0) (λ u. refl) ∙ sym none;
         };
         few = omega arith;
         room = omega arith;
@@ -54,10 +54,10 @@ new-keeps y r l m fits =
       wires = rows;
     }
 
-abbrev yard_with : Lists → ℕ → Yard
-yard_with lists spare = record { lists = lists; spare = spare }
+abbrev yard-with : Lists → ℕ → Yard
+yard-with lists spare = record { lists = lists; spare = spare }
 
-both : {a b : Lists} {m n : ℕ} → a ≡ b → m ≡ n → yard_with a m ≡ yard_with b n
+both : {a b : Lists} {m n : ℕ} → a ≡ b → m ≡ n → yard-with a m ≡ yard-with b n
 both e f = rw (e, f) refl
 
 -- a caller sees an empty yard

@@ -1,4 +1,4 @@
--- What a yard's readers tell.
+-- What a yard's readers return.
 use Rattle.std.proofs.Common.{◌≡◌, ℕ, ◌*◌, ◌<◌, ◌≤◌, inl, inr, true, false, cond, eqb, ltb, List, [], ◌∷◌, length, get_or, refl, sym, ap, ◌∙◌, arith, subst, Option, Some, None}
 use Rattle.std.specs.Prelude.{IsSome, IsTrue, ◌↔◌}
 use Rattle.std.proofs.lemmas.Bool.{cases_lt}
@@ -21,14 +21,14 @@ module _ (y : Inside) (order : ℕ → List ℕ) (k : Keeps y order) where
   line-read : (u : ℕ) (line : Line) → u ≤ y.wires → line ≡ get_or y.lines.items u line → line ≡ line_of y.lines.items u
   line-read u line h at = let w = k.wires in get_or_read y.lines.items u line (omega arith) at no_line
 
-  pub count-told : (u : ℕ) (line : Line) → u ≤ y.wires → line ≡ get_or y.lines.items u line
+  pub count-read : (u : ℕ) (line : Line) → u ≤ y.wires → line ≡ get_or y.lines.items u line
       → line.count ≡ count_of y.lines.items u
-  count-told u line h at = ap (λ (l : Line). l.count) (line-read u line h at)
+  count-read u line h at = ap (λ (l : Line). l.count) (line-read u line h at)
 
   -- the first on a wire
-  pub first-told : (u : ℕ) (line : Line) → u < y.wires → line ≡ get_or y.lines.items u line
+  pub first-read : (u : ℕ) (line : Line) → u < y.wires → line ≡ get_or y.lines.items u line
       → first_of (on (lists_of y) u) ≡ cond (eqb line.count 0) None (Some line.first)
-  first-told u line h at =
+  first-read u line h at =
       let w = k.wires in
       let e = line-read u line (omega arith) at in
       rw (on-wire y order k u h) (by line (order u) (subst (λ (l : Line). Ends l (order u)) (sym e) (k.lined.links.linked.ends u (omega arith))))
@@ -39,53 +39,53 @@ module _ (y : Inside) (order : ℕ → List ℕ) (k : Keeps y order) where
       by line (x ∷ xs) e = let c = e.count in let f : eqb line.count 0 ≡ false = grind (arith, nat_tests) in rw f (ap (λ (n : ℕ). Some n) e.first)
 
   -- a record as the code reads it
-  pub record-told : (t : ℕ) (r : Record) → t < length y.records.items → r ≡ get_or y.records.items t r
+  pub record-read : (t : ℕ) (r : Record) → t < length y.records.items → r ≡ get_or y.records.items t r
       → r ≡ get_or y.records.items t no_record
-  record-told t r h at = get_or_read y.records.items t r h at no_record
+  record-read t r h at = get_or_read y.records.items t r h at no_record
 
-  stands-told : (t : ℕ) (r : Record) → IsSome (standing (lists_of y) t) → r ≡ get_or y.records.items t r
+  stands-read : (t : ℕ) (r : Record) → IsSome (standing (lists_of y) t) → r ≡ get_or y.records.items t r
       → standing (lists_of y) t ≡ Some (r.wire, r.client)
-  stands-told t r stands at =
+  stands-read t r stands at =
       let (h, on') = live y order k t stands in
-      standing-live y order k t h on' ∙ ap (λ (s : Record). Some (s.wire, s.client)) (sym (record-told t r h at))
+      standing-live y order k t h on' ∙ ap (λ (s : Record). Some (s.wire, s.client)) (sym (record-read t r h at))
 
   -- a token is where its record says
-  pub there-told : (t : ℕ) (r : Record) → IsSome (standing (lists_of y) t) → r ≡ get_or y.records.items t r
+  pub there-read : (t : ℕ) (r : Record) → IsSome (standing (lists_of y) t) → r ≡ get_or y.records.items t r
       → IsThere (lists_of y) t r.client r.wire
-  there-told t r stands at =
+  there-read t r stands at =
       let (h, on') = live y order k t stands in
-      rw (record-told t r h at) (there-live y order k t stands)
+      rw (record-read t r h at) (there-live y order k t stands)
 
   -- its wire is one of the wires
-  pub wire-told : (t : ℕ) (r : Record) → IsSome (standing (lists_of y) t) → r ≡ get_or y.records.items t r → r.wire < y.wires
-  wire-told t r stands at =
+  pub wire-read : (t : ℕ) (r : Record) → IsSome (standing (lists_of y) t) → r ≡ get_or y.records.items t r → r.wire < y.wires
+  wire-read t r stands at =
       let (h, on') = live y order k t stands in
-      let e : r.wire ≡ wire_of y.records.items t = ap (λ (s : Record). s.wire) (record-told t r h at) in
+      let e : r.wire ≡ wire_of y.records.items t = ap (λ (s : Record). s.wire) (record-read t r h at) in
       rw e on'
 
   -- it stands there exactly where its record names a wire
-  pub live-told : (t : ℕ) (r : Record) → t < length y.records.items → r ≡ get_or y.records.items t r
+  pub live-read : (t : ℕ) (r : Record) → t < length y.records.items → r ≡ get_or y.records.items t r
       → IsTrue (ltb r.wire y.wires) ↔ IsSome (standing (lists_of y) t)
-  live-told t r h at =
-      let e : r.wire ≡ wire_of y.records.items t = ap (λ (s : Record). s.wire) (record-told t r h at) in (
+  live-read t r h at =
+      let e : r.wire ≡ wire_of y.records.items t = ap (λ (s : Record). s.wire) (record-read t r h at) in (
         λ test. let on' : wire_of y.records.items t < y.wires = rw e at (let l : r.wire < y.wires = grind (arith, nat_tests) in l) in some (standing-live y order k t h on'),
-        λ stands. let on' = wire-told t r stands at in grind (arith, nat_tests),
+        λ stands. let on' = wire-read t r stands at in grind (arith, nat_tests),
       )
     where
       some : {o : Option (ℕ × ℕ)} {x : ℕ × ℕ} → o ≡ Some x → IsSome o
       some e = rw e refl
 
   -- the one after it
-  pub next-told : (t : ℕ) (r : Record) (line : Line) (wire client : ℕ) → IsSome (standing (lists_of y) t)
+  pub next-read : (t : ℕ) (r : Record) (line : Line) (wire client : ℕ) → IsSome (standing (lists_of y) t)
       → r ≡ get_or y.records.items t r → line ≡ get_or y.lines.items r.wire line
       → standing (lists_of y) t ≡ Some (wire, client) → after t (on (lists_of y) wire) ≡ cond (eqb line.last t) None (Some r.next)
-  next-told t r line wire client stands at line_at is =
+  next-read t r line wire client stands at line_at is =
       let rows = k.wires in
       let (h, on') = live y order k t stands in
-      let e = record-told t r h at in
+      let e = record-read t r h at in
       let w = wire_of y.records.items t in
-      let within : r.wire < y.wires = wire-told t r stands at in
-      let same : wire ≡ r.wire = first-of-pair (sym is ∙ stands-told t r stands at) in
+      let within : r.wire < y.wires = wire-read t r stands at in
+      let same : wire ≡ r.wire = first-of-pair (sym is ∙ stands-read t r stands at) in
       let same' : r.wire ≡ w = ap (λ (s : Record). s.wire) e in
       let l = line-read r.wire line (omega arith) line_at in
       let ends = k.lined.links.linked.ends r.wire (omega arith) in
@@ -117,17 +117,17 @@ module _ (y : Inside) (order : ℕ → List ℕ) (k : Keeps y order) where
       | inr l ↦ nobody u (λ within. lower within l)
     ]
 
-    pub lowest-told : (wire : ℕ) → wire < y.wires → (marked y.marks.items wire ≡ 1)
+    pub lowest-read : (wire : ℕ) → wire < y.wires → (marked y.marks.items wire ≡ 1)
         → ((n : ℕ) → 64 * word ≤ n → n < wire → marked y.marks.items n ≡ 0) → IsLowest (lists_of y) wire
-    lowest-told wire h one lower = record {
+    lowest-read wire h one lower = record {
       some = let rows = k.wires in let m = k.lined.marks wire (omega arith) in rw (length-on y order k wire h) (grind (arith, nat_tests));
       below = λ u l. nobody-at u (λ _ w. lower u w l);
     }
 
     -- where the least is beyond the wires, or there is none, nobody stands on any wire
-    pub none-told : (least : ℕ) → y.wires ≤ least → ((n : ℕ) → 64 * word ≤ n → n < least → marked y.marks.items n ≡ 0) → (u : ℕ)
+    pub none-read : (least : ℕ) → y.wires ≤ least → ((n : ℕ) → 64 * word ≤ n → n < least → marked y.marks.items n ≡ 0) → (u : ℕ)
         → on (lists_of y) u ≡ []
-    none-told least h lower u = nobody-at u (λ l w. lower u w (omega arith))
+    none-read least h lower u = nobody-at u (λ l w. lower u w (omega arith))
 
-    pub nobody-told : ((n : ℕ) → 64 * word ≤ n → marked y.marks.items n ≡ 0) → (u : ℕ) → on (lists_of y) u ≡ []
-    nobody-told lower u = nobody-at u (λ _ w. lower u w)
+    pub nobody-read : ((n : ℕ) → 64 * word ≤ n → marked y.marks.items n ≡ 0) → (u : ℕ) → on (lists_of y) u ≡ []
+    nobody-read lower u = nobody-at u (λ _ w. lower u w)

@@ -5,7 +5,7 @@ use Rattle.std.proofs.lemmas.Bool.{cases_eq}
 use Rattle.std.proofs.lemmas.Bool.Decides.{nat_tests}
 use Rattle.cn_yard.specs.Lists.{Lists, here_or, on, standing, standing_below}
 
--- ---- of any yard: a token that is on one wire alone, or on none, and yards that agree
+-- ---- of any yard: a token that is on only one wire, or on none, and yards that agree
 
 pub standing-none : (n : ℕ) (y : Lists) (token : ℕ) → ((u : ℕ) → u < n → lookup (nat_eq token) (on y u) ≡ None)
     → standing_below n y token ≡ None

@@ -6,7 +6,7 @@ use Rattle.std.proofs.lemmas.Bool.{cases_lt, eq-eqb}
 use Rattle.std.proofs.lemmas.List.{get_or_past}
 use Rattle.std.proofs.lemmas.List.Sums.{sum_by-append, sum_by-cons}
 use Rattle.cn_spec.specs.Sums.{sum_below, when}
-use Rattle.cn_spec.proofs.CallerLemmas.{sum_below-one, sum_below-part, sum_below-parts, sum_below-shift, sum_below-zero}
+use Rattle.cn_spec.proofs.CallerLemmas.{sum-below-one, sum-below-part, sum-below-parts, sum-below-shift, sum-below-zero}
 use Rattle.cn_yard.specs.Lists.{IsThere, Lists, Yard, first_of, last_on, on, times_in, without}
 use Rattle.cn_yard.proofs.Keyed.{found-once, last_on-sum}
 use Rattle.cn_yard.proofs.Standings.{standing-only}
@@ -49,11 +49,11 @@ module _ (y : Lists) (token client wire : ℕ) (rest : List (ℕ × ℕ)) (once 
       ap (times_on token) begins ∙ sum_by-cons (λ (x : ℕ × ℕ). cond (nat_eq token x.0) 1 0) (token, client) rest ∙ ap (λ (n : ℕ). n + times_on token rest) one
 
   none_after : times_on token rest ≡ 0
-  none_after = omega (arith, once token, here, sum_below-part (length y) wire times inside)
+  none_after = omega (arith, once token, here, sum-below-part (length y) wire times inside)
 
-  none_elsewhere : (u : ℕ) → u ≢ wire → times u ≡ 0
-  none_elsewhere u other = elim (cases_lt u (length y)) [
-    | inl l ↦ omega (arith, once token, here, sum_below-parts (length y) wire u times inside l (λ e. other (sym e)))
+  none-elsewhere : (u : ℕ) → u ≢ wire → times u ≡ 0
+  none-elsewhere u other = elim (cases_lt u (length y)) [
+    | inl l ↦ omega (arith, once token, here, sum-below-parts (length y) wire u times inside l (λ e. other (sym e)))
     | inr l ↦ ap (times_on token) (get_or_past y u [] l)
   ]
 
@@ -61,7 +61,7 @@ module _ (y : Lists) (token client wire : ℕ) (rest : List (ℕ × ℕ)) (once 
   pub first-there : IsThere y token client wire
   first-there =
       let found : lookup (nat_eq token) (on y wire) ≡ Some client = ap (lookup (nat_eq token)) begins ∙ rw (eq-eqb token token refl) refl in
-      there y token client wire (once token) (standing-only (length y) y token wire client inside found (λ u other. nowhere token (on y u) (none_elsewhere u other)))
+      there y token client wire (once token) (standing-only (length y) y token wire client inside found (λ u other. nowhere token (on y u) (none-elsewhere u other)))
 
   -- the tokens after it are left on its wire, and all on other wires
   pub rest-on : without token (on y wire) ≡ rest
@@ -70,7 +70,7 @@ module _ (y : Lists) (token client wire : ℕ) (rest : List (ℕ × ℕ)) (once 
       ap (without token) begins ∙ taken ∙ without-same token rest none_after
 
   pub others-on : (u : ℕ) → u ≢ wire → without token (on y u) ≡ on y u
-  others-on u other = without-same token (on y u) (none_elsewhere u other)
+  others-on u other = without-same token (on y u) (none-elsewhere u other)
 
   -- elsewhere or gone, no token stands twice
   module _ (z : Lists) (long : length z ≡ length y) (k : ℕ) where
@@ -80,8 +80,8 @@ module _ (y : Lists) (token client wire : ℕ) (rest : List (ℕ × ℕ)) (once 
     abbrev moved_from : ℕ → ℕ
     moved_from u = when (eqb wire u) (f (token, client))
 
-    all_z : times_in z k ≡ sum_below (length y) (λ u. sum_by f (on z u))
-    all_z = ap (λ (n : ℕ). sum_below n (λ u. sum_by f (on z u))) long
+    all-z : times_in z k ≡ sum_below (length y) (λ u. sum_by f (on z u))
+    all-z = ap (λ (n : ℕ). sum_below n (λ u. sum_by f (on z u))) long
 
     pub once-moved : (to : ℕ) → to < length y → ((u : ℕ) → on z u ≡ without token (on y u) ++ last_on token client to u) → times_in z k ≤ 1
     once-moved to lands lists =
@@ -93,17 +93,17 @@ module _ (y : Lists) (token client wire : ℕ) (rest : List (ℕ × ℕ)) (once 
           last_on-sum token client to u f,
           first-there.less u f,
         ) in
-        let moved = sum_below-shift (length y) (λ u. sum_by f (on z u)) moved_from (λ u. sum_by f (on y u)) (λ u. when (eqb to u) (f (token, client))) each in
-        omega (arith, once k, all_z, moved, sum_below-one (length y) wire (f (token, client)) inside, sum_below-one (length y) to (f (token, client)) lands)
+        let moved = sum-below-shift (length y) (λ u. sum_by f (on z u)) moved_from (λ u. sum_by f (on y u)) (λ u. when (eqb to u) (f (token, client))) each in
+        omega (arith, once k, all-z, moved, sum-below-one (length y) wire (f (token, client)) inside, sum-below-one (length y) to (f (token, client)) lands)
 
     pub once-gone : ((u : ℕ) → on z u ≡ without token (on y u)) → times_in z k ≤ 1
     once-gone lists =
         let each : (u : ℕ) → u < length y → sum_by f (on z u) + moved_from u ≡ sum_by f (on y u) + 0 =
         λ u l. omega (arith, ap (sum_by f) (lists u), first-there.less u f) in
-        let moved = sum_below-shift (length y) (λ u. sum_by f (on z u)) moved_from (λ u. sum_by f (on y u)) (λ _. 0) each in
-        omega (arith, once k, all_z, moved, sum_below-zero (length y) (λ _. 0) (λ _. refl))
+        let moved = sum-below-shift (length y) (λ u. sum_by f (on z u)) moved_from (λ u. sum_by f (on y u)) (λ _. 0) each in
+        omega (arith, once k, all-z, moved, sum-below-zero (length y) (λ _. 0) (λ _. refl))
 
--- ---- the first token of a wire, as a yard tells it
+-- ---- the first token of a wire, as a yard returns it
 
 pub record IsFirst (wire : ℕ) (y : Yard) (token : ℕ) : Type 0 where
   pub client : ℕ

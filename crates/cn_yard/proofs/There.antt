@@ -1,10 +1,10 @@
--- Where a token stands: on one wire alone, once.
+-- Where a token stands: on only one wire, once.
 use Rattle.std.proofs.Common.{◌≡◌, ◌≢◌, ℕ, zero, suc, ◌<◌, ◌≤◌, inl, inr, eqb, List, [], length, refl, sym, ap, ◌∙◌, arith, Option, Some, None}
 use Rattle.std.specs.Prelude.{IsSome, count_by}
 use Rattle.std.specs.Map.{lookup}
 use Rattle.std.proofs.lemmas.Bool.{cases_eq, cases_lt, ne_eqb, eq-eqb}
 use Rattle.std.proofs.lemmas.List.{get_or_past}
-use Rattle.cn_spec.proofs.CallerLemmas.{sum_below-part, sum_below-parts}
+use Rattle.cn_spec.proofs.CallerLemmas.{sum-below-part, sum-below-parts}
 use Rattle.cn_yard.specs.Lists.{IsThere, Lists, here_or, on, standing, standing_below, times_in, tokens_in}
 use Rattle.cn_yard.proofs.Keyed.{found-once, without-none, without-one}
 
@@ -35,7 +35,7 @@ there y token client wire once stands =
     let (inside, found) = stands-found n y token wire client stands in
     let times : ℕ → ℕ = λ u. count_by (λ e. eqb token e.0) (on y u) in
     let some = found-once token client (on y wire) found in
-    let here = sum_below-part n wire times inside in
+    let here = sum-below-part n wire times inside in
     record {
       found = stands;
       inside = inside;
@@ -51,7 +51,7 @@ there y token client wire once stands =
     none u d =
         let (inside, found) = stands-found (length y) y token wire client stands in
         elim (cases_lt u (length y)) [
-          | inl l ↦ omega (arith, once, found-once token client (on y wire) found, sum_below-parts (length y) wire u (λ x. count_by (λ e. eqb token e.0) (on y x)) inside l d)
+          | inl l ↦ omega (arith, once, found-once token client (on y wire) found, sum-below-parts (length y) wire u (λ x. count_by (λ e. eqb token e.0) (on y x)) inside l d)
           | inr l ↦ ap (λ es. count_by (λ (e : ℕ × ℕ). eqb token e.0) es) (get_or_past y u [] l)
         ]
 
@@ -66,6 +66,6 @@ there-stands y token client wire is = rw is.found refl
 -- where no token stands none stands on any wire
 pub nobody-on : (y : Lists) → tokens_in y ≡ 0 → (u : ℕ) → length (on y u) ≡ 0
 nobody-on y none u = elim (cases_lt u (length y)) [
-  | inl l ↦ omega (arith, sum_below-part (length y) u (λ w. length (on y w)) l)
+  | inl l ↦ omega (arith, sum-below-part (length y) u (λ w. length (on y w)) l)
   | inr l ↦ ap (λ (es : List (ℕ × ℕ)). length es) (get_or_past y u [] l)
 ]

@@ -132,7 +132,7 @@ cases-bool : (b : Bool) → (b ≡ true) ⊎ (b ≡ false)
 cases-bool true = inl refl
 cases-bool false = inr refl
 
--- then the records but the links, and the counts, are as told
+-- then the records but the links, and the counts, are as stated
 pub off-kept : (records : List Record) (lines : List Line) (records' : List Record) (lines' : List Line) (t : ℕ)
     → wire_of records t < length lines → 1 ≤ count_of lines (wire_of records t)
     → Unlinks records lines records' lines' t → IsOff records lines records' lines' t

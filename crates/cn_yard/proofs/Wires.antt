@@ -9,7 +9,7 @@ use Rattle.std.proofs.lemmas.List.{get_or_past, length-map, map-append}
 use Rattle.std.proofs.lemmas.List.Sums.{sum_by-cons}
 use Rattle.std.proofs.lemmas.List.FromFn.{get_or-map-range_with_len, length-range_with_len}
 use Rattle.cn_spec.specs.Sums.{sum_below, times}
-use Rattle.cn_spec.proofs.CallerLemmas.{times-cons, times-nil, sum_below-same}
+use Rattle.cn_spec.proofs.CallerLemmas.{times-cons, times-nil, sum-below-same}
 use Rattle.cn_yard.specs.declared.yard.Yard.TheInside.{Inside}
 use Rattle.cn_yard.proofs.There.{there}
 use Rattle.cn_yard.specs.Lists.{IsThere, after, last_on, on, standing, times_in, tokens_in, without}
@@ -150,7 +150,7 @@ module _ (y : Inside) (order : ℕ → List ℕ) (k : Keeps y order) where
       let free = (k.lined.links.linked.ends y.wires (omega arith)).count in
       let all : sum_below (y.wires + 1) (λ u. length (order u)) ≡ length y.records.items = rw w at k.lined.links.all in
       let last = sum-last y.wires (λ u. length (order u)) in
-      let same = sum_below-same y.wires (λ u. length (on (lists_of y) u)) (λ u. length (order u)) (λ u h. ap length (on-wire u h) ∙ length-map (order u) (λ n. (n, client_of y.records.items n))) in
+      let same = sum-below-same y.wires (λ u. length (on (lists_of y) u)) (λ u. length (order u)) (λ u h. ap length (on-wire u h) ∙ length-map (order u) (λ n. (n, client_of y.records.items n))) in
       rw wires-are (omega arith)
 
   -- no token stands there twice

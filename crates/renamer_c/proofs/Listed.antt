@@ -27,10 +27,10 @@ entries_by : (entry : ℕ) (ids : List ℕ) → map (λ (c : Client). c.entry) (
 entries_by entry [] = refl
 entries_by entry (id ∷ ids) = ap (λ (es : List ℕ). entry ∷ es) (entries_by entry ids)
 
-times_by : (entry id : ℕ) (ids : List ℕ) → count_by (λ c. c.id == id) (by_entry entry ids) ≡ times id ids
-times_by entry id [] = sym (times-nil id)
-times_by entry id (x ∷ ids) =
-    omega (arith, times_by entry id ids, times-cons id x ids, sum_by-cons (λ (c : Client). cond (c.id == id) 1 0) (record { id = x; entry = entry }) (by_entry entry ids))
+times-by : (entry id : ℕ) (ids : List ℕ) → count_by (λ c. c.id == id) (by_entry entry ids) ≡ times id ids
+times-by entry id [] = sym (times-nil id)
+times-by entry id (x ∷ ids) =
+    omega (arith, times-by entry id ids, times-cons id x ids, sum_by-cons (λ (c : Client). cond (c.id == id) 1 0) (record { id = x; entry = entry }) (by_entry entry ids))
 
 -- clients of one entry are named together
 pub together : (a b : LaneValue) (ids : List ℕ) (entry : ℕ) → tokens_in a.yard.lists ≡ 0 → length ids ≤ a.room → AreNamed a b ids entry → WalksAll a b (by_entry entry ids)
@@ -45,7 +45,7 @@ together a b ids entry out room is =
       room = omega (arith, is.room, whole, long);
       entries = is.entries ∙ ap (λ (es : List ℕ). a.view.entries ++ es) (sym (entries_by entry ids));
       seen = is.seen;
-      grants = (most, grew, record { as_many = many ∙ sym long; as_often = λ id. often id ∙ sym (times_by entry id ids) });
+      grants = (most, grew, record { as_many = many ∙ sym long; as_often = λ id. often id ∙ sym (times-by entry id ids) });
     }
 
 -- clients are named after others
@@ -85,10 +85,10 @@ take_both (suc i) n [] few = absurd (omega (arith, few))
 take_both (suc i) n (x ∷ xs) few =
     ap (λ (k : ℕ). take k (x ∷ xs)) (let one : suc i + n ≡ suc (i + n) = omega arith in one) ∙ ap (λ (ys : List _). x ∷ ys) (take_both i n xs (omega (arith, few)))
 
-pub map_part : {X Y : Type 0} (f : X → Y) (i n : ℕ) (xs : List X) → map f (take n (drop i xs)) ≡ take n (drop i (map f xs))
-map_part f zero zero xs = refl
-map_part f zero (suc n) [] = refl
-map_part f zero (suc n) (x ∷ xs) = ap (λ (ys : List _). f x ∷ ys) (map_part f zero n xs)
-map_part f (suc i) zero [] = refl
-map_part f (suc i) (suc n) [] = refl
-map_part f (suc i) n (x ∷ xs) = map_part f i n xs
+pub map-part : {X Y : Type 0} (f : X → Y) (i n : ℕ) (xs : List X) → map f (take n (drop i xs)) ≡ take n (drop i (map f xs))
+map-part f zero zero xs = refl
+map-part f zero (suc n) [] = refl
+map-part f zero (suc n) (x ∷ xs) = ap (λ (ys : List _). f x ∷ ys) (map-part f zero n xs)
+map-part f (suc i) zero [] = refl
+map-part f (suc i) (suc n) [] = refl
+map-part f (suc i) n (x ∷ xs) = map-part f i n xs

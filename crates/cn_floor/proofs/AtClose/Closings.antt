@@ -24,24 +24,24 @@ use Rattle.cn_floor.specs.Ends.{IsClosedFloor, NobodyInside, counts_of}
 use Rattle.cn_floor.specs.Rule.{HoldsAt, ledger_of}
 use Rattle.cn_floor.specs.Views.{base, given_in, granted_in, on_in, standing_in}
 use Rattle.cn_floor.specs.Words.{clients_in, count_in, entered_in}
-use Rattle.cn_floor.proofs.AtMoments.Bounds.{all_came, few_came}
+use Rattle.cn_floor.proofs.AtMoments.Bounds.{all-came, few-came}
 use Rattle.cn_floor.proofs.AtClose.Ends.{carried-after, tight-after, tight-before}
-use Rattle.cn_floor.proofs.AtMoments.Fresh.{load_bound-few}
+use Rattle.cn_floor.proofs.AtMoments.Fresh.{load-bound-few}
 use Rattle.cn_floor.proofs.AtMoments.Sole.{none_given}
 use Rattle.cn_floor.proofs.AtMoments.Raised.{count-word}
-use Rattle.cn_floor.proofs.AtMoments.Totals.{mine_alone, part_le}
-use Rattle.cn_spec.proofs.CallerLemmas.{sum_below-part, times-nil}
+use Rattle.cn_floor.proofs.AtMoments.Totals.{mine-only, part-le}
+use Rattle.cn_spec.proofs.CallerLemmas.{sum-below-part, times-nil}
 
 -- at a place of a list
-pub at_get : (xs : List ℕ) (i x : ℕ) → get_elem? xs i ≡ some x → (i < length xs) × (get_or xs i 0 ≡ x)
-at_get [] i x e = absurd (some-ne-none x (sym e))
-at_get (y ∷ ys) zero x e = (omega arith, some-injective y x e)
-at_get (y ∷ ys) (suc i) x e = let r = at_get ys i x e in (omega (arith, r.0), r.1)
+pub at-get : (xs : List ℕ) (i x : ℕ) → get_elem? xs i ≡ some x → (i < length xs) × (get_or xs i 0 ≡ x)
+at-get [] i x e = absurd (some-ne-none x (sym e))
+at-get (y ∷ ys) zero x e = (omega arith, some-injective y x e)
+at-get (y ∷ ys) (suc i) x e = let r = at-get ys i x e in (omega (arith, r.0), r.1)
 
 -- nobody inside is nobody on each wire
 pub none-on : (v : View) → tokens_in v.tokens ≡ 0 → (u : ℕ) → on_in u v ≡ 0
 none-on v none u = elim (cases_lt u (length v.tokens)) [
-  | inl l ↦ omega (arith, sum_below-part (length v.tokens) u (λ x. on_in x v) l)
+  | inl l ↦ omega (arith, sum-below-part (length v.tokens) u (λ x. on_in x v) l)
   | inr l ↦ ap (λ (es : List (ℕ × ℕ)). length es) (get_or_past v.tokens u [] l)
 ]
 
@@ -88,7 +88,7 @@ module _ (start : Start) (s : State (Unit {0}) View) (id : ℕ) (v : View) (kept
   none-granted j x a none c i k name =
       omega (arith, (kept.rule.accounted j x a).all, count_by-le-length (λ (g : Grant). eqb g.client c && (eqb g.exit i && (eqb g.visit k && eqb (g.name + base start) name))) x.grants)
 
-  -- a sum over this lane alone
+  -- a sum over only this lane
   alone : (f : View → ℕ) → sum_by f (v ∷ []) ≡ f v
   alone f = omega (arith, sum_by-cons f v [])
 
@@ -99,7 +99,7 @@ module _ (start : Start) (s : State (Unit {0}) View) (id : ℕ) (v : View) (kept
       let test : Grant → ℕ = λ x. cond (eqb x.client g.client && (eqb x.exit g.exit && (eqb x.visit g.visit && eqb (x.name + base start) (g.name + base start)))) 1 0 in
       let one : test g ≡ 1 = rw (eq-eqb g.client g.client refl, eq-eqb g.exit g.exit refl, eq-eqb g.visit g.visit refl, eq-eqb (g.name + base start) (g.name + base start) refl) refl in
       let part = get_or-le-sum_by test v.grants j d l in
-      let all = part_le (granted_in (base start) g.client g.exit g.visit (g.name + base start)) s.views id v at in
+      let all = part-le (granted_in (base start) g.client g.exit g.visit (g.name + base start)) s.views id v at in
       kept.rule.sound.named g.client g.exit g.visit (g.name + base start) (omega arith)
 
   -- the names are those below the number of grants, each once
@@ -132,14 +132,14 @@ module _ (start : Start) (s : State (Unit {0}) View) (id : ℕ) (v : View) (kept
       let entries : View → ℕ = λ x. length x.entries in
       let account = kept.rule.accounted id v at in
       let f = kept.rule.fresh id v at in
-      let came = all_came start s kept in
+      let came = all-came start s kept in
       let mine : sum_by entries s.views ≡ entries v = omega (arith, came, account.all) in
-      let on : (u : ℕ) → sum_by (on_in u) s.views ≡ on_in u v = λ u. mine_alone (on_in u) entries s.views id v at (λ j x a z. none-inside j x a z u) mine in
+      let on : (u : ℕ) → sum_by (on_in u) s.views ≡ on_in u v = λ u. mine-only (on_in u) entries s.views id v at (λ j x a z. none-inside j x a z u) mine in
       let standing : (u c : ℕ) → sum_by (standing_in u c) s.views ≡ standing_in u c v = λ u c.
-      mine_alone (standing_in u c) entries s.views id v at (λ j x a z. omega (arith, none-inside j x a z u, count_by-le-length (λ (e : ℕ × ℕ). eqb e.1 c) (get_or x.tokens u []))) mine in
-      let given : (end : End) (n : ℕ) → sum_by (given_in end n) s.views ≡ given_in end n v = λ end n. mine_alone (given_in end n) entries s.views id v at (λ j x a z. none_given start s kept j x a z end n) mine in
+      mine-only (standing_in u c) entries s.views id v at (λ j x a z. omega (arith, none-inside j x a z u, count_by-le-length (λ (e : ℕ × ℕ). eqb e.1 c) (get_or x.tokens u []))) mine in
+      let given : (end : End) (n : ℕ) → sum_by (given_in end n) s.views ≡ given_in end n v = λ end n. mine-only (given_in end n) entries s.views id v at (λ j x a z. none_given start s kept j x a z end n) mine in
       let granted : (c i k name : ℕ) → sum_by (granted_in (base start) c i k name) s.views ≡ granted_in (base start) c i k name v = λ c i k name.
-      mine_alone (granted_in (base start) c i k name) entries s.views id v at (λ j x a z. none-granted j x a z c i k name) mine in
+      mine-only (granted_in (base start) c i k name) entries s.views id v at (λ j x a z. none-granted j x a z c i k name) mine in
       let same : ledger_of t start.words s.words s.views ≡ ledger_of t start.words s.words (v ∷ []) = λ x. record {
         entered = entered_in t s.words;
         count = count_in t s.words;
@@ -153,7 +153,7 @@ module _ (start : Start) (s : State (Unit {0}) View) (id : ℕ) (v : View) (kept
       let numbers : (end : End) (n : ℕ) → Stands t end → once_below (count_in t start.words end) n + given_in end n v ≡ once_below (count_in t s.words end) n = λ end n stands.
       omega (arith, given end n, kept.rule.sound.numbered end n stands) in
       let own : (u : ℕ) → u < t.entries → entered_in t s.words u ≡ entered_in t start.words u + times u v.entries = λ u l.
-      omega (arith, kept.rule.entered u l, mine_alone (λ (x : View). times u x.entries) entries s.views id v at (λ j x a z. no-entry u x.entries z) mine) in
+      omega (arith, kept.rule.entered u l, mine-only (λ (x : View). times u x.entries) entries s.views id v at (λ j x a z. no-entry u x.entries z) mine) in
       let nobody : NobodyInside start (v ∷ []) = λ u l. omega (arith, alone (on_in u), none-on v out u) in
       let sound : IsSound t (ledger_of t start.words s.words (v ∷ [])) = subst (IsSound t) same kept.rule.sound in
       let end = tight-after start kept.began s.words (v ∷ []) sound nobody in
@@ -172,7 +172,7 @@ module _ (start : Start) (s : State (Unit {0}) View) (id : ℕ) (v : View) (kept
             );
         tight = end;
         shares = shares-at end all;
-        seen = omega (arith, f.seen, load_bound-few t s.words v.loads f.low);
+        seen = omega (arith, f.seen, load-bound-few t s.words v.loads f.low);
         named = named-at;
         names = names-at end all;
         closed = carried-after start kept.began s.words (v ∷ []) sound nobody kept.rule.words kept.rule.lanes;
@@ -184,15 +184,15 @@ module _ (start : Start) (s : State (Unit {0}) View) (id : ℕ) (v : View) (kept
     moment = record { id = id; here = at; kept = kept.rule };
     same = refl;
     count = kept.rule.words;
-    few = few_came start s kept;
-    granted = omega (arith, all_came start s kept, part_le (λ (x : View). length x.entries) s.views id v at, (kept.rule.accounted id v at).all);
+    few = few-came start s kept;
+    granted = omega (arith, all-came start s kept, part-le (λ (x : View). length x.entries) s.views id v at, (kept.rule.accounted id v at).all);
     sole = λ whole.
         omega (
           arith,
-          all_came start s kept,
-          mine_alone (λ (x : View). length x.entries) (λ (x : View). x.quota + length x.entries) s.views id v at (λ j x a z. omega arith) (kept.rule.quotas ∙ sym whole),
+          all-came start s kept,
+          mine-only (λ (x : View). length x.entries) (λ (x : View). x.quota + length x.entries) s.views id v at (λ j x a z. omega arith) (kept.rule.quotas ∙ sym whole),
         );
-    within = omega (arith, kept.rule.quotas, part_le (λ (x : View). x.quota + length x.entries) s.views id v at);
+    within = omega (arith, kept.rule.quotas, part-le (λ (x : View). x.quota + length x.entries) s.views id v at);
     quiet = quiet;
   }
 

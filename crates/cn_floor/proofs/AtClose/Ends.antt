@@ -14,16 +14,16 @@ use Rattle.cn_floor.specs.Carried.{AreTight, IsClosed, WordsValue}
 use Rattle.cn_floor.specs.Ends.{NobodyInside}
 use Rattle.cn_floor.specs.Rule.{IsCarried, IsStart, HoldsAt, ledger_of}
 use Rattle.cn_floor.specs.Words.{count_in, word_count}
-use Rattle.cn_spec.proofs.CallerLemmas.{once_in, sum_below-zero, total_where-agree}
+use Rattle.cn_spec.proofs.CallerLemmas.{once-in, sum-below-zero, total-where-agree}
 use Rattle.cn_ledger.proofs.CallerLemmas.{tight}
 
--- ---- the ledger of words alone
+-- ---- the ledger of words without lanes
 
-both_there : (p q r : Bool) → 1 ≤ when (p && (q && r)) 1 → (p ≡ true) × (q ≡ true) × (r ≡ true)
-both_there true true true h = (refl, refl, refl)
-both_there true true false h = absurd (omega arith)
-both_there true false r h = absurd (omega arith)
-both_there false q r h = absurd (omega arith)
+both-there : (p q r : Bool) → 1 ≤ when (p && (q && r)) 1 → (p ≡ true) × (q ≡ true) × (r ≡ true)
+both-there true true true h = (refl, refl, refl)
+both-there true true false h = absurd (omega arith)
+both-there true false r h = absurd (omega arith)
+both-there false q r h = absurd (omega arith)
 
 no_more : (p q r : Bool) → when (p && (q && r)) 1 ≤ when q 1
 no_more true true true = omega arith
@@ -50,15 +50,15 @@ module _ (t : Table) (words : List ℕ) where
   pub alone-sound : ((end : End) → Stands t end → alone.count end + sum_at t end alone.on ≡ sum_at t end (put t alone)) → IsSound t alone
   alone-sound balanced = record {
     balanced = balanced;
-    clients = λ u. (0, λ k h. sum_below-zero k (λ _. 0) (λ _. refl));
+    clients = λ u. (0, λ k h. sum-below-zero k (λ _. 0) (λ _. refl));
     numbered = λ end n h. omega arith;
     named = λ c i v name g.
-        let has = both_there (eqb 0 c) (ltb v (count_in t words (Exit i))) (eqb (name_of t.width i v) name) (omega (arith, g)) in
+        let has = both-there (eqb 0 c) (ltb v (count_in t words (Exit i))) (eqb (name_of t.width i v) name) (omega (arith, g)) in
         (exit-there i (omega (arith, ltb-true v (count_in t words (Exit i)) has.1)), sym (eqb-true (name_of t.width i v) name has.2));
     once = λ c i v name. omega (arith, no_more (eqb 0 c) (ltb v (count_in t words (Exit i))) (eqb (name_of t.width i v) name));
     apart = λ c d i v differ. omega (arith, not_both c d differ (ltb v (count_in t words (Exit i))) (eqb (name_of t.width i v) (name_of t.width i v)) (eqb (name_of t.width i v) (name_of t.width i v)));
     told = λ i v h g.
-        let below : v < count_in t words (Exit i) = once_in (count_in t words (Exit i)) v (omega (arith, g)) in (
+        let below : v < count_in t words (Exit i) = once-in (count_in t words (Exit i)) v (omega (arith, g)) in (
           0,
           let one : ◌≡◌ {A = ℕ} (when (eqb 0 0 && (ltb v (count_in t words (Exit i)) && eqb (name_of t.width i v) (name_of t.width i v))) 1) 1 =
               rw (lt-ltb v (count_in t words (Exit i)) below, eq-eqb (name_of t.width i v) (name_of t.width i v) refl) refl in
@@ -98,7 +98,7 @@ module _ (start : Start) (began : IsStart start) where
       sound = alone-sound t words (λ e h.
           let now : Ledger = ledger_of t start.words words views in
           let is = sound.balanced e h in
-          let none = total_where-agree (is_end e) t.ends (Balancer 0) now.on (λ _. 0) (λ u l x. nobody u l) in
+          let none = total-where-agree (is_end e) t.ends (Balancer 0) now.on (λ _. 0) (λ u l x. nobody u l) in
           omega (arith, is, none));
     }
 

@@ -40,7 +40,7 @@ module _ (start : Start) (words risen : List ℕ) (is : HasRisen start words ris
   pub passes-part : take t.balancers (drop (1 + t.entries) risen) ≡ passes_of start words
   passes-part = part risen _ (1 + t.entries) t.balancers (omega (arith, is.count)) (λ b l. is.each (Balancer b) l)
 
--- exit by exit, by what the words tell of each
+-- exit by exit, by the words of each
 pub exits-list : (start : Start) (words : List ℕ)
     → map (λ i. count_in start.network.table words (Exit i) - count_in start.network.table start.words (Exit i)) (range_with_len 0 start.network.table.width) ≡ counts_of start words
 exits-list start words =
@@ -53,7 +53,7 @@ end-low : (t : Table) (end : End) → Stands t end → end_word t end < word_cou
 end-low t (Balancer b) h = omega arith
 end-low t (Exit i) h = omega arith
 
--- what the words have risen tells it, and so do the words themselves where nobody went before
+-- it follows from how far the words have risen, and from the words themselves if nobody went before
 pub risen-all : (start : Start) (words risen : List ℕ) → length words ≡ word_count start.network.table → IsDifference start.words words risen → HasRisen start words risen
 risen-all start words risen long is = record {
   count = is.count ∙ long;

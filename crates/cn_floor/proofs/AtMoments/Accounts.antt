@@ -16,8 +16,8 @@ use Rattle.cn_floor.specs.declared.view.Grant.{Grant}
 use Rattle.cn_floor.specs.declared.view.View.{View}
 use Rattle.cn_floor.specs.Rule.{IsAccounted}
 use Rattle.cn_floor.specs.Views.{after_enter, after_step, base, on_in}
-use Rattle.cn_floor.proofs.AtMoments.Ledgers.{on-after_enter, on-after_step, onto, Lands}
-use Rattle.cn_spec.proofs.CallerLemmas.{sum_below-one, sum_below-same, sum_below-shift, sum_below-zero}
+use Rattle.cn_floor.proofs.AtMoments.Ledgers.{on-after-enter, on-after_step, onto, Lands}
+use Rattle.cn_spec.proofs.CallerLemmas.{sum-below-one, sum-below-same, sum-below-shift, sum-below-zero}
 
 -- ---- sums over wires, each counted g times
 
@@ -30,7 +30,7 @@ weighed k a b c d h = omega (arith, spread k a b, spread k c d, ap (λ (x : ℕ)
 -- one wire
 pub at-one : (n w : ℕ) (g : ℕ → ℕ) → w < n → sum_below n (λ u. g u * one_at w u) ≡ g w
 at-one n w g h =
-    sum_below-same n (λ u. g u * one_at w u) (λ u. when (eqb w u) (g w)) (λ u l. each u) ∙ sum_below-one n w (g w) h
+    sum-below-same n (λ u. g u * one_at w u) (λ u. when (eqb w u) (g w)) (λ u l. each u) ∙ sum-below-one n w (g w) h
   where
     each : (u : ℕ) → g u * one_at w u ≡ when (eqb w u) (g w)
     each u = elim (cases_eq w u) [ inl e ↦ rw (eq-eqb w u e, e) (omega arith) | inr d ↦ rw (ne_eqb w u d) (omega arith) ]
@@ -39,14 +39,14 @@ at-one n w g h =
 pub weighed-on : (n : ℕ) (g : ℕ → ℕ) (old new from to : ℕ → ℕ) → ((u : ℕ) → new u + from u ≡ old u + to u)
     → sum_below n (λ u. g u * new u) + sum_below n (λ u. g u * from u) ≡ sum_below n (λ u. g u * old u) + sum_below n (λ u. g u * to u)
 weighed-on n g old new from to h =
-    sum_below-shift n (λ u. g u * new u) (λ u. g u * from u) (λ u. g u * old u) (λ u. g u * to u) (λ u l. weighed (g u) (new u) (from u) (old u) (to u) (h u))
+    sum-below-shift n (λ u. g u * new u) (λ u. g u * from u) (λ u. g u * old u) (λ u. g u * to u) (λ u l. weighed (g u) (new u) (from u) (old u) (to u) (h u))
 
 -- a sum of nothing
 pub at-none : (n : ℕ) (g : ℕ → ℕ) → sum_below n (λ u. g u * 0) ≡ 0
-at-none n g = sum_below-zero n (λ u. g u * 0) (λ u. omega arith)
+at-none n g = sum-below-zero n (λ u. g u * 0) (λ u. omega arith)
 
 once : (n : ℕ) (f : ℕ → ℕ) → sum_below n (λ u. 1 * f u) ≡ sum_below n f
-once n f = sum_below-same n (λ u. 1 * f u) f (λ u l. omega arith)
+once n f = sum-below-same n (λ u. 1 * f u) f (λ u l. omega arith)
 
 -- ---- who comes in
 
@@ -60,11 +60,11 @@ module _ (network : Network) (token client entry : ℕ) (v : View) (low : entry 
   weighed-came : (g : ℕ → ℕ) → sum_below (length came.tokens) (λ u. g u * on_in u came) ≡ sum_below (length v.tokens) (λ u. g u * on_in u v) + g entry
   weighed-came g =
       let n : ℕ = length v.tokens in
-      let moved = weighed-on n g (λ u. on_in u v) (λ u. on_in u came) (λ _. 0) (one_at entry) (λ u. omega (arith, on-after_enter token client entry v inside u)) in
+      let moved = weighed-on n g (λ u. on_in u v) (λ u. on_in u came) (λ _. 0) (one_at entry) (λ u. omega (arith, on-after-enter token client entry v inside u)) in
       ap (λ (k : ℕ). sum_below k (λ u. g u * on_in u came)) wires-came ∙ omega (arith, at-none n g, at-one n entry g inside)
 
-  pub accounted-after_enter : IsAccounted network v → IsAccounted network came
-  accounted-after_enter account = record {
+  pub accounted-after-enter : IsAccounted network v → IsAccounted network came
+  accounted-after-enter account = record {
     all = omega (
       arith,
       account.all,

@@ -12,8 +12,8 @@ use Rattle.cn_floor.specs.declared.view.View.{View}
 use Rattle.cn_floor.specs.Rule.{HoldsAt, ledger_of}
 use Rattle.cn_floor.specs.Views.{base}
 use Rattle.cn_floor.specs.Words.{clients_in, count_in, entered_in}
-use Rattle.cn_floor.proofs.AtMoments.Totals.{total_le, total_same}
-use Rattle.cn_spec.proofs.CallerLemmas.{name-below, sum_below-plus, sum_below-same, sum_below-total, times-below}
+use Rattle.cn_floor.proofs.AtMoments.Totals.{total-le, total_same}
+use Rattle.cn_spec.proofs.CallerLemmas.{name-below, sum-below-plus, sum-below-same, sum-below-total, times-below}
 use Rattle.cn_ledger.proofs.CallerLemmas.{counts-few, tight}
 
 module _ (start : Start) (s : State (Unit {0}) View) (kept : HoldsAt start s) where
@@ -21,27 +21,27 @@ module _ (start : Start) (s : State (Unit {0}) View) (kept : HoldsAt start s) wh
   t = start.network.table
 
   -- as many came as before, and the entries of all views
-  pub all_came : clients_in t s.words ≡ base start + sum_by (λ (v : View). length v.entries) s.views
-  all_came =
-      sum_below-same t.entries (entered_in t s.words) (λ u. entered_in t start.words u + sum_by (λ (v : View). times u v.entries) s.views) kept.rule.entered
-      ∙ sum_below-plus t.entries (entered_in t start.words) (λ u. sum_by (λ (v : View). times u v.entries) s.views)
+  pub all-came : clients_in t s.words ≡ base start + sum_by (λ (v : View). length v.entries) s.views
+  all-came =
+      sum-below-same t.entries (entered_in t s.words) (λ u. entered_in t start.words u + sum_by (λ (v : View). times u v.entries) s.views) kept.rule.entered
+      ∙ sum-below-plus t.entries (entered_in t start.words) (λ u. sum_by (λ (v : View). times u v.entries) s.views)
       ∙ ap (λ (k : ℕ). base start + k)
-      (sum_below-total (λ u (v : View). times u v.entries) s.views t.entries
+      (sum-below-total (λ u (v : View). times u v.entries) s.views t.entries
       ∙ total_same (λ (v : View). sum_below t.entries (λ u. times u v.entries)) (λ (v : View). length v.entries) s.views
       (λ id v at. times-below t.entries v.entries (kept.rule.accounted id v at).entries))
 
-  pub few_came : clients_in t s.words ≤ base start + start.quota
-  few_came =
-      let few = total_le (λ (v : View). length v.entries) (λ (v : View). v.quota + length v.entries) s.views (λ id v at. omega arith) in
-      omega (arith, all_came, kept.rule.quotas)
+  pub few-came : clients_in t s.words ≤ base start + start.quota
+  few-came =
+      let few = total-le (λ (v : View). length v.entries) (λ (v : View). v.quota + length v.entries) s.views (λ id v at. omega arith) in
+      omega (arith, all-came, kept.rule.quotas)
 
   -- no count is more than those that came
-  pub count_few : (end : End) → Stands t end → count_in t s.words end ≤ clients_in t s.words
-  count_few end stands = counts-few t kept.began.network.formed (ledger_of t start.words s.words s.views) kept.rule.sound end stands
+  pub count-few : (end : End) → Stands t end → count_in t s.words end ≤ clients_in t s.words
+  count-few end stands = counts-few t kept.began.network.formed (ledger_of t start.words s.words s.views) kept.rule.sound end stands
 
   -- nor is it less than the carried one
-  pub count_risen : (end : End) → Stands t end → count_in t start.words end ≤ count_in t s.words end
-  count_risen end stands = elim (cases_lt (count_in t s.words end) (count_in t start.words end)) [
+  pub count-risen : (end : End) → Stands t end → count_in t start.words end ≤ count_in t s.words end
+  count-risen end stands = elim (cases_lt (count_in t s.words end) (count_in t start.words end)) [
     | inr l ↦ l
     | inl l ↦
         let n : ℕ = count_in t s.words end in
@@ -51,13 +51,13 @@ module _ (start : Start) (s : State (Unit {0}) View) (kept : HoldsAt start s) wh
   ]
 
   -- the next name is none of the carried ones
-  pub name_later : (i : ℕ) → i < t.width → base start ≤ name_of t.width i (count_in t s.words (Exit i))
-  name_later i h =
+  pub name-later : (i : ℕ) → i < t.width → base start ≤ name_of t.width i (count_in t s.words (Exit i))
+  name-later i h =
       let net = kept.began.network in
       let n : ℕ = count_in t s.words (Exit i) in
       let was = tight t net.formed net.counts (ledger_of t start.words start.words []) kept.began.carried.sound (λ u l. refl) in
       let shared : count_in t start.words (Exit i) ≡ share (base start) t.width i = was.counts i h in
       elim (cases_lt (name_of t.width i n) (base start)) [
         | inr l ↦ l
-        | inl l ↦ let below : n < share (base start) t.width i = (name-below (base start) t.width i n h).1 l in absurd (omega (arith, count_risen (Exit i) h))
+        | inl l ↦ let below : n < share (base start) t.width i = (name-below (base start) t.width i n h).1 l in absurd (omega (arith, count-risen (Exit i) h))
       ]

@@ -11,7 +11,7 @@ use Rattle.cn_floor.specs.declared.view.View.{View}
 use Rattle.cn_floor.specs.Rule.{IsFresh, load_bound}
 use Rattle.cn_floor.specs.Views.{after_load, after_load_by, base}
 use Rattle.cn_floor.specs.Words.{clients_in, entered_in}
-use Rattle.cn_spec.proofs.CallerLemmas.{sum_below-fewer, sum_below-front, sum_below-le, sum_below-same}
+use Rattle.cn_spec.proofs.CallerLemmas.{sum-below-fewer, sum-below-front, sum-below-le, sum-below-same}
 
 at_more : (ls : List ℕ) (u : ℕ) (g : ℕ → ℕ) → get_or (ls ++ g (length ls) ∷ []) u (g u) ≡ get_or ls u (g u)
 at_more [] zero g = refl
@@ -19,27 +19,27 @@ at_more [] (suc u) g = refl
 at_more (x ∷ ls) zero g = refl
 at_more (x ∷ ls) (suc u) g = at_more ls u (λ k. g (suc k))
 
-at_grown : (ls : List ℕ) (u a b : ℕ) → a ≤ b → get_or ls u a ≤ get_or ls u b
-at_grown [] u a b h = h
-at_grown (x ∷ ls) zero a b h = omega arith
-at_grown (x ∷ ls) (suc u) a b h = at_grown ls u a b h
+at-grown : (ls : List ℕ) (u a b : ℕ) → a ≤ b → get_or ls u a ≤ get_or ls u b
+at-grown [] u a b h = h
+at-grown (x ∷ ls) zero a b h = omega arith
+at-grown (x ∷ ls) (suc u) a b h = at-grown ls u a b h
 
 at_low : (ls : List ℕ) (u a : ℕ) → get_or ls u 0 ≤ a → get_or ls u a ≤ a
 at_low [] u a h = omega arith
 at_low (x ∷ ls) zero a h = h
 at_low (x ∷ ls) (suc u) a h = at_low ls u a h
 
-pub low_more : (ls : List ℕ) (g : ℕ → ℕ) → ((u : ℕ) → get_or ls u 0 ≤ g u) → (u : ℕ) → get_or (ls ++ g (length ls) ∷ []) u 0 ≤ g u
-low_more [] g h zero = omega arith
-low_more [] g h (suc u) = omega arith
-low_more (x ∷ ls) g h zero = h 0
-low_more (x ∷ ls) g h (suc u) = low_more ls (λ k. g (suc k)) (λ k. h (suc k)) u
+pub low-more : (ls : List ℕ) (g : ℕ → ℕ) → ((u : ℕ) → get_or ls u 0 ≤ g u) → (u : ℕ) → get_or (ls ++ g (length ls) ∷ []) u 0 ≤ g u
+low-more [] g h zero = omega arith
+low-more [] g h (suc u) = omega arith
+low-more (x ∷ ls) g h zero = h 0
+low-more (x ∷ ls) g h (suc u) = low-more ls (λ k. g (suc k)) (λ k. h (suc k)) u
 
 whole : (ls : List ℕ) (g : ℕ → ℕ) → sum_below (length ls) (λ u. get_or ls u (g u)) ≡ sum ls
 unfolding sum_below
 whole [] g = refl
 whole (x ∷ ls) g =
-    let front = sum_below-front (length ls) (λ u. get_or (x ∷ ls) u (g u)) in
+    let front = sum-below-front (length ls) (λ u. get_or (x ∷ ls) u (g u)) in
     omega (arith, whole ls (λ k. g (suc k)), sum_by-cons (λ (y : ℕ). y) x ls)
 
 module _ (t : Table) (words : List ℕ) where
@@ -47,30 +47,30 @@ module _ (t : Table) (words : List ℕ) where
   word = entered_in t words
 
   -- what is loaded now is what was to be loaded
-  pub load_bound-more : (ls : List ℕ) → load_bound t words (ls ++ word (length ls) ∷ []) ≡ load_bound t words ls
-  load_bound-more ls = sum_below-same t.entries (λ u. get_or (ls ++ word (length ls) ∷ []) u (word u)) (λ u. get_or ls u (word u)) (λ u less. at_more ls u word)
+  pub load-bound-more : (ls : List ℕ) → load_bound t words (ls ++ word (length ls) ∷ []) ≡ load_bound t words ls
+  load-bound-more ls = sum-below-same t.entries (λ u. get_or (ls ++ word (length ls) ∷ []) u (word u)) (λ u. get_or ls u (word u)) (λ u less. at_more ls u word)
 
-  pub load_bound-all : (ls : List ℕ) → length ls ≡ t.entries → load_bound t words ls ≡ sum ls
-  load_bound-all ls e = ap (λ (n : ℕ). sum_below n (λ u. get_or ls u (word u))) (sym e) ∙ whole ls word
+  pub load-bound-all : (ls : List ℕ) → length ls ≡ t.entries → load_bound t words ls ≡ sum ls
+  load-bound-all ls e = ap (λ (n : ℕ). sum_below n (λ u. get_or ls u (word u))) (sym e) ∙ whole ls word
 
-  pub sum_few : (ls : List ℕ) → length ls ≤ t.entries → sum ls ≤ load_bound t words ls
-  sum_few ls few = omega (arith, whole ls word, sum_below-fewer (λ u. get_or ls u (word u)) (length ls) t.entries few)
+  pub sum-few : (ls : List ℕ) → length ls ≤ t.entries → sum ls ≤ load_bound t words ls
+  sum-few ls few = omega (arith, whole ls word, sum-below-fewer (λ u. get_or ls u (word u)) (length ls) t.entries few)
 
-  pub load_bound-few : (ls : List ℕ) → ((u : ℕ) → get_or ls u 0 ≤ word u) → load_bound t words ls ≤ clients_in t words
-  load_bound-few ls low = sum_below-le t.entries (λ u. get_or ls u (word u)) word (λ u less. at_low ls u (word u) (low u))
+  pub load-bound-few : (ls : List ℕ) → ((u : ℕ) → get_or ls u 0 ≤ word u) → load_bound t words ls ≤ clients_in t words
+  load-bound-few ls low = sum-below-le t.entries (λ u. get_or ls u (word u)) word (λ u less. at_low ls u (word u) (low u))
 
-  pub load_bound-grown : (more : List ℕ) (ls : List ℕ) → ((u : ℕ) → word u ≤ entered_in t more u) → load_bound t words ls ≤ load_bound t more ls
-  load_bound-grown more ls up = sum_below-le t.entries (λ u. get_or ls u (word u)) (λ u. get_or ls u (entered_in t more u)) (λ u less. at_grown ls u (word u) (entered_in t more u) (up u))
+  pub load-bound-grown : (more : List ℕ) (ls : List ℕ) → ((u : ℕ) → word u ≤ entered_in t more u) → load_bound t words ls ≤ load_bound t more ls
+  load-bound-grown more ls up = sum-below-le t.entries (λ u. get_or ls u (word u)) (λ u. get_or ls u (entered_in t more u)) (λ u less. at-grown ls u (word u) (entered_in t more u) (up u))
 
 -- names stay below what grows
 pub names_below : (gs : List Grant) (k m n : ℕ) → m ≤ n → All (λ (g : Grant). k + g.name < m) gs → All (λ (g : Grant). k + g.name < n) gs
 names_below gs k m n h all = λ j d less. let f = all j d less in omega (arith, f)
 
 -- what others do
-pub fresh_grown : (start : Start) (words more : List ℕ) (v : View) → ((u : ℕ) → entered_in start.network.table words u ≤ entered_in start.network.table more u) → IsFresh start words v → IsFresh start more v
-fresh_grown start words more v up fresh =
+pub fresh-grown : (start : Start) (words more : List ℕ) (v : View) → ((u : ℕ) → entered_in start.network.table words u ≤ entered_in start.network.table more u) → IsFresh start words v → IsFresh start more v
+fresh-grown start words more v up fresh =
     let t = start.network.table in
-    let grown : load_bound t words v.loads ≤ load_bound t more v.loads = load_bound-grown t words more v.loads up in
+    let grown : load_bound t words v.loads ≤ load_bound t more v.loads = load-bound-grown t words more v.loads up in
     record {
       low = λ u. omega (arith, fresh.low u, up u);
       own = omega (arith, fresh.own);
@@ -85,26 +85,26 @@ module _ (start : Start) (words : List ℕ) (v : View) (fresh : IsFresh start wo
   abbrev ls : List ℕ
   ls = v.loads ++ entered_in t words (length v.loads) ∷ []
 
-  fresh_by : (b : Bool) → (b ≡ true → length v.loads + 1 ≡ t.entries) → IsFresh start words (after_load_by b start ls v)
-  fresh_by true at_last =
-      let same : load_bound t words ls ≡ load_bound t words v.loads = load_bound-more t words v.loads in
-      let all : load_bound t words ls ≡ sum ls = load_bound-all t words ls (omega (arith, at_last refl, length_push v.loads (entered_in t words (length v.loads)))) in
-      let few : load_bound t words ls ≤ clients_in t words = load_bound-few t words ls (low_more v.loads (entered_in t words) fresh.low) in
+  fresh-by : (b : Bool) → (b ≡ true → length v.loads + 1 ≡ t.entries) → IsFresh start words (after_load_by b start ls v)
+  fresh-by true at_last =
+      let same : load_bound t words ls ≡ load_bound t words v.loads = load-bound-more t words v.loads in
+      let all : load_bound t words ls ≡ sum ls = load-bound-all t words ls (omega (arith, at_last refl, length_push v.loads (entered_in t words (length v.loads)))) in
+      let few : load_bound t words ls ≤ clients_in t words = load-bound-few t words ls (low-more v.loads (entered_in t words) fresh.low) in
       record {
         low = λ u. omega arith;
         own = omega (arith, fresh.own);
         seen = omega (arith, fresh.own);
         names = names_below v.grants (base start) (load_bound t words v.loads) (clients_in t words) (omega arith) fresh.names;
       }
-  fresh_by false at_last =
-      let same : load_bound t words ls ≡ load_bound t words v.loads = load_bound-more t words v.loads in
+  fresh-by false at_last =
+      let same : load_bound t words ls ≡ load_bound t words v.loads = load-bound-more t words v.loads in
       record {
-        low = low_more v.loads (entered_in t words) fresh.low;
+        low = low-more v.loads (entered_in t words) fresh.low;
         own = omega (arith, fresh.own);
         seen = omega (arith, fresh.seen);
         names = names_below v.grants (base start) (load_bound t words v.loads) (load_bound t words ls) (omega arith) fresh.names;
       }
 
   -- a load keeps what is known, whatever it finds
-  pub fresh_load : IsFresh start words (after_load start (entered_in t words (length v.loads)) v)
-  fresh_load = fresh_by (eqb (length v.loads + 1) t.entries) (λ e. eqb-true (length v.loads + 1) t.entries e)
+  pub fresh-load : IsFresh start words (after_load start (entered_in t words (length v.loads)) v)
+  fresh-load = fresh-by (eqb (length v.loads + 1) t.entries) (λ e. eqb-true (length v.loads + 1) t.entries e)

@@ -15,7 +15,7 @@ use Rattle.cn_floor.specs.declared.view.View.{View}
 use Rattle.cn_floor.specs.Rule.{IsAccounted, IsFresh, HoldsAt, ledger_of}
 use Rattle.cn_floor.specs.Views.{base, given_in, granted_in, on_in, standing_in}
 use Rattle.cn_floor.specs.Words.{clients_in, count_in, entered_in}
-use Rattle.cn_floor.proofs.AtMoments.Totals.{total_set}
+use Rattle.cn_floor.proofs.AtMoments.Totals.{total-set}
 
 -- the views add up to the same
 pub record AddUpAlike (m : ℕ) (old new : List View) : Type 0 where
@@ -60,7 +60,7 @@ module _ (start : Start) (s : State (Unit {0}) View) (id : ℕ) (g : View) (k : 
   w = record g { steps = k }
 
   sums : (f : View → ℕ) → f g ≡ f w → sum_by f s.views ≡ sum_by f (set s.views id w)
-  sums f same = omega (arith, total_set f s.views id g w here, same)
+  sums f same = omega (arith, total-set f s.views id g w here, same)
 
   given-alike : (other : End) (m : ℕ) → given_in other m g ≡ given_in other m w
   given-alike (Balancer b) m = refl

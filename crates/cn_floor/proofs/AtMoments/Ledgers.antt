@@ -19,42 +19,42 @@ use Rattle.cn_floor.specs.Rule.{ledger_of}
 use Rattle.cn_floor.specs.Views.{after_enter, after_step, base, given_in, granted_in, on_in, standing_in}
 use Rattle.cn_floor.specs.Words.{count_in, end_word, word_count}
 use Rattle.cn_floor.proofs.Lists.{ones, weigh-come, weigh-leave, weigh-pass}
-use Rattle.cn_floor.proofs.AtMoments.Totals.{total_set}
+use Rattle.cn_floor.proofs.AtMoments.Totals.{total-set}
 use Rattle.cn_floor.proofs.AtMoments.Raised.{count-kept, count-raised, entered-kept, entered-raised, raised}
 use Rattle.cn_yard.specs.Lists.{IsThere}
 
 -- ---- one view
 
 -- 1 for a client on a wire
-there_once : (u w c d : ℕ) → when (eqb u w) (cond (eqb c d) 1 0) ≡ when (eqb u w && eqb c d) 1
-there_once u w c d = grind (arith, nat_tests)
+there-once : (u w c d : ℕ) → when (eqb u w) (cond (eqb c d) 1 0) ≡ when (eqb u w && eqb c d) 1
+there-once u w c d = grind (arith, nat_tests)
 
-there_turned : (u w c d : ℕ) → when (eqb u w) (cond (eqb c d) 1 0) ≡ when (eqb c d) (one_at u w)
-there_turned u w c d = grind (arith, nat_tests)
+there-turned : (u w c d : ℕ) → when (eqb u w) (cond (eqb c d) 1 0) ≡ when (eqb c d) (one_at u w)
+there-turned u w c d = grind (arith, nat_tests)
 
-none_turned : (c d : ℕ) → when (eqb c d) 0 ≡ 0
-none_turned c d = by (eqb c d)
+none-turned : (c d : ℕ) → when (eqb c d) 0 ≡ 0
+none-turned c d = by (eqb c d)
   where
     by : (b : Bool) → ◌≡◌ {A = ℕ} (when b 0) 0
     by true = refl
     by false = refl
 
 -- 1 for client d
-is_client : ℕ → ℕ × ℕ → ℕ
-is_client d e = cond (eqb e.1 d) 1 0
+is-client : ℕ → ℕ × ℕ → ℕ
+is-client d e = cond (eqb e.1 d) 1 0
 
 module _ (token client entry : ℕ) (v : View) (inside : entry < length v.tokens) where
-  pub on-after_enter : (w : ℕ) → on_in w (after_enter token client entry v) ≡ on_in w v + one_at entry w
-  on-after_enter w =
+  pub on-after-enter : (w : ℕ) → on_in w (after_enter token client entry v) ≡ on_in w v + one_at entry w
+  on-after-enter w =
       let a = weigh-come v.tokens token client entry inside w (λ _. 1) in
       omega (arith, ones (get_or v.tokens w []), ones (get_or (after_enter token client entry v).tokens w []))
 
-  pub standing-after_enter : (w d : ℕ) → standing_in w d (after_enter token client entry v) ≡ standing_in w d v + when (eqb entry w && eqb client d) 1
-  standing-after_enter w d = omega (arith, weigh-come v.tokens token client entry inside w (λ e. cond (eqb e.1 d) 1 0), there_once entry w client d)
+  pub standing-after-enter : (w d : ℕ) → standing_in w d (after_enter token client entry v) ≡ standing_in w d v + when (eqb entry w && eqb client d) 1
+  standing-after-enter w d = omega (arith, weigh-come v.tokens token client entry inside w (λ e. cond (eqb e.1 d) 1 0), there-once entry w client d)
 
-  pub given-after_enter : (end : End) (n : ℕ) → given_in end n (after_enter token client entry v) ≡ given_in end n v
-  given-after_enter (Balancer b) n = refl
-  given-after_enter (Exit i) n = refl
+  pub given-after-enter : (end : End) (n : ℕ) → given_in end n (after_enter token client entry v) ≡ given_in end n v
+  given-after-enter (Balancer b) n = refl
+  given-after-enter (Exit i) n = refl
 
 -- on which wire a token is put that goes by an end with number n
 abbrev pub onto : ℕ → View → End → ℕ → ℕ
@@ -79,9 +79,9 @@ module _ (token client wire n : ℕ) (v : View) (is : IsThere v.tokens token cli
       → standing_in w d (after_step token client end n v) + when (eqb wire w && eqb client d) 1 ≡ standing_in w d v + when (eqb client d) (onto n v end w)
   standing-after_step (Balancer b) lands w d =
       let out : ℕ = output_wire v.start.network.table b (n % 2) in
-      omega (arith, weigh-pass v.tokens token client wire out is lands w (λ e. cond (eqb e.1 d) 1 0), there_once wire w client d, there_turned out w client d)
+      omega (arith, weigh-pass v.tokens token client wire out is lands w (λ e. cond (eqb e.1 d) 1 0), there-once wire w client d, there-turned out w client d)
   standing-after_step (Exit i) lands w d =
-      omega (arith, weigh-leave v.tokens token client wire is w (λ e. cond (eqb e.1 d) 1 0), there_once wire w client d, none_turned client d)
+      omega (arith, weigh-leave v.tokens token client wire is w (λ e. cond (eqb e.1 d) 1 0), there-once wire w client d, none-turned client d)
 
   pub given-after_step : (end other : End) (k : ℕ) → given_in other k (after_step token client end n v) ≡ given_in other k v + when (is_end end other && eqb n k) 1
   given-after_step (Balancer b) (Balancer c) k = sum_by_push (λ (p : Passage). cond (eqb c p.balancer && eqb p.number k) 1 0) v.passages (record { balancer = b; number = n })
@@ -109,10 +109,10 @@ module _ (start : Start) (words : List ℕ) (views : List View) (id : ℕ) (v : 
         inside = low;
         entered = entered-raised t words long entry low;
         count = count-kept t words long entry low;
-        on = λ x. omega (arith, total_set (on_in x) views id v w here, on-after_enter token client entry v inside x);
-        standing = λ x d. omega (arith, total_set (standing_in x d) views id v w here, standing-after_enter token client entry v inside x d);
-        given = λ end k. omega (arith, total_set (given_in end k) views id v w here, given-after_enter token client entry v inside end k);
-        granted = λ d i k name. omega (arith, total_set (granted_in (base start) d i k name) views id v w here);
+        on = λ x. omega (arith, total-set (on_in x) views id v w here, on-after-enter token client entry v inside x);
+        standing = λ x d. omega (arith, total-set (standing_in x d) views id v w here, standing-after-enter token client entry v inside x d);
+        given = λ end k. omega (arith, total-set (given_in end k) views id v w here, given-after-enter token client entry v inside end k);
+        granted = λ d i k name. omega (arith, total-set (granted_in (base start) d i k name) views id v w here);
       }
 
   -- a client goes by the end of its wire
@@ -126,9 +126,9 @@ module _ (start : Start) (words : List ℕ) (views : List View) (id : ℕ) (v : 
         ends = ends;
         entered = entered-kept t words long end stands;
         count = λ other. count-raised t words long end other stands;
-        on = λ x. omega (arith, total_set (on_in x) views id v w here, on-after_step token client wire n v is end lands x);
-        standing = λ x d. omega (arith, total_set (standing_in x d) views id v w here, standing-after_step token client wire n v is end lands x d);
-        given = λ other k. omega (arith, total_set (given_in other k) views id v w here, given-after_step token client wire n v is end other k);
+        on = λ x. omega (arith, total-set (on_in x) views id v w here, on-after_step token client wire n v is end lands x);
+        standing = λ x d. omega (arith, total-set (standing_in x d) views id v w here, standing-after_step token client wire n v is end lands x d);
+        given = λ other k. omega (arith, total-set (given_in other k) views id v w here, given-after_step token client wire n v is end other k);
       }
 
   -- a client passes a balancer
@@ -142,7 +142,7 @@ module _ (start : Start) (words : List ℕ) (views : List View) (id : ℕ) (v : 
         goes =
             subst (λ (x : Table). Goes t was (ledger_of t start.words (raised words (end_word t (Balancer b))) (set views id w)) client wire (Balancer b) (one_at (output_wire x b (n % 2)))) table
             (goes token client wire (Balancer b) is inside ends stands (subst (λ (x : Table). output_wire x b (n % 2) < length v.tokens) (sym table) lands));
-        granted = λ d i k name. omega (arith, total_set (granted_in (base start) d i k name) views id v w here);
+        granted = λ d i k name. omega (arith, total-set (granted_in (base start) d i k name) views id v w here);
       }
 
   -- a client leaves by an exit
@@ -162,5 +162,5 @@ module _ (start : Start) (words : List ℕ) (views : List View) (id : ℕ) (v : 
             let same : ◌≡◌ {A = ℕ} (cond (eqb client d && (eqb i j && (eqb n k && eqb (name_of v.start.network.table.width i n - base v.start + base start) name))) 1 0)
             (cond (eqb client d && (eqb i j && (eqb n k && eqb (name_of t.width i n) name))) 1 0) =
             ap {B = ℕ} (λ (x : ℕ). cond (eqb client d && (eqb i j && (eqb n k && eqb x name))) 1 0) name_there in
-            omega (arith, total_set (granted_in (base start) d j k name) views id v w here, more, same);
+            omega (arith, total-set (granted_in (base start) d j k name) views id v w here, more, same);
       }

@@ -6,7 +6,7 @@ use Rattle.std.proofs.lemmas.Bool.{cases_eq, cases_lt, eq-eqb, ne_eqb}
 use Rattle.std.proofs.lemmas.List.{get_or-map, length-map}
 use Rattle.std.proofs.lemmas.List.Sums.{get_or-le-sum_by}
 use Rattle.cn_spec.specs.Sums.{times}
-use Rattle.cn_spec.proofs.CallerLemmas.{sum_by-same, times-map, times-place}
+use Rattle.cn_spec.proofs.CallerLemmas.{sum-by-same, times-map, times-place}
 use Rattle.cn_ledger.specs.Ledger.{Ledger}
 use Rattle.cn_ledger.proofs.CallerLemmas.{granted-once, names-differ}
 use Rattle.cn_floor.specs.declared.view.Grant.{Grant}
@@ -15,10 +15,10 @@ use Rattle.cn_floor.specs.declared.view.View.{View}
 use Rattle.cn_floor.specs.Laws.{ledger_at}
 use Rattle.cn_floor.specs.Rule.{FloorState, KeepsRule}
 use Rattle.cn_floor.specs.Views.{base, granted_in}
-use Rattle.cn_floor.proofs.AtMoments.Totals.{part_le}
+use Rattle.cn_floor.proofs.AtMoments.Totals.{part-le}
 
-no_grant : Grant
-no_grant = record { client = 0; exit = 0; visit = 0; name = 0 }
+no-grant : Grant
+no-grant = record { client = 0; exit = 0; visit = 0; name = 0 }
 
 none-last : (a b c : Bool) → (a && (b && (c && false))) ≡ false
 none-last false b c = refl
@@ -34,7 +34,7 @@ module _ (start : Start) (s : FloorState) (kept : KeepsRule start s) (id : ℕ) 
   m = base start
 
   abbrev grant : ℕ → Grant
-  grant j = get_or v.grants j no_grant
+  grant j = get_or v.grants j no-grant
 
   -- whether a grant is that of another
   abbrev is_same : Grant → Grant → Bool
@@ -47,8 +47,8 @@ module _ (start : Start) (s : FloorState) (kept : KeepsRule start s) (id : ℕ) 
       let one : ◌≡◌ {A = ℕ} (cond (is_same g g) 1 0) 1 = rw (eq-eqb g.client g.client refl, eq-eqb g.exit g.exit refl, eq-eqb g.visit g.visit refl, eq-eqb (g.name + m) (g.name + m) refl) refl in
       omega (
         arith,
-        get_or-le-sum_by (λ x. cond (is_same g x) 1 0) v.grants j no_grant low,
-        part_le (granted_in m g.client g.exit g.visit (g.name + m)) s.views id v at,
+        get_or-le-sum_by (λ x. cond (is_same g x) 1 0) v.grants j no-grant low,
+        part-le (granted_in m g.client g.exit g.visit (g.name + m)) s.views id v at,
       )
 
   -- what has a grant's name is that grant
@@ -73,14 +73,14 @@ module _ (start : Start) (s : FloorState) (kept : KeepsRule start s) (id : ℕ) 
         let (j, low, is) = times-place names name (omega (arith, high)) in
         let less : j < length v.grants = omega (arith, low, length-map v.grants (λ (g : Grant). g.name)) in
         let g : Grant = grant j in
-        let its : g.name ≡ name = sym (get_or-map (λ (x : Grant). x.name) v.grants j no_grant 0 less) ∙ is in
+        let its : g.name ≡ name = sym (get_or-map (λ (x : Grant). x.name) v.grants j no-grant 0 less) ∙ is in
         let same : times name names ≡ granted_in m g.client g.exit g.visit (g.name + m) v =
         times-map (λ (x : Grant). x.name) name v.grants
-        ∙ sum_by-same (λ (x : Grant). cond (eqb x.name name) 1 0) (λ (x : Grant). cond (is_same g x) 1 0) v.grants no_grant (λ k h. ap {B = ℕ} (λ b. cond b 1 0) (named-alike j k name less h its)) in
+        ∙ sum-by-same (λ (x : Grant). cond (eqb x.name name) 1 0) (λ (x : Grant). cond (is_same g x) 1 0) v.grants no-grant (λ k h. ap {B = ℕ} (λ b. cond b 1 0) (named-alike j k name less h its)) in
         omega (
           arith,
           same,
-          part_le (granted_in m g.client g.exit g.visit (g.name + m)) s.views id v at,
+          part-le (granted_in m g.client g.exit g.visit (g.name + m)) s.views id v at,
           granted-once start.network.table l kept.sound g.client g.exit g.visit (g.name + m) (made j less),
         )
   ]

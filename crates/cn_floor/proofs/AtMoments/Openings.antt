@@ -18,7 +18,7 @@ use Rattle.cn_floor.specs.declared.view.View.{View}
 use Rattle.cn_floor.specs.Rule.{IsCarried, IsAccounted, IsFresh, HoldsAt, IsStart, ledger_of}
 use Rattle.cn_floor.specs.Views.{base, given_in, granted_in, empty_view, on_in, standing_in, levels_in}
 use Rattle.cn_floor.specs.Words.{clients_in, count_in, end_word, entered_in, word_count}
-use Rattle.cn_spec.proofs.CallerLemmas.{sum_below-zero, times-nil, zero_at}
+use Rattle.cn_spec.proofs.CallerLemmas.{sum-below-zero, times-nil, zero_at}
 use Rattle.cn_ledger.proofs.CallerLemmas.{IsNothing, sound-nothing}
 
 nothing : (b : Bool) → ◌≡◌ {A = ℕ} (when b 0) 0
@@ -41,9 +41,9 @@ module _ (t : Table) where
   none-below : (n : ℕ) → ◌≡◌ {A = ℕ} (once_below 0 n) 0
   none-below n = ap {B = ℕ} (λ b. cond b 1 0) (le-ltb n 0 (omega arith))
 
-  not_granted : (p q : Bool) → ◌≡◌ {A = ℕ} (when (p && (false && q)) 1) 0
-  not_granted true q = refl
-  not_granted false q = refl
+  not-granted : (p q : Bool) → ◌≡◌ {A = ℕ} (when (p && (false && q)) 1) 0
+  not-granted true q = refl
+  not-granted false q = refl
 
   nobody : IsNothing (ledger_of t zeros zeros [])
   nobody = record {
@@ -55,13 +55,13 @@ module _ (t : Table) where
     granted = λ c i v name.
         let none : ltb v (count_in t zeros (Exit i)) ≡ false = le-ltb v (count_in t zeros (Exit i)) (omega (arith, none-counted (Exit i))) in
         let one : when (eqb 0 c && (ltb v (count_in t zeros (Exit i)) && eqb (name_of t.width i v) name)) 1 ≡ 0 =
-        ap {B = ℕ} (λ b. when (eqb 0 c && (b && eqb (name_of t.width i v) name)) 1) none ∙ not_granted (eqb 0 c) (eqb (name_of t.width i v) name) in
+        ap {B = ℕ} (λ b. when (eqb 0 c && (b && eqb (name_of t.width i v) name)) 1) none ∙ not-granted (eqb 0 c) (eqb (name_of t.width i v) name) in
         omega arith;
   }
 
   -- words that are all 0 may be carried, and nobody came
   pub none-came : clients_in t zeros ≡ 0
-  none-came = sum_below-zero t.entries (entered_in t zeros) none-entered
+  none-came = sum-below-zero t.entries (entered_in t zeros) none-entered
 
   pub carries-nothing : IsCarried t zeros
   carries-nothing = record {
@@ -72,30 +72,30 @@ module _ (t : Table) where
 
 -- ---- one lane that has done nothing
 
-no_tokens : (n i : ℕ) → ◌≡◌ {A = List (ℕ × ℕ)} (get_or (replicate n []) i []) []
-no_tokens zero i = refl
-no_tokens (suc n) zero = refl
-no_tokens (suc n) (suc i) = no_tokens n i
+no-tokens : (n i : ℕ) → ◌≡◌ {A = List (ℕ × ℕ)} (get_or (replicate n []) i []) []
+no-tokens zero i = refl
+no-tokens (suc n) zero = refl
+no-tokens (suc n) (suc i) = no-tokens n i
 
 module _ (start : Start) (quota : ℕ) where
   abbrev v : View
   v = empty_view start quota
 
   pub on-new : (u : ℕ) → on_in u v ≡ 0
-  on-new u = ap length (no_tokens (length start.network.table.ends) u)
+  on-new u = ap length (no-tokens (length start.network.table.ends) u)
 
   pub standing-new : (u c : ℕ) → standing_in u c v ≡ 0
-  standing-new u c = ap (λ (es : List (ℕ × ℕ)). sum_by (λ e. cond (eqb e.1 c) 1 0) es) (no_tokens (length start.network.table.ends) u)
+  standing-new u c = ap (λ (es : List (ℕ × ℕ)). sum_by (λ e. cond (eqb e.1 c) 1 0) es) (no-tokens (length start.network.table.ends) u)
 
   pub given-new : (end : End) (n : ℕ) → given_in end n v ≡ 0
   given-new (Balancer b) n = refl
   given-new (Exit i) n = refl
 
   levels-new : (level : ℕ → ℕ) → levels_in level v ≡ 0
-  levels-new level = sum_below-zero (length v.tokens) (λ u. level u * on_in u v) (λ u. ap (λ (k : ℕ). level u * k) (on-new u) ∙ omega arith)
+  levels-new level = sum-below-zero (length v.tokens) (λ u. level u * on_in u v) (λ u. ap (λ (k : ℕ). level u * k) (on-new u) ∙ omega arith)
 
   inside-new : tokens_in v.tokens ≡ 0
-  inside-new = sum_below-zero (length v.tokens) (λ u. on_in u v) on-new
+  inside-new = sum-below-zero (length v.tokens) (λ u. on_in u v) on-new
 
   pub accounted-new : IsAccounted start.network v
   accounted-new = record {
@@ -112,7 +112,7 @@ module _ (start : Start) (quota : ℕ) where
     names = λ k d less. absurd (omega arith);
   }
 
-  -- a sum over this lane alone
+  -- a sum over only this lane
   alone : (f : View → ℕ) → f v ≡ 0 → sum_by f [] ≡ sum_by f (v ∷ [])
   alone f none = omega (arith, sum_by-cons f v [])
 

@@ -8,11 +8,11 @@ use Rattle.cn_wiring.specs.declared.end.End.TheVariants.{Balancer, Exit}
 use Rattle.cn_wiring.specs.Table.{Table, Stands, is_end}
 use Rattle.cn_ledger.specs.Events.{one_at}
 use Rattle.cn_floor.specs.Words.{count_in, end_word, entered_in, word_count}
-use Rattle.cn_spec.proofs.CallerLemmas.{one_more_at}
+use Rattle.cn_spec.proofs.CallerLemmas.{one_more-at}
 
-pub end_there : (t : Table) (end : End) → Stands t end → end_word t end < word_count t
-end_there t (Balancer b) h = omega arith
-end_there t (Exit i) h = omega arith
+pub end-there : (t : Table) (end : End) → Stands t end → end_word t end < word_count t
+end-there t (Balancer b) h = omega arith
+end-there t (Exit i) h = omega arith
 
 -- the words, of which that at place i is one more
 abbrev pub raised : List ℕ → ℕ → List ℕ
@@ -36,8 +36,8 @@ module _ (t : Table) (words : List ℕ) (long : length words ≡ word_count t) w
       elim (cases_lt x n) [
         | inl l ↦
             elim (cases_eq x y) [
-              | inl e ↦ rw (lt-ltb x n l, eq-eqb x y e) (one_more_at words i j inside ∙ ap (λ b. get_or words j 0 + cond b 1 0) (eq-eqb j i (same e)))
-              | inr d ↦ rw (lt-ltb x n l, ne_eqb x y d) (one_more_at words i j inside ∙ ap (λ b. get_or words j 0 + cond b 1 0) (ne_eqb j i (λ e. d (apart l e))))
+              | inl e ↦ rw (lt-ltb x n l, eq-eqb x y e) (one_more-at words i j inside ∙ ap (λ b. get_or words j 0 + cond b 1 0) (eq-eqb j i (same e)))
+              | inr d ↦ rw (lt-ltb x n l, ne_eqb x y d) (one_more-at words i j inside ∙ ap (λ b. get_or words j 0 + cond b 1 0) (ne_eqb j i (λ e. d (apart l e))))
             ]
         | inr l ↦ rw (le-ltb x n l, ne_eqb x y (λ e. omega arith)) refl
       ]
@@ -46,7 +46,7 @@ module _ (t : Table) (words : List ℕ) (long : length words ≡ word_count t) w
   unguarded : (i j n x : ℕ) → i < length words → (x < n → j ≢ i) → when (ltb x n) (get_or (raised words i) j 0) ≡ when (ltb x n) (get_or words j 0)
   unguarded i j n x inside apart =
       elim (cases_lt x n) [
-        | inl l ↦ rw (lt-ltb x n l) (one_more_at words i j inside ∙ ap (λ b. get_or words j 0 + cond b 1 0) (ne_eqb j i (apart l)) ∙ omega arith)
+        | inl l ↦ rw (lt-ltb x n l) (one_more-at words i j inside ∙ ap (λ b. get_or words j 0 + cond b 1 0) (ne_eqb j i (apart l)) ∙ omega arith)
         | inr l ↦ rw (le-ltb x n l) refl
       ]
 

@@ -21,12 +21,12 @@ use Rattle.cn_floor.specs.Rule.{IsAccounted, IsFresh, HoldsAt, load_bound}
 use Rattle.cn_floor.specs.Plays.{Looks}
 use Rattle.cn_floor.specs.Views.{after_join, after_look, after_split, base, empty_view, given_in, granted_in, levels_in, nobody, on_in, split_off, standing_in}
 use Rattle.cn_floor.specs.Words.{clients_in}
-use Rattle.cn_floor.proofs.AtMoments.Bounds.{all_came}
+use Rattle.cn_floor.proofs.AtMoments.Bounds.{all-came}
 use Rattle.cn_floor.proofs.AtMoments.Kept.{AddUpAlike, kept-recounted, kept_alike}
 use Rattle.cn_floor.proofs.AtMoments.Openings.{accounted-new, on-new, standing-new}
 use Rattle.cn_floor.proofs.AtMoments.Places.{get-here}
-use Rattle.cn_floor.proofs.AtMoments.Totals.{part_le, total_set}
-use Rattle.cn_spec.proofs.CallerLemmas.{sum_below-zero, times-append, times-nil}
+use Rattle.cn_floor.proofs.AtMoments.Totals.{part-le, total-set}
+use Rattle.cn_spec.proofs.CallerLemmas.{sum-below-zero, times-append, times-nil}
 
 -- ---- split
 
@@ -35,7 +35,7 @@ splits start id q v of idle enough s kept at =
     let left : View = after_split q v in
     let right : View = split_off q v in
     let vs : List View = set s.views id left ++ right ∷ [] in
-    let sums : (f : View → ℕ) → f left ≡ f v → f right ≡ 0 → sum_by f s.views ≡ sum_by f vs = λ f e z. omega (arith, total_set f s.views id v left at, sum_by_push f (set s.views id left) right) in
+    let sums : (f : View → ℕ) → f left ≡ f v → f right ≡ 0 → sum_by f s.views ≡ sum_by f vs = λ f e z. omega (arith, total-set f s.views id v left at, sum_by_push f (set s.views id left) right) in
     let alike : AddUpAlike (base start) s.views vs = record {
       on = λ u. sums (on_in u) refl (on-new v.start q u);
       standing = λ u c. sums (standing_in u c) refl (standing-new v.start q u c);
@@ -44,7 +44,7 @@ splits start id q v of idle enough s kept at =
       entries = λ u. sums (λ (x : View). times u x.entries) refl (times-nil u);
       quotas =
           let f : View → ℕ = λ x. x.quota + length x.entries in
-          omega (arith, total_set f s.views id v left at, sum_by_push f (set s.views id left) right);
+          omega (arith, total-set f s.views id v left at, sum_by_push f (set s.views id left) right);
     } in
     let f = kept.rule.accounted id v at in
     let g = kept.rule.fresh id v at in
@@ -53,7 +53,7 @@ splits start id q v of idle enough s kept at =
     let accounted-left : IsAccounted start.network left = record { all = f.all; entries = f.entries; walked = f.walked } in
     let accounted-right : IsAccounted start.network right = record { all = new.all; entries = new.entries; walked = new.walked } in
     let fresh-left : IsFresh start s.words left = record { low = g.low; own = g.own; seen = g.seen; names = g.names } in
-    let fresh-right : IsFresh start s.words right = record { low = λ u. omega arith; own = omega (arith, all_came start s kept); seen = omega (arith, g.seen); names = λ k d less. absurd (omega arith) } in
+    let fresh-right : IsFresh start s.words right = record { low = λ u. omega arith; own = omega (arith, all-came start s kept); seen = omega (arith, g.seen); names = λ k d less. absurd (omega arith) } in
     kept_alike start s vs kept alike
     (λ j x e. ⊎_elim
     (λ y. ⊎_elim (λ z. subst (λ (u : View). IsAccounted start.network u) z.1 accounted-left) (λ z. kept.rule.accounted j x z.1) (at_set s.views id j left x y))
@@ -101,7 +101,7 @@ joins-sum start id other v w both is idle idle' s kept at apart at_other =
     let once : List View = set s.views id both in
     let vs : List View = set once other nobody in
     let here : get_elem? s.views other ≡ some w = ⊎_elim (λ y. absurd (apart y.0)) (λ y. y.1) (at_set s.views id other both w at_other) in
-    let two : (f : View → ℕ) → sum_by f vs + f v + f w ≡ sum_by f s.views + f both + f nobody = λ f. omega (arith, total_set f s.views id v both at, total_set f once other w nobody at_other) in
+    let two : (f : View → ℕ) → sum_by f vs + f v + f w ≡ sum_by f s.views + f both + f nobody = λ f. omega (arith, total-set f s.views id v both at, total-set f once other w nobody at_other) in
     let sums : (f : View → ℕ) → f both ≡ f v + f w → f nobody ≡ 0 → sum_by f s.views ≡ sum_by f vs = λ f e z. omega (arith, two f) in
     let many : length both.entries ≡ length v.entries + length w.entries = ap (λ (es : List ℕ). length es) is.entries ∙ length-append v.entries w.entries in
     let alike : AddUpAlike (base start) s.views vs = record {
@@ -119,9 +119,9 @@ joins-sum start id other v w both is idle idle' s kept at apart at_other =
     let all' : load_bound t s.words w.loads ≡ clients_in t s.words = ap (λ (ls : List ℕ). load_bound t s.words ls) idle' in
     let all-both : load_bound t s.words both.loads ≡ clients_in t s.words = ap (λ (ls : List ℕ). load_bound t s.words ls) is.loads in
     let entries : length v.entries + length w.entries ≤ sum_by (λ (x : View). length x.entries) s.views =
-    let part = part_le (λ (x : View). length x.entries) (set s.views id nobody) other w (set_else s.views id other nobody apart ∙ here) in
-    omega (arith, total_set (λ (x : View). length x.entries) s.views id v nobody at) in
-    let came = all_came start s kept in
+    let part = part-le (λ (x : View). length x.entries) (set s.views id nobody) other w (set_else s.views id other nobody apart ∙ here) in
+    omega (arith, total-set (λ (x : View). length x.entries) s.views id v nobody at) in
+    let came = all-came start s kept in
     let names : All (λ (x : Grant). base start + x.name < clients_in t s.words) (v.grants ++ w.grants) =
     All-append (λ (x : Grant). base start + x.name < clients_in t s.words) v.grants w.grants (λ k d less. let n = g.names k d less in omega (arith, n)) (λ k d less. let n = h.names k d less in omega (arith, n)) in
     let fresh-both : IsFresh start s.words both = record {
@@ -132,9 +132,9 @@ joins-sum start id other v w both is idle idle' s kept at apart at_other =
     } in
     let fresh-spent : IsFresh start s.words nobody = record { low = λ u. omega arith; own = omega arith; seen = omega arith; names = λ k d less. absurd (omega arith) } in
     let accounted-spent : IsAccounted start.network nobody = record {
-      all = omega (arith, sum_below-zero 0 (λ _. 0) (λ _. refl));
+      all = omega (arith, sum-below-zero 0 (λ _. 0) (λ _. refl));
       entries = λ k d less. absurd (omega arith);
-      walked = λ level is. omega (arith, sum_below-zero (length nobody.tokens) (λ u. level u * on_in u nobody) (λ u. omega arith));
+      walked = λ level is. omega (arith, sum-below-zero (length nobody.tokens) (λ u. level u * on_in u nobody) (λ u. omega arith));
     } in
     kept_alike start s vs kept alike
     (λ j x e. ⊎_elim
@@ -155,37 +155,37 @@ module _ (v w : View) (idle : v.loads ≡ []) (out : Empty w) where
   standing-out : (u c : ℕ) → standing_in u c w ≡ 0
   standing-out u c = omega (arith, out u, count_by-le-length (λ (e : ℕ × ℕ). eqb e.1 c) (get_or w.tokens u []))
 
-  given-after_join : (end : End) (n : ℕ) → given_in end n (after_join v w) ≡ given_in end n v + given_in end n w
-  given-after_join (Balancer b) n = sum_by-append (λ (p : Passage). cond (eqb b p.balancer && eqb p.number n) 1 0) v.passages w.passages
-  given-after_join (Exit i) n = sum_by-append (λ (g : Grant). cond (eqb i g.exit && eqb g.visit n) 1 0) v.grants w.grants
+  given-after-join : (end : End) (n : ℕ) → given_in end n (after_join v w) ≡ given_in end n v + given_in end n w
+  given-after-join (Balancer b) n = sum_by-append (λ (p : Passage). cond (eqb b p.balancer && eqb p.number n) 1 0) v.passages w.passages
+  given-after-join (Exit i) n = sum_by-append (λ (g : Grant). cond (eqb i g.exit && eqb g.visit n) 1 0) v.grants w.grants
 
-  accounted-after_join : (network : Network) → IsAccounted network v → IsAccounted network w → IsAccounted network (after_join v w)
-  accounted-after_join network f g =
-      let inside : tokens_in w.tokens ≡ 0 = sum_below-zero (length w.tokens) (λ u. on_in u w) out in
+  accounted-after-join : (network : Network) → IsAccounted network v → IsAccounted network w → IsAccounted network (after_join v w)
+  accounted-after-join network f g =
+      let inside : tokens_in w.tokens ≡ 0 = sum-below-zero (length w.tokens) (λ u. on_in u w) out in
       record {
         all = omega (arith, f.all, g.all, length-append v.entries w.entries, length-append v.grants w.grants);
         entries = All-append (λ (u : ℕ). u < network.table.entries) v.entries w.entries f.entries g.entries;
         walked = λ level is.
-            let none : levels_in level w ≡ 0 = sum_below-zero (length w.tokens) (λ u. level u * on_in u w) (λ u. ap (λ (k : ℕ). level u * k) (out u) ∙ omega arith) in
+            let none : levels_in level w ≡ 0 = sum-below-zero (length w.tokens) (λ u. level u * on_in u w) (λ u. ap (λ (k : ℕ). level u * k) (out u) ∙ omega arith) in
             let more : network.depth * length (v.grants ++ w.grants) ≡ network.depth * (length v.grants + length w.grants) = ap (λ (k : ℕ). network.depth * k) (length-append v.grants w.grants) in
             omega (arith, f.walked level is, g.walked level is, length-append v.passages w.passages);
       }
 
-  pub sum-after_join : (m : ℕ) (network : Network) → IsSum m network v w (after_join v w)
-  sum-after_join m network = record {
+  pub sum-after-join : (m : ℕ) (network : Network) → IsSum m network v w (after_join v w)
+  sum-after-join m network = record {
     on = λ u. omega (arith, out u);
     standing = λ u c. omega (arith, standing-out u c);
-    given = given-after_join;
+    given = given-after-join;
     quota = refl;
     entries = refl;
     grants = refl;
     seen = refl;
     loads = idle;
-    accounted = accounted-after_join network;
+    accounted = accounted-after-join network;
   }
 
 pub joins : (start : Start) (id other : ℕ) (v w : View) → v.loads ≡ [] → w.loads ≡ [] → Empty w → Joins (HoldsAt start) id v other w (after_join v w) nobody
-joins start id other v w idle idle' out = joins-sum start id other v w (after_join v w) (sum-after_join v w idle out (base start) start.network) idle idle'
+joins start id other v w idle idle' out = joins-sum start id other v w (after_join v w) (sum-after-join v w idle out (base start) start.network) idle idle'
 
 -- ---- look
 
@@ -198,7 +198,7 @@ looks start slots id i me is same no_slot s kept homes at fits =
     let after : HoldsAt start (record { words = s.words; homes = s.homes; views = set s.views id w }) =
     kept-recounted start s id v (v.steps + 1) at kept in
     let f = kept.rule.accounted id v at in
-    let quota = part_le (λ (x : View). x.quota + length x.entries) s.views id v at in (
+    let quota = part-le (λ (x : View). x.quota + length x.entries) s.views id v at in (
       w,
       keeps,
       tt,

@@ -16,10 +16,10 @@ use Rattle.cn_floor.specs.declared.view.View.{View}
 use Rattle.cn_floor.specs.Rule.{HoldsAt}
 use Rattle.cn_floor.specs.Views.{given_in, own_count}
 use Rattle.cn_floor.specs.Words.{count_in}
-use Rattle.cn_floor.proofs.AtMoments.Bounds.{count_risen}
+use Rattle.cn_floor.proofs.AtMoments.Bounds.{count-risen}
 use Rattle.cn_floor.proofs.AtMoments.Walked.{no-levels}
-use Rattle.cn_floor.proofs.AtMoments.Totals.{mine_alone, part_le, total_same}
-use Rattle.cn_spec.proofs.CallerLemmas.{once_in, sum_below-one, sum_below-plus, sum_below-same, sum_below-total, sum_below-zero}
+use Rattle.cn_floor.proofs.AtMoments.Totals.{mine-only, part-le, total_same}
+use Rattle.cn_spec.proofs.CallerLemmas.{once-in, sum-below-one, sum-below-plus, sum-below-same, sum-below-total, sum-below-zero}
 use Rattle.cn_wiring.proofs.CallerLemmas.{levels}
 
 -- the numbers below c, of those below n
@@ -29,7 +29,7 @@ below-once zero c h = omega arith
 below-once (suc n) c h = elim (cases_lt n c) [
   | inl l ↦
       let e : c ≡ suc n = omega arith in
-      let rest = sum_below-same n (once_below c) (once_below n) (λ u k. ap {B = ℕ} (λ b. cond b 1 0) (lt-ltb u c (omega arith) ∙ sym (lt-ltb u n k))) in
+      let rest = sum-below-same n (once_below c) (once_below n) (λ u k. ap {B = ℕ} (λ b. cond b 1 0) (lt-ltb u c (omega arith) ∙ sym (lt-ltb u n k))) in
       let here : ◌≡◌ {A = ℕ} (once_below c n) 1 = ap {B = ℕ} (λ b. cond b 1 0) (lt-ltb n c l) in
       omega (arith, below-once n n (omega arith))
   | inr l ↦
@@ -39,25 +39,25 @@ below-once (suc n) c h = elim (cases_lt n c) [
 
 -- a number below n, looked for among these
 found : (b : Bool) (m n : ℕ) → (b ≡ true → m < n) → sum_below n (λ k. cond (b && eqb m k) 1 0) ≡ cond b 1 0
-found false m n h = sum_below-zero n (λ _. 0) (λ _. refl)
-found true m n h = sum_below-one n m 1 (h refl)
+found false m n h = sum-below-zero n (λ _. 0) (λ _. refl)
+found true m n h = sum-below-one n m 1 (h refl)
 
 -- where a lane's numbers at an end are all below n, there are as many as it was given
 own : (end : End) (v : View) (n : ℕ) → ((k : ℕ) → 1 ≤ given_in end k v → k < n) → sum_below n (λ k. given_in end k v) ≡ own_count end v
 own (Balancer b) v n low =
     let f : ℕ → Passage → ℕ = λ k p. cond (eqb b p.balancer && eqb p.number k) 1 0 in
-    sum_below-total f v.passages n
+    sum-below-total f v.passages n
     ∙ total_same (λ p. sum_below n (λ k. f k p)) (λ (p : Passage). cond (eqb b p.balancer) 1 0) v.passages (λ i p at.
     found (eqb b p.balancer) p.number n (λ h.
     let one : ◌≡◌ {A = ℕ} (f p.number p) 1 = rw (h, eq-eqb p.number p.number refl) refl in
-    low p.number (omega (arith, part_le (f p.number) v.passages i p at))))
+    low p.number (omega (arith, part-le (f p.number) v.passages i p at))))
 own (Exit j) v n low =
     let f : ℕ → Grant → ℕ = λ k g. cond (eqb j g.exit && eqb g.visit k) 1 0 in
-    sum_below-total f v.grants n
+    sum-below-total f v.grants n
     ∙ total_same (λ g. sum_below n (λ k. f k g)) (λ (g : Grant). cond (eqb j g.exit) 1 0) v.grants (λ i g at.
     found (eqb j g.exit) g.visit n (λ h.
     let one : ◌≡◌ {A = ℕ} (f g.visit g) 1 = rw (h, eq-eqb g.visit g.visit refl) refl in
-    low g.visit (omega (arith, part_le (f g.visit) v.grants i g at))))
+    low g.visit (omega (arith, part-le (f g.visit) v.grants i g at))))
 
 module _ (start : Start) (s : State (Unit {0}) View) (kept : HoldsAt start s) where
   abbrev t : Table
@@ -85,10 +85,10 @@ module _ (start : Start) (s : State (Unit {0}) View) (kept : HoldsAt start s) wh
       let n : ℕ = count_in t s.words end in
       let c : ℕ = count_in t start.words end in
       let mine : sum_by (λ (x : View). length x.entries) s.views ≡ length v.entries =
-      mine_alone (λ (x : View). length x.entries) (λ (x : View). x.quota + length x.entries) s.views id v at (λ j x a z. omega arith) (kept.rule.quotas ∙ sym whole) in
+      mine-only (λ (x : View). length x.entries) (λ (x : View). x.quota + length x.entries) s.views id v at (λ j x a z. omega arith) (kept.rule.quotas ∙ sym whole) in
       let each : (k : ℕ) → once_below c k + given_in end k v ≡ once_below n k = λ k.
-      let all = mine_alone (given_in end k) (λ (x : View). length x.entries) s.views id v at (λ j x a z. none_given j x a z end k) mine in
+      let all = mine-only (given_in end k) (λ (x : View). length x.entries) s.views id v at (λ j x a z. none_given j x a z end k) mine in
       omega (arith, kept.rule.sound.numbered end k stands) in
-      let low = own end v n (λ k h. once_in n k (omega (arith, each k))) in
-      let sums = sum_below-same n (λ k. once_below c k + given_in end k v) (once_below n) (λ k l. each k) in
-      omega (arith, sum_below-plus n (once_below c) (λ k. given_in end k v), below-once n n (omega arith), below-once n c (count_risen start s kept end stands))
+      let low = own end v n (λ k h. once-in n k (omega (arith, each k))) in
+      let sums = sum-below-same n (λ k. once_below c k + given_in end k v) (once_below n) (λ k l. each k) in
+      omega (arith, sum-below-plus n (once_below c) (λ k. given_in end k v), below-once n n (omega arith), below-once n c (count-risen start s kept end stands))

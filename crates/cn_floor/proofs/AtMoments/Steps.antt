@@ -24,15 +24,15 @@ use Rattle.cn_floor.specs.Sweeps.{GoesFrom}
 use Rattle.cn_floor.specs.Rule.{IsAccounted, IsFresh, HoldsAt, ledger_of, load_bound}
 use Rattle.cn_floor.specs.Views.{after_enter, after_step, base}
 use Rattle.cn_floor.specs.Words.{clients_in, count_in, end_word, entered_in}
-use Rattle.cn_floor.proofs.AtMoments.Bounds.{count_few, few_came, name_later}
-use Rattle.cn_floor.proofs.AtMoments.Accounts.{accounted-after_enter, accounted-after_step}
-use Rattle.cn_floor.proofs.AtMoments.Fresh.{fresh_grown, names_below}
+use Rattle.cn_floor.proofs.AtMoments.Bounds.{count-few, few-came, name-later}
+use Rattle.cn_floor.proofs.AtMoments.Accounts.{accounted-after-enter, accounted-after_step}
+use Rattle.cn_floor.proofs.AtMoments.Fresh.{fresh-grown, names_below}
 use Rattle.cn_floor.proofs.AtMoments.Ledgers.{Lands, enters, leaves, passes}
 use Rattle.cn_floor.proofs.AtMoments.Sole.{sole}
 use Rattle.cn_floor.proofs.AtMoments.Places.{get-here}
-use Rattle.cn_floor.proofs.AtMoments.Totals.{total_set}
+use Rattle.cn_floor.proofs.AtMoments.Totals.{total-set}
 use Rattle.cn_floor.proofs.AtMoments.Raised.{count-raised, count-word, entered-kept, entered-raised, entered-word, lanes-raised, one-end, raised}
-use Rattle.cn_spec.proofs.CallerLemmas.{sum_below-one, sum_below-part, sum_below-plus, sum_below-same, times-append, times-nil}
+use Rattle.cn_spec.proofs.CallerLemmas.{sum-below-one, sum-below-part, sum-below-plus, sum-below-same, times-append, times-nil}
 use Rattle.cn_ledger.proofs.CallerLemmas.{bounded, sound-enters, sound-leaves, sound-passes}
 use Rattle.cn_yard.specs.Lists.{IsThere}
 
@@ -61,51 +61,51 @@ module _ (start : Start) (id token client entry : ℕ) (v : View) (s : State (Un
   risen : (u : ℕ) → entered_in start.network.table s.words u ≤ entered_in start.network.table after.words u
   risen u = omega (arith, entered-raised start.network.table s.words kept.rule.words entry low u)
 
-  one_more_came : clients_in start.network.table after.words ≡ clients_in start.network.table s.words + 1
-  one_more_came =
+  one_more-came : clients_in start.network.table after.words ≡ clients_in start.network.table s.words + 1
+  one_more-came =
       let t = start.network.table in
-      sum_below-same t.entries (entered_in t after.words) (λ u. entered_in t s.words u + one_at entry u) (λ u l. entered-raised t s.words kept.rule.words entry low u)
-      ∙ sum_below-plus t.entries (entered_in t s.words) (one_at entry) ∙ omega (arith, sum_below-one t.entries entry 1 low)
+      sum-below-same t.entries (entered_in t after.words) (λ u. entered_in t s.words u + one_at entry u) (λ u l. entered-raised t s.words kept.rule.words entry low u)
+      ∙ sum-below-plus t.entries (entered_in t s.words) (one_at entry) ∙ omega (arith, sum-below-one t.entries entry 1 low)
 
-  fresh-after_enter : v.loads ≡ [] → IsFresh start after.words w
-  fresh-after_enter idle =
+  fresh-after-enter : v.loads ≡ [] → IsFresh start after.words w
+  fresh-after-enter idle =
       let t = start.network.table in
       let f = kept.rule.fresh id v here in
       let was : load_bound t s.words v.loads ≡ clients_in t s.words = ap (λ (ls : List ℕ). load_bound t s.words ls) idle in
       let now : load_bound t after.words v.loads ≡ clients_in t after.words = ap (λ (ls : List ℕ). load_bound t after.words ls) idle in
       record {
         low = λ u. omega (arith, f.low u, risen u);
-        own = omega (arith, f.own, one_more_came, length_push v.entries entry);
-        seen = omega (arith, f.seen, one_more_came);
-        names = names_below v.grants (base start) (load_bound t s.words v.loads) (load_bound t after.words v.loads) (omega (arith, one_more_came)) f.names;
+        own = omega (arith, f.own, one_more-came, length_push v.entries entry);
+        seen = omega (arith, f.seen, one_more-came);
+        names = names_below v.grants (base start) (load_bound t s.words v.loads) (load_bound t after.words v.loads) (omega (arith, one_more-came)) f.names;
       }
 
-  pub kept-after_enter : v.loads ≡ [] → HoldsAt start after
-  kept-after_enter idle = record {
+  pub kept-after-enter : v.loads ≡ [] → HoldsAt start after
+  kept-after-enter idle = record {
     began = kept.began;
     rule = record {
       words = length-set s.words (1 + entry) (get_or s.words (1 + entry) 0 + 1) ∙ kept.rule.words;
       lanes = lanes-raised s.words (1 + entry) (omega arith) kept.rule.lanes;
       sound = sound-enters start.network.table (ledger_of start.network.table start.words s.words s.views) (ledger_of start.network.table start.words after.words after.views) client entry came_in kept.rule.sound;
       entered = λ u l.
-          let more = total_set (λ (x : View). times u x.entries) s.views id v w here in
+          let more = total-set (λ (x : View). times u x.entries) s.views id v w here in
           omega (arith, entered-raised start.network.table s.words kept.rule.words entry low u, kept.rule.entered u l, times-last u entry v.entries);
       accounted = λ i x e. ⊎_elim
-          (λ y. subst (λ (z : View). IsAccounted start.network z) y.1 (accounted-after_enter start.network token client entry v low inside (kept.rule.accounted id v here)))
+          (λ y. subst (λ (z : View). IsAccounted start.network z) y.1 (accounted-after-enter start.network token client entry v low inside (kept.rule.accounted id v here)))
           (λ y. kept.rule.accounted i x y.1)
           (at_set s.views id i w x e);
       fresh = λ i x e. ⊎_elim
-          (λ y. subst (λ (z : View). IsFresh start after.words z) y.1 (fresh-after_enter idle))
-          (λ y. fresh_grown start s.words after.words x risen (kept.rule.fresh i x y.1))
+          (λ y. subst (λ (z : View). IsFresh start after.words z) y.1 (fresh-after-enter idle))
+          (λ y. fresh-grown start s.words after.words x risen (kept.rule.fresh i x y.1))
           (at_set s.views id i w x e);
       quotas =
-          let more = total_set (λ (x : View). x.quota + length x.entries) s.views id v w here in
+          let more = total-set (λ (x : View). x.quota + length x.entries) s.views id v w here in
           omega (arith, length_push v.entries entry, kept.rule.quotas);
     };
   }
 
-  pub step-after_enter : v.loads ≡ [] → IsAtomicStep start v w (λ old new. Enters start.network.table old new client entry)
-  step-after_enter idle = record {
+  pub step-after-enter : v.loads ≡ [] → IsAtomicStep start v w (λ old new. Enters start.network.table old new client entry)
+  step-after-enter idle = record {
     old = s;
     new = after;
     id = id;
@@ -113,32 +113,32 @@ module _ (start : Start) (id token client entry : ℕ) (v : View) (s : State (Un
     there = get-here s.views id v w here;
     views = refl;
     kept_before = kept.rule;
-    kept_after = (kept-after_enter idle).rule;
+    kept_after = (kept-after-enter idle).rule;
     happened = came_in;
   }
 
 -- a client may come in
-pub lets_in : (start : Start) (slots id : ℕ) (me : Me (Unit {0}) View) (is : Coming) → is.start ≡ start → me.1 ≡ [] → me.0.loads ≡ [] → me.0.start ≡ start → is.entry < start.network.table.entries
+pub lets-in : (start : Start) (slots id : ℕ) (me : Me (Unit {0}) View) (is : Coming) → is.start ≡ start → me.1 ≡ [] → me.0.loads ≡ [] → me.0.start ≡ start → is.entry < start.network.table.entries
     → is.entry < length me.0.tokens → 0 < me.0.quota
     → Allows (HoldsAt start) slots id me (1 + is.entry) (λ n. (n + 1) % 2 ^ 64) (λ n new. (new.1 ≡ []) × ComesIn is me.0 new.0)
-lets_in start slots id me is same no_slot idle of low inside some_quota s kept homes at fits =
+lets-in start slots id me is same no_slot idle of low inside some_quota s kept homes at fits =
     let v : View = me.0 in
     let n : ℕ = get_or s.words (1 + is.entry) 0 in
     let w : View = after_enter is.token is.client is.entry v in
-    let few : n ≤ base start + start.quota = omega (arith, entered-word start.network.table s.words is.entry low, sum_below-part start.network.table.entries is.entry (entered_in start.network.table s.words) low, few_came start s kept) in
+    let few : n ≤ base start + start.quota = omega (arith, entered-word start.network.table s.words is.entry low, sum-below-part start.network.table.entries is.entry (entered_in start.network.table s.words) low, few-came start s kept) in
     let bound = kept.began.quota in
     let carried = kept.began.few in
     let no_wrap : n + 1 ≡ (n + 1) % 18446744073709551616 = omega arith in (
       w,
       keeps,
       tt,
-      subst (λ (x : ℕ). HoldsAt start (stepped s (1 + is.entry) x id me.1 w keeps)) no_wrap (kept-after_enter start id is.token is.client is.entry v s kept at of low inside some_quota idle),
-      (no_slot, (refl, subst (λ (z : Start). IsAtomicStep z v w (λ old new. Enters z.network.table old new is.client is.entry)) (sym same) (step-after_enter start id is.token is.client is.entry v s kept at of low inside some_quota idle))),
+      subst (λ (x : ℕ). HoldsAt start (stepped s (1 + is.entry) x id me.1 w keeps)) no_wrap (kept-after-enter start id is.token is.client is.entry v s kept at of low inside some_quota idle),
+      (no_slot, (refl, subst (λ (z : Start). IsAtomicStep z v w (λ old new. Enters z.network.table old new is.client is.entry)) (sym same) (step-after-enter start id is.token is.client is.entry v s kept at of low inside some_quota idle))),
     )
 
 -- ---- who goes on
 
--- so it is told
+-- so it is answered
 moved-by : (start : Start) (old new : Ledger) (c u : ℕ) (end : End) → GoesFrom start.network.table old new c u end
     → ((i : ℕ) → end ≡ Exit i → base start ≤ name_of start.network.table.width i (old.count end))
     → IsMoveOf start.network.table (base start) old new c (answer_at start end (old.count end))
@@ -185,7 +185,7 @@ module _ (start : Start) (id token client wire : ℕ) (end : End) (v : View) (s 
       passes start s.words s.views id v kept.rule.words here of token client wire b is there (ends ∙ sym q) low (omega arith)
   went-at (Exit i) q =
       let low : i < t.width = subst (Stands t) (sym q) stands in
-      leaves start s.words s.views id v kept.rule.words here of token client wire i is there (ends ∙ sym q) low (name_later start s kept i low)
+      leaves start s.words s.views id v kept.rule.words here of token client wire i is there (ends ∙ sym q) low (name-later start s kept i low)
 
   pub went : GoesFrom t was now client wire end
   went = went-at end refl
@@ -199,7 +199,7 @@ module _ (start : Start) (id token client wire : ℕ) (end : End) (v : View) (s 
   quota-same (Exit i) m = (refl, refl)
 
   same-came : clients_in t next.words ≡ clients_in t s.words
-  same-came = sum_below-same t.entries (entered_in t next.words) (entered_in t s.words) (λ u l. entered-kept t s.words kept.rule.words end stands u)
+  same-came = sum-below-same t.entries (entered_in t next.words) (entered_in t s.words) (λ u l. entered-kept t s.words kept.rule.words end stands u)
 
   risen-not : (u : ℕ) → entered_in t s.words u ≤ entered_in t next.words u
   risen-not u = omega (arith, entered-kept t s.words kept.rule.words end stands u)
@@ -218,13 +218,13 @@ module _ (start : Start) (id token client wire : ℕ) (end : End) (v : View) (s 
 
   fresh-after_step : v.loads ≡ [] → (e : End) → e ≡ end → IsFresh start next.words (after_step token client e n v)
   fresh-after_step idle (Balancer b) q =
-      let f = fresh_grown start s.words next.words v risen-not (kept.rule.fresh id v here) in
+      let f = fresh-grown start s.words next.words v risen-not (kept.rule.fresh id v here) in
       record { low = f.low; own = f.own; seen = f.seen; names = f.names }
   fresh-after_step idle (Exit i) q =
-      let f = fresh_grown start s.words next.words v risen-not (kept.rule.fresh id v here) in
+      let f = fresh-grown start s.words next.words v risen-not (kept.rule.fresh id v here) in
       let low : i < t.width = subst (Stands t) (sym q) stands in
       let all : load_bound t next.words v.loads ≡ clients_in t next.words = ap (λ (ls : List ℕ). load_bound t next.words ls) idle in
-      let later : base start ≤ name_of t.width i (count_in t s.words (Exit i)) = name_later start s kept i low in
+      let later : base start ≤ name_of t.width i (count_in t s.words (Exit i)) = name-later start s kept i low in
       let same : count_in t s.words (Exit i) ≡ n = ap (λ (e : End). count_in t s.words e) q in
       let named : base start ≤ name_of t.width i n = subst (λ (k : ℕ). base start ≤ name_of t.width i k) same later in
       let name : name_of v.start.network.table.width i n - base v.start ≡ name_of t.width i n - base start = ap (λ (z : Start). name_of z.network.table.width i n - base z) of in
@@ -244,7 +244,7 @@ module _ (start : Start) (id token client wire : ℕ) (end : End) (v : View) (s 
       lanes = lanes-raised s.words (end_word t end) (one-end t end) kept.rule.lanes;
       sound = sound-by end now went;
       entered = λ u l.
-          let more = total_set (λ (x : View). times u x.entries) s.views id v then here in
+          let more = total-set (λ (x : View). times u x.entries) s.views id v then here in
           let same : times u then.entries ≡ times u v.entries = ap (λ (es : List ℕ). times u es) (quota-same end n).1 in
           omega (arith, entered-kept t s.words kept.rule.words end stands u, kept.rule.entered u l);
       accounted = λ i x e. ⊎_elim
@@ -253,10 +253,10 @@ module _ (start : Start) (id token client wire : ℕ) (end : End) (v : View) (s 
           (at_set s.views id i then x e);
       fresh = λ i x e. ⊎_elim
           (λ y. subst (λ (z : View). IsFresh start next.words z) y.1 (fresh-after_step idle end refl))
-          (λ y. fresh_grown start s.words next.words x risen-not (kept.rule.fresh i x y.1))
+          (λ y. fresh-grown start s.words next.words x risen-not (kept.rule.fresh i x y.1))
           (at_set s.views id i then x e);
       quotas =
-          let more = total_set (λ (x : View). x.quota + length x.entries) s.views id v then here in
+          let more = total-set (λ (x : View). x.quota + length x.entries) s.views id v then here in
           let same : length then.entries ≡ length v.entries = ap (λ (es : List ℕ). length es) (quota-same end n).1 in
           omega (arith, (quota-same end n).0, kept.rule.quotas);
     };
@@ -275,28 +275,28 @@ module _ (start : Start) (id token client wire : ℕ) (end : End) (v : View) (s 
       kept_after = (kept-after_step idle).rule;
       happened = moved-by start was now client wire end went later-at;
     };
-    few = omega (arith, count_few start s kept end stands, few_came start s kept);
+    few = omega (arith, count-few start s kept end stands, few-came start s kept);
     sole = λ whole. sole start s kept id v here whole end stands;
   }
     where
       later-at : (i : ℕ) → end ≡ Exit i → base start ≤ name_of t.width i n
       later-at i q =
           let low : i < t.width = subst (Stands t) q stands in
-          subst (λ (e : End). base start ≤ name_of t.width i (count_in t s.words e)) (sym q) (name_later start s kept i low)
+          subst (λ (e : End). base start ≤ name_of t.width i (count_in t s.words e)) (sym q) (name-later start s kept i low)
 
 -- a token may go on
-pub lets_on : (start : Start) (slots id : ℕ) (me : Me (Unit {0}) View) (is : Going) → is.start ≡ start → me.1 ≡ [] → me.0.loads ≡ [] → me.0.start ≡ start
+pub lets-on : (start : Start) (slots id : ℕ) (me : Me (Unit {0}) View) (is : Going) → is.start ≡ start → me.1 ≡ [] → me.0.loads ≡ [] → me.0.start ≡ start
     → IsThere me.0.tokens is.token is.client is.wire → length me.0.tokens ≡ length start.network.table.ends
     → end_of start.network.table is.wire ≡ is.end → Stands start.network.table is.end
     → Allows (HoldsAt start) slots id me (end_word start.network.table is.end) (λ n. (n + 1) % 2 ^ 64) (λ n new. (new.1 ≡ []) × GoesOn is me.0 n new.0)
-lets_on start slots id me is same no_slot idle of on_it wires ends stands s kept homes at fits =
+lets-on start slots id me is same no_slot idle of on_it wires ends stands s kept homes at fits =
     let t : Table = start.network.table in
     let v : View = me.0 in
     let n : ℕ = get_or s.words (end_word t is.end) 0 in
     let count : count_in t s.words is.end ≡ n = count-word t s.words is.end stands in
     let bound = kept.began.quota in
     let carried = kept.began.few in
-    let few : n ≤ base start + start.quota = omega (arith, count_few start s kept is.end stands, few_came start s kept) in
+    let few : n ≤ base start + start.quota = omega (arith, count-few start s kept is.end stands, few-came start s kept) in
     let no_wrap : n + 1 ≡ (n + 1) % 18446744073709551616 = omega arith in
     let to : ℕ → View = λ m. after_step is.token is.client is.end m v in
     let old = kept-after_step start id is.token is.client is.wire is.end v s kept at of on_it wires ends stands idle in
@@ -309,20 +309,20 @@ lets_on start slots id me is same no_slot idle of on_it wires ends stands s kept
       (no_slot, (refl, subst (λ (z : Start). IsLetBy z v (to n) is.client is.end n) (sym same) (subst (λ (m : ℕ). IsLetBy start v (to m) is.client is.end m) count all))),
     )
 
--- the same, where the word and the steps' marks are told apart
-pub lets_in_by : (start : Start) (slots id : ℕ) (me : Me (Unit {0}) View) (is : Coming) (entry : ℕ) → is.entry ≡ entry → is.start ≡ start → me.1 ≡ [] → me.0.loads ≡ [] → me.0.start ≡ start → entry < start.network.table.entries
+-- the same, with the word and the steps' marks as different places
+pub lets-in-by : (start : Start) (slots id : ℕ) (me : Me (Unit {0}) View) (is : Coming) (entry : ℕ) → is.entry ≡ entry → is.start ≡ start → me.1 ≡ [] → me.0.loads ≡ [] → me.0.start ≡ start → entry < start.network.table.entries
     → entry < length me.0.tokens → 0 < me.0.quota
     → Allows (HoldsAt start) slots id me (1 + entry) (λ n. (n + 1) % 2 ^ 64) (λ n new. (new.1 ≡ []) × ComesIn is me.0 new.0)
-lets_in_by start slots id me is entry by same no_slot idle of low inside some_quota =
+lets-in-by start slots id me is entry by same no_slot idle of low inside some_quota =
     subst (λ (e : ℕ). Allows (HoldsAt start) slots id me (1 + e) (λ n. (n + 1) % 2 ^ 64) (λ n new. (new.1 ≡ []) × ComesIn is me.0 new.0)) by
-    (lets_in start slots id me is same no_slot idle of (omega arith) (omega arith) some_quota)
+    (lets-in start slots id me is same no_slot idle of (omega arith) (omega arith) some_quota)
 
-pub lets_on_by : (start : Start) (slots id : ℕ) (me : Me (Unit {0}) View) (is : Going) (token client wire : ℕ) (end : End) (word : ℕ)
+pub lets-on-by : (start : Start) (slots id : ℕ) (me : Me (Unit {0}) View) (is : Going) (token client wire : ℕ) (end : End) (word : ℕ)
     → is ≡ record { start = start; token = token; client = client; wire = wire; end = end } → word ≡ end_word start.network.table end → me.1 ≡ [] → me.0.loads ≡ [] → me.0.start ≡ start
     → IsThere me.0.tokens token client wire → length me.0.tokens ≡ length start.network.table.ends
     → end_of start.network.table wire ≡ end → Stands start.network.table end
     → Allows (HoldsAt start) slots id me word (λ n. (n + 1) % 2 ^ 64) (λ n new. (new.1 ≡ []) × GoesOn is me.0 n new.0)
-lets_on_by start slots id me is token client wire end word by at no_slot idle of on_it wires ends stands =
+lets-on-by start slots id me is token client wire end word by at no_slot idle of on_it wires ends stands =
     subst (λ (x : Going). Allows (HoldsAt start) slots id me word (λ n. (n + 1) % 2 ^ 64) (λ n new. (new.1 ≡ []) × GoesOn x me.0 n new.0)) (sym by)
     (subst (λ (k : ℕ). Allows (HoldsAt start) slots id me k (λ n. (n + 1) % 2 ^ 64) (λ n new. (new.1 ≡ []) × GoesOn (record { start = start; token = token; client = client; wire = wire; end = end }) me.0 n new.0)) (sym at)
-    (lets_on start slots id me (record { start = start; token = token; client = client; wire = wire; end = end }) refl no_slot idle of on_it wires ends stands))
+    (lets-on start slots id me (record { start = start; token = token; client = client; wire = wire; end = end }) refl no_slot idle of on_it wires ends stands))

@@ -20,24 +20,24 @@ use Rattle.cn_floor.specs.Rule.{HoldsAt, ledger_of}
 use Rattle.cn_floor.specs.Sweeps.{AllGoOn, GoInRow, GoesFrom, Sweeping, after_steps, after_sweep}
 use Rattle.cn_floor.specs.Views.{after_step, base}
 use Rattle.cn_floor.specs.Words.{clients_in, count_in, end_word}
-use Rattle.cn_floor.proofs.AtMoments.Bounds.{count_few, few_came, name_later}
+use Rattle.cn_floor.proofs.AtMoments.Bounds.{count-few, few-came, name-later}
 use Rattle.cn_floor.proofs.AtMoments.Kept.{counted-alike, kept-recounted, ledger-alike}
-use Rattle.cn_floor.proofs.Lists.{lists_after, made_at, made_beyond}
+use Rattle.cn_floor.proofs.Lists.{lists_after, made_at, made-beyond}
 use Rattle.cn_floor.proofs.AtMoments.Places.{get-here, set-here}
-use Rattle.cn_floor.proofs.AtMoments.Raised.{count-raised, count-word, end_there, raised}
+use Rattle.cn_floor.proofs.AtMoments.Raised.{count-raised, count-word, end-there, raised}
 use Rattle.cn_floor.proofs.AtMoments.Sole.{sole}
 use Rattle.cn_floor.proofs.AtMoments.Steps.{end-self, kept-after_step, went}
 
 -- ---- the tokens of a wire, one after the other
 
 -- what stands on a wire of lists that are made anew
-pub lists_after-on : (lists : List (List (ℕ × ℕ))) (token : ℕ) (more : ℕ → List (ℕ × ℕ)) → ((u : ℕ) → length lists ≤ u → more u ≡ [])
+pub lists-after-on : (lists : List (List (ℕ × ℕ))) (token : ℕ) (more : ℕ → List (ℕ × ℕ)) → ((u : ℕ) → length lists ≤ u → more u ≡ [])
     → (u : ℕ) → on (lists_after token more lists) u ≡ without token (on lists u) ++ more u
-lists_after-on lists token more beyond u =
+lists-after-on lists token more beyond u =
     let make : ℕ → List (ℕ × ℕ) = λ x. without token (on lists x) ++ more x in
     elim (cases_lt u (length lists)) [
       | inl l ↦ made_at lists make u l
-      | inr l ↦ made_beyond lists make u l ∙ sym ((λ i. without token (get_or_past lists u [] l i) ++ beyond u l i))
+      | inr l ↦ made-beyond lists make u l ∙ sym ((λ i. without token (get_or_past lists u [] l i) ++ beyond u l i))
     ]
 
 module _ (start : Start) (wire : ℕ) (end : End) (formed : IsWellFormed start.network.table) (low : wire < length start.network.table.ends)
@@ -65,7 +65,7 @@ module _ (start : Start) (wire : ℕ) (end : End) (formed : IsWellFormed start.n
       let there : b < t.balancers = subst (Stands t) is stands in
       let inside : wire < length v.tokens = omega (arith, low, may.wires) in
       let lands : to < length v.tokens = omega (arith, same, there, formed.wires, may.wires) in
-      let lists = lists_after-on v.tokens token (last_on token client to) (λ u past. rw (ne_eqb to u (λ e. omega (arith, e, past, lands))) refl) in
+      let lists = lists-after-on v.tokens token (last_on token client to) (λ u past. rw (ne_eqb to u (λ e. omega (arith, e, past, lands))) refl) in
       let long = length-map-range_with_len (λ u. without token (on v.tokens u) ++ last_on token client to u) 0 (length v.tokens) in
       let none : last_on token client to wire ≡ [] = rw (ne_eqb to wire (λ e. omega (arith, e, same, forward))) refl in
       record {
@@ -79,7 +79,7 @@ module _ (start : Start) (wire : ℕ) (end : End) (formed : IsWellFormed start.n
   gone-out i n v token client rest may =
       let inside : wire < length v.tokens = omega (arith, low, may.wires) in
       let lists : (u : ℕ) → on (lists_after token (λ _. []) v.tokens) u ≡ without token (on v.tokens u) =
-      λ u. lists_after-on v.tokens token (λ _. []) (λ _ _. refl) u ∙ append-nil (without token (on v.tokens u)) in
+      λ u. lists-after-on v.tokens token (λ _. []) (λ _ _. refl) u ∙ append-nil (without token (on v.tokens u)) in
       let long = length-map-range_with_len (λ u. without token (on v.tokens u) ++ []) 0 (length v.tokens) in
       record {
         on_wire = lists wire ∙ rest-on v.tokens token client wire rest may.once inside may.on_wire;
@@ -120,10 +120,10 @@ module _ (start : Start) (wire : ℕ) (end : End) (formed : IsWellFormed start.n
     abbrev with_view : State (Unit {0}) View → View → State (Unit {0}) View
     with_view s v = record { words = s.words; homes = s.homes; views = set s.views id v }
 
-    all-after_steps : (tokens : List (ℕ × ℕ)) (s : State (Unit {0}) View) (v : View) (n : ℕ) → HoldsAt start s → get_elem? s.views id ≡ some v → MayGo v tokens → v.loads ≡ [] → count_in t s.words end ≡ n
+    all-after-steps : (tokens : List (ℕ × ℕ)) (s : State (Unit {0}) View) (v : View) (n : ℕ) → HoldsAt start s → get_elem? s.views id ≡ some v → MayGo v tokens → v.loads ≡ [] → count_in t s.words end ≡ n
         → Gone s v n tokens
     unfolding after_steps GoInRow
-    all-after_steps [] s v n kept here may idle count =
+    all-after-steps [] s v n kept here may idle count =
         let same : set s.views id v ≡ s.views = set-here s.views id v here in
         record {
           words = s.words;
@@ -134,7 +134,7 @@ module _ (start : Start) (wire : ℕ) (end : End) (formed : IsWellFormed start.n
       where
         plus-zero : (k : ℕ) → k + 0 ≡ k
         plus-zero k = omega arith
-    all-after_steps ((token, client) ∷ rest) s v n kept here may idle count =
+    all-after-steps ((token, client) ∷ rest) s v n kept here may idle count =
         let is = goes-there v token client rest may in
         let m : ℕ = count_in t s.words end in
         let raise : List ℕ = raised s.words word in
@@ -147,9 +147,9 @@ module _ (start : Start) (wire : ℕ) (end : End) (formed : IsWellFormed start.n
         subst (λ (k : ℕ). GoesFrom t (ledger s) (ledger_of t start.words raise (set s.views id (after_step token client end k v))) client wire end) count went_m in
         let more : count_in t raise end ≡ n + 1 =
         count-raised t s.words kept.rule.words end end stands ∙ ap (λ b. m + cond b 1 0) (end-self end) ∙ ap (λ (k : ℕ). k + 1) count in
-        let later = all-after_steps rest (record { words = raise; homes = s.homes; views = set s.views id then }) then (n + 1) kept_n (get-here s.views id v then here) (rest-may n v token client rest may) (still-idle n token client v idle) more in
+        let later = all-after-steps rest (record { words = raise; homes = s.homes; views = set s.views id then }) then (n + 1) kept_n (get-here s.views id v then here) (rest-may n v token client rest may) (still-idle n token client v idle) more in
         let views : set (set s.views id then) id (after_steps end (n + 1) rest then) ≡ set s.views id (after_steps end (n + 1) rest then) = set-set s.views id then (after_steps end (n + 1) rest then) in
-        let inside : word < length s.words = omega (arith, kept.rule.words, end_there t end stands) in
+        let inside : word < length s.words = omega (arith, kept.rule.words, end-there t end stands) in
         let raise_at : get_or raise word 0 ≡ get_or s.words word 0 + 1 = get_or-set_same s.words word (get_or s.words word 0 + 1) 0 inside in
         record {
           words = later.words;
@@ -168,12 +168,12 @@ module _ (start : Start) (wire : ℕ) (end : End) (formed : IsWellFormed start.n
         one-more x y k e = omega (arith, e)
 
 -- the tokens of a wire may go on
-all_may : (start : Start) (slots id : ℕ) (me : Me (Unit {0}) View) (wire : ℕ) (end : End) → me.1 ≡ [] → me.0.loads ≡ [] → me.0.start ≡ start
+all-may : (start : Start) (slots id : ℕ) (me : Me (Unit {0}) View) (wire : ℕ) (end : End) → me.1 ≡ [] → me.0.loads ≡ [] → me.0.start ≡ start
     → ((k : ℕ) → times_in me.0.tokens k ≤ 1) → length me.0.tokens ≡ length start.network.table.ends → wire < length start.network.table.ends
     → end_of start.network.table wire ≡ end → Stands start.network.table end
     → Allows (HoldsAt start) slots id me (end_word start.network.table end) (λ n. (n + length (on me.0.tokens wire)) % 2 ^ 64)
     (λ n new. (new.1 ≡ []) × AllGoOn (record { start = start; wire = wire; end = end }) me.0 n new.0)
-all_may start slots id me wire end no_slot idle of once wires low ends stands s kept homes here fits =
+all-may start slots id me wire end no_slot idle of once wires low ends stands s kept homes here fits =
     let t : Table = start.network.table in
     let v : View = me.0 in
     let tokens : List (ℕ × ℕ) = on v.tokens wire in
@@ -182,7 +182,7 @@ all_may start slots id me wire end no_slot idle of once wires low ends stands s 
     let formed = kept.began.network.formed in
     let count : count_in t s.words end ≡ n = count-word t s.words end stands in
     let may : MayGo start wire end formed low ends stands v tokens = record { on_wire = refl; once = once; wires = wires; of = of } in
-    let gone_all = all-after_steps start wire end formed low ends stands id tokens s v n kept here may idle count in
+    let gone_all = all-after-steps start wire end formed low ends stands id tokens s v n kept here may idle count in
     let g : View = after_steps end n tokens v in
     let w : View = after_sweep wire end n v in
     let words : List ℕ = gone_all.words in
@@ -192,10 +192,10 @@ all_may start slots id me wire end no_slot idle of once wires low ends stands s 
     let kept_w : HoldsAt start (record { words = words; homes = s.homes; views = set s.views id w }) =
     subst (λ (vs : List View). HoldsAt start (record { words = words; homes = s.homes; views = vs })) again (kept-recounted start gone id g (v.steps + 1) g_here gone_all.kept) in
     let after : State (Unit {0}) View = record { words = words; homes = s.homes; views = set s.views id w } in
-    let inside : at < length s.words = omega (arith, kept.rule.words, end_there t end stands) in
+    let inside : at < length s.words = omega (arith, kept.rule.words, end-there t end stands) in
     let now : count_in t words end ≡ n + length tokens =
     count-word t words end stands ∙ ap (λ (ws : List ℕ). get_or ws at 0) gone_all.words_are ∙ get_or-set_same s.words at (n + length tokens) 0 inside in
-    let few : n + length tokens ≤ base start + start.quota = omega (arith, now, count_few start after kept_w end stands, few_came start after kept_w) in
+    let few : n + length tokens ≤ base start + start.quota = omega (arith, now, count-few start after kept_w end stands, few-came start after kept_w) in
     let bound = kept.began.quota in
     let carried = kept.began.few in
     let no_wrap : n + length tokens ≡ (n + length tokens) % 18446744073709551616 = omega arith in
@@ -225,21 +225,21 @@ all_may start slots id me wire end no_slot idle of once wires low ends stands s 
             late = λ i is.
                 let low_exit : i < t.width = subst (Stands t) is stands in
                 let counted : count_in t s.words (Exit i) ≡ n = ap (count_in t s.words) (sym is) ∙ count in
-                subst (λ (k : ℕ). base start ≤ name_of t.width i k) counted (name_later start s kept i low_exit);
+                subst (λ (k : ℕ). base start ≤ name_of t.width i k) counted (name-later start s kept i low_exit);
             sole = λ whole. sym count ∙ sole start s kept id v here whole end stands;
           },
         ),
       ),
     )
 
--- the same, where the word and the number of tokens are told apart
-pub all_go_on : (start : Start) (slots id : ℕ) (me : Me (Unit {0}) View) (is : Sweeping) (wire : ℕ) (end : End) (count word : ℕ)
+-- the same, with the word and the number of tokens as different places
+pub all_go-on : (start : Start) (slots id : ℕ) (me : Me (Unit {0}) View) (is : Sweeping) (wire : ℕ) (end : End) (count word : ℕ)
     → is ≡ record { start = start; wire = wire; end = end } → me.1 ≡ [] → me.0.loads ≡ [] → me.0.start ≡ start
     → ((k : ℕ) → times_in me.0.tokens k ≤ 1) → length me.0.tokens ≡ length start.network.table.ends → wire < length start.network.table.ends
     → length (on me.0.tokens wire) ≡ count → end_of start.network.table wire ≡ end → Stands start.network.table end → end_word start.network.table end ≡ word
     → Allows (HoldsAt start) slots id me word (λ n. (n + count) % 2 ^ 64) (λ n new. (new.1 ≡ []) × AllGoOn is me.0 n new.0)
-all_go_on start slots id me is wire end count word same no_slot idle of once wires low many ends stands at =
+all_go-on start slots id me is wire end count word same no_slot idle of once wires low many ends stands at =
     subst (λ (x : Sweeping). Allows (HoldsAt start) slots id me word (λ n. (n + count) % 2 ^ 64) (λ n new. (new.1 ≡ []) × AllGoOn x me.0 n new.0)) (sym same)
     (subst (λ (k : ℕ). Allows (HoldsAt start) slots id me word (λ n. (n + k) % 2 ^ 64) (λ n new. (new.1 ≡ []) × AllGoOn (record { start = start; wire = wire; end = end }) me.0 n new.0)) many
     (subst (λ (k : ℕ). Allows (HoldsAt start) slots id me k (λ n. (n + length (on me.0.tokens wire)) % 2 ^ 64) (λ n new. (new.1 ≡ []) × AllGoOn (record { start = start; wire = wire; end = end }) me.0 n new.0)) at
-    (all_may start slots id me wire end no_slot idle of once wires low ends stands)))
+    (all-may start slots id me wire end no_slot idle of once wires low ends stands)))

@@ -20,12 +20,12 @@ use Rattle.cn_floor.specs.Steps.{HasMoment, IsAnswer}
 use Rattle.cn_floor.specs.Together.{NamesApart, both_of}
 use Rattle.cn_floor.specs.Views.{base, given_in, granted_in, nobody, on_in, standing_in}
 use Rattle.cn_floor.specs.Words.{clients_in}
-use Rattle.cn_floor.proofs.Lists.{made_at, made_beyond, ones}
+use Rattle.cn_floor.proofs.Lists.{made_at, made-beyond, ones}
 use Rattle.cn_floor.proofs.AtMoments.Kept.{AddUpAlike, kept_alike}
 use Rattle.cn_floor.proofs.AtMoments.Names.{names-once}
 use Rattle.cn_floor.proofs.AtMoments.Sharing.{IsSum, granted-both, joins-sum}
-use Rattle.cn_floor.proofs.AtMoments.Totals.{total_set}
-use Rattle.cn_spec.proofs.CallerLemmas.{sum_below-plus, sum_below-same, times-append, times-map}
+use Rattle.cn_floor.proofs.AtMoments.Totals.{total-set}
+use Rattle.cn_spec.proofs.CallerLemmas.{sum-below-plus, sum-below-same, times-append, times-map}
 
 module _ (v w : View) (idle : v.loads ≡ []) (long : length w.tokens ≡ length v.tokens) where
   abbrev both : View
@@ -39,7 +39,7 @@ module _ (v w : View) (idle : v.loads ≡ []) (long : length w.tokens ≡ length
         | inl l ↦ ap (λ es. sum_by f es) (made_at v.tokens make u l) ∙ sum_by-append f (get_or v.tokens u []) (get_or w.tokens u [])
         | inr l ↦
             let none = get_or_past w.tokens u [] (omega (arith, long, l)) in
-            ap (λ es. sum_by f es) (made_beyond v.tokens make u l) ∙ (λ i. sum_by f (sym (get_or_past v.tokens u [] l) i) + sum_by f (sym none i))
+            ap (λ es. sum_by f es) (made-beyond v.tokens make u l) ∙ (λ i. sum_by f (sym (get_or_past v.tokens u [] l) i) + sum_by f (sym none i))
       ]
 
   on-both : (u : ℕ) → on_in u both ≡ on_in u v + on_in u w
@@ -63,12 +63,12 @@ module _ (v w : View) (idle : v.loads ≡ []) (long : length w.tokens ≡ length
       let wires : length both.tokens ≡ n = length-map-range_with_len (λ x. get_or v.tokens x [] ++ get_or w.tokens x []) 0 n in
       let spread : (k a b : ℕ) → k * (a + b) ≡ k * a + k * b = λ k a b. omega arith in
       ap (λ (k : ℕ). sum_below k (λ u. g u * on_in u both)) wires
-      ∙ sum_below-same n (λ u. g u * on_in u both) (λ u. g u * on_in u v + g u * on_in u w) (λ u l. ap (λ (k : ℕ). g u * k) (on-both u) ∙ spread (g u) (on_in u v) (on_in u w))
-      ∙ sum_below-plus n (λ u. g u * on_in u v) (λ u. g u * on_in u w)
+      ∙ sum-below-same n (λ u. g u * on_in u both) (λ u. g u * on_in u v + g u * on_in u w) (λ u l. ap (λ (k : ℕ). g u * k) (on-both u) ∙ spread (g u) (on_in u v) (on_in u w))
+      ∙ sum-below-plus n (λ u. g u * on_in u v) (λ u. g u * on_in u w)
       ∙ ap (λ (k : ℕ). sum_below n (λ u. g u * on_in u v) + sum_below k (λ u. g u * on_in u w)) (sym long)
 
   once : (n : ℕ) (f : ℕ → ℕ) → sum_below n (λ u. 1 * f u) ≡ sum_below n f
-  once n f = sum_below-same n (λ u. 1 * f u) f (λ u l. omega arith)
+  once n f = sum-below-same n (λ u. 1 * f u) f (λ u l. omega arith)
 
   accounted-both : (network : Network) → IsAccounted network v → IsAccounted network w → IsAccounted network both
   accounted-both network f g = record {
@@ -119,7 +119,7 @@ pub cuts-apart : (start : Start) (id : ℕ) (v w both : View) → IsSum (base st
 cuts-apart start id v w both is idle idle' accounted accounted' s kept at =
     let t = start.network.table in
     let vs : List View = set s.views id v ++ w ∷ [] in
-    let sums : (f : View → ℕ) → f both ≡ f v + f w → sum_by f s.views ≡ sum_by f vs = λ f e. omega (arith, total_set f s.views id both v at, sum_by_push f (set s.views id v) w) in
+    let sums : (f : View → ℕ) → f both ≡ f v + f w → sum_by f s.views ≡ sum_by f vs = λ f e. omega (arith, total-set f s.views id both v at, sum_by_push f (set s.views id v) w) in
     let many : length both.entries ≡ length v.entries + length w.entries = ap (λ (es : List ℕ). length es) is.entries ∙ length-append v.entries w.entries in
     let alike : AddUpAlike (base start) s.views vs = record {
       on = λ u. sums (on_in u) (is.on u);

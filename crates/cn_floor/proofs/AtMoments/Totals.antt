@@ -6,21 +6,21 @@ use Rattle.std.proofs.lemmas.List.Sums.{sum_by-cons}
 
 module _ {X : Type 0} where
   -- the total where one view changes
-  pub total_set : (f : X → ℕ) (xs : List X) (i : ℕ) (v w : X) → get_elem? xs i ≡ some v → sum_by f (set xs i w) + f v ≡ sum_by f xs + f w
-  total_set f [] i v w e = absurd (some-ne-none v (sym e))
-  total_set f (x ∷ xs) zero v w e = let is : f x ≡ f v = ap f (some-injective x v e) in omega (arith, sum_by-cons f x xs, sum_by-cons f w xs)
-  total_set f (x ∷ xs) (suc i) v w e = omega (arith, total_set f xs i v w e, sum_by-cons f x xs, sum_by-cons f x (set xs i w))
+  pub total-set : (f : X → ℕ) (xs : List X) (i : ℕ) (v w : X) → get_elem? xs i ≡ some v → sum_by f (set xs i w) + f v ≡ sum_by f xs + f w
+  total-set f [] i v w e = absurd (some-ne-none v (sym e))
+  total-set f (x ∷ xs) zero v w e = let is : f x ≡ f v = ap f (some-injective x v e) in omega (arith, sum_by-cons f x xs, sum_by-cons f w xs)
+  total-set f (x ∷ xs) (suc i) v w e = omega (arith, total-set f xs i v w e, sum_by-cons f x xs, sum_by-cons f x (set xs i w))
 
   -- one view is a part of the total
-  pub part_le : (f : X → ℕ) (xs : List X) (i : ℕ) (v : X) → get_elem? xs i ≡ some v → f v ≤ sum_by f xs
-  part_le f [] i v e = absurd (some-ne-none v (sym e))
-  part_le f (x ∷ xs) zero v e = let is : f x ≡ f v = ap f (some-injective x v e) in omega (arith, sum_by-cons f x xs)
-  part_le f (x ∷ xs) (suc i) v e = omega (arith, part_le f xs i v e, sum_by-cons f x xs)
+  pub part-le : (f : X → ℕ) (xs : List X) (i : ℕ) (v : X) → get_elem? xs i ≡ some v → f v ≤ sum_by f xs
+  part-le f [] i v e = absurd (some-ne-none v (sym e))
+  part-le f (x ∷ xs) zero v e = let is : f x ≡ f v = ap f (some-injective x v e) in omega (arith, sum_by-cons f x xs)
+  part-le f (x ∷ xs) (suc i) v e = omega (arith, part-le f xs i v e, sum_by-cons f x xs)
 
   -- a total of lesser parts
-  pub total_le : (f g : X → ℕ) (xs : List X) → ((i : ℕ) (v : X) → get_elem? xs i ≡ some v → f v ≤ g v) → sum_by f xs ≤ sum_by g xs
-  total_le f g [] h = omega arith
-  total_le f g (x ∷ xs) h = let first : f x ≤ g x = h 0 x refl in omega (arith, total_le f g xs (λ i v e. h (suc i) v e), sum_by-cons f x xs, sum_by-cons g x xs)
+  pub total-le : (f g : X → ℕ) (xs : List X) → ((i : ℕ) (v : X) → get_elem? xs i ≡ some v → f v ≤ g v) → sum_by f xs ≤ sum_by g xs
+  total-le f g [] h = omega arith
+  total-le f g (x ∷ xs) h = let first : f x ≤ g x = h 0 x refl in omega (arith, total-le f g xs (λ i v e. h (suc i) v e), sum_by-cons f x xs, sum_by-cons g x xs)
 
   -- a total of the same parts
   pub total_same : (f g : X → ℕ) (xs : List X) → ((i : ℕ) (v : X) → get_elem? xs i ≡ some v → f v ≡ g v) → sum_by f xs ≡ sum_by g xs
@@ -28,14 +28,14 @@ module _ {X : Type 0} where
   total_same f g (x ∷ xs) h = let first : f x ≡ g x = h 0 x refl in omega (arith, total_same f g xs (λ i v e. h (suc i) v e), sum_by-cons f x xs, sum_by-cons g x xs)
 
   -- a total of two parts
-  pub total_add : (f g : X → ℕ) (xs : List X) → sum_by (λ x. f x + g x) xs ≡ sum_by f xs + sum_by g xs
-  total_add f g [] = refl
-  total_add f g (x ∷ xs) = omega (arith, total_add f g xs, sum_by-cons f x xs, sum_by-cons g x xs, sum_by-cons (λ y. f y + g y) x xs)
+  pub total-add : (f g : X → ℕ) (xs : List X) → sum_by (λ x. f x + g x) xs ≡ sum_by f xs + sum_by g xs
+  total-add f g [] = refl
+  total-add f g (x ∷ xs) = omega (arith, total-add f g xs, sum_by-cons f x xs, sum_by-cons g x xs, sum_by-cons (λ y. f y + g y) x xs)
 
   -- where one part is the whole of one total, and no other total has a part where this has none, it is the whole of the other
-  pub mine_alone : (f g : X → ℕ) (xs : List X) (i : ℕ) (v : X) → get_elem? xs i ≡ some v → ((j : ℕ) (x : X) → get_elem? xs j ≡ some x → g x ≡ 0 → f x ≡ 0) → sum_by g xs ≡ g v → sum_by f xs ≡ f v
-  mine_alone f g [] i v at h e = absurd (some-ne-none v (sym at))
-  mine_alone f g (x ∷ xs) zero v at h e =
+  pub mine-only : (f g : X → ℕ) (xs : List X) (i : ℕ) (v : X) → get_elem? xs i ≡ some v → ((j : ℕ) (x : X) → get_elem? xs j ≡ some x → g x ≡ 0 → f x ≡ 0) → sum_by g xs ≡ g v → sum_by f xs ≡ f v
+  mine-only f g [] i v at h e = absurd (some-ne-none v (sym at))
+  mine-only f g (x ∷ xs) zero v at h e =
       let is : x ≡ v = some-injective x v at in let fs : f x ≡ f v = ap f is in let gs : g x ≡ g v = ap g is in
       let none : sum_by g xs ≡ 0 = omega (arith, sum_by-cons g x xs) in
       let rest = none_left xs (λ j y a. h (suc j) y a) none in
@@ -46,7 +46,7 @@ module _ {X : Type 0} where
       none_left (y ∷ ys) h e =
           let first = h 0 y refl (omega (arith, sum_by-cons g y ys)) in
           omega (arith, none_left ys (λ j z a. h (suc j) z a) (omega (arith, sum_by-cons g y ys)), sum_by-cons f y ys)
-  mine_alone f g (x ∷ xs) (suc i) v at h e =
-      let part = part_le g xs i v at in
+  mine-only f g (x ∷ xs) (suc i) v at h e =
+      let part = part-le g xs i v at in
       let none : g x ≡ 0 = omega (arith, sum_by-cons g x xs) in
-      omega (arith, h 0 x refl none, sum_by-cons f x xs, mine_alone f g xs i v at (λ j y a. h (suc j) y a) (omega (arith, sum_by-cons g x xs)))
+      omega (arith, h 0 x refl none, sum_by-cons f x xs, mine-only f g xs i v at (λ j y a. h (suc j) y a) (omega (arith, sum_by-cons g x xs)))

@@ -1,6 +1,6 @@
 -- How many steps the tokens of a lane have taken.
 use Rattle.std.proofs.Common.{◌≡◌, ℕ, ◌+◌, ◌*◌, length, refl, ap, ◌∙◌, arith}
-use Rattle.cn_spec.proofs.CallerLemmas.{sum_below-part, sum_below-same, sum_below-zero}
+use Rattle.cn_spec.proofs.CallerLemmas.{sum-below-part, sum-below-same, sum-below-zero}
 use Rattle.cn_wiring.specs.Network.{IsNetwork}
 use Rattle.cn_wiring.proofs.CallerLemmas.{levels}
 use Rattle.cn_yard.specs.Lists.{tokens_in}
@@ -13,10 +13,10 @@ use Rattle.cn_floor.specs.Views.{levels_in, on_in}
 -- where nobody is inside, there are no levels to add up
 pub no-levels : (level : ℕ → ℕ) (v : View) → tokens_in v.tokens ≡ 0 → levels_in level v ≡ 0
 no-levels level v none =
-    sum_below-same (length v.tokens) (λ u. level u * on_in u v) (λ _. 0) (λ u l.
-    let z : on_in u v ≡ 0 = omega (arith, sum_below-part (length v.tokens) u (λ x. on_in x v) l, none) in
+    sum-below-same (length v.tokens) (λ u. level u * on_in u v) (λ _. 0) (λ u l.
+    let z : on_in u v ≡ 0 = omega (arith, sum-below-part (length v.tokens) u (λ x. on_in x v) l, none) in
     ap (λ (x : ℕ). level u * x) z ∙ omega arith)
-    ∙ sum_below-zero (length v.tokens) (λ _. 0) (λ _. refl)
+    ∙ sum-below-zero (length v.tokens) (λ _. 0) (λ _. refl)
 
 pub takes-steps : (start : Start) (v : View) → IsNetwork start.network → IsAccounted start.network v → TakesItsSteps start v
 takes-steps start v net account none =

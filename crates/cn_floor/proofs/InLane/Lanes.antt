@@ -1,4 +1,4 @@
--- What a lane holds is what its view tells, also after a step.
+-- What a lane holds is what its view says, also after a step.
 use Rattle.std.proofs.Common.{◌≡◌, ℕ, ◌+◌, ◌-◌, ◌%◌, ◌<◌, ◌≤◌, List, [], ◌∷◌, ◌++◌, length, get_or, Some, sym, ap, ◌∙◌, subst, arith, append-nil}
 use Rattle.std.specs.Prelude.{vec_capacity}
 use Rattle.std.proofs.lemmas.List.{length_push}
@@ -24,8 +24,8 @@ module _ (old new : Inside) (token client : ℕ) (kept : IsLane old) (no_slot : 
   v = old.seat.me.0
 
   -- the lists on each wire, as the view has them
-  same_on : (u : ℕ) → get_or v.tokens u [] ≡ on old.yard.lists u
-  same_on u = ap (λ (ls : List (List (ℕ × ℕ))). get_or ls u []) (sym kept.tokens)
+  same-on : (u : ℕ) → get_or v.tokens u [] ≡ on old.yard.lists u
+  same-on u = ap (λ (ls : List (List (ℕ × ℕ))). get_or ls u []) (sym kept.tokens)
 
   long : length v.tokens ≡ length old.yard.lists
   long = ap length (sym kept.tokens)
@@ -39,7 +39,7 @@ module _ (old new : Inside) (token client : ℕ) (kept : IsLane old) (no_slot : 
     idle = ap (λ (w : View). w.loads) view ∙ kept.idle;
     tokens =
         made v.tokens (λ u. get_or v.tokens u [] ++ last_on token client entry u) new.yard.lists (yard.wires ∙ sym long)
-        (λ u. yard.lists u ∙ ap (λ (es : List (ℕ × ℕ)). es ++ last_on token client entry u) (sym (same_on u)))
+        (λ u. yard.lists u ∙ ap (λ (es : List (ℕ × ℕ)). es ++ last_on token client entry u) (sym (same-on u)))
         ∙ ap (λ (w : View). w.tokens) (sym view);
     wires = yard.wires ∙ kept.wires ∙ ap (λ (w : View). length w.start.network.table.ends) (sym view);
     grants = ap (λ g. g.items) grants ∙ kept.grants ∙ ap (λ (w : View). w.grants) (sym view);
@@ -57,7 +57,7 @@ module _ (old new : Inside) (token client : ℕ) (kept : IsLane old) (no_slot : 
     idle = ap (λ (w : View). w.loads) view ∙ kept.idle;
     tokens =
         made v.tokens (λ u. without token (get_or v.tokens u []) ++ last_on token client (output_wire v.start.network.table b (n % 2)) u) new.yard.lists (yard.wires ∙ sym long)
-        (λ u. yard.lists u ∙ (λ i. without token (sym (same_on u) i) ++ last_on token client (at i) u))
+        (λ u. yard.lists u ∙ (λ i. without token (sym (same-on u) i) ++ last_on token client (at i) u))
         ∙ ap (λ (w : View). w.tokens) (sym view);
     wires = yard.wires ∙ kept.wires ∙ ap (λ (w : View). length w.start.network.table.ends) (sym view);
     grants = ap (λ g. g.items) grants ∙ kept.grants ∙ ap (λ (w : View). w.grants) (sym view);
@@ -76,7 +76,7 @@ module _ (old new : Inside) (token client : ℕ) (kept : IsLane old) (no_slot : 
     idle = ap (λ (w : View). w.loads) view ∙ kept.idle;
     tokens =
         made v.tokens (λ u. without token (get_or v.tokens u []) ++ []) new.yard.lists (yard.wires ∙ sym long)
-        (λ u. yard.lists u ∙ ap (λ (es : List (ℕ × ℕ)). without token es) (sym (same_on u)) ∙ sym (append-nil (without token (get_or v.tokens u []))))
+        (λ u. yard.lists u ∙ ap (λ (es : List (ℕ × ℕ)). without token es) (sym (same-on u)) ∙ sym (append-nil (without token (get_or v.tokens u []))))
         ∙ ap (λ (w : View). w.tokens) (sym view);
     wires = yard.wires ∙ kept.wires ∙ ap (λ (w : View). length w.start.network.table.ends) (sym view);
     grants = grants ∙ (λ x. kept.grants x ++ record { client = client; exit = i; visit = n; name = named x } ∷ []) ∙ ap (λ (w : View). w.grants) (sym view);
@@ -86,7 +86,7 @@ module _ (old new : Inside) (token client : ℕ) (kept : IsLane old) (no_slot : 
     spare = omega (arith, kept.spare, yard.spare);
   }
 
--- ---- what a step tells
+-- ---- what a step answers
 
 module _ (old new : LaneValue) (token client wire n : ℕ) (answer : Moved) where
   abbrev start : Start

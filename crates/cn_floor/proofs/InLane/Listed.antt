@@ -9,7 +9,7 @@ use Rattle.std.proofs.lemmas.List.Sums.{sum_by-append, sum_by-cons}
 use Rattle.std.proofs.lemmas.List.FromFn.{length-map-range_with_len}
 use Rattle.cn_spec.specs.Step.{name_of}
 use Rattle.cn_spec.specs.Sums.{times, when}
-use Rattle.cn_spec.proofs.CallerLemmas.{sum_below-one, sum_below-same}
+use Rattle.cn_spec.proofs.CallerLemmas.{sum-below-one, sum-below-same}
 use Rattle.cn_wiring.specs.declared.end.End.{End}
 use Rattle.cn_wiring.specs.declared.end.End.TheVariants.{Balancer, Exit}
 use Rattle.cn_wiring.specs.Table.{IsWellFormed, LeadsOn, Stands, Table, end_of, output_wire}
@@ -24,9 +24,9 @@ use Rattle.cn_floor.specs.Rule.{IsStart}
 use Rattle.cn_floor.specs.Steps.{HasMoment}
 use Rattle.cn_floor.specs.Sweeps.{AreLetBy, after_steps, after_sweep, grants_out}
 use Rattle.cn_floor.specs.Views.{after_enter, after_step, base}
-use Rattle.cn_floor.proofs.Lists.{made_at, made_beyond}
+use Rattle.cn_floor.proofs.Lists.{made_at, made-beyond}
 use Rattle.cn_floor.proofs.AtClose.Rises.{all-empty}
-use Rattle.cn_floor.proofs.AtMoments.Sweeps.{MayGo, lists_after-on, rest-may}
+use Rattle.cn_floor.proofs.AtMoments.Sweeps.{MayGo, lists-after-on, rest-may}
 use Rattle.cn_floor.proofs.InLane.Named.{moment-after}
 use Rattle.cn_floor.proofs.InLane.Yards.{nobody-there}
 use Rattle.cn_floor.proofs.InLane.Swept.{IsKin, grants-kept, grants-left, kin-by}
@@ -178,7 +178,7 @@ module _ (start : Start) (wire b : ℕ) (formed : IsWellFormed start.network.tab
       let same : to ≡ output_wire t b (n % 2) = ap (λ (s : Start). output_wire s.network.table b (n % 2)) may.of in
       let inside : wire < length v.tokens = omega (arith, low, may.wires) in
       let lands : to < length v.tokens = omega (arith, same, stands, formed.wires, may.wires) in
-      lists_after-on v.tokens token (last_on token client to) (λ x past. rw (ne_eqb to x (λ e. omega (arith, e, past, lands))) refl) u
+      lists-after-on v.tokens token (last_on token client to) (λ x past. rw (ne_eqb to x (λ e. omega (arith, e, past, lands))) refl) u
       ∙ (λ i. others-on v.tokens token client wire rest may.once inside may.on_wire u other i ++ last_on token client (same i) u)
 
   -- what a view is after all of them went on
@@ -278,7 +278,7 @@ module _ (start : Start) (wire i : ℕ) (formed : IsWellFormed start.network.tab
       let later = all-out (n + 1) rest next (rest-may start wire (Exit i) formed low ends stands n v token client rest may) in
       record {
         may = later.may;
-        others = λ u other. later.others u other ∙ lists_after-on v.tokens token (λ _. []) (λ _ _. refl) u ∙ append-nil (without token (on v.tokens u))
+        others = λ u other. later.others u other ∙ lists-after-on v.tokens token (λ _. []) (λ _ _. refl) u ∙ append-nil (without token (on v.tokens u))
             ∙ others-on v.tokens token client wire rest may.once inside may.on_wire u other;
       }
 
@@ -528,7 +528,7 @@ came-more v w clients entry k is inside some =
     let add : (u : ℕ) → on (after_enter k client entry w).tokens u ≡ on w.tokens u ++ last_on k client entry u =
     λ u. elim (cases_lt u (length w.tokens)) [
       | inl l ↦ made_at w.tokens make u l
-      | inr l ↦ made_beyond w.tokens make u l
+      | inr l ↦ made-beyond w.tokens make u l
           ∙ sym ((λ i. get_or_past w.tokens u [] l i ++ (let away : last_on k client entry u ≡ [] = rw (ne_eqb entry u (λ e. omega (arith, e, l, inside))) refl in away i)))
     ] in
     let here : last_on k client entry entry ≡ (k, client) ∷ [] = rw (eq-eqb entry entry refl) refl in
@@ -574,8 +574,8 @@ came-once v w clients entry k is inside token =
     ] in
     omega (
       arith,
-      sum_below-same (length w.tokens) times (λ u. when (eqb entry u) (times entry)) (λ u _. each u),
-      sum_below-one (length w.tokens) entry (times entry) inside,
+      sum-below-same (length w.tokens) times (λ u. when (eqb entry u) (times entry)) (λ u _. each u),
+      sum-below-one (length w.tokens) entry (times entry) inside,
       ap (count_by (λ e. eqb token e.0)) is.there,
       placed-once clients token 0 k,
     )

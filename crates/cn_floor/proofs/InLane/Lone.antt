@@ -1,4 +1,4 @@
--- A token that stands alone, on its way.
+-- The only token of a lane, on its way.
 use Rattle.std.proofs.Common.{◌≡◌, ◌≢◌, ℕ, ◌+◌, ◌*◌, ◌%◌, ◌<◌, ◌≤◌, inl, inr, cond, eqb, true, false, Bool, List, [], ◌∷◌, ◌++◌, length, sum_by, refl, sym, ap, ◌∙◌, subst, arith, Some}
 use Rattle.std.specs.Prelude.{nat_eq}
 use Rattle.std.proofs.lemmas.Bool.{cases_eq, cases_lt, eq-eqb, ne_eqb}
@@ -6,7 +6,7 @@ use Rattle.std.proofs.lemmas.List.{get_or_past, nil_from_length}
 use Rattle.std.proofs.lemmas.List.FromFn.{length-map-range_with_len}
 use Rattle.std.proofs.lemmas.Nat.{mod_below}
 use Rattle.cn_spec.specs.Sums.{when}
-use Rattle.cn_spec.proofs.CallerLemmas.{sum_below-one, sum_below-part, sum_below-parts, sum_below-same}
+use Rattle.cn_spec.proofs.CallerLemmas.{sum-below-one, sum-below-part, sum-below-parts, sum-below-same}
 use Rattle.cn_wiring.specs.declared.end.End.TheVariants.{Balancer}
 use Rattle.cn_wiring.specs.Table.{IsWellFormed, LeadsOn, Stands, Table, end_of, output_wire}
 use Rattle.cn_yard.specs.Lists.{IsLowest, IsThere, Lists, Moves, Yard, first_of, last_on, on, times_in, tokens_in, without}
@@ -20,10 +20,10 @@ use Rattle.cn_floor.specs.InsideLane.{lane_of}
 use Rattle.cn_floor.specs.Lane.{LaneValue}
 use Rattle.cn_floor.specs.Views.{after_step}
 use Rattle.cn_floor.proofs.Lists.{made}
-use Rattle.cn_floor.proofs.AtMoments.Sweeps.{lists_after-on}
+use Rattle.cn_floor.proofs.AtMoments.Sweeps.{lists-after-on}
 use Rattle.cn_floor.proofs.InLane.Swept.{some-inside}
 
--- on its wire stands the token alone
+-- on its wire stands only the token
 pub on-own : (token client wire : ℕ) → last_on token client wire wire ≡ (token, client) ∷ []
 on-own token client wire = rw (eq-eqb wire wire refl) refl
 
@@ -35,9 +35,9 @@ module _ (lists : Lists) (token client wire : ℕ) (is : IsAlone lists token cli
   pub once-alone : (k : ℕ) → times_in lists k ≤ 1
   once-alone k =
       let f : ℕ × ℕ → ℕ = λ e. cond (nat_eq k e.0) 1 0 in
-      let each = sum_below-same (length lists) (λ u. sum_by f (on lists u)) (λ u. when (eqb wire u) (f (token, client)))
+      let each = sum-below-same (length lists) (λ u. sum_by f (on lists u)) (λ u. when (eqb wire u) (f (token, client)))
       (λ u l. ap (sum_by f) (is.only u) ∙ last_on-sum token client wire u f) in
-      omega (arith, each, sum_below-one (length lists) wire (f (token, client)) is.inside, one (nat_eq k token))
+      omega (arith, each, sum-below-one (length lists) wire (f (token, client)) is.inside, one (nat_eq k token))
     where
       one : (b : Bool) → cond {A = ℕ} b 1 0 ≤ 1
       one true = omega arith
@@ -74,11 +74,11 @@ alone-is lists token client wire rest begins inside one = record {
     here = omega (arith, ap length begins)
 
     none : rest ≡ []
-    none = nil_from_length rest (omega (arith, one, here, sum_below-part (length lists) wire many inside))
+    none = nil_from_length rest (omega (arith, one, here, sum-below-part (length lists) wire many inside))
 
     nobody : (u : ℕ) → u ≢ wire → on lists u ≡ []
     nobody u other = elim (cases_lt u (length lists)) [
-      | inl l ↦ nil_from_length (on lists u) (omega (arith, one, here, sum_below-parts (length lists) wire u many inside l (λ e. other (sym e))))
+      | inl l ↦ nil_from_length (on lists u) (omega (arith, one, here, sum-below-parts (length lists) wire u many inside l (λ e. other (sym e))))
       | inr l ↦ get_or_past lists u [] l
     ]
 
@@ -120,7 +120,7 @@ module _ (start : Start) (formed : IsWellFormed start.network.table) (v : View) 
   pub alone-on : IsAlone (after_step token client (Balancer b) n v).tokens token client to
   alone-on =
       let long = length-map-range_with_len (λ u. without token (on v.tokens u) ++ last_on token client to u) 0 (length v.tokens) in
-      let lists = lists_after-on v.tokens token (last_on token client to) (λ u past. off-own token client to u (λ e. omega (arith, e, past, lands))) in
+      let lists = lists-after-on v.tokens token (last_on token client to) (λ u past. off-own token client to u (λ e. omega (arith, e, past, lands))) in
       record {
         inside = omega (arith, long, lands);
         only = λ u. lists u ∙ ap (λ (es : List (ℕ × ℕ)). es ++ last_on token client to u) (nobody-else v.tokens token client wire is u);

@@ -14,11 +14,11 @@ use Rattle.cn_floor.specs.Named.{WalksThrough}
 use Rattle.cn_floor.specs.Rule.{IsStart}
 use Rattle.cn_floor.specs.Steps.{HasMoment, IsAtomicStep}
 use Rattle.cn_floor.specs.Views.{after_enter, after_step, base}
-use Rattle.cn_floor.proofs.Lists.{made_at, made_beyond}
+use Rattle.cn_floor.proofs.Lists.{made_at, made-beyond}
 use Rattle.cn_floor.proofs.AtClose.Rises.{all-empty}
-use Rattle.cn_floor.proofs.AtMoments.Bounds.{few_came}
-use Rattle.cn_floor.proofs.AtMoments.Fresh.{load_bound-few}
-use Rattle.cn_floor.proofs.AtMoments.Sweeps.{lists_after-on}
+use Rattle.cn_floor.proofs.AtMoments.Bounds.{few-came}
+use Rattle.cn_floor.proofs.AtMoments.Fresh.{load-bound-few}
+use Rattle.cn_floor.proofs.AtMoments.Sweeps.{lists-after-on}
 use Rattle.cn_floor.proofs.InLane.Lone.{nobody-else, off-own}
 use Rattle.cn_floor.proofs.InLane.Yards.{nobody-there}
 
@@ -30,7 +30,7 @@ alone-entered token client entry v inside out =
       inside = omega (arith, length-map-range_with_len make 0 (length v.tokens));
       only = λ u. elim (cases_lt u (length v.tokens)) [
         | inl l ↦ made_at v.tokens make u l ∙ ap (λ (es : List (ℕ × ℕ)). es ++ last_on token client entry u) (out u)
-        | inr l ↦ made_beyond v.tokens make u l ∙ sym (off-own token client entry u (λ e. omega (arith, e, l, inside)))
+        | inr l ↦ made-beyond v.tokens make u l ∙ sym (off-own token client entry u (λ e. omega (arith, e, l, inside)))
       ];
     }
 
@@ -39,7 +39,7 @@ pub gone-alone : (token client wire exit n : ℕ) (v : View) → IsAlone v.token
 gone-alone token client wire exit n v is =
     let lists = (after_step token client (Exit exit) n v).tokens in
     let each : (u : ℕ) → on lists u ≡ [] =
-    λ u. lists_after-on v.tokens token (λ _. []) (λ _ _. refl) u ∙ ap (λ (es : List (ℕ × ℕ)). es ++ []) (nobody-else v.tokens token client wire is u) in
+    λ u. lists-after-on v.tokens token (λ _. []) (λ _ _. refl) u ∙ ap (λ (es : List (ℕ × ℕ)). es ++ []) (nobody-else v.tokens token client wire is u) in
     all-empty lists (nobody-there lists (λ u. ap length (each u)))
     ∙ ap (λ (k : ℕ). replicate k []) (length-map-range_with_len (λ u. without token (on v.tokens u) ++ []) 0 (length v.tokens))
 
@@ -51,7 +51,7 @@ moment-after start v w event step = (step.new, record { id = step.id; here = ste
 pub names-low : (start : Start) (v : View) → IsStart start → HasMoment start v → All (λ g. g.name < start.quota) v.grants
 names-low start v began (s, moment) k d less =
     let f = moment.kept.fresh moment.id v moment.here in
-    omega (arith, f.names k d less, load_bound-few start.network.table s.words v.loads f.low, few_came start s record { began = began; rule = moment.kept })
+    omega (arith, f.names k d less, load-bound-few start.network.table s.words v.loads f.low, few-came start s record { began = began; rule = moment.kept })
 
 -- who passes balancers changes nothing else of a lane
 passed-only : (start : Start) (token client : ℕ) (numbers : List ℕ) (wire : ℕ) (v : View) (to : ℕ) (w : View) → PassesOn start token client numbers wire v to w → OnlyPassed v w

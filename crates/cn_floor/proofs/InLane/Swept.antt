@@ -1,4 +1,4 @@
--- What a lane holds is what its view tells, also after a sweep.
+-- What a lane holds is what its view says, also after a sweep.
 use Rattle.std.proofs.Common.{◌≡◌, ◌≢◌, ℕ, zero, suc, ◌+◌, ◌-◌, ◌*◌, ◌%◌, ◌<◌, ◌≤◌, List, [], ◌∷◌, ◌++◌, length, get_or, refl, sym, ap, ◌∙◌, subst, arith, append-nil, length-append, inl, inr}
 use Rattle.std.specs.Prelude.{vec_capacity}
 use Rattle.std.proofs.lemmas.Bool.{cases_lt}
@@ -203,7 +203,7 @@ module _ (old new : Inside) (wire n : ℕ) (kept : IsLane old) (no_slot : new.se
         spare = omega (arith, kept.spare, all.spare, room);
       }
 
--- ---- what a sweep tells
+-- ---- what a sweep answers
 
 module _ (old new : LaneValue) (wire n : ℕ) (answer : Sweep) where
   abbrev start : Start

@@ -4,12 +4,12 @@ use Rattle.std.specs.Prelude.{IsSome}
 use Rattle.std.specs.Map.{lookup}
 use Rattle.std.proofs.lemmas.Bool.{cases_eq, cases_lt, eq-eqb}
 use Rattle.std.proofs.lemmas.List.{get_or-replicate, get_or_past, length-replicate}
-use Rattle.cn_spec.proofs.CallerLemmas.{sum_below-zero}
+use Rattle.cn_spec.proofs.CallerLemmas.{sum-below-zero}
 use Rattle.cn_yard.specs.Lists.{IsLowest, Lists, empty, first_of, here_or, on, standing, standing_below, tokens_in}
 
 -- where nobody stands on any wire nobody is inside
 pub nobody-there : (y : Lists) → ((wire : ℕ) → length (on y wire) ≡ 0) → tokens_in y ≡ 0
-nobody-there y none = sum_below-zero (length y) (λ u. length (on y u)) none
+nobody-there y none = sum-below-zero (length y) (λ u. length (on y u)) none
 
 -- the lowest wire is a wire of the network
 pub lowest-inside : (y : Lists) (wire : ℕ) → IsLowest y wire → wire < length y

@@ -26,45 +26,45 @@ use Rattle.cn_report.proofs.ReadingLemmas.FirstFaults.{cause_later}
 -- ---- numbers
 
 -- a number field spells a number of 64 bits
-number_small : (field : List ℕ) (n : ℕ) → number_in field ≡ Some n → n < 2 ^ 64
+number-small : (field : List ℕ) (n : ℕ) → number_in field ≡ Some n → n < 2 ^ 64
 unfolding number_in
-number_small field n e = grind (arith, nat_tests, e)
+number-small field n e = grind (arith, nat_tests, e)
 
 -- the numbers of an arrival are of 64 bits
 abbrev IsSmall : Arrival → Type 0
 IsSmall a = (a.epoch < 2 ^ 64) × (a.client < 2 ^ 64)
 
-arriving_small : (epoch client entry : Option ℕ) (a : Arrival) → ((n : ℕ) → epoch ≡ Some n → n < 2 ^ 64) → ((n : ℕ) → client ≡ Some n → n < 2 ^ 64)
+arriving-small : (epoch client entry : Option ℕ) (a : Arrival) → ((n : ℕ) → epoch ≡ Some n → n < 2 ^ 64) → ((n : ℕ) → client ≡ Some n → n < 2 ^ 64)
     → result_ok (arriving epoch client entry) ≡ Some a → IsSmall a
-arriving_small None client entry a e c is = absurd (none-some a is)
-arriving_small (Some x) None entry a e c is = absurd (none-some a is)
-arriving_small (Some x) (Some y) None a e c is = absurd (none-some a is)
-arriving_small (Some x) (Some y) (Some z) a e c is =
+arriving-small None client entry a e c is = absurd (none-some a is)
+arriving-small (Some x) None entry a e c is = absurd (none-some a is)
+arriving-small (Some x) (Some y) None a e c is = absurd (none-some a is)
+arriving-small (Some x) (Some y) (Some z) a e c is =
     let same : record { epoch = x; client = y; entry = z } ≡ a = cc is in
     subst IsSmall same (e x refl, c y refl)
 
-told_small : (row : Record) (a : Arrival) → result_ok (told_arrival row) ≡ Some a → IsSmall a
+told-small : (row : Record) (a : Arrival) → result_ok (told_arrival row) ≡ Some a → IsSmall a
 unfolding told_arrival
-told_small [] a is = absurd (none-some a is)
-told_small (e ∷ []) a is = absurd (none-some a is)
-told_small (e ∷ c ∷ []) a is = absurd (none-some a is)
-told_small (e ∷ c ∷ n ∷ []) a is = arriving_small (number_in e) (number_in c) (number_in n) a (number_small e) (number_small c) is
-told_small (e ∷ c ∷ n ∷ d ∷ row) a is = absurd (none-some a is)
+told-small [] a is = absurd (none-some a is)
+told-small (e ∷ []) a is = absurd (none-some a is)
+told-small (e ∷ c ∷ []) a is = absurd (none-some a is)
+told-small (e ∷ c ∷ n ∷ []) a is = arriving-small (number_in e) (number_in c) (number_in n) a (number-small e) (number-small c) is
+told-small (e ∷ c ∷ n ∷ d ∷ row) a is = absurd (none-some a is)
 
-ruled_small : (entries : ℕ) (row : Record) (a : Arrival) → result_ok (ruled_arrival entries row) ≡ Some a → IsSmall a
+ruled-small : (entries : ℕ) (row : Record) (a : Arrival) → result_ok (ruled_arrival entries row) ≡ Some a → IsSmall a
 unfolding ruled_arrival
-ruled_small entries [] a is = absurd (none-some a is)
-ruled_small entries (e ∷ []) a is = absurd (none-some a is)
-ruled_small entries (e ∷ c ∷ []) a is = arriving_small (number_in e) (number_in c) (entry_by_rule entries (number_in c)) a (number_small e) (number_small c) is
-ruled_small entries (e ∷ c ∷ n ∷ row) a is = absurd (none-some a is)
+ruled-small entries [] a is = absurd (none-some a is)
+ruled-small entries (e ∷ []) a is = absurd (none-some a is)
+ruled-small entries (e ∷ c ∷ []) a is = arriving-small (number_in e) (number_in c) (entry_by_rule entries (number_in c)) a (number-small e) (number-small c) is
+ruled-small entries (e ∷ c ∷ n ∷ row) a is = absurd (none-some a is)
 
-arrival_small : (heading : Heading) (entries : ℕ) (row : Record) (a : Arrival) → result_ok (arrival_in heading entries row) ≡ Some a → IsSmall a
-arrival_small Told entries row a is = told_small row a is
-arrival_small ByRule entries row a is = ruled_small entries row a is
+arrival-small : (heading : Heading) (entries : ℕ) (row : Record) (a : Arrival) → result_ok (arrival_in heading entries row) ≡ Some a → IsSmall a
+arrival-small Told entries row a is = told-small row a is
+arrival-small ByRule entries row a is = ruled-small entries row a is
 
-arrivals_small : (heading : Heading) (entries : ℕ) (rows : List Record) → AllByRecursion IsSmall (arrivals_in heading entries rows)
-arrivals_small heading entries [] = tt
-arrivals_small heading entries (row ∷ rows) = by (result_ok (arrival_in heading entries row)) (arrival_small heading entries row) (arrivals_small heading entries rows)
+arrivals-small : (heading : Heading) (entries : ℕ) (rows : List Record) → AllByRecursion IsSmall (arrivals_in heading entries rows)
+arrivals-small heading entries [] = tt
+arrivals-small heading entries (row ∷ rows) = by (result_ok (arrival_in heading entries row)) (arrival-small heading entries row) (arrivals-small heading entries rows)
   where
     by : (spelled : Option Arrival) → ((a : Arrival) → spelled ≡ Some a → IsSmall a) → AllByRecursion IsSmall (arrivals_in heading entries rows)
         → AllByRecursion IsSmall (cons_option spelled (arrivals_in heading entries rows))
@@ -80,37 +80,37 @@ all_front : {X : Type 0} (P : X → Type 0) (xs ys : List X) → AllByRecursion 
 all_front P [] ys all = (tt, all)
 all_front P (x ∷ xs) ys all = let rest = all_front P xs ys all.1 in ((all.0, rest.0), rest.1)
 
-clients_small : (n : ℕ) (cs : List Client) → AllByRecursion IsSmall (map (λ (c : Client). record { epoch = n; client = c.id; entry = c.entry }) cs)
+clients-small : (n : ℕ) (cs : List Client) → AllByRecursion IsSmall (map (λ (c : Client). record { epoch = n; client = c.id; entry = c.entry }) cs)
     → All (λ client. client < 2 ^ 64) (map (λ (c : Client). c.id) cs)
-clients_small n [] all = All-nil (λ (client : ℕ). client < 2 ^ 64)
-clients_small n (c ∷ cs) all = All-cons (λ (client : ℕ). client < 2 ^ 64) c.id (map (λ (x : Client). x.id) cs) all.0.1 (clients_small n cs all.1)
+clients-small n [] all = All-nil (λ (client : ℕ). client < 2 ^ 64)
+clients-small n (c ∷ cs) all = All-cons (λ (client : ℕ). client < 2 ^ 64) c.id (map (λ (x : Client). x.id) cs) all.0.1 (clients-small n cs all.1)
 
-epoch_small : (n : ℕ) (cs : List Client) → 0 < length cs → AllByRecursion IsSmall (map (λ (c : Client). record { epoch = n; client = c.id; entry = c.entry }) cs) → n < 2 ^ 64
-epoch_small n [] some all = absurd (omega (arith, some))
-epoch_small n (c ∷ cs) some all = all.0.0
+epoch-small : (n : ℕ) (cs : List Client) → 0 < length cs → AllByRecursion IsSmall (map (λ (c : Client). record { epoch = n; client = c.id; entry = c.entry }) cs) → n < 2 ^ 64
+epoch-small n [] some all = absurd (omega (arith, some))
+epoch-small n (c ∷ cs) some all = all.0.0
 
-epochs_small : (epochs : List BatchEpoch) → AllByRecursion (λ e. 0 < length e.clients.items) epochs → AllByRecursion IsSmall (flat_map arrivals_of epochs) → AllByRecursion IsSmallEpoch epochs
-epochs_small [] some all = tt
-epochs_small (e ∷ epochs) some all =
+epochs-small : (epochs : List BatchEpoch) → AllByRecursion (λ e. 0 < length e.clients.items) epochs → AllByRecursion IsSmall (flat_map arrivals_of epochs) → AllByRecursion IsSmallEpoch epochs
+epochs-small [] some all = tt
+epochs-small (e ∷ epochs) some all =
     let (first, rest) = all_front IsSmall (arrivals_of e) (flat_map arrivals_of epochs) all in
-    (record { number = epoch_small e.number e.clients.items some.0 first; clients = clients_small e.number e.clients.items first }, epochs_small epochs some.1 rest)
+    (record { number = epoch-small e.number e.clients.items some.0 first; clients = clients-small e.number e.clients.items first }, epochs-small epochs some.1 rest)
 
 -- ---- how many
 
 -- where an arrival has no cause, those before it are few
-few_before : (entries : ℕ) (before : List Arrival) (spelled : Result Arrival BatchCause) → spelled_cause entries before spelled ≡ None → length before < MOST_RECORDS
+few-before : (entries : ℕ) (before : List Arrival) (spelled : Result Arrival BatchCause) → spelled_cause entries before spelled ≡ None → length before < MOST_RECORDS
 unfolding arrival_cause
-few_before entries before (Err why) none = absurd (none-some why (sym none))
-few_before entries before (Ok a) none = grind (arith, nat_tests, none)
+few-before entries before (Err why) none = absurd (none-some why (sym none))
+few-before entries before (Ok a) none = grind (arith, nat_tests, none)
 
 at_most_one : (spelled : Option Arrival) → length (cons_option spelled []) ≤ 1
 at_most_one None = omega arith
 at_most_one (Some a) = omega arith
 
-few_arrivals : (entries : ℕ) (header : Record) (rows : List Record) → IsClean (batch_cause entries) (header ∷ rows)
+few-arrivals : (entries : ℕ) (header : Record) (rows : List Record) → IsClean (batch_cause entries) (header ∷ rows)
     → length (arrivals_in (heading_in (header ∷ rows)) entries rows) ≤ MOST_RECORDS
-few_arrivals entries header [] clean = omega arith
-few_arrivals entries header (row ∷ rows) clean =
+few-arrivals entries header [] clean = omega arith
+few-arrivals entries header (row ∷ rows) clean =
     let all = row ∷ rows in
     let n = length rows in
     let last = get_or all n [] in
@@ -118,7 +118,7 @@ few_arrivals entries header (row ∷ rows) clean =
     let parted : all ≡ take n all ++ last ∷ [] = sym (take_all (n + 1) all (omega arith)) ∙ take_more all n [] (omega arith) in
     let none : record_cause entries (header ∷ take n all) last ≡ None =
     sym (cause_later header_cause (record_cause entries) (header ∷ all) (suc n) (omega arith) (omega arith)) ∙ clean (suc n) in
-    let few = few_before entries (arrivals_in heading entries (take n all)) (arrival_in heading entries last) none in
+    let few = few-before entries (arrivals_in heading entries (take n all)) (arrival_in heading entries last) none in
     let size : length (arrivals_in heading entries all) ≡ length (arrivals_in heading entries (take n all) ++ arrivals_in heading entries (last ∷ [])) =
     ap (λ (l : List Record). length (arrivals_in heading entries l)) parted ∙ ap length (filter_map-append (λ r. result_ok (arrival_in heading entries r)) (take n all) (last ∷ [])) in
     omega (
@@ -129,25 +129,25 @@ few_arrivals entries header (row ∷ rows) clean =
       at_most_one (result_ok (arrival_in heading entries last)),
     )
 
-few_in : (entries : ℕ) (rows : List Record) → IsClean (batch_cause entries) rows → length (arrivals_in (heading_in rows) entries (drop 1 rows)) ≤ MOST_RECORDS
-few_in entries [] clean = omega arith
-few_in entries (header ∷ rows) clean = few_arrivals entries header rows clean
+few-in : (entries : ℕ) (rows : List Record) → IsClean (batch_cause entries) rows → length (arrivals_in (heading_in rows) entries (drop 1 rows)) ≤ MOST_RECORDS
+few-in entries [] clean = omega arith
+few-in entries (header ∷ rows) clean = few-arrivals entries header rows clean
 
 abbrev clients_in : BatchEpoch → ℕ
 clients_in e = length e.clients.items
 
-arrivals_many : (epochs : List BatchEpoch) → length (flat_map arrivals_of epochs) ≡ sum_by clients_in epochs
-arrivals_many [] = refl
-arrivals_many (e ∷ epochs) =
+arrivals-many : (epochs : List BatchEpoch) → length (flat_map arrivals_of epochs) ≡ sum_by clients_in epochs
+arrivals-many [] = refl
+arrivals-many (e ∷ epochs) =
     length-append (arrivals_of e) (flat_map arrivals_of epochs)
-    ∙ (λ i. length-map {B = Arrival} e.clients.items (λ (c : Client). record { epoch = e.number; client = c.id; entry = c.entry }) i + arrivals_many epochs i)
+    ∙ (λ i. length-map {B = Arrival} e.clients.items (λ (c : Client). record { epoch = e.number; client = c.id; entry = c.entry }) i + arrivals-many epochs i)
     ∙ sym (sum_by-cons clients_in e epochs)
 
 -- a batch's numbers are of 64 bits, and its clients are no more than the limit of records
-pub batch_numbers : (entries : ℕ) (rows : List Record) (epochs : List BatchEpoch) → IsBatch entries rows epochs
+pub batch-numbers : (entries : ℕ) (rows : List Record) (epochs : List BatchEpoch) → IsBatch entries rows epochs
     → AllByRecursion IsSmallEpoch epochs × (sum_by (λ e. length e.clients.items) epochs ≤ MOST_RECORDS)
-batch_numbers entries rows epochs batch =
+batch-numbers entries rows epochs batch =
     let spells = batch.holds.spells in (
-      epochs_small epochs batch.holds.some (subst (AllByRecursion IsSmall) (sym spells) (arrivals_small (heading_in rows) entries (drop 1 rows))),
-      omega (arith, ap length spells, arrivals_many epochs, few_in entries rows batch.clean),
+      epochs-small epochs batch.holds.some (subst (AllByRecursion IsSmall) (sym spells) (arrivals-small (heading_in rows) entries (drop 1 rows))),
+      omega (arith, ap length spells, arrivals-many epochs, few-in entries rows batch.clean),
     )

@@ -27,50 +27,50 @@ grants_of r = map (grant_at r) (range_with_len 0 r.clients)
 abbrev pub all_grants : List EpochRecord → List Granted
 all_grants records = flat_map grants_of records
 
-pub lines_of_all : (records : List EpochRecord) → flat_map (λ r. grant_lines r.number r.clients r.holders.items) records ≡ flat_map line_of (all_grants records)
-lines_of_all [] = refl
-lines_of_all (r ∷ records) =
-    (λ i. sym (flat_map-map line_of (grant_at r) (range_with_len 0 r.clients)) i ++ lines_of_all records i)
+pub lines-of-all : (records : List EpochRecord) → flat_map (λ r. grant_lines r.number r.clients r.holders.items) records ≡ flat_map line_of (all_grants records)
+lines-of-all [] = refl
+lines-of-all (r ∷ records) =
+    (λ i. sym (flat_map-map line_of (grant_at r) (range_with_len 0 r.clients)) i ++ lines-of-all records i)
     ∙ sym (flat_map-append line_of (grants_of r) (all_grants records))
 
-pub grants_many : (records : List EpochRecord) → length (all_grants records) ≡ clients_of records
-grants_many [] = refl
-grants_many (r ∷ records) =
-    length-append (grants_of r) (all_grants records) ∙ (λ i. length-map-range_with_len (grant_at r) 0 r.clients i + grants_many records i)
+pub grants-many : (records : List EpochRecord) → length (all_grants records) ≡ clients_of records
+grants-many [] = refl
+grants-many (r ∷ records) =
+    length-append (grants_of r) (all_grants records) ∙ (λ i. length-map-range_with_len (grant_at r) 0 r.clients i + grants-many records i)
     ∙ sym (sum_by-cons (λ s. s.clients) r records)
 
 -- those of one epoch
-one_epoch : (r : EpochRecord) (names : List ℕ) → of_epoch r.number (map (grant_at r) names) ≡ map (grant_at r) names
-one_epoch r [] = refl
-one_epoch r (n ∷ names) = rw (eq-eqb r.number r.number refl) (ap (λ (l : List Granted). grant_at r n ∷ l) (one_epoch r names))
+one-epoch : (r : EpochRecord) (names : List ℕ) → of_epoch r.number (map (grant_at r) names) ≡ map (grant_at r) names
+one-epoch r [] = refl
+one-epoch r (n ∷ names) = rw (eq-eqb r.number r.number refl) (ap (λ (l : List Granted). grant_at r n ∷ l) (one-epoch r names))
 
-no_epoch : (e : ℕ) (r : EpochRecord) (names : List ℕ) → r.number ≢ e → of_epoch e (map (grant_at r) names) ≡ []
-no_epoch e r [] other = refl
-no_epoch e r (n ∷ names) other = rw (ne_eqb r.number e other) (no_epoch e r names other)
+no-epoch : (e : ℕ) (r : EpochRecord) (names : List ℕ) → r.number ≢ e → of_epoch e (map (grant_at r) names) ≡ []
+no-epoch e r [] other = refl
+no-epoch e r (n ∷ names) other = rw (ne_eqb r.number e other) (no-epoch e r names other)
 
 -- the epochs above a number have none of its grants
 pub above : (e : ℕ) (records : List EpochRecord) → AllByRecursion (λ r. e < r.number) records → of_epoch e (all_grants records) ≡ []
 above e [] all = refl
 above e (r ∷ records) all =
     filter-append (λ (g : Granted). g.epoch == e) (grants_of r) (all_grants records)
-    ∙ (λ i. no_epoch e r (range_with_len 0 r.clients) (λ same. omega (arith, same, all.0)) i ++ above e records all.1 i)
+    ∙ (λ i. no-epoch e r (range_with_len 0 r.clients) (λ same. omega (arith, same, all.0)) i ++ above e records all.1 i)
 
 -- the first epoch's grants are those of its number; a later number's are those of the epochs after it
-pub first_epoch : (r : EpochRecord) (records : List EpochRecord) → AllByRecursion (λ s. r.number < s.number) records
+pub first-epoch : (r : EpochRecord) (records : List EpochRecord) → AllByRecursion (λ s. r.number < s.number) records
     → of_epoch r.number (all_grants (r ∷ records)) ≡ grants_of r
-first_epoch r records all =
+first-epoch r records all =
     filter-append (λ (g : Granted). g.epoch == r.number) (grants_of r) (all_grants records)
-    ∙ (λ i. one_epoch r (range_with_len 0 r.clients) i ++ above r.number records all i)
+    ∙ (λ i. one-epoch r (range_with_len 0 r.clients) i ++ above r.number records all i)
     ∙ append-nil (grants_of r)
 
-pub later_epoch : (e : ℕ) (r : EpochRecord) (records : List EpochRecord) → r.number ≢ e → of_epoch e (all_grants (r ∷ records)) ≡ of_epoch e (all_grants records)
-later_epoch e r records other =
+pub later-epoch : (e : ℕ) (r : EpochRecord) (records : List EpochRecord) → r.number ≢ e → of_epoch e (all_grants (r ∷ records)) ≡ of_epoch e (all_grants records)
+later-epoch e r records other =
     filter-append (λ (g : Granted). g.epoch == e) (grants_of r) (all_grants records)
-    ∙ ap (λ (l : List Granted). l ++ of_epoch e (all_grants records)) (no_epoch e r (range_with_len 0 r.clients) other)
+    ∙ ap (λ (l : List Granted). l ++ of_epoch e (all_grants records)) (no-epoch e r (range_with_len 0 r.clients) other)
 
 -- an epoch's clients are its holders
-pub clients_held : (r : EpochRecord) → length r.holders.items ≡ r.clients → map (λ (g : Granted). g.client) (grants_of r) ≡ r.holders.items
-clients_held r whole =
+pub clients-held : (r : EpochRecord) → length r.holders.items ≡ r.clients → map (λ (g : Granted). g.client) (grants_of r) ≡ r.holders.items
+clients-held r whole =
     map-same (range_with_len 0 r.clients) ∙ sym (fill_by_all held r.holders.items r.clients 0 whole (λ k h. refl))
   where
     held : ℕ → ℕ
@@ -81,6 +81,6 @@ clients_held r whole =
     map-same (n ∷ names) = ap (λ (l : List ℕ). held n ∷ l) (map-same names)
 
 -- and its names are those below their number
-pub names_given : (r : EpochRecord) (names : List ℕ) → map (λ (g : Granted). g.name) (map (grant_at r) names) ≡ names
-names_given r [] = refl
-names_given r (n ∷ names) = ap (λ (l : List ℕ). n ∷ l) (names_given r names)
+pub names-given : (r : EpochRecord) (names : List ℕ) → map (λ (g : Granted). g.name) (map (grant_at r) names) ≡ names
+names-given r [] = refl
+names-given r (n ∷ names) = ap (λ (l : List ℕ). n ∷ l) (names-given r names)

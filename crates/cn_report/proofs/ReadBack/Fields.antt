@@ -17,9 +17,9 @@ digits : (n : ℕ) → n < 2 ^ 64 → list_all is_ascii_digit (decimal n) ≡ tr
 digits n h = digits_decimal (numerals_by_value _ tells) n h
 
 -- the number that its decimals spell
-pub decimal_back : (n : ℕ) → n < 2 ^ 64 → number_in (decimal n) ≡ Some n
+pub decimal-back : (n : ℕ) → n < 2 ^ 64 → number_in (decimal n) ≡ Some n
 unfolding number_in
-decimal_back n h =
+decimal-back n h =
     let value = digits_value-decimal (numerals_by_value _ tells) n h in
     let short : nat_le (length (decimal n)) 20 ≡ true = grind (arith, nat_tests, length-decimal-le 20 n (omega arith) (omega arith) h) in
     let some : nat_le 1 (length (decimal n)) ≡ true = grind (arith, nat_tests, decimal_nonempty n h) in
@@ -27,18 +27,18 @@ decimal_back n h =
     rw (short, digits n h, value, some, small) refl
 
 -- a digit is no mark of the format
-plain_digit : (b : ℕ) → is_ascii_digit b ≡ true → needs_byte default_writer b ≡ false
-plain_digit b h = grind (arith, nat_tests, h)
+plain-digit : (b : ℕ) → is_ascii_digit b ≡ true → needs_byte default_writer b ≡ false
+plain-digit b h = grind (arith, nat_tests, h)
 
-plain_digits : (ds : List ℕ) → list_all is_ascii_digit ds ≡ true → list_any (needs_byte default_writer) ds ≡ false
-plain_digits [] h = refl
-plain_digits (d ∷ ds) h = by (is_ascii_digit d) refl h (λ rest. plain_digits ds rest)
+plain-digits : (ds : List ℕ) → list_all is_ascii_digit ds ≡ true → list_any (needs_byte default_writer) ds ≡ false
+plain-digits [] h = refl
+plain-digits (d ∷ ds) h = by (is_ascii_digit d) refl h (λ rest. plain-digits ds rest)
   where
     by : (b : Bool) → is_ascii_digit d ≡ b → (b && list_all is_ascii_digit ds) ≡ true
         → (list_all is_ascii_digit ds ≡ true → list_any (needs_byte default_writer) ds ≡ false) → list_any (needs_byte default_writer) (d ∷ ds) ≡ false
-    by true e rest more = rw (plain_digit d e, more rest) refl
+    by true e rest more = rw (plain-digit d e, more rest) refl
     by false e rest more = cc rest
 
 -- a number needs no quotes
 pub decimal_text : (n : ℕ) → n < 2 ^ 64 → field_text default_writer (decimal n) ≡ decimal n
-decimal_text n h = rw (plain_digits (decimal n) (digits n h)) refl
+decimal_text n h = rw (plain-digits (decimal n) (digits n h)) refl

@@ -41,10 +41,10 @@ unfoldable pub AllSmall : List Granted → Type 0
 AllSmall [] = ⊤
 AllSmall (g ∷ gs) = IsSmall g × AllSmall gs
 
-lines_text : (gs : List Granted) → AllSmall gs → flat_map line_of gs ≡ rows_text (map row_of gs)
+lines-text : (gs : List Granted) → AllSmall gs → flat_map line_of gs ≡ rows_text (map row_of gs)
 unfolding rows_text AllSmall
-lines_text [] small = refl
-lines_text (g ∷ gs) small = λ i. line_text g small.0 i ++ lines_text gs small.1 i
+lines-text [] small = refl
+lines-text (g ∷ gs) small = λ i. line_text g small.0 i ++ lines-text gs small.1 i
 
 -- records that are written are read
 rows_back : (rows : List Record) (n : ℕ) → length rows < n → records_from default_config n st.StartRecord (rows_text rows) ≡ map read_back rows
@@ -54,16 +54,16 @@ rows_back [] (suc n) h = refl
 rows_back (row ∷ rows) (suc n) h = rw (read-write row (rows_text rows)) (ap (λ (t : List Record). read_back row ∷ t) (rows_back rows n (omega arith)))
 
 -- each takes a byte
-rows_few : (rows : List Record) → length rows ≤ length (rows_text rows)
+rows-few : (rows : List Record) → length rows ≤ length (rows_text rows)
 unfolding rows_text
-rows_few [] = omega arith
-rows_few (row ∷ rows) = omega (arith, rows_few rows, length-append (row_text default_writer row) (rows_text rows), row_some row)
+rows-few [] = omega arith
+rows-few (row ∷ rows) = omega (arith, rows-few rows, length-append (row_text default_writer row) (rows_text rows), row-some row)
   where
     end : Bool → List ℕ
     end blank = if blank then quote_mark ∷ quote_mark ∷ [] else []
 
-    row_some : (fields : Record) → 1 ≤ length (row_text default_writer fields)
-    row_some fields =
+    row-some : (fields : Record) → 1 ≤ length (row_text default_writer fields)
+    row-some fields =
         let blank = is_blank default_writer fields in
         let last : List ℕ = 10 ∷ [] in
         omega (arith, length-append (row_body default_writer fields) (end blank ++ last), length-append (end blank) last)
@@ -79,15 +79,15 @@ no_mark more = refl
 
 whole : (gs : List Granted) → AllSmall gs → grants_header ++ flat_map line_of gs ≡ rows_text (header_row ∷ map row_of gs)
 unfolding rows_text
-whole gs small = λ i. header_text i ++ lines_text gs small i
+whole gs small = λ i. header_text i ++ lines-text gs small i
 
 -- the records of a written list are its header and a record for each grant
-pub grants_back : (gs : List Granted) → AllSmall gs → records_of (grants_header ++ flat_map line_of gs) ≡ header_row ∷ map row_of gs
-grants_back gs small =
+pub grants-back : (gs : List Granted) → AllSmall gs → records_of (grants_header ++ flat_map line_of gs) ≡ header_row ∷ map row_of gs
+grants-back gs small =
     let text : grants_header ++ flat_map line_of gs ≡ rows_text (header_row ∷ map row_of gs) = whole gs small in
     let back : records_of (grants_header ++ flat_map line_of gs) ≡ records_from default_config (length (grants_header ++ flat_map line_of gs) + 1) st.StartRecord (grants_header ++ flat_map line_of gs) =
     rw (no_mark (flat_map line_of gs)) refl in
     back
     ∙ ap (λ (t : List ℕ). records_from default_config (length t + 1) st.StartRecord t) text
-    ∙ rows_back (header_row ∷ map row_of gs) (length (rows_text (header_row ∷ map row_of gs)) + 1) (omega (arith, rows_few (header_row ∷ map row_of gs)))
+    ∙ rows_back (header_row ∷ map row_of gs) (length (rows_text (header_row ∷ map row_of gs)) + 1) (omega (arith, rows-few (header_row ∷ map row_of gs)))
     ∙ ap (λ (l : List Record). header_row ∷ l) (read_rows gs)

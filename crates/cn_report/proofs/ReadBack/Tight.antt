@@ -15,34 +15,34 @@ use Rattle.cn_report.specs.Reading.Grants.{IsTightEpoch, IsTightList}
 use Rattle.cn_report.specs.Reading.Records.{records_of}
 use Rattle.cn_report.specs.declared.reading.grant.Granted.{Granted}
 use Rattle.cn_report.specs.Writing.Grants.{AreRisingRecords, AreTight, HasOwnNames, grants_header, grants_text}
-use Rattle.cn_report.proofs.ReadBack.Epochs.{all_grants, clients_held, first_epoch, grant_at, grants_many, grants_of, later_epoch, lines_of_all, names_given}
-use Rattle.cn_report.proofs.ReadBack.Form.{NeverFall, form_clean, grants_read}
-use Rattle.cn_report.proofs.ReadBack.Rows.{AllSmall, grants_back, header_row, row_of}
+use Rattle.cn_report.proofs.ReadBack.Epochs.{all_grants, clients-held, first-epoch, grant_at, grants-many, grants_of, later-epoch, lines-of-all, names-given}
+use Rattle.cn_report.proofs.ReadBack.Form.{NeverFall, form-clean, grants-read}
+use Rattle.cn_report.proofs.ReadBack.Rows.{AllSmall, grants-back, header_row, row_of}
 
--- no grant is told of an epoch that has none
-none_tight : IsTightEpoch []
-none_tight = record { clients = λ client. omega (arith, times-nil client); names = IsPermutation-refl [] }
+-- an epoch with no grants has no record
+none-tight : IsTightEpoch []
+none-tight = record { clients = λ client. omega (arith, times-nil client); names = IsPermutation-refl [] }
 
-own_tight : (r : EpochRecord) → HasOwnNames r → IsTightEpoch (grants_of r)
-own_tight r own = record {
-  clients = λ client. rw (clients_held r own.holders) (own.once client);
+own-tight : (r : EpochRecord) → HasOwnNames r → IsTightEpoch (grants_of r)
+own-tight r own = record {
+  clients = λ client. rw (clients-held r own.holders) (own.once client);
   names =
       let size : length (grants_of r) ≡ r.clients = length-map-range_with_len (grant_at r) 0 r.clients in
-      rw (size, names_given r (range_with_len 0 r.clients)) (IsPermutation-refl (range_with_len 0 r.clients));
+      rw (size, names-given r (range_with_len 0 r.clients)) (IsPermutation-refl (range_with_len 0 r.clients));
 }
 
 -- each epoch is tight
-pub each_tight : (records : List EpochRecord) → AreRisingRecords records → AllByRecursion HasOwnNames records → (e : ℕ) → IsTightEpoch (of_epoch e (all_grants records))
+pub each-tight : (records : List EpochRecord) → AreRisingRecords records → AllByRecursion HasOwnNames records → (e : ℕ) → IsTightEpoch (of_epoch e (all_grants records))
 unfolding AreRisingRecords
-each_tight [] rising own e = none_tight
-each_tight (r ∷ records) rising own e = by (eqb_tells r.number e) (each_tight records rising.1 own.1 e)
+each-tight [] rising own e = none-tight
+each-tight (r ∷ records) rising own e = by (eqb_tells r.number e) (each-tight records rising.1 own.1 e)
   where
     by : ((eqb r.number e ≡ true) × (r.number ≡ e)) ⊎ ((eqb r.number e ≡ false) × (r.number ≢ e))
         → IsTightEpoch (of_epoch e (all_grants records)) → IsTightEpoch (of_epoch e (all_grants (r ∷ records)))
     by (inl w) later =
         subst (λ (n : ℕ). IsTightEpoch (of_epoch n (all_grants (r ∷ records)))) w.1
-        (rw (first_epoch r records rising.0) (own_tight r own.0))
-    by (inr w) later = rw (later_epoch e r records w.1) later
+        (rw (first-epoch r records rising.0) (own-tight r own.0))
+    by (inr w) later = rw (later-epoch e r records w.1) later
 
 -- all numbers are of 64 bits
 small_at : (holders : List ℕ) (n : ℕ) → AllByRecursion (λ client. client < 2 ^ 64) holders → get_or holders n 0 < 2 ^ 64
@@ -50,69 +50,69 @@ small_at [] n all = omega arith
 small_at (h ∷ holders) zero all = all.0
 small_at (h ∷ holders) (suc n) all = small_at holders n all.1
 
-small_append : (gs more : List Granted) → AllSmall gs → AllSmall more → AllSmall (gs ++ more)
+small-append : (gs more : List Granted) → AllSmall gs → AllSmall more → AllSmall (gs ++ more)
 unfolding AllSmall
-small_append [] more first rest = rest
-small_append (g ∷ gs) more first rest = (first.0, small_append gs more first.1 rest)
+small-append [] more first rest = rest
+small-append (g ∷ gs) more first rest = (first.0, small-append gs more first.1 rest)
 
-small_names : (r : EpochRecord) (from n : ℕ) → HasOwnNames r → from + n ≤ 2 ^ 64 → AllSmall (map (grant_at r) (range_with_len from n))
+small-names : (r : EpochRecord) (from n : ℕ) → HasOwnNames r → from + n ≤ 2 ^ 64 → AllSmall (map (grant_at r) (range_with_len from n))
 unfolding AllSmall
-small_names r from zero own few = tt
-small_names r from (suc n) own few = (
+small-names r from zero own few = tt
+small-names r from (suc n) own few = (
   record { epoch = own.number; client = small_at r.holders.items from (recursion_from_All (λ client. client < 2 ^ 64) r.holders.items own.clients); name = omega (arith, few) },
-  small_names r (from + 1) n own (omega (arith, few)),
+  small-names r (from + 1) n own (omega (arith, few)),
 )
 
 -- an epoch's names and those of the epochs after it never fall
-never_falls : (r : EpochRecord) (low from n : ℕ) (more : List Granted) → low ≤ r.number → NeverFall r.number more
+never-falls : (r : EpochRecord) (low from n : ℕ) (more : List Granted) → low ≤ r.number → NeverFall r.number more
     → NeverFall low more → NeverFall low (map (grant_at r) (range_with_len from n) ++ more)
 unfolding NeverFall
-never_falls r low from zero more h rest all = all
-never_falls r low from (suc n) more h rest all = (h, never_falls r r.number (from + 1) n more (omega arith) rest rest)
+never-falls r low from zero more h rest all = all
+never-falls r low from (suc n) more h rest all = (h, never-falls r r.number (from + 1) n more (omega arith) rest rest)
 
 lower : (low from : ℕ) (gs : List Granted) → low ≤ from → NeverFall from gs → NeverFall low gs
 unfolding NeverFall
 lower low from [] h all = tt
 lower low from (g ∷ gs) h all = (omega (arith, h, all.0), all.1)
 
-all_fall : (low : ℕ) (records : List EpochRecord) → AllByRecursion (λ r. low ≤ r.number) records → AreRisingRecords records → NeverFall low (all_grants records)
+all-fall : (low : ℕ) (records : List EpochRecord) → AllByRecursion (λ r. low ≤ r.number) records → AreRisingRecords records → NeverFall low (all_grants records)
 unfolding NeverFall AreRisingRecords
-all_fall low [] all rising = tt
-all_fall low (r ∷ records) all rising =
-    let rest = all_fall r.number records (above_all r.number records rising.0) rising.1 in
-    never_falls r low 0 r.clients (all_grants records) all.0 rest (lower low r.number (all_grants records) all.0 rest)
+all-fall low [] all rising = tt
+all-fall low (r ∷ records) all rising =
+    let rest = all-fall r.number records (above_all r.number records rising.0) rising.1 in
+    never-falls r low 0 r.clients (all_grants records) all.0 rest (lower low r.number (all_grants records) all.0 rest)
   where
     above_all : (n : ℕ) (later : List EpochRecord) → AllByRecursion (λ s. n < s.number) later → AllByRecursion (λ s. n ≤ s.number) later
     above_all n [] h = tt
     above_all n (s ∷ later) h = (omega (arith, h.0), above_all n later h.1)
 
-any_number : (records : List EpochRecord) → AllByRecursion (λ r. 0 ≤ r.number) records
-any_number [] = tt
-any_number (r ∷ records) = (omega arith, any_number records)
+any-number : (records : List EpochRecord) → AllByRecursion (λ r. 0 ≤ r.number) records
+any-number [] = tt
+any-number (r ∷ records) = (omega arith, any-number records)
 
 all_small : (records : List EpochRecord) → AllByRecursion HasOwnNames records → length (all_grants records) ≤ 2 ^ 64 → AllSmall (all_grants records)
 unfolding AllSmall
 all_small [] own few = tt
 all_small (r ∷ records) own few =
     let size = length-append (grants_of r) (all_grants records) in
-    small_append (grants_of r) (all_grants records)
-    (small_names r 0 r.clients own.0 (omega (arith, few, size, length-map-range_with_len (grant_at r) 0 r.clients)))
+    small-append (grants_of r) (all_grants records)
+    (small-names r 0 r.clients own.0 (omega (arith, few, size, length-map-range_with_len (grant_at r) 0 r.clients)))
     (all_small records own.1 (omega (arith, few, size)))
 
-pub small_grants : (records : List EpochRecord) → AreTight records → AllSmall (all_grants records)
-small_grants records tight = all_small records tight.names (omega (arith, tight.few, grants_many records))
+pub small-grants : (records : List EpochRecord) → AreTight records → AllSmall (all_grants records)
+small-grants records tight = all_small records tight.names (omega (arith, tight.few, grants-many records))
 
 -- the records of the written list, and the grants that they spell
-pub records_back : (records : List EpochRecord) → AreTight records → records_of (grants_text records) ≡ header_row ∷ map row_of (all_grants records)
-records_back records tight =
-    ap (λ (more : List ℕ). records_of (grants_header ++ more)) (lines_of_all records)
-    ∙ grants_back (all_grants records) (small_grants records tight)
+pub records-back : (records : List EpochRecord) → AreTight records → records_of (grants_text records) ≡ header_row ∷ map row_of (all_grants records)
+records-back records tight =
+    ap (λ (more : List ℕ). records_of (grants_header ++ more)) (lines-of-all records)
+    ∙ grants-back (all_grants records) (small-grants records tight)
 
-pub written_tight : (records : List EpochRecord) → AreTight records → IsTightList (records_of (grants_text records))
-written_tight records tight =
-    let small = small_grants records tight in
-    let falls = all_fall 0 records (any_number records) tight.rising in
-    rw (records_back records tight) (record {
-      form = form_clean (all_grants records) small falls (omega (arith, tight.few, grants_many records));
-      tight = λ e. rw (grants_read (all_grants records) small) (each_tight records tight.rising tight.names e);
+pub written-tight : (records : List EpochRecord) → AreTight records → IsTightList (records_of (grants_text records))
+written-tight records tight =
+    let small = small-grants records tight in
+    let falls = all-fall 0 records (any-number records) tight.rising in
+    rw (records-back records tight) (record {
+      form = form-clean (all_grants records) small falls (omega (arith, tight.few, grants-many records));
+      tight = λ e. rw (grants-read (all_grants records) small) (each-tight records tight.rising tight.names e);
     })

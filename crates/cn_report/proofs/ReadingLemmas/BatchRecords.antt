@@ -11,7 +11,7 @@ use Rattle.cn_report.specs.declared.reading.arrival.Arrival.{Arrival}
 use Rattle.cn_report.specs.declared.reading.batch_fault.BatchCause.{BatchCause}
 use Rattle.cn_report.specs.declared.reading.gathering.BatchEpoch.{BatchEpoch}
 use Rattle.cn_report.specs.declared.reading.heading.Heading.{Heading}
-use Rattle.cn_report.proofs.ReadingLemmas.FirstFaults.{AreClean, clean_all, clean_header, clean_more}
+use Rattle.cn_report.proofs.ReadingLemmas.FirstFaults.{AreClean, clean-all, clean-header, clean-more}
 
 -- the records so far: a header, and a record for each arrival
 pub record AreTaken (heading : Heading) (entries : ℕ) (rows : List Record) (arrivals : List Arrival) : Type 0 where
@@ -20,38 +20,38 @@ pub record AreTaken (heading : Heading) (entries : ℕ) (rows : List Record) (ar
   pub spells : arrivals_in heading entries (drop 1 rows) ≡ arrivals
   pub counted : length arrivals + 1 ≡ length rows
 
-pub taken_header : (heading : Heading) (entries : ℕ) (fields : Record) → heading_of fields ≡ Some heading → AreTaken heading entries (fields ∷ []) []
-taken_header heading entries fields e = record {
+pub taken-header : (heading : Heading) (entries : ℕ) (fields : Record) → heading_of fields ≡ Some heading → AreTaken heading entries (fields ∷ []) []
+taken-header heading entries fields e = record {
   headed = ap heading_or e;
-  clean = clean_header header_cause (record_cause entries) fields (ap cause_of_heading e);
+  clean = clean-header header_cause (record_cause entries) fields (ap cause_of_heading e);
   spells = refl;
   counted = refl;
 }
 
 -- the arrivals of one record more
-arrivals_next : (heading : Heading) (entries : ℕ) (rows : List Record) (fields : Record) (arrival : Arrival) → arrival_in heading entries fields ≡ Ok arrival
+arrivals-next : (heading : Heading) (entries : ℕ) (rows : List Record) (fields : Record) (arrival : Arrival) → arrival_in heading entries fields ≡ Ok arrival
     → arrivals_in heading entries (rows ++ fields ∷ []) ≡ arrivals_in heading entries rows ++ arrival ∷ []
-arrivals_next heading entries rows fields arrival is =
+arrivals-next heading entries rows fields arrival is =
     filter_map-append (λ (row : Record). result_ok (arrival_in heading entries row)) rows (fields ∷ [])
     ∙ ap (λ (l : List Arrival). arrivals_in heading entries rows ++ l) (one fields arrival is)
   where
     one : (row : Record) (a : Arrival) → arrival_in heading entries row ≡ Ok a → arrivals_in heading entries (row ∷ []) ≡ a ∷ []
     one row a e = rw e refl
 
--- what a record spells after those before it, told by the arrivals before it
+-- what a record spells after those before it, by the arrivals before it
 spelled-same : (heading : Heading) (entries : ℕ) (rows : List Record) (arrivals : List Arrival) (fields : Record) → AreTaken heading entries rows arrivals
     → record_cause entries rows fields ≡ spelled_cause entries arrivals (arrival_in heading entries fields)
 spelled-same heading entries rows arrivals fields t =
     ap (λ (h : Heading). spelled_cause entries (arrivals_in h entries (drop 1 rows)) (arrival_in h entries fields)) t.headed
     ∙ ap (λ (l : List Arrival). spelled_cause entries l (arrival_in heading entries fields)) t.spells
 
-pub taken_next : (heading : Heading) (entries : ℕ) (rows : List Record) (arrivals : List Arrival) (fields : Record) (arrival : Arrival) → AreTaken heading entries rows arrivals
+pub taken-next : (heading : Heading) (entries : ℕ) (rows : List Record) (arrivals : List Arrival) (fields : Record) (arrival : Arrival) → AreTaken heading entries rows arrivals
     → arrival_in heading entries fields ≡ Ok arrival → arrival_cause entries arrivals arrival ≡ None → AreTaken heading entries (rows ++ fields ∷ []) (arrivals ++ arrival ∷ [])
-taken_next heading entries [] arrivals fields arrival t is none = absurd (omega (arith, t.clean.some))
-taken_next heading entries (r ∷ rows) arrivals fields arrival t is none = record {
+taken-next heading entries [] arrivals fields arrival t is none = absurd (omega (arith, t.clean.some))
+taken-next heading entries (r ∷ rows) arrivals fields arrival t is none = record {
   headed = t.headed;
-  clean = clean_more header_cause (record_cause entries) (r ∷ rows) fields t.clean (spelled-same heading entries (r ∷ rows) arrivals fields t ∙ ap (spelled_cause entries arrivals) is ∙ none);
-  spells = arrivals_next heading entries rows fields arrival is ∙ ap (λ (l : List Arrival). l ++ arrival ∷ []) t.spells;
+  clean = clean-more header_cause (record_cause entries) (r ∷ rows) fields t.clean (spelled-same heading entries (r ∷ rows) arrivals fields t ∙ ap (spelled_cause entries arrivals) is ∙ none);
+  spells = arrivals-next heading entries rows fields arrival is ∙ ap (λ (l : List Arrival). l ++ arrival ∷ []) t.spells;
   counted = omega (arith, t.counted, length-append arrivals (arrival ∷ []), length-append (r ∷ rows) (fields ∷ []));
 }
 
@@ -59,9 +59,9 @@ pub taken_all : (heading : Heading) (entries : ℕ) (all rows : List Record) (ar
     → AreEpochs epochs arrivals → IsBatch entries all epochs
 taken_all heading entries all rows arrivals epochs t e are =
     let spells : arrivals_in (heading_in rows) entries (drop 1 rows) ≡ arrivals = ap (λ (h : Heading). arrivals_in h entries (drop 1 rows)) t.headed ∙ t.spells in
-    rw e (record { clean = clean_all header_cause (record_cause entries) rows t.clean; holds = rw spells are })
+    rw e (record { clean = clean-all header_cause (record_cause entries) rows t.clean; holds = rw spells are })
 
--- the cause of the next record, told by the arrivals before it
-pub at_arrivals : (heading : Heading) (entries : ℕ) (rows : List Record) (arrivals : List Arrival) (fields : Record) → AreTaken heading entries rows arrivals → (cause : BatchCause)
+-- the cause of the next record, by the arrivals before it
+pub at-arrivals : (heading : Heading) (entries : ℕ) (rows : List Record) (arrivals : List Arrival) (fields : Record) → AreTaken heading entries rows arrivals → (cause : BatchCause)
     → spelled_cause entries arrivals (arrival_in heading entries fields) ≡ Some cause → record_cause entries rows fields ≡ Some cause
-at_arrivals heading entries rows arrivals fields t cause e = spelled-same heading entries rows arrivals fields t ∙ e
+at-arrivals heading entries rows arrivals fields t cause e = spelled-same heading entries rows arrivals fields t ∙ e

@@ -21,9 +21,9 @@ use Rattle.cn_report.specs.declared.reading.granting.Gap.{Gap}
 use Rattle.cn_report.specs.declared.reading.granting.Granting.{Granting}
 
 -- an epoch above all of them has none
-pub none_above : (k n : ℕ) (grants : List Granted) → k < n → AllByRecursion (λ x. x.epoch ≤ k) grants → of_epoch n grants ≡ []
-none_above k n [] h all = refl
-none_above k n (g ∷ grants) h all = rw (ne_eqb g.epoch n (λ e. omega (arith, e, h, all.0))) (none_above k n grants h all.1)
+pub none-above : (k n : ℕ) (grants : List Granted) → k < n → AllByRecursion (λ x. x.epoch ≤ k) grants → of_epoch n grants ≡ []
+none-above k n [] h all = refl
+none-above k n (g ∷ grants) h all = rw (ne_eqb g.epoch n (λ e. omega (arith, e, h, all.0))) (none-above k n grants h all.1)
 
 all_below : (k n : ℕ) (grants : List Granted) → k ≤ n → AllByRecursion (λ x. x.epoch ≤ k) grants → AllByRecursion (λ x. x.epoch ≤ n) grants
 all_below k n [] h all = tt
@@ -34,17 +34,17 @@ all_more k [] g all h = (h, tt)
 all_more k (x ∷ grants) g all h = (all.0, all_more k grants g all.1 h)
 
 -- no epoch above all of them lacks a name
-pub no_lack_above : (k e n : ℕ) (grants : List Granted) → k < e → AllByRecursion (λ x. x.epoch ≤ k) grants → Lacks grants e n → ⊥
-no_lack_above k e n grants h all lack = omega (arith, lack.0, ap length (none_above k e grants h all))
+pub no-lack-above : (k e n : ℕ) (grants : List Granted) → k < e → AllByRecursion (λ x. x.epoch ≤ k) grants → Lacks grants e n → ⊥
+no-lack-above k e n grants h all lack = omega (arith, lack.0, ap length (none-above k e grants h all))
 
 -- so the first gap of those up to the greatest is the first of those below any other
-pub gap_further : (k end : ℕ) (grants : List Granted) (gap : Option Gap) → k < end → AllByRecursion (λ x. x.epoch ≤ k) grants → IsGapBelow (k + 1) grants gap → IsGapBelow end grants gap
-gap_further k end grants None h all none = λ e n lt lack. each e n lack (leb_tells e k)
+pub gap-further : (k end : ℕ) (grants : List Granted) (gap : Option Gap) → k < end → AllByRecursion (λ x. x.epoch ≤ k) grants → IsGapBelow (k + 1) grants gap → IsGapBelow end grants gap
+gap-further k end grants None h all none = λ e n lt lack. each e n lack (leb_tells e k)
   where
     each : (e n : ℕ) → Lacks grants e n → ((leb e k ≡ true) × (e ≤ k)) ⊎ ((leb e k ≡ false) × (k < e)) → ⊥
     each e n lack (inl w) = none e n (omega (arith, w.1)) lack
-    each e n lack (inr w) = no_lack_above k e n grants w.1 all lack
-gap_further k end grants (Some gap) h all least = record {
+    each e n lack (inr w) = no-lack-above k e n grants w.1 all lack
+gap-further k end grants (Some gap) h all least = record {
   below = omega (arith, least.below, h);
   lacks = least.lacks;
   first = λ e n lt lack. each e n lack (leb_tells e k);
@@ -53,45 +53,45 @@ gap_further k end grants (Some gap) h all least = record {
   where
     each : (e n : ℕ) → Lacks grants e n → ((leb e k ≡ true) × (e ≤ k)) ⊎ ((leb e k ≡ false) × (k < e)) → gap.epoch ≤ e
     each e n lack (inl w) = least.first e n (omega (arith, w.1)) lack
-    each e n lack (inr w) = absurd (no_lack_above k e n grants w.1 all lack)
+    each e n lack (inr w) = absurd (no-lack-above k e n grants w.1 all lack)
 
 -- what was seen, once a later epoch has come
 pub reached : (old new : Granting) (grants : List Granted) → old.latest < new.latest → new.count ≡ 0 → ((n : ℕ) → has new.clients n ≡ false) → ((n : ℕ) → has new.names n ≡ false)
     → IsGapBelow (old.latest + 1) grants new.gap → Holds old grants → Holds new grants
 reached old new grants h count clients names gap held =
-    let none = none_above old.latest new.latest grants h held.below in record {
+    let none = none-above old.latest new.latest grants h held.below in record {
       below = all_below old.latest new.latest grants (omega (arith, h)) held.below;
       count = count ∙ sym (ap length none);
       clients = λ n. clients n ∙ sym (ap (has_client n) none);
       names = λ n. names n ∙ sym (ap (has_name n) none);
-      gap = gap_further old.latest new.latest grants new.gap h held.below gap;
+      gap = gap-further old.latest new.latest grants new.gap h held.below gap;
     }
 
 -- the form's cause
-pub form_back : (before : List Granted) (g : Granted) → g.epoch < last_epoch before → form_cause before g ≡ Some Form
+pub form-back : (before : List Granted) (g : Granted) → g.epoch < last_epoch before → form_cause before g ≡ Some Form
 unfolding form_cause
-form_back before g h = rw (lt-ltb g.epoch (last_epoch before) h) refl
+form-back before g h = rw (lt-ltb g.epoch (last_epoch before) h) refl
 
-pub form_full : (before : List Granted) (g : Granted) → MOST_RECORDS ≤ length before → form_cause before g ≡ Some Form
+pub form-full : (before : List Granted) (g : Granted) → MOST_RECORDS ≤ length before → form_cause before g ≡ Some Form
 unfolding form_cause
-form_full before g h = each (leb_tells (suc g.epoch) (last_epoch before))
+form-full before g h = each (leb_tells (suc g.epoch) (last_epoch before))
   where
     each : ((leb (suc g.epoch) (last_epoch before) ≡ true) × (suc g.epoch ≤ last_epoch before)) ⊎ ((leb (suc g.epoch) (last_epoch before) ≡ false) × (last_epoch before < suc g.epoch)) → form_cause before g ≡ Some Form
     each (inl w) = rw w.0 refl
     each (inr w) = rw (w.0, le-leb MOST_RECORDS (length before) h) refl
 
-pub form_none : (before : List Granted) (g : Granted) → last_epoch before ≤ g.epoch → length before < MOST_RECORDS → form_cause before g ≡ None
+pub form-none : (before : List Granted) (g : Granted) → last_epoch before ≤ g.epoch → length before < MOST_RECORDS → form_cause before g ≡ None
 unfolding form_cause
-form_none before g h few = rw (le-ltb g.epoch (last_epoch before) h, lt-leb MOST_RECORDS (length before) few) refl
+form-none before g h few = rw (le-ltb g.epoch (last_epoch before) h, lt-leb MOST_RECORDS (length before) few) refl
 
--- the cause that is told is that of the grant
+-- the reported cause is that of the grant
 pub told : (g : Granting) (before : List Granted) (grant : Granted) → Holds g before → g.latest ≡ grant.epoch → last_epoch before ≤ grant.epoch → length before < MOST_RECORDS
     → joining_cause g grant ≡ first_of (form_cause before grant) (twice_cause before grant)
 unfolding twice_cause
 told g before grant held here last few =
     let clients = held.clients grant.client in
     let names = held.names grant.name in
-    rw (form_none before grant last few) (rw (clients, names, here) refl)
+    rw (form-none before grant last few) (rw (clients, names, here) refl)
 
 or_swap : (a b c : Bool) → (a || (b || c)) ≡ (b || (a || c))
 or_swap true true c = refl
@@ -109,37 +109,37 @@ of_same before grant e same = filter-append (λ (g : Granted). g.epoch == e) bef
     one : of_epoch e (grant ∷ []) ≡ grant ∷ []
     one = rw (eq-eqb grant.epoch e same) refl
 
-pub of_other : (before : List Granted) (grant : Granted) (e : ℕ) → (grant.epoch ≡ e → ⊥) → of_epoch e (before ++ grant ∷ []) ≡ of_epoch e before
-of_other before grant e other =
+pub of-other : (before : List Granted) (grant : Granted) (e : ℕ) → (grant.epoch ≡ e → ⊥) → of_epoch e (before ++ grant ∷ []) ≡ of_epoch e before
+of-other before grant e other =
     filter-append (λ (g : Granted). g.epoch == e) before (grant ∷ []) ∙ ap (λ (l : List Granted). of_epoch e before ++ l) none ∙ append-nil (of_epoch e before)
   where
     none : of_epoch e (grant ∷ []) ≡ []
     none = rw (ne_eqb grant.epoch e other) refl
 
-lacks_same : (grants more : List Granted) (e n : ℕ) → of_epoch e grants ≡ of_epoch e more → Lacks grants e n → Lacks more e n
-lacks_same grants more e n same lack = subst (λ (xs : List Granted). (n < length xs) × (has_name n xs ≡ false)) same lack
+lacks-same : (grants more : List Granted) (e n : ℕ) → of_epoch e grants ≡ of_epoch e more → Lacks grants e n → Lacks more e n
+lacks-same grants more e n same lack = subst (λ (xs : List Granted). (n < length xs) × (has_name n xs ≡ false)) same lack
 
-gap_more : (before : List Granted) (grant : Granted) (gap : Option Gap) → IsGapBelow grant.epoch before gap → IsGapBelow grant.epoch (before ++ grant ∷ []) gap
-gap_more before grant None none = λ e n lt lack. none e n lt (lacks_same (before ++ grant ∷ []) before e n (of_other before grant e (λ x. omega (arith, x, lt))) lack)
-gap_more before grant (Some gap) least = record {
+gap-more : (before : List Granted) (grant : Granted) (gap : Option Gap) → IsGapBelow grant.epoch before gap → IsGapBelow grant.epoch (before ++ grant ∷ []) gap
+gap-more before grant None none = λ e n lt lack. none e n lt (lacks-same (before ++ grant ∷ []) before e n (of-other before grant e (λ x. omega (arith, x, lt))) lack)
+gap-more before grant (Some gap) least = record {
   below = least.below;
-  lacks = lacks_same before (before ++ grant ∷ []) gap.epoch gap.name (sym (of_other before grant gap.epoch (λ x. omega (arith, x, least.below)))) least.lacks;
-  first = λ e n lt lack. least.first e n lt (lacks_same (before ++ grant ∷ []) before e n (of_other before grant e (λ x. omega (arith, x, lt))) lack);
-  least = λ n lack. least.least n (lacks_same (before ++ grant ∷ []) before gap.epoch n (of_other before grant gap.epoch (λ x. omega (arith, x, least.below))) lack);
+  lacks = lacks-same before (before ++ grant ∷ []) gap.epoch gap.name (sym (of-other before grant gap.epoch (λ x. omega (arith, x, least.below)))) least.lacks;
+  first = λ e n lt lack. least.first e n lt (lacks-same (before ++ grant ∷ []) before e n (of-other before grant e (λ x. omega (arith, x, lt))) lack);
+  least = λ n lack. least.least n (lacks-same (before ++ grant ∷ []) before gap.epoch n (of-other before grant gap.epoch (λ x. omega (arith, x, least.below))) lack);
 }
 
--- what is told of the epochs that are over, once the latest is over too
-told_all : (k n : ℕ) (over : List (ℕ × ℕ × List ℕ)) → k < n → AllByRecursion (λ p. p.0 < k) over → AllByRecursion (λ p. p.0 < n) over
-told_all k n [] h all = tt
-told_all k n (p ∷ over) h all = (omega (arith, h, all.0), told_all k n over h all.1)
+-- what is found of the epochs that are over, once the latest is over too
+told-all : (k n : ℕ) (over : List (ℕ × ℕ × List ℕ)) → k < n → AllByRecursion (λ p. p.0 < k) over → AllByRecursion (λ p. p.0 < n) over
+told-all k n [] h all = tt
+told-all k n (p ∷ over) h all = (omega (arith, h, all.0), told-all k n over h all.1)
 
-told_last : (n : ℕ) (over : List (ℕ × ℕ × List ℕ)) (p : ℕ × ℕ × List ℕ) → AllByRecursion (λ p. p.0 < n) over → p.0 < n → AllByRecursion (λ p. p.0 < n) (over ++ p ∷ [])
-told_last n [] p all h = (h, tt)
-told_last n (x ∷ over) p all h = (all.0, told_last n over p all.1 h)
+told-last : (n : ℕ) (over : List (ℕ × ℕ × List ℕ)) (p : ℕ × ℕ × List ℕ) → AllByRecursion (λ p. p.0 < n) over → p.0 < n → AllByRecursion (λ p. p.0 < n) (over ++ p ∷ [])
+told-last n [] p all h = (h, tt)
+told-last n (x ∷ over) p all h = (all.0, told-last n over p all.1 h)
 
-pub told_turn : (width : ℕ) (over : List (ℕ × ℕ × List ℕ)) (latest count next : ℕ) (grants : List Granted) → AreTold width over latest count grants → count ≡ length (of_epoch latest grants) → latest < next
+pub told-turn : (width : ℕ) (over : List (ℕ × ℕ × List ℕ)) (latest count next : ℕ) (grants : List Granted) → AreTold width over latest count grants → count ≡ length (of_epoch latest grants) → latest < next
     → AreTold width (over ++ latest_told width latest count) next 0 grants
-told_turn width over latest count next grants t size h = each (leb_tells 1 count)
+told-turn width over latest count next grants t size h = each (leb_tells 1 count)
   where
     each : ((leb 1 count ≡ true) × (1 ≤ count)) ⊎ ((leb 1 count ≡ false) × (count < 1)) → AreTold width (over ++ latest_told width latest count) next 0 grants
     each (inl w) = rw w.0 (record {
@@ -148,36 +148,36 @@ told_turn width over latest count next grants t size h = each (leb_tells 1 count
       told = (λ i. t.told i ++ (latest, size i, shares (size i) width) ∷ [])
           ∙ sym (map-append (shared_epoch width grants) (map (λ (p : ℕ × ℕ × List ℕ). p.0) over) (latest ∷ []))
           ∙ ap (map (shared_epoch width grants)) (sym (map-append (λ (p : ℕ × ℕ × List ℕ). p.0) over ((latest, count, shares count width) ∷ [])));
-      below = told_last next over (latest, count, shares count width) (told_all latest next over h t.below) h;
+      below = told-last next over (latest, count, shares count width) (told-all latest next over h t.below) h;
     })
     each (inr w) = rw (w.0, append-nil over) (record {
       numbers = rw w.0 at t.numbers;
       told = t.told;
-      below = told_all latest next over h t.below;
+      below = told-all latest next over h t.below;
     })
 
 shared_same : (width : ℕ) (latest : ℕ) (over : List (ℕ × ℕ × List ℕ)) (grants : List Granted) (g : Granted) → g.epoch ≡ latest → AllByRecursion (λ p. p.0 < latest) over
     → map (shared_epoch width grants) (map (λ p. p.0) over) ≡ map (shared_epoch width (grants ++ g ∷ [])) (map (λ p. p.0) over)
 shared_same width latest [] grants g here all = refl
 shared_same width latest (p ∷ over) grants g here all =
-    let same : of_epoch p.0 grants ≡ of_epoch p.0 (grants ++ g ∷ []) = sym (of_other grants g p.0 (λ x. omega (arith, x, here, all.0))) in
+    let same : of_epoch p.0 grants ≡ of_epoch p.0 (grants ++ g ∷ []) = sym (of-other grants g p.0 (λ x. omega (arith, x, here, all.0))) in
     λ i. (p.0, length (same i), shares (length (same i)) width) ∷ shared_same width latest over grants g here all.1 i
 
-number_last : (n : ℕ) (over : List (ℕ × ℕ × List ℕ)) → list_any (nat_eq n) (map (λ p. p.0) over ++ n ∷ []) ≡ true
-number_last n [] = rw (eq-eqb n n refl) refl
-number_last n (p ∷ over) = ap (λ b. nat_eq n p.0 || b) (number_last n over) ∙ or_true (nat_eq n p.0)
+number-last : (n : ℕ) (over : List (ℕ × ℕ × List ℕ)) → list_any (nat_eq n) (map (λ p. p.0) over ++ n ∷ []) ≡ true
+number-last n [] = rw (eq-eqb n n refl) refl
+number-last n (p ∷ over) = ap (λ b. nat_eq n p.0 || b) (number-last n over) ∙ or_true (nat_eq n p.0)
   where
     or_true : (b : Bool) → (b || true) ≡ true
     or_true true = refl
     or_true false = refl
 
-number_new : (n : ℕ) (over : List (ℕ × ℕ × List ℕ)) → AllByRecursion (λ p. p.0 < n) over → list_any (nat_eq n) (map (λ p. p.0) over) ≡ false
-number_new n [] all = refl
-number_new n (p ∷ over) all = rw (ne_eqb n p.0 (λ x. omega (arith, x, all.0))) (number_new n over all.1)
+number-new : (n : ℕ) (over : List (ℕ × ℕ × List ℕ)) → AllByRecursion (λ p. p.0 < n) over → list_any (nat_eq n) (map (λ p. p.0) over) ≡ false
+number-new n [] all = refl
+number-new n (p ∷ over) all = rw (ne_eqb n p.0 (λ x. omega (arith, x, all.0))) (number-new n over all.1)
 
-told_more : (width : ℕ) (over : List (ℕ × ℕ × List ℕ)) (latest count : ℕ) (grants : List Granted) (g : Granted) → AreTold width over latest count grants → g.epoch ≡ latest
+told-more : (width : ℕ) (over : List (ℕ × ℕ × List ℕ)) (latest count : ℕ) (grants : List Granted) (g : Granted) → AreTold width over latest count grants → g.epoch ≡ latest
     → AreTold width over latest (count + 1) (grants ++ g ∷ [])
-told_more width over latest count grants g t here = record {
+told-more width over latest count grants g t here = record {
   numbers = fold-append (λ (numbers : List ℕ) (x : Granted). with_number numbers x.epoch) [] grants (g ∷ []) ∙ (λ i. with_number (t.numbers i) (here i)) ∙ each (leb_tells 1 count)
       ∙ ap (λ b. map (λ (p : ℕ × ℕ × List ℕ). p.0) over ++ (if b then latest ∷ [] else [])) (sym (lt-ltb 0 (count + 1) (omega arith)));
   told = t.told ∙ shared_same width latest over grants g here t.below;
@@ -185,17 +185,17 @@ told_more width over latest count grants g t here = record {
 }
   where
     each : ((leb 1 count ≡ true) × (1 ≤ count)) ⊎ ((leb 1 count ≡ false) × (count < 1)) → with_number (map (λ p. p.0) over ++ latest_number latest count) latest ≡ map (λ p. p.0) over ++ latest ∷ []
-    each (inl w) = rw w.0 (rw (number_last latest over) refl)
-    each (inr w) = rw (w.0, append-nil (map (λ (p : ℕ × ℕ × List ℕ). p.0) over)) (rw (number_new latest over t.below) refl)
+    each (inl w) = rw w.0 (rw (number-last latest over) refl)
+    each (inr w) = rw (w.0, append-nil (map (λ (p : ℕ × ℕ × List ℕ). p.0) over)) (rw (number-new latest over t.below) refl)
 
-told_joined : (width : ℕ) (old new : Granting) (before : List Granted) (grant : Granted) → old.latest ≡ grant.epoch → new.over ≡ old.over → new.latest ≡ old.latest → new.count ≡ old.count + 1
+told-joined : (width : ℕ) (old new : Granting) (before : List Granted) (grant : Granted) → old.latest ≡ grant.epoch → new.over ≡ old.over → new.latest ≡ old.latest → new.count ≡ old.count + 1
     → AreTold width (map plain_tight old.over.items) old.latest old.count before → AreTold width (map plain_tight new.over.items) new.latest new.count (before ++ grant ∷ [])
-told_joined width old new before grant here over latest count t =
-    rw (over, latest, count) (told_more width (map plain_tight old.over.items) old.latest old.count before grant t (sym here))
+told-joined width old new before grant here over latest count t =
+    rw (over, latest, count) (told-more width (map plain_tight old.over.items) old.latest old.count before grant t (sym here))
 
--- what is told at the end
-pub told_end : (width : ℕ) (over : List (ℕ × ℕ × List ℕ)) (next : ℕ) (grants : List Granted) → AreTold width over next 0 grants → over ≡ map (shared_epoch width grants) (epoch_numbers grants)
-told_end width over next grants t = t.told ∙ ap (map (shared_epoch width grants)) (sym (t.numbers ∙ append-nil (map (λ (p : ℕ × ℕ × List ℕ). p.0) over)))
+-- what is found at the end
+pub told-end : (width : ℕ) (over : List (ℕ × ℕ × List ℕ)) (next : ℕ) (grants : List Granted) → AreTold width over next 0 grants → over ≡ map (shared_epoch width grants) (epoch_numbers grants)
+told-end width over next grants t = t.told ∙ ap (map (shared_epoch width grants)) (sym (t.numbers ∙ append-nil (map (λ (p : ℕ × ℕ × List ℕ). p.0) over)))
 
 -- one more grant of the latest epoch
 pub joined : (width : ℕ) (old new : Granting) (before : List Granted) (grant : Granted) → Holds old before → Tells width old before → old.latest ≡ grant.epoch → new.over ≡ old.over → new.gap ≡ old.gap → new.latest ≡ old.latest
@@ -211,15 +211,15 @@ joined width old new before grant held tells here over gap latest count clients 
         names = λ n. names n ∙ ap (λ (b : Bool). (n == grant.name) || b) (held.names n ∙ ap (λ (e : ℕ). has_name n (of_epoch e before)) (sym latest))
             ∙ sym (any_more (λ g. n == g.name) (of_epoch new.latest before) grant) ∙ ap (has_name n) (sym same);
         gap = subst (λ (e : ℕ). IsGapBelow e (before ++ grant ∷ []) new.gap) (sym (latest ∙ here))
-            (rw gap (gap_more before grant old.gap (subst (λ (e : ℕ). IsGapBelow e before old.gap) here held.gap)));
+            (rw gap (gap-more before grant old.gap (subst (λ (e : ℕ). IsGapBelow e before old.gap) here held.gap)));
       };
       last = fold-append (λ (epoch : ℕ) (g : Granted). g.epoch) 0 before (grant ∷ []) ∙ sym (latest ∙ here);
-      tells = λ none. told_joined width old new before grant here over latest count (tells (sym gap ∙ none));
+      tells = λ none. told-joined width old new before grant here over latest count (tells (sym gap ∙ none));
     }
 
 -- the first gap of those up to the greatest is the first of all
-pub gap_of_all : (g : Granting) (grants : List Granted) (gap : Gap) → Holds g grants → IsGapBelow (g.latest + 1) grants (Some gap) → IsGap grants gap.epoch gap.name
-gap_of_all g grants gap held least = record {
+pub gap-of-all : (g : Granting) (grants : List Granted) (gap : Gap) → Holds g grants → IsGapBelow (g.latest + 1) grants (Some gap) → IsGap grants gap.epoch gap.name
+gap-of-all g grants gap held least = record {
   lacks = least.lacks;
   first = λ e n lack. each e n lack (leb_tells e g.latest);
   least = least.least;
@@ -227,7 +227,7 @@ gap_of_all g grants gap held least = record {
   where
     each : (e n : ℕ) → Lacks grants e n → ((leb e g.latest ≡ true) × (e ≤ g.latest)) ⊎ ((leb e g.latest ≡ false) × (g.latest < e)) → gap.epoch ≤ e
     each e n lack (inl w) = least.first e n (omega (arith, w.1)) lack
-    each e n lack (inr w) = absurd (no_lack_above g.latest e n grants w.1 held.below lack)
+    each e n lack (inr w) = absurd (no-lack-above g.latest e n grants w.1 held.below lack)
 
 pub no_gap : (g : Granting) (grants : List Granted) → Holds g grants → IsGapBelow (g.latest + 1) grants None → (e n : ℕ) → Lacks grants e n → ⊥
-no_gap g grants held none e n lack = gap_further g.latest (e + g.latest + 1) grants None (omega arith) held.below none e n (omega arith) lack
+no_gap g grants held none e n lack = gap-further g.latest (e + g.latest + 1) grants None (omega arith) held.below none e n (omega arith) lack

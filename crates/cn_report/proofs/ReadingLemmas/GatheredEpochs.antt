@@ -24,21 +24,21 @@ abbrev pub arrival_at : ℕ → Client → Arrival
 arrival_at n c = record { epoch = n; client = c.id; entry = c.entry }
 
 -- an epoch's arrivals are of that epoch
-pub same_epoch : (n : ℕ) (cs : List Client) → of_epoch n (map (arrival_at n) cs) ≡ map (arrival_at n) cs
-same_epoch n [] = refl
-same_epoch n (c ∷ cs) = rw (eq-eqb n n refl, same_epoch n cs) refl
+pub same-epoch : (n : ℕ) (cs : List Client) → of_epoch n (map (arrival_at n) cs) ≡ map (arrival_at n) cs
+same-epoch n [] = refl
+same-epoch n (c ∷ cs) = rw (eq-eqb n n refl, same-epoch n cs) refl
 
 -- and of no other
-pub other_epoch : (m n : ℕ) (cs : List Client) → (m == n) ≡ false → of_epoch n (map (arrival_at m) cs) ≡ []
-other_epoch m n [] e = refl
-other_epoch m n (c ∷ cs) e = rw (e, other_epoch m n cs e) refl
+pub other-epoch : (m n : ℕ) (cs : List Client) → (m == n) ≡ false → of_epoch n (map (arrival_at m) cs) ≡ []
+other-epoch m n [] e = refl
+other-epoch m n (c ∷ cs) e = rw (e, other-epoch m n cs e) refl
 
 -- none of the epochs below a number has its arrivals
-below_epoch : (k n : ℕ) (epochs : List BatchEpoch) → k ≤ n → AllByRecursion (λ e. e.number < k) epochs → of_epoch n (flat_map arrivals_of epochs) ≡ []
-below_epoch k n [] h all = refl
-below_epoch k n (e ∷ epochs) h all =
+below-epoch : (k n : ℕ) (epochs : List BatchEpoch) → k ≤ n → AllByRecursion (λ e. e.number < k) epochs → of_epoch n (flat_map arrivals_of epochs) ≡ []
+below-epoch k n [] h all = refl
+below-epoch k n (e ∷ epochs) h all =
     filter-append (λ (a : Arrival). a.epoch == n) (arrivals_of e) (flat_map arrivals_of epochs)
-    ∙ (λ i. other_epoch e.number n e.clients.items (ne_eqb e.number n (λ x. omega (arith, x, h, all.0))) i ++ below_epoch k n epochs h all.1 i)
+    ∙ (λ i. other-epoch e.number n e.clients.items (ne_eqb e.number n (λ x. omega (arith, x, h, all.0))) i ++ below-epoch k n epochs h all.1 i)
 
 -- whether a client stands among these
 same_clients : (n x : ℕ) (cs : List Client) → list_any (λ (b : Arrival). x == b.client) (map (arrival_at n) cs) ≡ list_any (nat_eq x) (map (λ (c : Client). c.id) cs)
@@ -57,14 +57,14 @@ out_of_range entries before a h out = rw (le-ltb a.epoch (last_epoch before) h, 
 
 module _ (g : Gathering) (before : List Arrival) (held : Holds g before) where
   -- the arrivals of the latest epoch
-  latest_only : of_epoch g.latest.number before ≡ arrivals_of g.latest
-  latest_only =
+  latest-only : of_epoch g.latest.number before ≡ arrivals_of g.latest
+  latest-only =
       ap (of_epoch g.latest.number) (sym held.spells)
       ∙ filter-append (λ (a : Arrival). a.epoch == g.latest.number) (flat_map arrivals_of g.over.items) (arrivals_of g.latest)
-      ∙ ap (λ (l : List Arrival). l ++ of_epoch g.latest.number (arrivals_of g.latest)) (below_epoch g.latest.number g.latest.number g.over.items (omega arith) held.below)
-      ∙ same_epoch g.latest.number g.latest.clients.items
+      ∙ ap (λ (l : List Arrival). l ++ of_epoch g.latest.number (arrivals_of g.latest)) (below-epoch g.latest.number g.latest.number g.over.items (omega arith) held.below)
+      ∙ same-epoch g.latest.number g.latest.clients.items
 
-  -- the cause that is told of a client of the latest epoch is that of the arrival
+  -- the cause reported of a client of the latest epoch is that of the arrival
   pub told : (entries at : ℕ) (c : Client) → last_epoch before ≤ g.latest.number → c.entry < entries → length before + 1 ≡ at
       → joining_cause at g c ≡ arrival_cause entries before (arrival_at g.latest.number c)
   unfolding arrival_cause
@@ -72,7 +72,7 @@ module _ (g : Gathering) (before : List Arrival) (held : Holds g before) where
       rw (
         le-ltb g.latest.number (last_epoch before) last,
         lt-leb entries c.entry within,
-        latest_only,
+        latest-only,
         held.standing,
         same_clients g.latest.number c.id g.latest.clients.items,
         length-map g.latest.clients.items (arrival_at g.latest.number),
@@ -101,8 +101,8 @@ below_more k n [] h all = tt
 below_more k n (x ∷ es) h all = (omega (arith, h, all.0), below_more k n es h all.1)
 
 -- the epochs are those of the arrivals once the latest is over
-pub over_epochs : (g : Gathering) (arrivals : List Arrival) → Holds g arrivals → AreEpochs (over_after g) arrivals
-over_epochs g arrivals held = by g.latest.clients.items refl
+pub over-epochs : (g : Gathering) (arrivals : List Arrival) → Holds g arrivals → AreEpochs (over_after g) arrivals
+over-epochs g arrivals held = by g.latest.clients.items refl
   where
     by : (cs : List Client) → g.latest.clients.items ≡ cs → AreEpochs (over_after g) arrivals
     by [] e = rw (le-ltb 0 (length g.latest.clients.items) (omega (arith, ap length e))) (record {
@@ -129,7 +129,7 @@ over_below g n h below = by (leb_tells 1 (length g.latest.clients.items))
 pub turned : (old new : Gathering) (n : ℕ) (before : List Arrival) → old.latest.number < n → new.over.items ≡ over_after old → new.latest.number ≡ n
     → new.latest.clients.items ≡ [] → new.standing.keys ≡ [] → Holds old before → Holds new before
 turned old new n before h over number clients keys held =
-    let epochs = over_epochs old before held in record {
+    let epochs = over-epochs old before held in record {
       spells = (λ i. flat_map arrivals_of (over i) ++ map (arrival_at new.latest.number) (clients i)) ∙ append-nil (flat_map arrivals_of (over_after old)) ∙ epochs.spells;
       rising = rw over epochs.rising;
       some = rw over epochs.some;
@@ -157,9 +157,9 @@ joined old new before c held over number clients keys = record {
 }
 
 -- at the start there is none
-pub none_gathered : (g : Gathering) → g.over.items ≡ [] → g.latest.clients.items ≡ [] → g.latest.number ≡ 0 → g.standing.keys ≡ [] → IsGathered g []
+pub none-gathered : (g : Gathering) → g.over.items ≡ [] → g.latest.clients.items ≡ [] → g.latest.number ≡ 0 → g.standing.keys ≡ [] → IsGathered g []
 unfolding AreRising
-none_gathered g over clients number keys = record {
+none-gathered g over clients number keys = record {
   holds = record {
     spells = rw (over, clients) refl;
     rising = rw over tt;
@@ -174,17 +174,17 @@ none_gathered g over clients number keys = record {
 abbrev pub client_of : Arrival → Client
 client_of a = record { id = a.client; entry = a.entry }
 
-as_arrival : (n : ℕ) (a : Arrival) → n ≡ a.epoch → arrival_at n (client_of a) ≡ a
-as_arrival n a e = λ i. record { epoch = e i; client = a.client; entry = a.entry }
+as-arrival : (n : ℕ) (a : Arrival) → n ≡ a.epoch → arrival_at n (client_of a) ≡ a
+as-arrival n a e = λ i. record { epoch = e i; client = a.client; entry = a.entry }
 
 -- the cause of an arrival in whose epoch the gathering has come
 pub told_of : (g : Gathering) (before : List Arrival) (entries at : ℕ) (a : Arrival) → Holds g before → g.latest.number ≡ a.epoch → last_epoch before ≤ a.epoch → a.entry < entries
     → length before + 1 ≡ at → joining_cause at g (client_of a) ≡ arrival_cause entries before a
 told_of g before entries at a held number last within size =
-    told g before held entries at (client_of a) (omega (arith, number, last)) within size ∙ ap (arrival_cause entries before) (as_arrival g.latest.number a number)
+    told g before held entries at (client_of a) (omega (arith, number, last)) within size ∙ ap (arrival_cause entries before) (as-arrival g.latest.number a number)
 
 -- that arrival more
 pub taken_of : (old new : Gathering) (before : List Arrival) (a : Arrival) → Holds old before → old.latest.number ≡ a.epoch → new.over ≡ old.over → new.latest.number ≡ old.latest.number
     → new.latest.clients.items ≡ old.latest.clients.items ++ client_of a ∷ [] → new.standing.keys ≡ old.standing.keys ++ a.client ∷ [] → IsGathered new (before ++ a ∷ [])
 taken_of old new before a held here over number clients keys =
-    subst (λ (x : Arrival). IsGathered new (before ++ x ∷ [])) (as_arrival old.latest.number a here) (joined old new before (client_of a) held over number clients keys)
+    subst (λ (x : Arrival). IsGathered new (before ++ x ∷ [])) (as-arrival old.latest.number a here) (joined old new before (client_of a) held over number clients keys)

@@ -7,14 +7,14 @@ use Rattle.std.specs.Prelude.{IfOk, MatchResult, Ok, Err, Result, map}
 use Rattle.cn_spec.specs.Step.{counts_of, shares}
 use Rattle.cn_report.specs.Reading.Told.{IsTold, epoch_numbers, plain_tight, shared_epoch, told_epoch}
 use Rattle.cn_report.specs.declared.reading.granting.Tight.{Tight}
-use Rattle.cn_spec.proofs.CallerLemmas.{counts_shares}
+use Rattle.cn_spec.proofs.CallerLemmas.{counts-shares}
 use Rattle.cn_report.specs.declared.reading.grant.GrantCause.TheVariants as cause
 use Rattle.cn_report.specs.Reading.Records.{Record}
 use Rattle.cn_report.specs.declared.reading.grant.Granted.{Granted}
 use Rattle.cn_report.specs.declared.reading.grant.GrantCause.{GrantCause}
 use Rattle.cn_spec.proofs.CallerLemmas.{times-nil}
-use Rattle.cn_report.proofs.ReadingLemmas.FirstFaults.{AreClean, clean_all, clean_header, clean_more}
-use Rattle.cn_report.proofs.ReadingLemmas.TightFacts.{AreOnce, list_tight, once_next}
+use Rattle.cn_report.proofs.ReadingLemmas.FirstFaults.{AreClean, clean-all, clean-header, clean-more}
+use Rattle.cn_report.proofs.ReadingLemmas.TightFacts.{AreOnce, list-tight, once-next}
 use Rattle.cn_report.specs.Reading.Grants.{IsFirst, IsFlaw, IsEndFlaw, flaw_of, IsTightEpoch, IsTightList, Lacks}
 use Rattle.cn_report.specs.declared.reading.grant.Flaw.{Flaw}
 use Rattle.cn_report.specs.declared.reading.grant.Flaw.TheVariants.{Read, Form, DuplicateClient, DuplicateName, Gap, Memory}
@@ -26,69 +26,69 @@ pub record AreTaken (rows : List Record) (grants : List Granted) : Type 0 where
   pub counted : length grants + 1 ≡ length rows
   pub once : AreOnce grants
 
-pub taken_header : (fields : Record) → header_cause fields ≡ None → AreTaken (fields ∷ []) []
-taken_header fields e = record { clean = clean_header header_cause record_cause fields e; spells = refl; counted = refl; once = λ e n. omega (arith, times-nil n) }
+pub taken-header : (fields : Record) → header_cause fields ≡ None → AreTaken (fields ∷ []) []
+taken-header fields e = record { clean = clean-header header_cause record_cause fields e; spells = refl; counted = refl; once = λ e n. omega (arith, times-nil n) }
 
 -- the grants of one record more
-pub grants_next : (rows : List Record) (fields : Record) (grant : Granted) → granted_in fields ≡ Some grant → grants_in (rows ++ fields ∷ []) ≡ grants_in rows ++ grant ∷ []
-grants_next rows fields grant is = filter_map-append granted_in rows (fields ∷ []) ∙ ap (λ (l : List Granted). grants_in rows ++ l) (one fields grant is)
+pub grants-next : (rows : List Record) (fields : Record) (grant : Granted) → granted_in fields ≡ Some grant → grants_in (rows ++ fields ∷ []) ≡ grants_in rows ++ grant ∷ []
+grants-next rows fields grant is = filter_map-append granted_in rows (fields ∷ []) ∙ ap (λ (l : List Granted). grants_in rows ++ l) (one fields grant is)
   where
     one : (row : Record) (g : Granted) → granted_in row ≡ Some g → grants_in (row ∷ []) ≡ g ∷ []
     one row g e = rw e refl
 
-pub taken_next : (rows : List Record) (grants : List Granted) (fields : Record) (grant : Granted) → AreTaken rows grants
+pub taken-next : (rows : List Record) (grants : List Granted) (fields : Record) (grant : Granted) → AreTaken rows grants
     → granted_in fields ≡ Some grant → spelled_cause grants (Some grant) ≡ None → AreTaken (rows ++ fields ∷ []) (grants ++ grant ∷ [])
-taken_next [] grants fields grant t is none = absurd (omega (arith, t.clean.some))
-taken_next (r ∷ rows) grants fields grant t is none = record {
-  clean = clean_more header_cause record_cause (r ∷ rows) fields t.clean (ap (spelled_cause (grants_in rows)) is ∙ ap (λ (l : List Granted). spelled_cause l (Some grant)) t.spells ∙ none);
-  spells = grants_next rows fields grant is ∙ ap (λ (l : List Granted). l ++ grant ∷ []) t.spells;
+taken-next [] grants fields grant t is none = absurd (omega (arith, t.clean.some))
+taken-next (r ∷ rows) grants fields grant t is none = record {
+  clean = clean-more header_cause record_cause (r ∷ rows) fields t.clean (ap (spelled_cause (grants_in rows)) is ∙ ap (λ (l : List Granted). spelled_cause l (Some grant)) t.spells ∙ none);
+  spells = grants-next rows fields grant is ∙ ap (λ (l : List Granted). l ++ grant ∷ []) t.spells;
   counted = omega (arith, t.counted, length-append grants (grant ∷ []), length-append (r ∷ rows) (fields ∷ []));
-  once = once_next grants grant t.once none;
+  once = once-next grants grant t.once none;
 }
 
--- the cause of the next record, told by the grants before it
-pub at_grants : (rows : List Record) (grants : List Granted) (fields : Record) → AreTaken rows grants → (cause : GrantCause)
+-- the cause of the next record, by the grants before it
+pub at-grants : (rows : List Record) (grants : List Granted) (fields : Record) → AreTaken rows grants → (cause : GrantCause)
     → spelled_cause grants (granted_in fields) ≡ Some cause → record_cause rows fields ≡ Some cause
-at_grants rows grants fields t cause e = ap (λ (l : List Granted). spelled_cause l (granted_in fields)) t.spells ∙ e
+at-grants rows grants fields t cause e = ap (λ (l : List Granted). spelled_cause l (granted_in fields)) t.spells ∙ e
 
 -- all of them
 pub taken_all : (all rows : List Record) (grants : List Granted) → AreTaken rows grants → all ≡ rows → ((e n : ℕ) → Lacks grants e n → ⊥) → IsTightList all
-taken_all all rows grants t e full = rw e (list_tight rows grants (clean_all header_cause record_cause rows t.clean) t.spells t.once full)
+taken_all all rows grants t e full = rw e (list-tight rows grants (clean-all header_cause record_cause rows t.clean) t.spells t.once full)
 
-pub taken_gap : (all rows : List Record) (grants : List Granted) (flaw : Flaw) → AreTaken rows grants → all ≡ rows → IsEndFlaw grants flaw → IsFlaw all flaw
-taken_gap all rows grants (Gap epoch name) t e gap = rw e (clean_all header_cause record_cause rows t.clean, rw t.spells gap)
-taken_gap all rows grants Memory t e gap = tt
-taken_gap all rows grants (Read at) t e gap = absurd gap
-taken_gap all rows grants (Form at) t e gap = absurd gap
-taken_gap all rows grants (DuplicateClient at) t e gap = absurd gap
-taken_gap all rows grants (DuplicateName at) t e gap = absurd gap
+pub taken-gap : (all rows : List Record) (grants : List Granted) (flaw : Flaw) → AreTaken rows grants → all ≡ rows → IsEndFlaw grants flaw → IsFlaw all flaw
+taken-gap all rows grants (Gap epoch name) t e gap = rw e (clean-all header_cause record_cause rows t.clean, rw t.spells gap)
+taken-gap all rows grants Memory t e gap = tt
+taken-gap all rows grants (Read at) t e gap = absurd gap
+taken-gap all rows grants (Form at) t e gap = absurd gap
+taken-gap all rows grants (DuplicateClient at) t e gap = absurd gap
+taken-gap all rows grants (DuplicateName at) t e gap = absurd gap
 
 -- the shares of a tight epoch are its counts
-shared_told : (width : ℕ) (grants : List Granted) (numbers : List ℕ) → ((e : ℕ) → IsTightEpoch (of_epoch e grants)) → map (shared_epoch width grants) numbers ≡ map (told_epoch width grants) numbers
-shared_told width grants [] tight = refl
-shared_told width grants (e ∷ numbers) tight =
+shared-told : (width : ℕ) (grants : List Granted) (numbers : List ℕ) → ((e : ℕ) → IsTightEpoch (of_epoch e grants)) → map (shared_epoch width grants) numbers ≡ map (told_epoch width grants) numbers
+shared-told width grants [] tight = refl
+shared-told width grants (e ∷ numbers) tight =
     let counts : counts_of width (map (λ (g : Granted). g.name) (of_epoch e grants)) ≡ shares (length (of_epoch e grants)) width =
-    counts_shares width (length (of_epoch e grants)) (map (λ (g : Granted). g.name) (of_epoch e grants)) (tight e).names in
-    λ i. (e, length (of_epoch e grants), sym counts i) ∷ shared_told width grants numbers tight i
+    counts-shares width (length (of_epoch e grants)) (map (λ (g : Granted). g.name) (of_epoch e grants)) (tight e).names in
+    λ i. (e, length (of_epoch e grants), sym counts i) ∷ shared-told width grants numbers tight i
 
--- what the end tells
-pub taken_end : (width : ℕ) (all rows : List Record) (grants : List Granted) (result : Result Tight Flaw) → AreTaken rows grants → all ≡ rows
+-- what the end gives
+pub taken-end : (width : ℕ) (all rows : List Record) (grants : List Granted) (result : Result Tight Flaw) → AreTaken rows grants → all ≡ rows
     → MatchResult result (λ _. (e n : ℕ) → Lacks grants e n → ⊥) (IsEndFlaw grants)
     → IfOk result (λ tight. map plain_tight tight.epochs.items ≡ map (shared_epoch width grants) (epoch_numbers grants))
     → MatchResult result (λ tight. IsTightList all × IsTold width all tight.epochs.items) (IsFlaw all)
-taken_end width all rows grants (Ok tight) t e full told =
+taken-end width all rows grants (Ok tight) t e full told =
     let list = taken_all all rows grants t e full in
     let spells : grants_in (drop 1 all) ≡ grants = ap (λ (l : List Record). grants_in (drop 1 l)) e ∙ t.spells in (
       list,
       told ∙ (λ i. map (shared_epoch width (sym spells i)) (epoch_numbers (sym spells i)))
-          ∙ shared_told width (grants_in (drop 1 all)) (epoch_numbers (grants_in (drop 1 all))) list.tight,
+          ∙ shared-told width (grants_in (drop 1 all)) (epoch_numbers (grants_in (drop 1 all))) list.tight,
     )
-taken_end width all rows grants (Err flaw) t e gap told = taken_gap all rows grants flaw t e gap
+taken-end width all rows grants (Err flaw) t e gap told = taken-gap all rows grants flaw t e gap
 
 -- a record's cause is the flaw's
-pub first_flaw : (rows : List Record) (at : ℕ) (why : GrantCause) → IsFirst rows at why → IsFlaw rows (flaw_of at why)
-first_flaw rows at cause.Read h = h
-first_flaw rows at cause.Form h = h
-first_flaw rows at cause.DuplicateClient h = h
-first_flaw rows at cause.DuplicateName h = h
-first_flaw rows at cause.Memory h = tt
+pub first-flaw : (rows : List Record) (at : ℕ) (why : GrantCause) → IsFirst rows at why → IsFlaw rows (flaw_of at why)
+first-flaw rows at cause.Read h = h
+first-flaw rows at cause.Form h = h
+first-flaw rows at cause.DuplicateClient h = h
+first-flaw rows at cause.DuplicateName h = h
+first-flaw rows at cause.Memory h = tt

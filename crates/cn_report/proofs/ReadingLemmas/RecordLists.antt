@@ -21,60 +21,60 @@ abbrev Ends : State × Action → Type 0
 Ends (s, a) = is_end a ≡ true → ends_at_end s ≡ false
 
 -- a byte in a field, by what it is
-abbrev in_field_by : Bool → Bool → Bool → State × Action
-in_field_by comma cr lf = cond comma (st.StartField, act.EndField) (cond (cr || lf) (cond cr st.AfterCr st.StartRecord, act.EndRecord) (st.InField, act.Copy))
+abbrev in_field-by : Bool → Bool → Bool → State × Action
+in_field-by comma cr lf = cond comma (st.StartField, act.EndField) (cond (cr || lf) (cond cr st.AfterCr st.StartRecord, act.EndRecord) (st.InField, act.Copy))
 
-in_field_ends : (comma cr lf : Bool) → Ends (in_field_by comma cr lf)
-in_field_ends true cr lf e = cc e
-in_field_ends false true lf e = refl
-in_field_ends false false true e = refl
-in_field_ends false false false e = cc e
+in_field-ends : (comma cr lf : Bool) → Ends (in_field-by comma cr lf)
+in_field-ends true cr lf e = cc e
+in_field-ends false true lf e = refl
+in_field-ends false false true e = refl
+in_field-ends false false false e = cc e
 
-quote_ends : (quote comma cr lf : Bool) (a : Action) → is_end a ≡ false → Ends (cond quote (st.InQuoted, a) (in_field_by comma cr lf))
-quote_ends true comma cr lf a idle e = cc (idle, e)
-quote_ends false comma cr lf a idle e = in_field_ends comma cr lf e
+quote-ends : (quote comma cr lf : Bool) (a : Action) → is_end a ≡ false → Ends (cond quote (st.InQuoted, a) (in_field-by comma cr lf))
+quote-ends true comma cr lf a idle e = cc (idle, e)
+quote-ends false comma cr lf a idle e = in_field-ends comma cr lf e
 
-start_ends : (end quote comma cr lf : Bool) → Ends (cond end (st.StartRecord, act.Skip) (cond quote (st.InQuoted, act.Skip) (in_field_by comma cr lf)))
-start_ends true quote comma cr lf e = refl
-start_ends false quote comma cr lf e = quote_ends quote comma cr lf act.Skip refl e
+start-ends : (end quote comma cr lf : Bool) → Ends (cond end (st.StartRecord, act.Skip) (cond quote (st.InQuoted, act.Skip) (in_field-by comma cr lf)))
+start-ends true quote comma cr lf e = refl
+start-ends false quote comma cr lf e = quote-ends quote comma cr lf act.Skip refl e
 
-after_cr_ends : (feed end quote comma cr lf : Bool)
-    → Ends (cond feed (st.StartRecord, act.Skip) (cond end (st.StartRecord, act.Skip) (cond quote (st.InQuoted, act.Skip) (in_field_by comma cr lf))))
-after_cr_ends true end quote comma cr lf e = refl
-after_cr_ends false end quote comma cr lf e = start_ends end quote comma cr lf e
+after-cr-ends : (feed end quote comma cr lf : Bool)
+    → Ends (cond feed (st.StartRecord, act.Skip) (cond end (st.StartRecord, act.Skip) (cond quote (st.InQuoted, act.Skip) (in_field-by comma cr lf))))
+after-cr-ends true end quote comma cr lf e = refl
+after-cr-ends false end quote comma cr lf e = start-ends end quote comma cr lf e
 
-quoted_ends : (quote : Bool) → Ends (cond quote (st.AfterQuote, act.Skip) (st.InQuoted, act.Copy))
-quoted_ends true e = cc e
-quoted_ends false e = cc e
+quoted-ends : (quote : Bool) → Ends (cond quote (st.AfterQuote, act.Skip) (st.InQuoted, act.Copy))
+quoted-ends true e = cc e
+quoted-ends false e = cc e
 
-comment_ends : (feed : Bool) → Ends (cond feed (st.StartRecord, act.Skip) (st.InComment, act.Skip))
-comment_ends true e = refl
-comment_ends false e = cc e
+comment-ends : (feed : Bool) → Ends (cond feed (st.StartRecord, act.Skip) (st.InComment, act.Skip))
+comment-ends true e = refl
+comment-ends false e = cc e
 
-step_ends : (s : State) (c : ℕ) → Ends (step default_config s c)
-step_ends st.StartRecord c = start_ends ((c == 13) || (c == 10)) (c == 34) (c == 44) (c == 13) (c == 10)
-step_ends st.StartField c = quote_ends (c == 34) (c == 44) (c == 13) (c == 10) act.Skip refl
-step_ends st.InField c = in_field_ends (c == 44) (c == 13) (c == 10)
-step_ends st.InQuoted c = quoted_ends (c == 34)
-step_ends st.AfterQuote c = quote_ends (c == 34) (c == 44) (c == 13) (c == 10) act.Copy refl
-step_ends st.InEscape c = λ e. cc e
-step_ends st.InComment c = comment_ends (c == 10)
-step_ends st.AfterCr c = after_cr_ends (c == 10) ((c == 13) || (c == 10)) (c == 34) (c == 44) (c == 13) (c == 10)
+step-ends : (s : State) (c : ℕ) → Ends (step default_config s c)
+step-ends st.StartRecord c = start-ends ((c == 13) || (c == 10)) (c == 34) (c == 44) (c == 13) (c == 10)
+step-ends st.StartField c = quote-ends (c == 34) (c == 44) (c == 13) (c == 10) act.Skip refl
+step-ends st.InField c = in_field-ends (c == 44) (c == 13) (c == 10)
+step-ends st.InQuoted c = quoted-ends (c == 34)
+step-ends st.AfterQuote c = quote-ends (c == 34) (c == 44) (c == 13) (c == 10) act.Copy refl
+step-ends st.InEscape c = λ e. cc e
+step-ends st.InComment c = comment-ends (c == 10)
+step-ends st.AfterCr c = after-cr-ends (c == 10) ((c == 13) || (c == 10)) (c == 34) (c == 44) (c == 13) (c == 10)
 
 -- after a record the end of the text ends no other, and at least one byte is taken where there is one
-pub after_record : (s : State) (fields : List (List ℕ)) (field xs : List ℕ) (p : Read) → next_record default_config s fields field xs ≡ Some p
+pub after-record : (s : State) (fields : List (List ℕ)) (field xs : List ℕ) (p : Read) → next_record default_config s fields field xs ≡ Some p
     → (ends_at_end p.1 ≡ false) × (length p.2 ≤ length xs - 1)
 unfolding next_record
-after_record s fields field [] p e = last (ends_at_end s) e
+after-record s fields field [] p e = last (ends_at_end s) e
   where
     last : (b : Bool) → cond b (Some (fields ++ (field ∷ []), st.StartRecord, [])) None ≡ Some p → (ends_at_end p.1 ≡ false) × (length p.2 ≤ 0)
     last true h =
         let same : (fields ++ (field ∷ []), st.StartRecord, []) ≡ p = cc h in
         subst (λ (q : Read). (ends_at_end q.1 ≡ false) × (length q.2 ≤ 0)) same (refl, omega arith)
     last false h = cc h
-after_record s fields field (c ∷ rest) p e =
+after-record s fields field (c ∷ rest) p e =
     let r = by (is_end (step default_config s c).1) refl e
-    (after_record (step default_config s c).0 (fields_after (step default_config s c).1 fields field) (field_after (step default_config s c).1 c field) rest p) in
+    (after-record (step default_config s c).0 (fields_after (step default_config s c).1 fields field) (field_after (step default_config s c).1 c field) rest p) in
     (r.0, omega (arith, r.1))
   where
     by : (b : Bool) → is_end (step default_config s c).1 ≡ b
@@ -85,36 +85,36 @@ after_record s fields field (c ∷ rest) p e =
         → (ends_at_end p.1 ≡ false) × (length p.2 ≤ length rest)
     by true is h more =
         let same : (fields_after (step default_config s c).1 fields field, (step default_config s c).0, rest) ≡ p = cc h in
-        subst (λ (q : Read). (ends_at_end q.1 ≡ false) × (length q.2 ≤ length rest)) same (step_ends s c is, omega arith)
+        subst (λ (q : Read). (ends_at_end q.1 ≡ false) × (length q.2 ≤ length rest)) same (step-ends s c is, omega arith)
     by false is h more =
         let after = more h in
         (after.0, omega (arith, after.1))
 
 -- a record that starts at a record's start takes at least one byte
-record_takes : (s : State) (xs : List ℕ) (p : Read) → ends_at_end s ≡ false → next_record default_config s [] [] xs ≡ Some p → length p.2 < length xs
+record-takes : (s : State) (xs : List ℕ) (p : Read) → ends_at_end s ≡ false → next_record default_config s [] [] xs ≡ Some p → length p.2 < length xs
 unfolding next_record
-record_takes s [] p idle e = cc (rw idle at e)
-record_takes s (c ∷ rest) p idle e = omega (arith, (after_record s [] [] (c ∷ rest) p e).1)
+record-takes s [] p idle e = cc (rw idle at e)
+record-takes s (c ∷ rest) p idle e = omega (arith, (after-record s [] [] (c ∷ rest) p e).1)
 
 -- the records that were read are the first of all
-pub first_records : (rows : List (List (List ℕ))) (n : ℕ) (s s2 : State) (xs ys : List ℕ) → ends_at_end s ≡ false → length xs < n → Reached default_config s xs rows s2 ys
+pub first-records : (rows : List (List (List ℕ))) (n : ℕ) (s s2 : State) (xs ys : List ℕ) → ends_at_end s ≡ false → length xs < n → Reached default_config s xs rows s2 ys
     → (m : ℕ) × (length ys < m) × (records_from default_config n s xs ≡ rows ++ records_from default_config m s2 ys)
 unfolding Reached records_from
-first_records [] n s s2 xs ys idle h reached = (n, rw (← reached.1) h, rw (reached.0, reached.1) refl)
-first_records (r ∷ rows) zero s s2 xs ys idle h reached = absurd (omega arith)
-first_records (r ∷ rows) (suc n) s s2 xs ys idle h reached =
+first-records [] n s s2 xs ys idle h reached = (n, rw (← reached.1) h, rw (reached.0, reached.1) refl)
+first-records (r ∷ rows) zero s s2 xs ys idle h reached = absurd (omega arith)
+first-records (r ∷ rows) (suc n) s s2 xs ys idle h reached =
     let (p, read, is, rest) = reached in
-    let after = after_record s [] [] xs p read in
-    let taken = record_takes s xs p idle read in
-    let more = first_records rows n p.1 s2 p.2 ys after.0 (omega (arith, taken)) rest in
+    let after = after-record s [] [] xs p read in
+    let taken = record-takes s xs p idle read in
+    let more = first-records rows n p.1 s2 p.2 ys after.0 (omega (arith, taken)) rest in
     (more.0, more.1, rw (read, is) (ap (λ (t : List (List (List ℕ))). p.0 ∷ t) more.2))
 
 -- where no record is left they are all
-pub all_records : (rows : List (List (List ℕ))) (n : ℕ) (s s2 : State) (xs ys : List ℕ) → ends_at_end s ≡ false → length xs < n → Reached default_config s xs rows s2 ys
+pub all-records : (rows : List (List (List ℕ))) (n : ℕ) (s s2 : State) (xs ys : List ℕ) → ends_at_end s ≡ false → length xs < n → Reached default_config s xs rows s2 ys
     → next_record default_config s2 [] [] ys ≡ None → records_from default_config n s xs ≡ rows
 unfolding records_from
-all_records rows n s s2 xs ys idle h reached none =
-    let first = first_records rows n s s2 xs ys idle h reached in
+all-records rows n s s2 xs ys idle h reached none =
+    let first = first-records rows n s s2 xs ys idle h reached in
     first.2 ∙ over first.0 first.1
   where
     over : (m : ℕ) → length ys < m → rows ++ records_from default_config m s2 ys ≡ rows
@@ -122,11 +122,11 @@ all_records rows n s s2 xs ys idle h reached none =
     over (suc m) k = rw none (append-nil rows)
 
 -- the records that a reader has read are the first of the text
-pub read_first : {R : Type 0} (rem : R → Option (List ℕ)) (reader : Reader R) (text : List ℕ) (rows : List Record) → HasRead rem reader text rows
+pub read-first : {R : Type 0} (rem : R → Option (List ℕ)) (reader : Reader R) (text : List ℕ) (rows : List Record) → HasRead rem reader text rows
     → (more : List Record) × (records_of text ≡ rows ++ more)
-read_first rem reader text rows read =
+read-first rem reader text rows read =
     let (bytes, source, reached) = read.left in
-    let first = first_records rows (length (strip_bom text) + 1) st.StartRecord (reader_state reader) (strip_bom text) bytes refl (omega arith) reached in
+    let first = first-records rows (length (strip_bom text) + 1) st.StartRecord (reader_state reader) (strip_bom text) bytes refl (omega arith) reached in
     (records_from default_config first.0 (reader_state reader) bytes, first.2)
 
 -- a read after those gives one more
@@ -142,7 +142,7 @@ pub read_all : {R : Type 0} (rem : R → Option (List ℕ)) (a b : Reader R) (te
     → ReadRecord rem a b false fields → records_of text ≡ rows
 read_all rem a b text rows fields read next =
     let (bytes, source, reached) = read.left in
-    all_records rows (length (strip_bom text) + 1) st.StartRecord (reader_state a) (strip_bom text) bytes refl (omega arith) reached
+    all-records rows (length (strip_bom text) + 1) st.StartRecord (reader_state a) (strip_bom text) bytes refl (omega arith) reached
     (rows-end rem a b fields default_config bytes read.config source next)
 
 -- a new reader has read nothing
@@ -153,16 +153,16 @@ opened rem reader None config state source = tt
 opened rem reader (Some text) config state source = record { config = config; left = (strip_bom text, source, (sym state, refl)) }
 
 -- what a read that found a record, or none, says
-pub read_either : {R : Type 0} (rem : R → Option (List ℕ)) (a b : Reader R) (text : List ℕ) (rows : List Record) (fields : Record) (found : Bool) → HasRead rem a text rows
+pub read-either : {R : Type 0} (rem : R → Option (List ℕ)) (a b : Reader R) (text : List ℕ) (rows : List Record) (fields : Record) (found : Bool) → HasRead rem a text rows
     → ReadRecord rem a b found fields → MatchBool found (HasRead rem b text (rows ++ fields ∷ [])) (records_of text ≡ rows)
-read_either rem a b text rows fields true read next = read_more rem a b text rows fields read next
-read_either rem a b text rows fields false read next = read_all rem a b text rows fields read next
+read-either rem a b text rows fields true read next = read_more rem a b text rows fields read next
+read-either rem a b text rows fields false read next = read_all rem a b text rows fields read next
 
 -- a reader that gives records of any length as they are fails only where the one underneath does, or a growth is refused
-pub plain_fails : {R : Type 0} (rem : R → Option (List ℕ)) (a b : Reader R) (why : ErrorKind) → is_flexible a ≡ true → ExplainsRead rem a b false why → IsOfReader why
-plain_fails rem a b (error.Io e) flexible why = tt
-plain_fails rem a b error.OutOfMemory flexible why = tt
-plain_fails rem a b (error.Utf8 place e) flexible why = cc (why.0)
-plain_fails rem a b (error.UnequalLengths place wanted given) flexible why = cc (why.0)
-plain_fails rem a b (error.Serialize e) flexible why = absurd why
-plain_fails rem a b (error.Deserialize place e) flexible why = absurd why
+pub plain-fails : {R : Type 0} (rem : R → Option (List ℕ)) (a b : Reader R) (why : ErrorKind) → is_flexible a ≡ true → ExplainsRead rem a b false why → IsOfReader why
+plain-fails rem a b (error.Io e) flexible why = tt
+plain-fails rem a b error.OutOfMemory flexible why = tt
+plain-fails rem a b (error.Utf8 place e) flexible why = cc (why.0)
+plain-fails rem a b (error.UnequalLengths place wanted given) flexible why = cc (why.0)
+plain-fails rem a b (error.Serialize e) flexible why = absurd why
+plain-fails rem a b (error.Deserialize place e) flexible why = absurd why

@@ -6,23 +6,23 @@ use Rattle.cn_record.specs.declared.command.Command.{Command}
 use Rattle.cn_report.specs.Reading.Records.{Record}
 use Rattle.cn_report.specs.Reading.Command.{command_in}
 use Rattle.cn_report.specs.Reading.Schedule.{IsSchedule, command_cause, header_cause, record_cause}
-use Rattle.cn_report.proofs.ReadingLemmas.FirstFaults.{AreClean, clean_all, clean_header, clean_more}
+use Rattle.cn_report.proofs.ReadingLemmas.FirstFaults.{AreClean, clean-all, clean-header, clean-more}
 
 -- the records so far: a header, and a record for each command
 pub record AreTaken (rows : List Record) (commands : List Command) : Type 0 where
   pub clean : AreClean header_cause record_cause rows
   pub spells : map command_in (drop 1 rows) ≡ map Ok commands
 
-pub taken_header : (fields : Record) → header_cause fields ≡ None → AreTaken (fields ∷ []) []
-taken_header fields e = record { clean = clean_header header_cause record_cause fields e; spells = refl }
+pub taken-header : (fields : Record) → header_cause fields ≡ None → AreTaken (fields ∷ []) []
+taken-header fields e = record { clean = clean-header header_cause record_cause fields e; spells = refl }
 
-pub taken_next : (rows : List Record) (commands : List Command) (fields : Record) (command : Command) (at : ℕ) → length rows ≡ at → AreTaken rows commands
+pub taken-next : (rows : List Record) (commands : List Command) (fields : Record) (command : Command) (at : ℕ) → length rows ≡ at → AreTaken rows commands
     → command_cause at (command_in fields) ≡ None → command_in fields ≡ Ok command → AreTaken (rows ++ fields ∷ []) (commands ++ command ∷ [])
-taken_next [] commands fields command at size t e is = absurd (omega (arith, t.clean.some))
-taken_next (r ∷ rows) commands fields command at size t e is = record {
-  clean = clean_more header_cause record_cause (r ∷ rows) fields t.clean (rw size e);
+taken-next [] commands fields command at size t e is = absurd (omega (arith, t.clean.some))
+taken-next (r ∷ rows) commands fields command at size t e is = record {
+  clean = clean-more header_cause record_cause (r ∷ rows) fields t.clean (rw size e);
   spells = map-append command_in rows (fields ∷ []) ∙ (λ i. t.spells i ++ is i ∷ []) ∙ sym (map-append Ok commands (command ∷ []));
 }
 
 pub taken_all : (all rows : List Record) (commands : List Command) → AreTaken rows commands → all ≡ rows → IsSchedule all commands
-taken_all all rows commands t e = rw e (record { clean = clean_all header_cause record_cause rows t.clean; spells = t.spells })
+taken_all all rows commands t e = rw e (record { clean = clean-all header_cause record_cause rows t.clean; spells = t.spells })

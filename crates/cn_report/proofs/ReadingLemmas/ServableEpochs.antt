@@ -19,8 +19,8 @@ use Rattle.cn_report.specs.Reading.Gathered.{Keeps, gathered, joining_cause, ove
 use Rattle.cn_report.proofs.ReadingLemmas.GatheredEpochs.{over_below, rising_more}
 
 -- no client is few
-none_come : (entries : ℕ) → MayCome entries []
-none_come entries = record { few = omega arith; within = All-nil (λ (c : Client). c.entry < entries); once = λ client. omega (arith, times-nil client) }
+none-come : (entries : ℕ) → MayCome entries []
+none-come entries = record { few = omega arith; within = All-nil (λ (c : Client). c.entry < entries); once = λ client. omega (arith, times-nil client) }
 
 -- at the start
 pub none_kept : (g : Gathering) (entries : ℕ) → g.over.items ≡ [] → g.latest.clients.items ≡ [] → g.standing.keys ≡ [] → Keeps entries g
@@ -28,13 +28,13 @@ unfolding AreRising
 none_kept g entries over clients keys = record {
   over = rw over (record { rising = tt; some = All-nil (λ (e : BatchEpoch). 0 < length e.clients.items); come = All-nil (λ (e : BatchEpoch). MayCome entries e.clients.items) });
   below = rw over tt;
-  latest = rw clients (none_come entries);
+  latest = rw clients (none-come entries);
   standing = rw (keys, clients) refl;
 }
 
 -- once the latest epoch is over
-pub over_servable : (g : Gathering) (entries : ℕ) → Keeps entries g → AreServable entries (over_after g)
-over_servable g entries keeps = by g.latest.clients.items refl
+pub over-servable : (g : Gathering) (entries : ℕ) → Keeps entries g → AreServable entries (over_after g)
+over-servable g entries keeps = by g.latest.clients.items refl
   where
     by : (cs : List Client) → g.latest.clients.items ≡ cs → AreServable entries (over_after g)
     by [] e = rw (le-ltb 0 (length g.latest.clients.items) (omega (arith, ap length e))) keeps.over
@@ -45,8 +45,8 @@ over_servable g entries keeps = by g.latest.clients.items refl
     })
 
 -- and has the clients of all
-pub all_over : (g : Gathering) → clients_of (over_after g) ≡ gathered g
-all_over g = by g.latest.clients.items refl
+pub all-over : (g : Gathering) → clients_of (over_after g) ≡ gathered g
+all-over g = by g.latest.clients.items refl
   where
     by : (cs : List Client) → g.latest.clients.items ≡ cs → clients_of (over_after g) ≡ gathered g
     by [] e = rw (le-ltb 0 (length g.latest.clients.items) (omega (arith, ap length e))) (omega (arith, ap length e))
@@ -54,12 +54,12 @@ all_over g = by g.latest.clients.items refl
         rw (lt-ltb 0 (length g.latest.clients.items) (omega (arith, ap length e))) (sum_by_push (λ (x : BatchEpoch). length x.clients.items) g.over.items g.latest)
 
 -- once it has come to a later epoch
-pub turned_keeps : (old new : Gathering) (n entries : ℕ) → old.latest.number < n → new.over.items ≡ over_after old → new.latest.number ≡ n
+pub turned-keeps : (old new : Gathering) (n entries : ℕ) → old.latest.number < n → new.over.items ≡ over_after old → new.latest.number ≡ n
     → new.latest.clients.items ≡ [] → new.standing.keys ≡ [] → Keeps entries old → Keeps entries new
-turned_keeps old new n entries h over number clients keys keeps = record {
-  over = rw over (over_servable old entries keeps);
+turned-keeps old new n entries h over number clients keys keeps = record {
+  over = rw over (over-servable old entries keeps);
   below = rw (over, number) (over_below old n h keeps.below);
-  latest = rw clients (none_come entries);
+  latest = rw clients (none-come entries);
   standing = rw (keys, clients) refl;
 }
 
@@ -75,8 +75,8 @@ absent x (y ∷ ids) e = by (nat_eq x y) refl e (λ rest. absent x ids rest)
         omega (arith, times-cons x y ids, rest e, other)
 
 -- what is known of a client of the latest epoch that has no cause
-new_and_few : (at : ℕ) (g : Gathering) (c : Client) → joining_cause at g c ≡ None → (list_any (nat_eq c.id) g.standing.keys ≡ false) × (length g.latest.clients.items < MOST_CLIENTS)
-new_and_few at g c none = by (list_any (nat_eq c.id) g.standing.keys) refl (nat_le MOST_CLIENTS (length g.latest.clients.items)) refl none
+new-and-few : (at : ℕ) (g : Gathering) (c : Client) → joining_cause at g c ≡ None → (list_any (nat_eq c.id) g.standing.keys ≡ false) × (length g.latest.clients.items < MOST_CLIENTS)
+new-and-few at g c none = by (list_any (nat_eq c.id) g.standing.keys) refl (nat_le MOST_CLIENTS (length g.latest.clients.items)) refl none
   where
     by : (stands : Bool) → list_any (nat_eq c.id) g.standing.keys ≡ stands → (full : Bool) → nat_le MOST_CLIENTS (length g.latest.clients.items) ≡ full
         → joining_cause at g c ≡ None → (list_any (nat_eq c.id) g.standing.keys ≡ false) × (length g.latest.clients.items < MOST_CLIENTS)
@@ -85,11 +85,11 @@ new_and_few at g c none = by (list_any (nat_eq c.id) g.standing.keys) refl (nat_
     by false is false e none = (is, grind (arith, nat_tests, e))
 
 -- a client more of the latest epoch
-pub joined_keeps : (old new : Gathering) (at entries : ℕ) (c : Client) → joining_cause at old c ≡ None → c.entry < entries → new.over ≡ old.over
+pub joined-keeps : (old new : Gathering) (at entries : ℕ) (c : Client) → joining_cause at old c ≡ None → c.entry < entries → new.over ≡ old.over
     → new.latest.number ≡ old.latest.number → new.latest.clients.items ≡ old.latest.clients.items ++ c ∷ []
     → new.standing.keys ≡ old.standing.keys ++ c.id ∷ [] → Keeps entries old → Keeps entries new
-joined_keeps old new at entries c none entry over number clients keys keeps =
-    let (fresh, room) = new_and_few at old c none in
+joined-keeps old new at entries c none entry over number clients keys keeps =
+    let (fresh, room) = new-and-few at old c none in
     let ids : map (λ (x : Client). x.id) new.latest.clients.items ≡ map (λ (x : Client). x.id) old.latest.clients.items ++ c.id ∷ [] =
     ap (map (λ (x : Client). x.id)) clients ∙ map-append (λ (x : Client). x.id) old.latest.clients.items (c ∷ []) in
     record {

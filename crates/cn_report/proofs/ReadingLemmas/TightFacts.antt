@@ -21,13 +21,13 @@ use Rattle.cn_report.specs.declared.reading.grant.GrantCause.{GrantCause}
 use Rattle.cn_report.specs.declared.reading.grant.GrantCause.TheVariants as cause
 use Rattle.cn_report.specs.declared.reading.grant.Flaw.{Flaw}
 use Rattle.cn_report.specs.declared.reading.grant.Flaw.TheVariants.{Read, Form, DuplicateClient, DuplicateName, Gap, Memory}
-use Rattle.cn_report.proofs.ReadingLemmas.CheckedGrants.{of_other, of_same}
-use Rattle.cn_spec.proofs.CallerLemmas.{all_below, at_most_once, once_each, once_there}
+use Rattle.cn_report.proofs.ReadingLemmas.CheckedGrants.{of-other, of_same}
+use Rattle.cn_spec.proofs.CallerLemmas.{all_below, at_most_once, once_each, once-there}
 
 -- a number that some grant has stands among theirs, and one that none has does not
-any_times : (f : Granted → ℕ) (n : ℕ) (gs : List Granted) → list_any (λ g. n == f g) gs ≡ true → 1 ≤ times n (map f gs)
-any_times f n [] h = cc h
-any_times f n (g ∷ gs) h = each (eqb_tells n (f g)) (any_times f n gs)
+any-times : (f : Granted → ℕ) (n : ℕ) (gs : List Granted) → list_any (λ g. n == f g) gs ≡ true → 1 ≤ times n (map f gs)
+any-times f n [] h = cc h
+any-times f n (g ∷ gs) h = each (eqb_tells n (f g)) (any-times f n gs)
   where
     each : ((eqb n (f g) ≡ true) × (n ≡ f g)) ⊎ ((eqb n (f g) ≡ false) × (n ≢ f g)) → (list_any (λ g. n == f g) gs ≡ true → 1 ≤ times n (map f gs)) → 1 ≤ times n (map f (g ∷ gs))
     each (inl w) more =
@@ -35,9 +35,9 @@ any_times f n (g ∷ gs) h = each (eqb_tells n (f g)) (any_times f n gs)
         omega (arith, times-cons n (f g) (map f gs), one)
     each (inr w) more = omega (arith, times-cons n (f g) (map f gs), more (rw w.0 at h))
 
-none_times : (f : Granted → ℕ) (n : ℕ) (gs : List Granted) → list_any (λ g. n == f g) gs ≡ false → times n (map f gs) ≡ 0
-none_times f n [] h = times-nil n
-none_times f n (g ∷ gs) h = each (eqb_tells n (f g)) (none_times f n gs)
+none-times : (f : Granted → ℕ) (n : ℕ) (gs : List Granted) → list_any (λ g. n == f g) gs ≡ false → times n (map f gs) ≡ 0
+none-times f n [] h = times-nil n
+none-times f n (g ∷ gs) h = each (eqb_tells n (f g)) (none-times f n gs)
   where
     each : ((eqb n (f g) ≡ true) × (n ≡ f g)) ⊎ ((eqb n (f g) ≡ false) × (n ≢ f g)) → (list_any (λ g. n == f g) gs ≡ false → times n (map f gs) ≡ 0) → times n (map f (g ∷ gs)) ≡ 0
     each (inl w) more = cc (rw w.0 at h)
@@ -50,9 +50,9 @@ first_none : (a b : Option GrantCause) → first_of a b ≡ None → (a ≡ None
 first_none (Some x) b e = absurd (none-some x (sym e))
 first_none None b e = (refl, e)
 
-twice_none : (before : List Granted) (g : Granted) → twice_cause before g ≡ None → has_client g.client (of_epoch g.epoch before) ≡ false
+twice-none : (before : List Granted) (g : Granted) → twice_cause before g ≡ None → has_client g.client (of_epoch g.epoch before) ≡ false
 unfolding twice_cause
-twice_none before g = each (has_client g.client (of_epoch g.epoch before))
+twice-none before g = each (has_client g.client (of_epoch g.epoch before))
   where
     each : (b : Bool) → (if b then Some cause.DuplicateClient else if has_name g.name (of_epoch g.epoch before) then Some cause.DuplicateName else None) ≡ None → b ≡ false
     each true e = absurd (none-some _ (sym e))
@@ -62,17 +62,17 @@ twice_none before g = each (has_client g.client (of_epoch g.epoch before))
 abbrev pub AreOnce : List Granted → Type 0
 AreOnce grants = (e n : ℕ) → times n (map (λ (g : Granted). g.client) (of_epoch e grants)) ≤ 1
 
-pub once_next : (before : List Granted) (g : Granted) → AreOnce before → spelled_cause before (Some g) ≡ None → AreOnce (before ++ g ∷ [])
-once_next before g once none e n = each (eqb_tells g.epoch e)
+pub once-next : (before : List Granted) (g : Granted) → AreOnce before → spelled_cause before (Some g) ≡ None → AreOnce (before ++ g ∷ [])
+once-next before g once none e n = each (eqb_tells g.epoch e)
   where
     free : has_client g.client (of_epoch g.epoch before) ≡ false
-    free = twice_none before g (first_none (form_cause before g) (twice_cause before g) none).1
+    free = twice-none before g (first_none (form_cause before g) (twice_cause before g) none).1
 
     here : g.epoch ≡ e → ((eqb g.client n ≡ true) × (g.client ≡ n)) ⊎ ((eqb g.client n ≡ false) × (g.client ≢ n))
         → times n (map (λ (g : Granted). g.client) (of_epoch e before ++ g ∷ [])) ≤ 1
     here same (inl w) =
         let zero_times : times n (map (λ (g : Granted). g.client) (of_epoch e before)) ≡ 0 =
-        (λ i. times (sym w.1 i) (map (λ (g : Granted). g.client) (of_epoch (sym same i) before))) ∙ none_times (λ g. g.client) g.client (of_epoch g.epoch before) free in
+        (λ i. times (sym w.1 i) (map (λ (g : Granted). g.client) (of_epoch (sym same i) before))) ∙ none-times (λ g. g.client) g.client (of_epoch g.epoch before) free in
         let whole : times n (map (λ (g : Granted). g.client) (of_epoch e before ++ g ∷ [])) ≡ times n (map (λ (g : Granted). g.client) (of_epoch e before) ++ g.client ∷ []) =
         ap (times n) (map-append (λ (g : Granted). g.client) (of_epoch e before) (g ∷ [])) in
         let one : ◌≡◌ {A = ℕ} (cond (eqb g.client n) 1 0) 1 = ap {B = ℕ} (λ q. cond q 1 0) w.0 in
@@ -85,7 +85,7 @@ once_next before g once none e n = each (eqb_tells g.epoch e)
 
     each : ((eqb g.epoch e ≡ true) × (g.epoch ≡ e)) ⊎ ((eqb g.epoch e ≡ false) × (g.epoch ≢ e)) → times n (map (λ (g : Granted). g.client) (of_epoch e (before ++ g ∷ []))) ≤ 1
     each (inl w) = rw (of_same before g e w.1) (here w.1 (eqb_tells g.client n))
-    each (inr w) = rw (of_other before g e w.1) (once e n)
+    each (inr w) = rw (of-other before g e w.1) (once e n)
 
 -- a cause that another implies
 module _ (header : Record → Option GrantCause) (one other : List Record → Record → Option GrantCause) where
@@ -106,10 +106,10 @@ form_of before None e = e
 form_of before (Some g) e = (first_none (form_cause before g) (twice_cause before g) e).0
 
 -- an epoch that lacks no name is tight
-epoch_tight : (grants : List Granted) → ((n : ℕ) → times n (map (λ (g : Granted). g.client) grants) ≤ 1) → ((n : ℕ) → n < length grants → has_name n grants ≡ true) → IsTightEpoch grants
-epoch_tight grants once there = record {
+epoch-tight : (grants : List Granted) → ((n : ℕ) → times n (map (λ (g : Granted). g.client) grants) ≤ 1) → ((n : ℕ) → n < length grants → has_name n grants ≡ true) → IsTightEpoch grants
+epoch-tight grants once there = record {
   clients = once;
-  names = all_below (length grants) (map (λ (g : Granted). g.name) grants) (length-map grants (λ (g : Granted). g.name)) (λ n h. any_times (λ g. g.name) n grants (there n h));
+  names = all_below (length grants) (map (λ (g : Granted). g.name) grants) (length-map grants (λ (g : Granted). g.name)) (λ n h. any-times (λ g. g.name) n grants (there n h));
 }
 
 not_false : (b : Bool) → (b ≡ false → ⊥) → b ≡ true
@@ -117,10 +117,10 @@ not_false true h = refl
 not_false false h = absurd (h refl)
 
 -- the list is tight where no record has a cause, no client stands twice in an epoch, and no epoch lacks a name
-pub list_tight : (rows : List Record) (grants : List Granted) → IsClean grants_cause rows → grants_in (drop 1 rows) ≡ grants → AreOnce grants → ((e n : ℕ) → Lacks grants e n → ⊥) → IsTightList rows
-list_tight rows grants clean spells once full = record {
+pub list-tight : (rows : List Record) (grants : List Granted) → IsClean grants_cause rows → grants_in (drop 1 rows) ≡ grants → AreOnce grants → ((e n : ℕ) → Lacks grants e n → ⊥) → IsTightList rows
+list-tight rows grants clean spells once full = record {
   form = λ at. weaker header_cause record_cause record_form (λ before fields. form_of (grants_in (drop 1 before)) (granted_in fields)) rows at (clean at);
-  tight = λ e. rw spells (epoch_tight (of_epoch e grants) (once e) (λ n h. not_false (has_name n (of_epoch e grants)) (λ f. full e n (h, f))));
+  tight = λ e. rw spells (epoch-tight (of_epoch e grants) (once e) (λ n h. not_false (has_name n (of_epoch e grants)) (λ f. full e n (h, f))));
 }
 
 -- the other way: each record of a tight list has no cause
@@ -145,39 +145,39 @@ module _ (gb gm : List Granted) (g : Granted) (tight : IsTightEpoch (of_epoch g.
             most,
             whole,
             one,
-            any_times f (f g) (of_epoch g.epoch gb) e,
+            any-times f (f g) (of_epoch g.epoch gb) e,
             times-append (f g) (map f (of_epoch g.epoch gb)) (f g ∷ map f (of_epoch g.epoch gm)),
             times-cons (f g) (f g) (map f (of_epoch g.epoch gm)),
           ))
 
-  no_twice : twice_cause gb g ≡ None
+  no-twice : twice_cause gb g ≡ None
   unfolding twice_cause
-  no_twice =
+  no-twice =
       let k = length (of_epoch g.epoch (gb ++ g ∷ gm)) in
       let names : times g.name (map (λ (x : Granted). x.name) (of_epoch g.epoch (gb ++ g ∷ gm))) ≤ 1 =
       omega (arith, once_each k (map (λ (x : Granted). x.name) (of_epoch g.epoch (gb ++ g ∷ gm))) tight.names g.name, at_most_once k g.name) in
       rw (first_time (λ x. x.client) (tight.clients g.client), first_time (λ x. x.name) names) refl
 
 -- the grants round a record
-grants_round : (rows : List Record) (m : ℕ) (g : Granted) → m < length rows → granted_in (get_or rows m []) ≡ Some g → grants_in rows ≡ grants_in (take m rows) ++ g ∷ grants_in (drop (suc m) rows)
-grants_round [] m g h is = absurd (omega (arith, h))
-grants_round (r ∷ rows) zero g h is = rw is refl
-grants_round (r ∷ rows) (suc m) g h is = each (granted_in r) (grants_round rows m g (omega (arith, h)) is)
+grants-round : (rows : List Record) (m : ℕ) (g : Granted) → m < length rows → granted_in (get_or rows m []) ≡ Some g → grants_in rows ≡ grants_in (take m rows) ++ g ∷ grants_in (drop (suc m) rows)
+grants-round [] m g h is = absurd (omega (arith, h))
+grants-round (r ∷ rows) zero g h is = rw is refl
+grants-round (r ∷ rows) (suc m) g h is = each (granted_in r) (grants-round rows m g (omega (arith, h)) is)
   where
     each : (spelled : Option Granted) → grants_in rows ≡ grants_in (take m rows) ++ g ∷ grants_in (drop (suc m) rows)
         → cons_option spelled (grants_in rows) ≡ cons_option spelled (grants_in (take m rows)) ++ g ∷ grants_in (drop (suc m) rows)
     each (Some x) more = ap (λ (l : List Granted). x ∷ l) more
     each None more = more
 
-at_record : (r : Record) (rows : List Record) (m : ℕ) → m < length rows → ((epoch : ℕ) → IsTightEpoch (of_epoch epoch (grants_in rows)))
+at-record : (r : Record) (rows : List Record) (m : ℕ) → m < length rows → ((epoch : ℕ) → IsTightEpoch (of_epoch epoch (grants_in rows)))
     → spelled_form (grants_in (take m rows)) (granted_in (get_or rows m [])) ≡ None → spelled_cause (grants_in (take m rows)) (granted_in (get_or rows m [])) ≡ None
-at_record r rows m h tight = each (granted_in (get_or rows m [])) refl
+at-record r rows m h tight = each (granted_in (get_or rows m [])) refl
   where
     each : (spelled : Option Granted) → granted_in (get_or rows m []) ≡ spelled → spelled_form (grants_in (take m rows)) spelled ≡ None → spelled_cause (grants_in (take m rows)) spelled ≡ None
     each None is e = e
     each (Some g) is e =
-        rw e (no_twice (grants_in (take m rows)) (grants_in (drop (suc m) rows)) g
-        (subst (λ (l : List Granted). IsTightEpoch (of_epoch g.epoch l)) (grants_round rows m g h is) (tight g.epoch)))
+        rw e (no-twice (grants_in (take m rows)) (grants_in (drop (suc m) rows)) g
+        (subst (λ (l : List Granted). IsTightEpoch (of_epoch g.epoch l)) (grants-round rows m g h is) (tight g.epoch)))
 
 tight_at : (rows : List Record) (at : ℕ) → ((epoch : ℕ) → IsTightEpoch (of_epoch epoch (grants_in (drop 1 rows)))) → grants_form rows at ≡ None → grants_cause rows at ≡ None
 unfolding cause_by
@@ -192,47 +192,47 @@ tight_at (r ∷ rows) (suc m) tight e = each (leb_tells (suc m) (length rows)) e
     each (inl w) e =
         let far : nat_lt (suc m) (length (r ∷ rows)) ≡ true = lt-ltb (suc m) (length (r ∷ rows)) (omega (arith, w.1)) in
         let nonzero : (suc m == 0) ≡ false = ne_eqb (suc m) 0 (λ x. omega (arith, x)) in
-        rw (nonzero, far) (at_record r rows m (omega (arith, w.1)) tight (rw (nonzero, far) at e))
+        rw (nonzero, far) (at-record r rows m (omega (arith, w.1)) tight (rw (nonzero, far) at e))
     each (inr w) e =
         let past : nat_lt (suc m) (length (r ∷ rows)) ≡ false = le-ltb (suc m) (length (r ∷ rows)) (omega (arith, w.1)) in
         let nonzero : (suc m == 0) ≡ false = ne_eqb (suc m) 0 (λ x. omega (arith, x)) in
         rw (nonzero, past) refl
 
-tight_clean : (rows : List Record) → IsTightList rows → IsClean grants_cause rows
-tight_clean rows t at = tight_at rows at t.tight (t.form at)
+tight-clean : (rows : List Record) → IsTightList rows → IsClean grants_cause rows
+tight-clean rows t at = tight_at rows at t.tight (t.form at)
 
-tight_full : (grants : List Granted) → IsTightEpoch grants → (n : ℕ) → n < length grants → has_name n grants ≡ false → ⊥
-tight_full grants t n h e =
-    omega (arith, none_times (λ g. g.name) n grants e, once_each (length grants) (map (λ (g : Granted). g.name) grants) t.names n, once_there (length grants) n h)
+tight-full : (grants : List Granted) → IsTightEpoch grants → (n : ℕ) → n < length grants → has_name n grants ≡ false → ⊥
+tight-full grants t n h e =
+    omega (arith, none-times (λ g. g.name) n grants e, once_each (length grants) (map (λ (g : Granted). g.name) grants) t.names n, once-there (length grants) n h)
 
 no_first : (rows : List Record) (at : ℕ) (why : GrantCause) → (IsOfReading why → ⊥) → IsFirst rows at why → IsTightList rows → ⊥
 no_first rows at why inside fault t =
     elim fault.told [
-      | inl e ↦ none-some why (sym (tight_clean rows t at) ∙ e)
+      | inl e ↦ none-some why (sym (tight-clean rows t at) ∙ e)
       | inr other ↦ inside other
     ]
 
-is_form : IsOfReading cause.Form → ⊥
-is_form (inl e) = cc e
-is_form (inr e) = cc e
+is-form : IsOfReading cause.Form → ⊥
+is-form (inl e) = cc e
+is-form (inr e) = cc e
 
-is_client : IsOfReading cause.DuplicateClient → ⊥
-is_client (inl e) = cc e
-is_client (inr e) = cc e
+is-client : IsOfReading cause.DuplicateClient → ⊥
+is-client (inl e) = cc e
+is-client (inr e) = cc e
 
 is_name : IsOfReading cause.DuplicateName → ⊥
 is_name (inl e) = cc e
 is_name (inr e) = cc e
 
 -- a tight list has no flaw but a failed read and want of memory
-pub tight_flaw : (rows : List Record) (flaw : Flaw) → IsFlaw rows flaw → IsTightList rows → IsOutside flaw
-tight_flaw rows (Read at) h t = tt
-tight_flaw rows Memory h t = tt
-tight_flaw rows (Form at) h t = no_first rows at cause.Form is_form h t
-tight_flaw rows (DuplicateClient at) h t = no_first rows at cause.DuplicateClient is_client h t
-tight_flaw rows (DuplicateName at) h t = no_first rows at cause.DuplicateName is_name h t
-tight_flaw rows (Gap epoch name) h t = tight_full (of_epoch epoch (grants_in (drop 1 rows))) (t.tight epoch) name h.1.lacks.0 h.1.lacks.1
+pub tight-flaw : (rows : List Record) (flaw : Flaw) → IsFlaw rows flaw → IsTightList rows → IsOutside flaw
+tight-flaw rows (Read at) h t = tt
+tight-flaw rows Memory h t = tt
+tight-flaw rows (Form at) h t = no_first rows at cause.Form is-form h t
+tight-flaw rows (DuplicateClient at) h t = no_first rows at cause.DuplicateClient is-client h t
+tight-flaw rows (DuplicateName at) h t = no_first rows at cause.DuplicateName is_name h t
+tight-flaw rows (Gap epoch name) h t = tight-full (of_epoch epoch (grants_in (drop 1 rows))) (t.tight epoch) name h.1.lacks.0 h.1.lacks.1
 
 pub exact : {T : Type 0} (P : T → Type 0) (rows : List Record) (result : Result T Flaw) → MatchResult result P (IsFlaw rows) → IfErr result (λ flaw. IsTightList rows → IsOutside flaw)
 exact P rows (Ok x) h = tt
-exact P rows (Err flaw) h = λ t. tight_flaw rows flaw h t
+exact P rows (Err flaw) h = λ t. tight-flaw rows flaw h t

@@ -21,29 +21,29 @@ use Rattle.cn_report.specs.Writing.Outcome.{exit_line, exit_lines, name_line, na
 use Rattle.cn_report.specs.Writing.Records.{AreRecordsOf, IsRecordOf}
 use Rattle.cn_report.specs.Writing.Report.{clients_of, epoch_line, epoch_lines, report_end, report_text}
 use Rattle.cn_report.specs.Writing.Text.{heading}
-use Rattle.cn_report.proofs.WritingLemmas.LineEnds.{number_is_short}
+use Rattle.cn_report.proofs.WritingLemmas.LineEnds.{number_is-short}
 use Rattle.cn_report.proofs.WritingLemmas.Records.{when-le}
 
 -- lines of numbers of 64 bits
 grant-short : (epoch client name : ℕ) → epoch < 2 ^ 64 → client < 2 ^ 64 → name < 2 ^ 64 → length (grant_line epoch client name) ≤ 64
 unfolding grant_line
-grant-short epoch client name e c n = omega (arith, length-append {A = ℕ}, number_is_short epoch e, number_is_short client c, number_is_short name n)
+grant-short epoch client name e c n = omega (arith, length-append {A = ℕ}, number_is-short epoch e, number_is-short client c, number_is-short name n)
 
 exit-short : (exit count : ℕ) → exit < 2 ^ 64 → count < 2 ^ 64 → length (exit_line exit count) ≤ 64
 unfolding exit_line
-exit-short exit count e c = omega (arith, length-append {A = ℕ}, number_is_short exit e, number_is_short count c)
+exit-short exit count e c = omega (arith, length-append {A = ℕ}, number_is-short exit e, number_is-short count c)
 
 name-short : (name client : ℕ) → name < 2 ^ 64 → client < 2 ^ 64 → length (name_line name client) ≤ 64
 unfolding name_line
-name-short name client n c = omega (arith, length-append {A = ℕ}, number_is_short name n, number_is_short client c)
+name-short name client n c = omega (arith, length-append {A = ℕ}, number_is-short name n, number_is-short client c)
 
 epoch-short : (number clients : ℕ) → number < 2 ^ 64 → clients < 2 ^ 64 → length (epoch_line number clients) ≤ 64
 unfolding epoch_line
-epoch-short number clients n c = omega (arith, length-append {A = ℕ}, number_is_short number n, number_is_short clients c)
+epoch-short number clients n c = omega (arith, length-append {A = ℕ}, number_is-short number n, number_is-short clients c)
 
 end-short : (epochs grants : ℕ) → epochs < 2 ^ 64 → grants < 2 ^ 64 → length (report_end epochs grants) ≤ 64
 unfolding report_end
-end-short epochs grants e n = omega (arith, length-append {A = ℕ}, number_is_short epochs e, number_is_short grants n)
+end-short epochs grants e n = omega (arith, length-append {A = ℕ}, number_is-short epochs e, number_is-short grants n)
 
 -- short lines
 lines-short : (f : ℕ → List ℕ) (i n : ℕ) → ((j : ℕ) → j < i + n → length (f j) ≤ 64) → length (flat_map f (range_with_len i n)) ≤ 64 * n
@@ -194,8 +194,8 @@ heading-short network w b d =
     omega (
       arith,
       kind-short network.kind,
-      number_is_short network.table.width w,
-      number_is_short network.table.balancers b,
-      number_is_short network.depth d,
+      number_is-short network.table.width w,
+      number_is-short network.table.balancers b,
+      number_is-short network.depth d,
       length-append {A = ℕ},
     )

@@ -6,25 +6,25 @@ use Rattle.std.proofs.lemmas.Str.{IsUtf8-append, IsUtf8-from_ascii}
 use Rattle.std.proofs.lemmas.Str.Ascii.{IsAscii-cons, IsAscii-nil}
 
 -- what is written before some place leaves the buffer as long as it was
-pub length_stays : (old new word : List ℕ) (start end : ℕ) → end < length old → start + length word ≡ end → drop start new ≡ word ++ drop end old → length new ≡ length old
-length_stays old new word start end within is written =
+pub length-stays : (old new word : List ℕ) (start end : ℕ) → end < length old → start + length word ≡ end → drop start new ≡ word ++ drop end old → length new ≡ length old
+length-stays old new word start end within is written =
     omega (arith, ap length written, length-drop start new, length-append word (drop end old), length-drop end old)
 
 -- the same of a buffer of line feeds, of which the last stays
-pub line_stays : (new word : List ℕ) (start : ℕ) → start + length word ≡ 63 → drop start new ≡ word ++ 10 ∷ [] → length new ≡ 64
-line_stays new word start is written = omega (arith, ap length written, length-drop start new, length-append word (10 ∷ []))
+pub line-stays : (new word : List ℕ) (start : ℕ) → start + length word ≡ 63 → drop start new ≡ word ++ 10 ∷ [] → length new ≡ 64
+line-stays new word start is written = omega (arith, ap length written, length-drop start new, length-append word (10 ∷ []))
 
-pub number_is_short : (n : ℕ) → n < 2 ^ 64 → length (decimal n) ≤ 20
-number_is_short n fits = length-decimal-le 20 n (omega arith) (omega arith) fits
+pub number_is-short : (n : ℕ) → n < 2 ^ 64 → length (decimal n) ≤ 20
+number_is-short n fits = length-decimal-le 20 n (omega arith) (omega arith) fits
 
-pub number_is_utf8 : (n : ℕ) → n < 2 ^ 64 → IsUtf8 (decimal n)
-number_is_utf8 n fits = IsUtf8-from_ascii _ (IsAscii-decimal n fits)
+pub number_is-utf8 : (n : ℕ) → n < 2 ^ 64 → IsUtf8 (decimal n)
+number_is-utf8 n fits = IsUtf8-from_ascii _ (IsAscii-decimal n fits)
 
-pub byte_is_utf8 : (b : ℕ) → b < 128 → IsUtf8 (b ∷ [])
-byte_is_utf8 b ascii = IsUtf8-from_ascii _ (IsAscii-cons b [] ascii IsAscii-nil)
+pub byte_is-utf8 : (b : ℕ) → b < 128 → IsUtf8 (b ∷ [])
+byte_is-utf8 b ascii = IsUtf8-from_ascii _ (IsAscii-cons b [] ascii IsAscii-nil)
 
-pub line_is_utf8 : (first second : List ℕ) (number other : ℕ) → IsUtf8 first → IsUtf8 second → number < 2 ^ 64 → other < 2 ^ 64
+pub line-is-utf8 : (first second : List ℕ) (number other : ℕ) → IsUtf8 first → IsUtf8 second → number < 2 ^ 64 → other < 2 ^ 64
     → IsUtf8 (first ++ (decimal number ++ (second ++ (decimal other ++ 10 ∷ []))))
-line_is_utf8 first second number other one two n o =
-    IsUtf8-append _ _ one (IsUtf8-append _ _ (number_is_utf8 number n)
-    (IsUtf8-append _ _ two (IsUtf8-append _ _ (number_is_utf8 other o) (byte_is_utf8 10 (omega arith)))))
+line-is-utf8 first second number other one two n o =
+    IsUtf8-append _ _ one (IsUtf8-append _ _ (number_is-utf8 number n)
+    (IsUtf8-append _ _ two (IsUtf8-append _ _ (number_is-utf8 other o) (byte_is-utf8 10 (omega arith)))))

@@ -1,4 +1,4 @@
--- Answers that tell the same have the same lines.
+-- Answers that say the same have the same lines.
 use Rattle.std.proofs.Common.{◌≡◌, ℕ, List, [], ◌∷◌, ◌++◌, refl, ap, ap₂}
 use Rattle.std.specs.List.{AllZip}
 use Rattle.cn_record.specs.declared.answer.Answer.{Answer}

@@ -1,11 +1,11 @@
 use Rattle.std.proofs.Common.{◌≡◌, refl, sym, ◌∙◌, ap, string_bytes}
 use Rattle.std.proofs.lemmas.Slice.Eq.{bytes_eq-Decides}
 use Rattle.std.specs.Prelude.{decimal}
-use Rattle.cn_cli.proofs.WordNumbers.{no_other, parsed_number}
+use Rattle.cn_cli.proofs.WordNumbers.{no_other, parsed-number}
 use Rattle.cn_cli.proofs.choices.number_named.Goals as goal
 
 pub returns-in_default : goal.returns-in_default
-returns-in_default c number fits e = c.in_default.not-Ok number (parsed_number number c.args.word.now c.parse.result fits e c.parse.ensures.value.0)
+returns-in_default c number fits e = c.in_default.not-Ok number (parsed-number number c.args.word.now c.parse.result fits e c.parse.ensures.value.0)
 
 pub returns : goal.returns
 returns c number fits e =

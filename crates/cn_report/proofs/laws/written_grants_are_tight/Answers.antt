@@ -1,9 +1,9 @@
-use Rattle.cn_report.proofs.ReadBack.Tight.{written_tight}
-use Rattle.cn_report.proofs.ReadBack.Told.{told_back}
+use Rattle.cn_report.proofs.ReadBack.Tight.{written-tight}
+use Rattle.cn_report.proofs.ReadBack.Told.{told-back}
 use Rattle.cn_report.proofs.laws.written_grants_are_tight.Goals as goal
 
 pub returns-clause-tight : goal.returns-clause-tight
-returns-clause-tight c = written_tight
+returns-clause-tight c = written-tight
 
 pub returns-clause-told : goal.returns-clause-told
-returns-clause-told c = told_back
+returns-clause-told c = told-back

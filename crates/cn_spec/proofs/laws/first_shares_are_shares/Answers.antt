@@ -1,5 +1,5 @@
-use Rattle.cn_spec.proofs.CountShares.{first_shares}
+use Rattle.cn_spec.proofs.CountShares.{first-shares}
 use Rattle.cn_spec.proofs.laws.first_shares_are_shares.Goals as goal
 
 pub returns : goal.returns
-returns c = first_shares
+returns c = first-shares

@@ -4,7 +4,7 @@ use Rattle.cn_walk.specs.declared.forking.Lanes.{Lanes}
 use Rattle.cn_walk.specs.Halves.{AreReady, IsReady, together, whole}
 use Rattle.cn_floor.specs.Lane.{FloorValue, LaneValue}
 use Rattle.cn_walk.specs.Walks.{WalksAll}
-use Rattle.cn_walk.proofs.Halves.{both_walked, whole_ready}
+use Rattle.cn_walk.proofs.Halves.{both-walked, whole-ready}
 use Rattle.cn_walk.proofs.forking.+fn-walk_lanes-join+arg2+fn-walk_lanes-join+arg3+walk_lanes.Goals as goal
 
 pub returns-in-Halves : goal.returns-in-Halves
@@ -18,9 +18,9 @@ returns-in-Halves g t c =
     let n : ℕ = length c.args.clients.now in
     let at : ℕ = c.in-Halves.at in
     let ready = subst (λ (x : Lanes). AreReady home n x) c.in-Halves.is c.requires.ready in
-    let other = subst (λ (x : Lanes). IsReady home (n - at) (whole x)) (sym right) (whole_ready home (n - at) c.in-Halves.right.value ready.3) in
+    let other = subst (λ (x : Lanes). IsReady home (n - at) (whole x)) (sym right) (whole-ready home (n - at) c.in-Halves.right.value ready.3) in
     let cut = c.split_at.ensures.by_index.0 in
-    let done = both_walked a b c.join-lane.result.0 c.join-lane.result.1 _ _ other.nothing.entries other.nothing.grants c.join-lane.ensures.first c.join-lane.ensures.second in
+    let done = both-walked a b c.join-lane.result.0 c.join-lane.result.1 _ _ other.nothing.entries other.nothing.grants c.join-lane.ensures.first c.join-lane.ensures.second in
     subst (λ (l : LaneValue). WalksAll l c.join.result c.args.clients.now) (sym lanes)
     (subst (λ (l : LaneValue). WalksAll (together a b) l c.args.clients.now) (sym c.join.ensures)
     (subst (λ (xs : List Client). WalksAll (together a b) (together c.join-lane.result.0 c.join-lane.result.1) xs) (sym cut) done))

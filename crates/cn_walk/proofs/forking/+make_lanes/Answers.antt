@@ -3,14 +3,14 @@ use Rattle.std.specs.Prelude.{IfSome}
 use Rattle.cn_walk.specs.declared.forking.Lanes.{Lanes}
 use Rattle.cn_floor.specs.Lane.{LaneValue}
 use Rattle.cn_walk.specs.Halves.{AreOf, AreReady, IsPair, first_of}
-use Rattle.cn_walk.proofs.Halves.{first_later, left_nothing, none_after, none_before, pair_ready, reserved_nothing, right_nothing, some_so}
+use Rattle.cn_walk.proofs.Halves.{first-later, left-nothing, none_after, none_before, pair-ready, reserved-nothing, right-nothing, some_so}
 use Rattle.cn_walk.proofs.forking.+make_lanes.Goals as goal
 use Rattle.cn_walk.proofs.forking.+make_lanes.Goals.{then-own-eq0-via-then-own-eq0, then-own-eq0-via-else-own-eq0+then-to-from-eq1}
 
 pub overflow_sub-own-2 : goal.overflow_sub-own-2
 overflow_sub-own-2 t c =
     let middle : ℕ = c.args.from + (c.args.to - c.args.from) / 2 in
-    omega (arith, c.first_of-2.ensures.value, c.first_of.ensures.value, first_later c.args.clients c.args.workers middle c.args.to (omega (arith, c.requires.range)) (omega (arith, c.requires.range)))
+    omega (arith, c.first_of-2.ensures.value, c.first_of.ensures.value, first-later c.args.clients c.args.workers middle c.args.to (omega (arith, c.requires.range)) (omega (arith, c.requires.range)))
 
 pub make_lanes-requires-2 : goal.make_lanes-requires-2
 make_lanes-requires-2 t c =
@@ -18,14 +18,14 @@ make_lanes-requires-2 t c =
     let q : ℕ = c.from-2.result in
     let range = c.requires.range in
     let reserved = c.in-Ok.ensures.ok in
-    let low = first_later c.args.clients c.args.workers middle c.args.to (omega (arith, range)) (omega (arith, range)) in (
+    let low = first-later c.args.clients c.args.workers middle c.args.to (omega (arith, range)) (omega (arith, range)) in (
       search rules,
       (
         ap (λ (l : LaneValue). l.home) c.in-Ok-split.ensures.first ∙ ap (λ (l : LaneValue). l.home) reserved ∙ c.requires.own,
         (
           (omega (arith, c.if-to-from-eq1.false, range), omega (arith, range), range.2),
           (
-            left_nothing q c.reserve.new.self c.in-Ok-split.lane (reserved_nothing _ _ _ c.requires.nothing reserved) c.in-Ok-split.ensures.first,
+            left-nothing q c.reserve.new.self c.in-Ok-split.lane (reserved-nothing _ _ _ c.requires.nothing reserved) c.in-Ok-split.ensures.first,
             omega (
               arith,
               c.from-2.ensures,
@@ -47,14 +47,14 @@ make_lanes-requires-3 t c =
     let middle : ℕ = c.args.from + (c.args.to - c.args.from) / 2 in
     let q : ℕ = c.from-2.result in
     let range = c.requires.range in
-    let low = first_later c.args.clients c.args.workers c.args.from middle (omega (arith, range)) (omega (arith, range)) in (
+    let low = first-later c.args.clients c.args.workers c.args.from middle (omega (arith, range)) (omega (arith, range)) in (
       search rules,
       (
         ap (λ (l : LaneValue). l.home) c.in-Ok-split.ensures.second ∙ ap (λ (l : LaneValue). l.home) c.in-Ok.ensures.ok ∙ c.requires.own,
         (
           (omega (arith, c.if-to-from-eq1.false, range), omega (arith, range), range.2),
           (
-            right_nothing q c.reserve.new.self c.in-Ok-split.other c.in-Ok-split.ensures.second,
+            right-nothing q c.reserve.new.self c.in-Ok-split.other c.in-Ok-split.ensures.second,
             omega (
               arith,
               c.from-2.ensures,
@@ -79,8 +79,8 @@ returns-clause-ready t c =
     let n : ℕ = first_of k w c.args.to - first_of k w c.args.from in
     let at : ℕ = c.first_of-2.result - c.first_of-first.result in
     let r : ℕ = first_of k w c.args.to - first_of k w middle in
-    let low = first_later k w c.args.from middle (omega (arith, range)) (omega (arith, range)) in
-    let high = first_later k w middle c.args.to (omega (arith, range)) (omega (arith, range)) in
+    let low = first-later k w c.args.from middle (omega (arith, range)) (omega (arith, range)) in
+    let high = first-later k w middle c.args.to (omega (arith, range)) (omega (arith, range)) in
     let begin = c.first_of-first.ensures.value in
     let mid = c.first_of-2.ensures.value in
     let end = c.first_of.ensures.value in
@@ -91,7 +91,7 @@ returns-clause-ready t c =
     let room : n ≤ c.in-Ok-split.lane.room = omega (arith, reserved, end, begin, ap (λ (l : LaneValue). l.room) c.in-Ok-split.ensures.first) in
     let left : AreReady home at c.in_ok-left.left = subst (λ (x : ℕ). AreReady home x c.in_ok-left.left) part c.in_ok-left.ensures.ready in
     some_so (λ (lanes : Lanes). IsPair at c.in_ok-left.left c.in_ok-right.right lanes) (λ (lanes : Lanes). AreReady home n lanes) c.pair.result
-    (λ lanes is. pair_ready home n at r c.in_ok-left.left c.in_ok-right.right lanes is few (omega (arith, room, c.in_ok-left.ensures.room)) left c.in_ok-right.ensures.ready rest)
+    (λ lanes is. pair-ready home n at r c.in_ok-left.left c.in_ok-right.right lanes is few (omega (arith, room, c.in_ok-left.ensures.room)) left c.in_ok-right.ensures.ready rest)
     c.pair.ensures
 
 pub returns-clause-workers : goal.returns-clause-workers
@@ -109,14 +109,14 @@ returns-clause-workers t c =
 pub overflow_sub-at : goal.overflow_sub-at
 overflow_sub-at t c =
     let middle : ℕ = c.args.from + (c.args.to - c.args.from) / 2 in
-    omega (arith, c.first_of-2.ensures.value, c.first_of-first.ensures.value, first_later c.args.clients c.args.workers c.args.from middle (omega (arith, c.requires.range)) (omega (arith, c.requires.range)))
+    omega (arith, c.first_of-2.ensures.value, c.first_of-first.ensures.value, first-later c.args.clients c.args.workers c.args.from middle (omega (arith, c.requires.range)) (omega (arith, c.requires.range)))
 
 -- ---- workers without clients
 
 -- the first of workers who have no clients, or a single one
 single : (k w from to : ℕ) → 0 < w → from < to → first_of k w to ≤ first_of k w from → first_of k w (from + 1) ≡ first_of k w to
 single k w from to some less none =
-    omega (arith, none, first_later k w from (from + 1) some (omega arith), first_later k w (from + 1) to some (omega (arith, less)))
+    omega (arith, none, first-later k w from (from + 1) some (omega arith), first-later k w (from + 1) to some (omega (arith, less)))
 
 pub returns-then-own-eq0-clause-workers : goal.returns-then-own-eq0-clause-workers
 returns-then-own-eq0-clause-workers t c =
@@ -136,7 +136,7 @@ pub make_lanes-requires : goal.make_lanes-requires
 make_lanes-requires t c =
     let range = c.requires.range in
     let middle : ℕ = c.args.from + (c.args.to - c.args.from) / 2 in
-    let low = first_later c.args.clients c.args.workers c.args.from middle (omega (arith, range)) (omega (arith, range)) in
+    let low = first-later c.args.clients c.args.workers c.args.from middle (omega (arith, range)) (omega (arith, range)) in
     let reserved = c.in-Ok.ensures.ok in (
       search rules,
       (
@@ -144,7 +144,7 @@ make_lanes-requires t c =
         (
           (omega (arith, c.if-to-from-eq1.false, range), omega (arith, range), range.2),
           (
-            reserved_nothing _ _ _ c.requires.nothing reserved,
+            reserved-nothing _ _ _ c.requires.nothing reserved,
             omega (arith, low, c.requires.quota, ap (λ (l : LaneValue). l.view.quota) reserved),
           ),
         ),
@@ -156,7 +156,7 @@ returns-then-at-eq0-clause-ready t c =
     let k : ℕ = c.args.clients in
     let w : ℕ = c.args.workers in
     let middle : ℕ = c.args.from + (c.args.to - c.args.from) / 2 in
-    let low = first_later k w c.args.from middle (omega (arith, c.requires.range)) (omega (arith, c.requires.range)) in
+    let low = first-later k w c.args.from middle (omega (arith, c.requires.range)) (omega (arith, c.requires.range)) in
     let same : first_of k w c.args.to - first_of k w middle ≡ first_of k w c.args.to - first_of k w c.args.from = omega (arith, c.if-at-eq0.true, low, c.first_of-first.ensures.value, c.first_of-2.ensures.value) in
     subst (λ (n : ℕ). IfSome c.make_lanes.result (λ lanes. AreReady c.args.floor.now n lanes)) same c.make_lanes.ensures.ready
 
@@ -165,7 +165,7 @@ returns-then-at-eq0-clause-workers t c =
     let k : ℕ = c.args.clients in
     let w : ℕ = c.args.workers in
     let middle : ℕ = c.args.from + (c.args.to - c.args.from) / 2 in
-    let low = first_later k w c.args.from middle (omega (arith, c.requires.range)) (omega (arith, c.requires.range)) in
+    let low = first-later k w c.args.from middle (omega (arith, c.requires.range)) (omega (arith, c.requires.range)) in
     let same : first_of k w middle ≡ first_of k w c.args.from = omega (arith, c.if-at-eq0.true, low, c.first_of-first.ensures.value, c.first_of-2.ensures.value) in
     some_so (λ (lanes : Lanes). AreOf k w middle c.args.to lanes) (λ (lanes : Lanes). AreOf k w c.args.from c.args.to lanes) c.make_lanes.result
     (λ lanes are. none_before k w c.args.from middle c.args.to lanes (omega arith) same are)
@@ -176,8 +176,8 @@ returns-then-at-own-clause-workers t c =
     let k : ℕ = c.args.clients in
     let w : ℕ = c.args.workers in
     let middle : ℕ = c.args.from + (c.args.to - c.args.from) / 2 in
-    let low = first_later k w c.args.from middle (omega (arith, c.requires.range)) (omega (arith, c.requires.range)) in
-    let high = first_later k w middle c.args.to (omega (arith, c.requires.range)) (omega (arith, c.requires.range)) in
+    let low = first-later k w c.args.from middle (omega (arith, c.requires.range)) (omega (arith, c.requires.range)) in
+    let high = first-later k w middle c.args.to (omega (arith, c.requires.range)) (omega (arith, c.requires.range)) in
     let same : first_of k w middle ≡ first_of k w c.args.to = omega (arith, c.if-at-own.true, low, high, c.first_of.ensures.value, c.first_of-first.ensures.value, c.first_of-2.ensures.value) in
     some_so (λ (lanes : Lanes). AreOf k w c.args.from middle lanes) (λ (lanes : Lanes). AreOf k w c.args.from c.args.to lanes) c.make_lanes-then-at-own.result
     (λ lanes are. none_after k w c.args.from middle c.args.to lanes (omega (arith, c.requires.range)) same are)

@@ -2,7 +2,7 @@ use Rattle.std.proofs.Common.{rules, ◌≡◌, ◌<◌, [], All, List, sym, ◌
 use Rattle.std.proofs.lemmas.List.Elements.{All-drop}
 use Rattle.cn_ledger.specs.declared.client.Client.{Client}
 use Rattle.cn_walk.specs.Walks.{Walks}
-use Rattle.cn_walk.proofs.Walks.{IsHeld, none_by, none_left, stays, walked, walks_on}
+use Rattle.cn_walk.proofs.Walks.{IsHeld, none_by, none_left, stays, walked, walks-on}
 use Rattle.cn_walk.proofs.walking.walk_all.Goals as goal
 
 pub loop-rest-preserved : goal.loop-rest-preserved
@@ -19,7 +19,7 @@ loop-rest-preserved g c =
       entries = subst (λ (xs : List Client). All inside xs) (sym cut.back) (All-drop inside c.min.result c.loop-rest.rest.now was.entries);
       quota = omega (arith, was.quota, came.quota, out.walked.quota, cut.front_len, cut.back_len);
       room = omega (arith, was.room, came.room, out.walked.room, cut.front_len, cut.back_len);
-      walks = λ last w. was.walks last (subst (λ (xs : List Client). Walks c.loop-rest.lane last xs) (sym cut.by_index.0) (walks_on _ _ _ _ _ came (walks_on _ _ _ [] _ out.walked w)));
+      walks = λ last w. was.walks last (subst (λ (xs : List Client). Walks c.loop-rest.lane last xs) (sym cut.by_index.0) (walks-on _ _ _ _ _ came (walks-on _ _ _ [] _ out.walked w)));
     }
 
 pub loop-rest-init : goal.loop-rest-init

@@ -1,7 +1,7 @@
 use Rattle.std.proofs.Common.{rules, ◌<◌, ◌∙◌, ap, subst, sym}
 use Rattle.cn_wiring.specs.Table.{IsWellFormed}
 use Rattle.cn_floor.specs.Lane.{FloorValue}
-use Rattle.cn_walk.proofs.Walks.{IsHeld, comes, comes_next}
+use Rattle.cn_walk.proofs.Walks.{IsHeld, comes, comes-next}
 use Rattle.cn_walk.proofs.walking.walk_in.Goals as goal
 
 pub loop-client-preserved : goal.loop-client-preserved
@@ -12,4 +12,4 @@ loop-client-preserved g c =
     let formed : IsWellFormed c.loop-client.lane.home.start.network.table =
     subst (λ (h : FloorValue). IsWellFormed h.start.network.table) (sym (c.loop-client.invariant.home ∙ c.requires.own)) c.start_laws.ensures.network.formed in
     let some : 0 < c.loop-client.lane.view.quota = search rules in
-    comes_next _ _ _ _ (record { id = 0; entry = 0 }) _ c.loop-client-test.true c.loop-client.invariant (comes _ _ _ _ _ formed held some (search rules) c.in-Ok.ensures.ok)
+    comes-next _ _ _ _ (record { id = 0; entry = 0 }) _ c.loop-client-test.true c.loop-client.invariant (comes _ _ _ _ _ formed held some (search rules) c.in-Ok.ensures.ok)

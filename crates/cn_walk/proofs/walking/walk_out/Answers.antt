@@ -3,7 +3,7 @@ use Rattle.cn_wiring.specs.Table.{IsWellFormed}
 use Rattle.cn_yard.specs.Lists.{on, tokens_in}
 use Rattle.cn_floor.specs.Lane.{FloorValue}
 use Rattle.cn_walk.proofs.SweptWalks.{clear-below, sweeps}
-use Rattle.cn_walk.proofs.Walks.{IsHeld, none_by, walks_on}
+use Rattle.cn_walk.proofs.Walks.{IsHeld, none_by, walks-on}
 use Rattle.cn_floor.proofs.InLane.Yards.{lowest-inside, nobody-there}
 use Rattle.cn_walk.proofs.walking.walk_out.Goals as goal
 
@@ -33,7 +33,7 @@ loop-lowest-preserved g c =
     subst (λ (h : FloorValue). IsWellFormed h.start.network.table) (sym home) c.network.ensures.network.formed in
     let swept = sweeps _ _ wire n _ formed is held some in
     record {
-      walks = walks_on _ _ _ [] [] (walks_on _ _ _ [] [] c.loop-lowest.invariant.walks brought.walked) swept.0;
+      walks = walks-on _ _ _ [] [] (walks-on _ _ _ [] [] c.loop-lowest.invariant.walks brought.walked) swept.0;
       held = record { start = later.start; tokens = later.tokens; wires = later.wires; once = later.once; there = later.there };
       from = omega (arith, inside, laws.wires, later.wires, ap (λ (h : FloorValue). length h.start.network.table.ends) swept.0.home);
       clear = clear-below _ _ wire n _ formed is held some brought.lowest.below;

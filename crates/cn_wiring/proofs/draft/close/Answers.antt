@@ -1,7 +1,7 @@
 use Rattle.std.proofs.Common.{◌≡◌, length, arith, sym, ap, ◌∙◌}
 use Rattle.std.proofs.lemmas.List.{length-map, take_all}
 use Rattle.cn_wiring.specs.Table.{balancer_of}
-use Rattle.cn_wiring.proofs.Close.{Closed-none, Closed-more, exit_below}
+use Rattle.cn_wiring.proofs.Close.{Closed-none, Closed-more, exit-below}
 use Rattle.cn_wiring.proofs.draft.close.Goals as goal
 
 pub loop-i-preserved : goal.loop-i-preserved
@@ -12,6 +12,6 @@ loop-i-init c = Closed-none c.args.ends.now c.args.exits.now c.loop-end.closed.i
 
 pub index_mut-requires : goal.index_mut-requires
 index_mut-requires c =
-    let below = exit_below c.args.ends.now c.args.exits.now c.loop-i.i c.requires.loose (omega arith) in
+    let below = exit-below c.args.ends.now c.args.exits.now c.loop-i.i c.requires.loose (omega arith) in
     let n : length c.loop-i.closed.items ≡ length c.args.ends.now = sym (length-map c.loop-i.closed.items balancer_of) ∙ ap length c.loop-i.invariant.plan in
     omega (arith, c.loop-i.closed.ok.0)

@@ -4,7 +4,7 @@ use Rattle.cn_core.specs.InsideCore.{state_of}
 use Rattle.cn_core.specs.History.{Agrees}
 use Rattle.cn_core.specs.State.{State, after_carry, inside_in}
 use Rattle.cn_core.specs.StateLedger.{IsCore}
-use Rattle.cn_core.proofs.CarryLemmas.{IsCore-after_carry, visits-after_carry}
+use Rattle.cn_core.proofs.CarryLemmas.{IsCore-after_carry, visits-after-carry}
 use Rattle.cn_core.proofs.HistoryLemmas.{Agrees-after_carry}
 use Rattle.cn_core.proofs.core_state.Core.carry.Goals as goal
 
@@ -15,19 +15,19 @@ entered : (c : goal.After-clear) → c.entered.result ≡ length (positions c.se
 entered c = rw (← c.self.view_is) at c.entered.ensures.value
 
 -- the state is the one in which the next epoch begins
-state_is : (c : goal.After-clear) → ◌≡◌ {A = State} (record { network = c.self.inside.network.now; base = c.self.inside.base + c.entered.result; entered = c.self.inside.entry_counts.items; passes = c.self.inside.passes.items; visits = c.self.inside.exits; clients = positions c.clear.new.self }) (after_carry (state_of c.self.inside))
-state_is c = rw (entered c, c.clear.ensures.nobody) refl
+state-is : (c : goal.After-clear) → ◌≡◌ {A = State} (record { network = c.self.inside.network.now; base = c.self.inside.base + c.entered.result; entered = c.self.inside.entry_counts.items; passes = c.self.inside.passes.items; visits = c.self.inside.exits; clients = positions c.clear.new.self }) (after_carry (state_of c.self.inside))
+state-is c = rw (entered c, c.clear.ensures.nobody) refl
 
 pub invariant_of-self : goal.invariant_of-self
 invariant_of-self c = record {
-  core = subst IsCore (sym (state_is c)) (IsCore-after_carry (state_of c.self.inside) c.self.invariant.core (quiet c) (rw (← c.self.view_is) at c.requires.room));
+  core = subst IsCore (sym (state-is c)) (IsCore-after_carry (state_of c.self.inside) c.self.invariant.core (quiet c) (rw (← c.self.view_is) at c.requires.room));
   wires = c.clear.ensures.wires ∙ c.self.invariant.wires;
 }
 
 pub returns-clause-visits : goal.returns-clause-visits
-returns-clause-visits c = rw (← c.self.view_is, entered c) (visits-after_carry (state_of c.self.inside) c.self.invariant.core (quiet c))
+returns-clause-visits c = rw (← c.self.view_is, entered c) (visits-after-carry (state_of c.self.inside) c.self.invariant.core (quiet c))
 
 pub returns-clause-history : goal.returns-clause-history
 returns-clause-history c =
     rw (← c.self.view_is)
-    (λ history earlier agrees. subst (λ (s : State). Agrees s [] (history ∷ earlier)) (sym (state_is c)) (Agrees-after_carry (state_of c.self.inside) history earlier (quiet c) agrees))
+    (λ history earlier agrees. subst (λ (s : State). Agrees s [] (history ∷ earlier)) (sym (state-is c)) (Agrees-after_carry (state_of c.self.inside) history earlier (quiet c) agrees))

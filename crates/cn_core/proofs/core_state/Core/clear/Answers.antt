@@ -7,8 +7,8 @@ use Rattle.cn_core.proofs.LedgerLemmas.{IsCore-start}
 use Rattle.cn_core.proofs.core_state.Core.clear.Goals as goal
 
 -- the state is that of a network that nobody has entered
-state_is : (c : goal.After-clear-2) → ◌≡◌ {A = State} (record { network = c.self.inside.network.now; base = 0; entered = c.fill.new.self.items; passes = c.fill-2.new.self.items; visits = c.clear.new.self; clients = positions c.clear-2.new.self }) (start c.self.inside.network.now)
-state_is c =
+state-is : (c : goal.After-clear-2) → ◌≡◌ {A = State} (record { network = c.self.inside.network.now; base = 0; entered = c.fill.new.self.items; passes = c.fill-2.new.self.items; visits = c.clear.new.self; clients = positions c.clear-2.new.self }) (start c.self.inside.network.now)
+state-is c =
     let is = c.self.invariant.core.state in
     let entered : c.fill.new.self.items ≡ replicate c.self.inside.network.now.table.entries 0 = search rules in
     let passes : c.fill-2.new.self.items ≡ replicate c.self.inside.network.now.table.balancers 0 = search rules in
@@ -17,6 +17,6 @@ state_is c =
 
 pub invariant_of-self : goal.invariant_of-self
 invariant_of-self c = record {
-  core = subst IsCore (sym (state_is c)) (IsCore-start c.self.inside.network.now c.self.invariant.core.state.network);
+  core = subst IsCore (sym (state-is c)) (IsCore-start c.self.inside.network.now c.self.invariant.core.state.network);
   wires = c.clear-2.ensures.wires ∙ c.self.invariant.wires;
 }

@@ -17,7 +17,7 @@ returns-in_default-holders-clause-history c =
     let quiet : inside_in c.self.inside.core ≡ 0 = search rules in
     rw (← c.self.view_is) (memory-after (epochs_of c.self.inside) quiet)
 
--- the record tells the state
+-- the record describes the state
 told : (c : goal.After-begin_next) → TellsEpoch (epochs_of c.self.inside) (record { number = c.self.inside.number; clients = c.entered.result; counts = c.in-Ok.counts; holders = c.in-Ok-holders.holders })
 told c = record {
   number = refl;

@@ -1,9 +1,9 @@
 use Rattle.std.proofs.Common.{arith}
-use Rattle.cn_floor.proofs.AtMoments.Fresh.{load_bound-few}
+use Rattle.cn_floor.proofs.AtMoments.Fresh.{load-bound-few}
 use Rattle.cn_floor.proofs.floor.Floor.answers_stay_true.Goals as goal
 
 pub returns : goal.returns
 returns c s kept id v at =
     let start = c.args.self.now.start in
     let f = kept.fresh id v at in
-    omega (arith, f.seen, load_bound-few start.network.table s.words v.loads f.low)
+    omega (arith, f.seen, load-bound-few start.network.table s.words v.loads f.low)

@@ -1,5 +1,5 @@
 use Rattle.std.proofs.Common.{arith}
-use Rattle.cn_floor.proofs.AtMoments.Fresh.{load_bound-few}
+use Rattle.cn_floor.proofs.AtMoments.Fresh.{load-bound-few}
 use Rattle.cn_floor.proofs.AtMoments.Names.{names-once}
 use Rattle.cn_floor.proofs.floor.Floor.names_are_once.Goals as goal
 
@@ -10,4 +10,4 @@ pub returns-clause-low : goal.returns-clause-low
 returns-clause-low c s kept id v at k d low =
     let start = c.args.self.now.start in
     let f = kept.fresh id v at in
-    omega (arith, f.names k d low, load_bound-few start.network.table s.words v.loads f.low)
+    omega (arith, f.names k d low, load-bound-few start.network.table s.words v.loads f.low)

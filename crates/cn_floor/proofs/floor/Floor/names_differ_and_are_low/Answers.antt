@@ -1,6 +1,6 @@
 use Rattle.cn_ledger.proofs.CallerLemmas.{bounded, granted-once, names-differ}
 use Rattle.cn_floor.specs.Laws.{ledger_at}
-use Rattle.cn_floor.proofs.AtMoments.Fresh.{load_bound-few}
+use Rattle.cn_floor.proofs.AtMoments.Fresh.{load-bound-few}
 use Rattle.std.proofs.Common.{arith, refl}
 use Rattle.cn_floor.proofs.floor.Floor.names_differ_and_are_low.Goals as goal
 
@@ -24,4 +24,4 @@ pub returns-clause-late : goal.returns-clause-late
 returns-clause-late c s kept id v at k d low =
     let start = c.args.self.now.start in
     let f = kept.fresh id v at in
-    omega (arith, f.names k d low, load_bound-few start.network.table s.words v.loads f.low)
+    omega (arith, f.names k d low, load-bound-few start.network.table s.words v.loads f.low)

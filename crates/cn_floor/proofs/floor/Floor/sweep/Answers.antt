@@ -1,5 +1,5 @@
 use Rattle.std.proofs.Common.{◌≡◌, ℕ, ◌+◌, ◌*◌, ◌%◌, ◌<◌, ◌≤◌, length, refl, arith, sym, ap, ◌∙◌, subst}
-use Rattle.cn_spec.proofs.CallerLemmas.{sum_below-part}
+use Rattle.cn_spec.proofs.CallerLemmas.{sum-below-part}
 use Rattle.cn_wiring.specs.declared.end.End.{End}
 use Rattle.cn_wiring.specs.declared.end.End.TheVariants.{Balancer, Exit}
 use Rattle.cn_wiring.specs.Network.{Network}
@@ -20,7 +20,7 @@ pub leave_all-requires-clause-room : goal.leave_all-requires-clause-room
 leave_all-requires-clause-room c =
     let lists = c.lane.inside.yard.lists in
     let inside : c.args.wire < length lists = some-inside lists c.args.wire (rw (← c.lane.view_is) at c.requires.some) in
-    omega (arith, c.lane.invariant.room, sum_below-part (length lists) c.args.wire (λ u. length (on lists u)) inside)
+    omega (arith, c.lane.invariant.room, sum-below-part (length lists) c.args.wire (λ u. length (on lists u)) inside)
 
 pub invariant_of-lane : goal.invariant_of-lane
 invariant_of-lane c =

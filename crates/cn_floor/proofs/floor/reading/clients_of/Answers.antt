@@ -1,20 +1,20 @@
 use Rattle.std.proofs.Common.{ℕ, ◌+◌, sym, arith}
-use Rattle.cn_spec.proofs.CallerLemmas.{sum_below-fewer, sum_below-next, sum_below-none}
+use Rattle.cn_spec.proofs.CallerLemmas.{sum-below-fewer, sum-below-next, sum-below-none}
 use Rattle.cn_floor.specs.Words.{entered_in}
 use Rattle.cn_floor.proofs.AtMoments.Raised.{entered-word}
 use Rattle.cn_floor.proofs.floor.reading.clients_of.Goals as goal
 
 pub loop-entry-init : goal.loop-entry-init
-loop-entry-init c = sym (sum_below-none (entered_in c.args.network.now.table c.args.words.now))
+loop-entry-init c = sym (sum-below-none (entered_in c.args.network.now.table c.args.words.now))
 
 pub overflow_add-clients-in-loop-entry : goal.overflow_add-clients-in-loop-entry
 overflow_add-clients-in-loop-entry c =
     let t = c.args.network.now.table in
     let f : ℕ → ℕ = entered_in t c.args.words.now in
     let low = c.loop-entry-test.true in
-    omega (arith, c.loop-entry.invariant, c.requires.few, c.entries-entry-end.ensures.value, entered-word t c.args.words.now c.loop-entry.entry (omega (arith, low, c.entries-entry-end.ensures.value)), sum_below-next f c.loop-entry.entry, sum_below-fewer f (c.loop-entry.entry + 1) t.entries (omega (arith, low, c.entries-entry-end.ensures.value)))
+    omega (arith, c.loop-entry.invariant, c.requires.few, c.entries-entry-end.ensures.value, entered-word t c.args.words.now c.loop-entry.entry (omega (arith, low, c.entries-entry-end.ensures.value)), sum-below-next f c.loop-entry.entry, sum-below-fewer f (c.loop-entry.entry + 1) t.entries (omega (arith, low, c.entries-entry-end.ensures.value)))
 
 pub loop-entry-preserved : goal.loop-entry-preserved
 loop-entry-preserved c =
     let t = c.args.network.now.table in
-    omega (arith, c.loop-entry.invariant, entered-word t c.args.words.now c.loop-entry.entry (omega (arith, c.loop-entry-test.true, c.entries-entry-end.ensures.value)), sum_below-next (entered_in t c.args.words.now) c.loop-entry.entry)
+    omega (arith, c.loop-entry.invariant, entered-word t c.args.words.now c.loop-entry.entry (omega (arith, c.loop-entry-test.true, c.entries-entry-end.ensures.value)), sum-below-next (entered_in t c.args.words.now) c.loop-entry.entry)

@@ -3,7 +3,7 @@ use Rattle.std.proofs.lemmas.Grind.{common_steps}
 use Rattle.indexmap.specs.IndexMap.{get, insert_entry}
 use Rattle.indexmap.proofs.CallerLemmas.{insert_entry-new}
 use Rattle.cn_names.specs.declared.standing.Standing.TheVariants.{Walking}
-use Rattle.cn_names.proofs.Entries.{insert_entry-same}
+use Rattle.cn_names.proofs.Entries.{insert-entry-same}
 use Rattle.cn_names.proofs.names.Names.admit.Goals as goal
 use Rattle.cn_names.proofs.names.Names.admit.Goals.{in-Ok-Vacant, in-Ok-Occupied, in-Err}
 
@@ -38,6 +38,6 @@ returns-clause-err c =
           let same = w.into_mut.result.now in
           let found : get nat_eq old client ≡ Some same = grind (arith, common_steps) in
           let written : c.match-entry.self-inside.map.entries ≡ insert_entry nat_eq old.entries client same = grind (arith, common_steps) in
-          rw (w.result-is, ← c.self.view_is) (written ∙ insert_entry-same nat_eq old.entries client same found)
+          rw (w.result-is, ← c.self.view_is) (written ∙ insert-entry-same nat_eq old.entries client same found)
       | in-Err w ↦ grind (arith, common_steps)
     ]

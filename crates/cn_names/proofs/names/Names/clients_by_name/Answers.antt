@@ -1,7 +1,7 @@
 use Rattle.std.proofs.Common.{◌≡◌, IfOk, map, rules}
 use Rattle.std.proofs.lemmas.Result.{IfOk-weaker}
 use Rattle.cn_names.specs.Grants.{ListsByName}
-use Rattle.cn_names.proofs.Rising.{rising_from_sorted}
+use Rattle.cn_names.proofs.Rising.{rising-from_sorted}
 use Rattle.cn_names.proofs.names.Names.clients_by_name.Goals as goal
 
 pub returns : goal.returns
@@ -11,6 +11,6 @@ returns c =
     IfOk-weaker c.collect.result (λ v. v.items ≡ map (λ grant. grant.1) sorted) (λ v. ListsByName c.args.self.now v.items) (λ v listed. record {
       grants = sorted;
       all = rw c.in_ok-grants.ensures at c.sort_unstable.ensures.permutation;
-      rising = rising_from_sorted sorted c.sort_unstable.ensures.sorted;
+      rising = rising-from_sorted sorted c.sort_unstable.ensures.sorted;
       listed = listed;
     }) mapped

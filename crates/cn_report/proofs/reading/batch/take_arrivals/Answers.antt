@@ -2,8 +2,8 @@ use Rattle.std.proofs.Common.{◌∷◌, ◌++◌, [], refl, arith, length-appen
 use Rattle.cn_report.specs.Reading.Batch.{IsOfReading, header_cause, record_cause}
 use Rattle.cn_report.specs.Reading.Records.{records_of}
 use Rattle.cn_report.specs.declared.reading.batch_fault.BatchCause.TheVariants.{Memory}
-use Rattle.cn_report.proofs.ReadingLemmas.BatchRecords.{at_arrivals, taken_all, taken_header, taken_next}
-use Rattle.cn_report.proofs.ReadingLemmas.FirstFaults.{stop_at, stop_before}
+use Rattle.cn_report.proofs.ReadingLemmas.BatchRecords.{at-arrivals, taken_all, taken-header, taken-next}
+use Rattle.cn_report.proofs.ReadingLemmas.FirstFaults.{stop_at, stop-before}
 use Rattle.cn_report.proofs.reading.batch.take_arrivals.Goals as goal
 
 pub loop-at-init : goal.loop-at-init
@@ -14,7 +14,7 @@ loop-at-init g c = record {
   count = omega (arith, c.new-gathering.ensures.nobody);
   taken = λ text read.
       let (fields, now, e) = c.in-Ok.ensures.ok text read in
-      (fields ∷ [], [], now, refl, taken_header c.in-Ok.heading c.args.entries fields e, c.new-gathering.ensures.none);
+      (fields ∷ [], [], now, refl, taken-header c.in-Ok.heading c.args.entries fields e, c.new-gathering.ensures.none);
 }
 
 pub returns-in-Ok-finish-clause-answer : goal.returns-in-Ok-finish-clause-answer
@@ -33,7 +33,7 @@ returns-in-Ok-finish-clause-few g c =
 pub returns-in-Err-finish-clause-answer : goal.returns-in-Err-finish-clause-answer
 returns-in-Err-finish-clause-answer g c = λ text read.
     let (before, arrivals, now, size, t, gathered) = c.loop-at.invariant.taken text read in
-    rw (← size) (stop_before header_cause (record_cause c.args.entries) IsOfReading g.R.Read.remaining c.loop-at.rows text before Memory t.clean now (inr refl))
+    rw (← size) (stop-before header_cause (record_cause c.args.entries) IsOfReading g.R.Read.remaining c.loop-at.rows text before Memory t.clean now (inr refl))
 
 pub returns-in-Err-take_arrival-clause-answer : goal.returns-in-Err-take_arrival-clause-answer
 returns-in-Err-take_arrival-clause-answer g c = λ text read.
@@ -42,8 +42,8 @@ returns-in-Err-take_arrival-clause-answer g c = λ text read.
       | inl w ↦
           let (fields, next, e) = w in
           rw (← size) (stop_at header_cause (record_cause c.args.entries) IsOfReading g.R.Read.remaining c.take_arrival.new.rows text before fields c.in-Err-take_arrival.cause t.clean next
-          (at_arrivals c.in-Ok.heading c.args.entries before arrivals fields t c.in-Err-take_arrival.cause e))
-      | inr w ↦ rw (← size) (stop_before header_cause (record_cause c.args.entries) IsOfReading g.R.Read.remaining c.loop-at.rows text before c.in-Err-take_arrival.cause t.clean now w)
+          (at-arrivals c.in-Ok.heading c.args.entries before arrivals fields t c.in-Err-take_arrival.cause e))
+      | inr w ↦ rw (← size) (stop-before header_cause (record_cause c.args.entries) IsOfReading g.R.Read.remaining c.loop-at.rows text before c.in-Err-take_arrival.cause t.clean now w)
     ]
 
 pub loop-at-preserved : goal.loop-at-preserved
@@ -59,7 +59,7 @@ loop-at-preserved g c = record {
         arrivals ++ arrival ∷ [],
         next,
         omega (arith, size, length-append before (fields ∷ [])),
-        taken_next c.in-Ok.heading c.args.entries before arrivals fields arrival t is none,
+        taken-next c.in-Ok.heading c.args.entries before arrivals fields arrival t is none,
         more,
       );
 }

@@ -4,17 +4,17 @@ use Rattle.std.proofs.lemmas.Bool.{and_from}
 use Rattle.std.proofs.lemmas.Bool.Decides.{nat_tests}
 use Rattle.std.proofs.lemmas.Int.Digits.{digits_value_more}
 use Rattle.std.proofs.lemmas.List.Folds.{list_all_more}
-use Rattle.cn_report.proofs.ReadingLemmas.Digits.{few_are_small}
+use Rattle.cn_report.proofs.ReadingLemmas.Digits.{few-are_small}
 use Rattle.cn_report.proofs.reading.number.value_of_few.Goals as goal
 
 pub overflow_mul-value : goal.overflow_mul-value
 overflow_mul-value c =
-    omega (arith, c.loop-digit.invariant.0, few_are_small c.args.digits.now c.loop-digit.digit-index (omega arith) c.loop-digit.invariant.1)
+    omega (arith, c.loop-digit.invariant.0, few-are_small c.args.digits.now c.loop-digit.digit-index (omega arith) c.loop-digit.invariant.1)
 
 pub overflow_add-value : goal.overflow_add-value
 overflow_add-value c =
     let digit : c.from.result ≤ 9 = grind (arith, nat_tests) in
-    omega (arith, digit, c.loop-digit.invariant.0, few_are_small c.args.digits.now c.loop-digit.digit-index (omega arith) c.loop-digit.invariant.1)
+    omega (arith, digit, c.loop-digit.invariant.0, few-are_small c.args.digits.now c.loop-digit.digit-index (omega arith) c.loop-digit.invariant.1)
 
 pub loop-digit-preserved : goal.loop-digit-preserved
 loop-digit-preserved c =

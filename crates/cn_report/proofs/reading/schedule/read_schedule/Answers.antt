@@ -2,11 +2,11 @@ use Rattle.std.proofs.Common.{[]}
 use Rattle.std.specs.Prelude.{MatchResult}
 use Rattle.cn_report.specs.Reading.Records.{HasRead, records_of}
 use Rattle.cn_report.specs.Reading.Schedule.{IsSchedule, IsScheduleFault}
-use Rattle.cn_report.proofs.ReadingLemmas.FirstFaults.{known_map}
+use Rattle.cn_report.proofs.ReadingLemmas.FirstFaults.{known-map}
 use Rattle.cn_report.proofs.reading.schedule.read_schedule.Goals as goal
 
 pub returns : goal.returns
 returns g c =
-    known_map (g.R.Read.remaining c.args.reader) (λ text. HasRead g.R.Read.remaining c.open_rows-rows.result text [])
+    known-map (g.R.Read.remaining c.args.reader) (λ text. HasRead g.R.Read.remaining c.open_rows-rows.result text [])
     (λ text. MatchResult c.take_commands.result (λ v. IsSchedule (records_of text) v.items) (IsScheduleFault (records_of text)))
     c.open_rows-rows.ensures.opened c.take_commands.ensures

@@ -4,8 +4,8 @@ use Rattle.std.specs.Result.{is_ok}
 use Rattle.cn_report.specs.Reading.Records.{records_of}
 use Rattle.cn_report.specs.declared.reading.schedule_fault.ScheduleCause.TheVariants.{Memory}
 use Rattle.cn_report.specs.Reading.Schedule.{IsOfReading, header_cause, record_cause}
-use Rattle.cn_report.proofs.ReadingLemmas.FirstFaults.{stop_at, stop_before}
-use Rattle.cn_report.proofs.ReadingLemmas.ScheduleRecords.{taken_all, taken_header, taken_next}
+use Rattle.cn_report.proofs.ReadingLemmas.FirstFaults.{stop_at, stop-before}
+use Rattle.cn_report.proofs.ReadingLemmas.ScheduleRecords.{taken_all, taken-header, taken-next}
 use Rattle.cn_report.proofs.reading.schedule.take_commands.Goals as goal
 
 pub loop-at-init : goal.loop-at-init
@@ -15,7 +15,7 @@ loop-at-init g c = record {
   plain = c.in_default.ensures.plain;
   taken = λ text read.
       let (fields, now, e) = c.in_default.ensures.ok text read in
-      (fields ∷ [], now, refl, rw c.new-commands.ensures.items (taken_header fields e));
+      (fields ∷ [], now, refl, rw c.new-commands.ensures.items (taken-header fields e));
 }
 
 pub returns-in-Err-take_command : goal.returns-in-Err-take_command
@@ -25,7 +25,7 @@ returns-in-Err-take_command g c = λ text read.
       | inl w ↦
           let (fields, next, e) = w in
           rw (← size) (stop_at header_cause record_cause IsOfReading g.R.Read.remaining c.take_command.new.rows text before fields c.in-Err-take_command.cause t.clean next (rw (← size) at e))
-      | inr w ↦ rw (← size) (stop_before header_cause record_cause IsOfReading g.R.Read.remaining c.loop-at.rows text before c.in-Err-take_command.cause t.clean now w)
+      | inr w ↦ rw (← size) (stop-before header_cause record_cause IsOfReading g.R.Read.remaining c.loop-at.rows text before c.in-Err-take_command.cause t.clean now w)
     ]
 
 pub returns-in_default-taken : goal.returns-in_default-taken
@@ -36,7 +36,7 @@ returns-in_default-taken g c = λ text read.
 pub returns-then-is_err : goal.returns-then-is_err
 returns-then-is_err g c = λ text read.
     let (before, now, size, t) = c.loop-at.invariant.taken text read in
-    rw (← size) (stop_before header_cause record_cause IsOfReading g.R.Read.remaining c.loop-at.rows text before Memory t.clean now (inr refl))
+    rw (← size) (stop-before header_cause record_cause IsOfReading g.R.Read.remaining c.loop-at.rows text before Memory t.clean now (inr refl))
 
 pub loop-at-preserved : goal.loop-at-preserved
 loop-at-preserved g c =
@@ -54,6 +54,6 @@ loop-at-preserved g c =
             before ++ fields ∷ [],
             next,
             omega (arith, size, length-append before (fields ∷ [])),
-            rw items (taken_next before c.loop-at.commands.items fields c.in-Some.command c.loop-at.at size t none is),
+            rw items (taken-next before c.loop-at.commands.items fields c.in-Some.command c.loop-at.at size t none is),
           );
     }

@@ -1,9 +1,9 @@
 use Rattle.std.proofs.Common.{◌∷◌, ◌++◌, [], refl, arith, length-append, inl, inr}
 use Rattle.cn_report.specs.Reading.Grants.{IsOfReading, header_cause, record_cause}
 use Rattle.cn_report.specs.Reading.Records.{records_of}
-use Rattle.cn_report.proofs.ReadingLemmas.GrantRecords.{at_grants, first_flaw, taken_end, taken_header, taken_next}
+use Rattle.cn_report.proofs.ReadingLemmas.GrantRecords.{at-grants, first-flaw, taken-end, taken-header, taken-next}
 use Rattle.cn_report.proofs.ReadingLemmas.Results.{if_ok_map}
-use Rattle.cn_report.proofs.ReadingLemmas.FirstFaults.{stop_at, stop_before}
+use Rattle.cn_report.proofs.ReadingLemmas.FirstFaults.{stop_at, stop-before}
 use Rattle.cn_report.proofs.reading.tight.take_grants.Goals as goal
 
 pub loop-at-init : goal.loop-at-init
@@ -13,7 +13,7 @@ loop-at-init g c = record {
   plain = c.in_default.ensures.plain;
   taken = λ text read.
       let (fields, now, e) = c.in_default.ensures.ok text read in
-      (fields ∷ [], [], now, refl, taken_header fields e, c.new-granting.ensures.checked c.args.width);
+      (fields ∷ [], [], now, refl, taken-header fields e, c.new-granting.ensures.checked c.args.width);
 }
 
 pub finish-requires-clause-few : goal.finish-requires-clause-few
@@ -26,7 +26,7 @@ returns-in-Ok-false g c = record {
   answer = λ text read.
       let (before, grants, now, size, t, checked) = c.loop-at.invariant.taken text read in
       let (all, ended) = rw c.in-Ok-false.field-0-test at (c.in-Ok-false.ensures.found text before grants now checked (omega (arith, t.counted, size))) in
-      taken_end c.args.width (records_of text) before grants c.finish.result t all (c.finish.ensures.answer grants ended.holds)
+      taken-end c.args.width (records_of text) before grants c.finish.result t all (c.finish.ensures.answer grants ended.holds)
       (if_ok_map c.finish.result c.finish.ensures.told (λ tight told. told grants ended.holds ended.tells));
 }
 
@@ -34,13 +34,13 @@ pub returns-in-Err-take_grant : goal.returns-in-Err-take_grant
 returns-in-Err-take_grant g c = record {
   answer = λ text read.
       let (before, grants, now, size, t, checked) = c.loop-at.invariant.taken text read in
-      rw c.flaw_at-in-Err-take_grant.ensures (first_flaw (records_of text) c.loop-at.at c.in-Err-take_grant.cause
+      rw c.flaw_at-in-Err-take_grant.ensures (first-flaw (records_of text) c.loop-at.at c.in-Err-take_grant.cause
       (elim (c.in-Err-take_grant.ensures.refused text before grants now checked (omega (arith, t.counted, size))) [
         | inl w ↦
             let (fields, next, e) = w in
             rw (← size) (stop_at header_cause record_cause IsOfReading g.R.Read.remaining c.take_grant.new.rows text before fields c.in-Err-take_grant.cause t.clean next
-            (at_grants before grants fields t c.in-Err-take_grant.cause e))
-        | inr w ↦ rw (← size) (stop_before header_cause record_cause IsOfReading g.R.Read.remaining c.loop-at.rows text before c.in-Err-take_grant.cause t.clean now w)
+            (at-grants before grants fields t c.in-Err-take_grant.cause e))
+        | inr w ↦ rw (← size) (stop-before header_cause record_cause IsOfReading g.R.Read.remaining c.loop-at.rows text before c.in-Err-take_grant.cause t.clean now w)
       ]));
 }
 
@@ -58,7 +58,7 @@ loop-at-preserved g c =
             grants ++ grant ∷ [],
             next,
             omega (arith, size, length-append before (fields ∷ [])),
-            taken_next before grants fields grant t is none,
+            taken-next before grants fields grant t is none,
             more,
           );
     }

@@ -4,7 +4,7 @@ use Rattle.std.proofs.lemmas.Slice.Zip.{AllZip-long}
 use Rattle.cn_record.specs.declared.command.Command.TheVariants.{Enter}
 use Rattle.cn_record.specs.Answers.{HadMemory}
 use Rattle.cn_report.specs.Writing.Replay.{Fits, IsWhole, answer_line}
-use Rattle.cn_report.proofs.WritingLemmas.Lines.{zipped_all, zipped_at, zipped_more}
+use Rattle.cn_report.proofs.WritingLemmas.Lines.{zipped_all, zipped_at, zipped-more}
 use Rattle.cn_report.proofs.writing.replay.put_answers.Goals as goal
 
 pub bounds-commands-position : goal.bounds-commands-position
@@ -28,7 +28,7 @@ put_answer-requires-clause-whole c =
 pub loop-position-preserved : goal.loop-position-preserved
 loop-position-preserved c =
     let answer = c.index-answers-position in
-    let more = zipped_more (λ (command, answer). answer_line c.args.width command answer) (string_bytes c.args.text.now) (string_bytes c.loop-position.text) c.args.commands.now c.args.answers.now
+    let more = zipped-more (λ (command, answer). answer_line c.args.width command answer) (string_bytes c.args.text.now) (string_bytes c.loop-position.text) c.args.commands.now c.args.answers.now
     c.loop-position.position (Enter 0 0) answer.result (AllZip-long Fits c.args.commands.now c.args.answers.now c.requires.fit) c.loop-position-test.true c.loop-position.invariant in
     c.in_ok-put_answer.ensures ∙ rw answer.is more
 

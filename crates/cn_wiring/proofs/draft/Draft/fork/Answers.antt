@@ -2,13 +2,13 @@ use Rattle.std.proofs.Common.{◌≡◌, ◌<◌, [], ◌∷◌, ◌++◌, lengt
 use Rattle.cn_spec.specs.declared.limits.TheConstants.{MOST_BALANCERS}
 use Rattle.cn_wiring.specs.Plan.{AllLoose}
 use Rattle.cn_wiring.specs.InsideDraft.{plan_of}
-use Rattle.cn_wiring.proofs.Join.{one_stands, builds-grown, orderly-grown, halves-forked, flow-unforked}
+use Rattle.cn_wiring.proofs.Join.{one-stands, builds-grown, orderly-grown, halves-forked, flow-unforked}
 use Rattle.cn_wiring.proofs.draft.Draft.fork.Goals as goal
 
 pub index_mut-requires : goal.index_mut-requires
 index_mut-requires c =
     let both : AllLoose (plan_of c.self.inside) (c.args.wire ∷ []) = rw (← c.self.view_is) at c.requires.one in
-    let stand = one_stands (plan_of c.self.inside) c.args.wire both in
+    let stand = one-stands (plan_of c.self.inside) c.args.wire both in
     let len : length c.self.inside.ends.items ≡ length c.reserve.new.self.items = ap length (sym c.reserve.ensures.items) in
     omega (arith, c.reserve.new.self.ok.0)
 

@@ -2,20 +2,20 @@ use Rattle.std.proofs.Common.{◌≡◌, ◌<◌, [], ◌∷◌, ◌++◌, lengt
 use Rattle.cn_spec.specs.declared.limits.TheConstants.{MOST_BALANCERS}
 use Rattle.cn_wiring.specs.Plan.{AllLoose}
 use Rattle.cn_wiring.specs.InsideDraft.{plan_of}
-use Rattle.cn_wiring.proofs.Join.{two_stand, builds-grown, orderly-grown, halves-joined, flow-unjoined}
+use Rattle.cn_wiring.proofs.Join.{two-stand, builds-grown, orderly-grown, halves-joined, flow-unjoined}
 use Rattle.cn_wiring.proofs.draft.Draft.join.Goals as goal
 
 pub index_mut-requires : goal.index_mut-requires
 index_mut-requires c =
     let both : AllLoose (plan_of c.self.inside) (c.args.u ∷ c.args.v ∷ []) = rw (← c.self.view_is) at c.requires.both in
-    let stand = two_stand (plan_of c.self.inside) c.args.u c.args.v both in
+    let stand = two-stand (plan_of c.self.inside) c.args.u c.args.v both in
     let len : length c.self.inside.ends.items ≡ length c.reserve.new.self.items = ap length (sym c.reserve.ensures.items) in
     omega (arith, c.reserve.new.self.ok.0)
 
 pub index_mut-requires-2 : goal.index_mut-requires-2
 index_mut-requires-2 c =
     let both : AllLoose (plan_of c.self.inside) (c.args.u ∷ c.args.v ∷ []) = rw (← c.self.view_is) at c.requires.both in
-    let stand = two_stand (plan_of c.self.inside) c.args.u c.args.v both in
+    let stand = two-stand (plan_of c.self.inside) c.args.u c.args.v both in
     let len : length c.self.inside.ends.items ≡ length c.reserve.new.self.items = ap length (sym c.reserve.ensures.items) in
     omega (arith, c.reserve.new.self.ok.0)
 

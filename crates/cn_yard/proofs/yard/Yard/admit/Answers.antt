@@ -47,10 +47,10 @@ relink-requires-clause-lined c =
 
 -- ---- it moves to the wire
 
-abbrev moved_yard : After-relink → Inside
-moved_yard c = after c.self.inside c.relink.new.records c.relink.new.lines c.relink.new.marks
+abbrev moved-yard : After-relink → Inside
+moved-yard c = after c.self.inside c.relink.new.records c.relink.new.lines c.relink.new.marks
 
-relinked : (c : After-relink) → Relinked c.self.inside (moved_yard c) c.index.result.now.last c.args.wire
+relinked : (c : After-relink) → Relinked c.self.inside (moved-yard c) c.index.result.now.last c.args.wire
 relinked c =
     relinked-by c.self.inside c.deref_mut.result.now c.deref_mut-2.result.now c.deref_mut-3.result.now c.relink.new.records c.relink.new.lines c.relink.new.marks c.index.result.now.last c.index.result.now.last c.args.wire refl
     c.deref_mut.ensures.value c.deref_mut-2.ensures.value c.deref_mut-3.ensures.value c.deref_mut.ensures.len c.deref_mut-2.ensures.len c.deref_mut-3.ensures.len
@@ -65,10 +65,10 @@ set_client-requires c =
 
 -- ---- and gets its client
 
-abbrev named_yard : After-set_client → Inside
-named_yard c = with_records (after c.self.inside c.relink.new.records c.relink.new.lines c.relink.new.marks) c.set_client.new.records
+abbrev named-yard : After-set_client → Inside
+named-yard c = with_records (after c.self.inside c.relink.new.records c.relink.new.lines c.relink.new.marks) c.set_client.new.records
 
-renamed : (c : After-set_client) → Renamed (after c.self.inside c.relink.new.records c.relink.new.lines c.relink.new.marks) (named_yard c) c.index.result.now.last c.args.client
+renamed : (c : After-set_client) → Renamed (after c.self.inside c.relink.new.records c.relink.new.lines c.relink.new.marks) (named-yard c) c.index.result.now.last c.args.client
 renamed c =
     renamed-by (after c.self.inside c.relink.new.records c.relink.new.lines c.relink.new.marks) c.deref_mut-4.result.now c.set_client.new.records c.index.result.now.last c.args.client
     c.deref_mut-4.ensures.value c.deref_mut-4.ensures.len c.set_client.ensures
@@ -77,8 +77,8 @@ pub invariant_of-self : goal.invariant_of-self
 invariant_of-self c =
     let (order, k) = opened c.self.inside c.self.invariant in
     let here = goal.at.invariant_of-self c in
-    let m = moved_yard here.After-relink in
-    let z = named_yard here.After-set_client in
+    let m = moved-yard here.After-relink in
+    let z = named-yard here.After-set_client in
     let t = c.index.result.now.last in
     let keeps = keeps-relinked c.self.inside m order t c.args.wire k (relinked here.After-relink) in
     closed z (moved order t c.args.wire) (keeps-renamed m z (moved order t c.args.wire) t c.args.client keeps (renamed here.After-set_client))
@@ -87,8 +87,8 @@ pub returns-clause-ok : goal.returns-clause-ok
 returns-clause-ok c =
     let (order, k) = opened c.self.inside c.self.invariant in
     let here = goal.at.returns-clause-ok c in
-    let m = moved_yard here.After-relink in
-    let z = named_yard here.After-set_client in
+    let m = moved-yard here.After-relink in
+    let z = named-yard here.After-set_client in
     rw c.of.ensures
     (admits-renamed c.args.self.now c.self.inside m z order c.index.result.now.last c.args.wire c.args.client k (lists here.After-index) (spare here.After-index)
     (relinked here.After-relink) (renamed here.After-set_client) (free here.After-index).1 (within here.After-index))

@@ -1,6 +1,6 @@
 use Rattle.std.proofs.Common.{◌≡◌, ◌∙◌, ◌<◌, length, sym, arith, rules, vec_len}
 use Rattle.cn_yard.proofs.Wires.{opened, length-on, wires-are}
-use Rattle.cn_yard.proofs.Readers.{count-told}
+use Rattle.cn_yard.proofs.Readers.{count-read}
 use Rattle.cn_yard.proofs.yard.Yard.count.Goals as goal
 
 pub index-requires : goal.index-requires
@@ -17,4 +17,4 @@ returns c =
     let (order, k) = opened c.self.inside c.self.invariant in
     let y = c.self.inside in
     let h : c.args.wire < y.wires = rw (← c.self.view_is, wires-are y order k) at c.requires in
-    rw (← c.self.view_is) (count-told y order k c.args.wire c.index.result.now (omega arith) c.index.ensures ∙ sym (length-on y order k c.args.wire h))
+    rw (← c.self.view_is) (count-read y order k c.args.wire c.index.result.now (omega arith) c.index.ensures ∙ sym (length-on y order k c.args.wire h))

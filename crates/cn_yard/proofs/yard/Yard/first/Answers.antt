@@ -1,7 +1,7 @@
 use Rattle.std.proofs.Common.{◌≡◌, ◌∙◌, ◌<◌, length, refl, sym, arith, rules, vec_len, true, false, eqb}
 use Rattle.std.proofs.lemmas.Bool.Decides.{nat_tests}
 use Rattle.cn_yard.proofs.Wires.{opened, wires-are}
-use Rattle.cn_yard.proofs.Readers.{first-told}
+use Rattle.cn_yard.proofs.Readers.{first-read}
 use Rattle.cn_yard.proofs.yard.Yard.first.Goals as goal
 
 pub index-line-requires : goal.index-line-requires
@@ -20,7 +20,7 @@ returns-then-line-eq0 c =
     let h : c.args.wire < y.wires = rw (← c.self.view_is, wires-are y order k) at c.requires in
     let test = c.if-line-eq0.true in
     let f : eqb c.index-line.result.now.count 0 ≡ true = grind (arith, nat_tests) in
-    rw (← c.self.view_is) (sym (first-told y order k c.args.wire c.index-line.result.now h c.index-line.ensures ∙ rw f refl))
+    rw (← c.self.view_is) (sym (first-read y order k c.args.wire c.index-line.result.now h c.index-line.ensures ∙ rw f refl))
 
 pub returns : goal.returns
 returns c =
@@ -29,4 +29,4 @@ returns c =
     let h : c.args.wire < y.wires = rw (← c.self.view_is, wires-are y order k) at c.requires in
     let test = c.if-line-eq0.false in
     let f : eqb c.index-line.result.now.count 0 ≡ false = grind (arith, nat_tests) in
-    rw (← c.self.view_is, c.of.ensures) (sym (first-told y order k c.args.wire c.index-line.result.now h c.index-line.ensures ∙ rw f refl))
+    rw (← c.self.view_is, c.of.ensures) (sym (first-read y order k c.args.wire c.index-line.result.now h c.index-line.ensures ∙ rw f refl))

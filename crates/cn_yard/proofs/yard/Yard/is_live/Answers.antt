@@ -1,7 +1,7 @@
 use Rattle.std.proofs.Common.{◌≡◌, ◌<◌, length, arith, rules, vec_len}
 use Rattle.std.proofs.lemmas.Bool.Decides.{nat_tests}
 use Rattle.cn_yard.proofs.Wires.{opened, live}
-use Rattle.cn_yard.proofs.Readers.{live-told}
+use Rattle.cn_yard.proofs.Readers.{live-read}
 use Rattle.cn_yard.proofs.yard.Yard.is_live.Goals as goal
 
 pub returns-then-at-len : goal.returns-then-at-len
@@ -13,7 +13,7 @@ returns-then-at-len c =
     let len = c.len.ensures in
     let number = c.number-at.ensures in
     let h : c.args.token < length y.records.items = omega arith in
-    rw (← c.self.view_is) (live-told y order k c.args.token c.index.result.now h (rw c.number-at.ensures at c.index.ensures))
+    rw (← c.self.view_is) (live-read y order k c.args.token c.index.result.now h (rw c.number-at.ensures at c.index.ensures))
 
 pub returns-else-at-len : goal.returns-else-at-len
 returns-else-at-len c =

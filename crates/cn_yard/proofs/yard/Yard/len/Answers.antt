@@ -1,5 +1,5 @@
 use Rattle.std.proofs.Common.{◌≡◌, length, rules, arith, vec_len}
-use Rattle.cn_yard.proofs.Readers.{count-told}
+use Rattle.cn_yard.proofs.Readers.{count-read}
 use Rattle.cn_yard.proofs.Wires.{opened, tokens-are}
 use Rattle.cn_yard.proofs.yard.Yard.len.Goals as goal
 
@@ -25,7 +25,7 @@ overflow_sub-result c =
     let counted : vec_len y.records ≡ length y.records.items = search rules in
     let all = tokens-are y order k in
     let len = c.len.ensures in
-    let spare = count-told y order k y.wires c.index.result.now (omega arith) c.index.ensures in
+    let spare = count-read y order k y.wires c.index.result.now (omega arith) c.index.ensures in
     omega arith
 
 pub returns : goal.returns
@@ -35,5 +35,5 @@ returns c =
     let counted : vec_len y.records ≡ length y.records.items = search rules in
     let all = tokens-are y order k in
     let len = c.len.ensures in
-    let spare = count-told y order k y.wires c.index.result.now (omega arith) c.index.ensures in
+    let spare = count-read y order k y.wires c.index.result.now (omega arith) c.index.ensures in
     rw (← c.self.view_is) (omega arith)

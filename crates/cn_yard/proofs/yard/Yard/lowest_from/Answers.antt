@@ -2,11 +2,11 @@ use Rattle.std.proofs.Common.{◌≡◌, ℕ, ◌/◌, ◌<◌, List, [], length
 use Rattle.cn_yard.specs.declared.yard.Yard.TheInside.{Inside}
 use Rattle.cn_yard.specs.InsideYard.{lists_of, yard_of}
 use Rattle.cn_yard.specs.Lists.{Yard, on}
-use Rattle.cn_yard.proofs.Readers.{lowest-told, nobody-told, none-told}
+use Rattle.cn_yard.proofs.Readers.{lowest-read, nobody-read, none-read}
 use Rattle.cn_yard.proofs.Wires.{opened, wires-are}
 use Rattle.cn_yard.proofs.yard.Yard.lowest_from.Goals as goal
 
--- as the yard's lists tell it
+-- as the yard's lists say it
 below : (from : ℕ) (y : Inside) (z : Yard) → yard_of y ≡ z → ((u : ℕ) → u < from → on z.lists u ≡ []) → (u : ℕ) → u < from → on (lists_of y) u ≡ []
 below from y z is none = subst (λ (x : Yard). (u : ℕ) → u < from → on x.lists u ≡ []) (sym is) none
 
@@ -24,15 +24,15 @@ pub returns-in-Some-clause-some : goal.returns-in-Some-clause-some
 returns-in-Some-clause-some c =
     let (order, k) = opened c.self.inside c.self.invariant in
     let (from, one, lower) = rw c.deref.ensures.value at c.in-Some.ensures in
-    rw (← c.self.view_is) (lowest-told c.self.inside order k c.args.from (c.args.from / 64) (omega arith) (below c.args.from c.self.inside c.args.self.now c.self.view_is c.requires.none) c.in-Some.wire c.if-wire-self.true one lower)
+    rw (← c.self.view_is) (lowest-read c.self.inside order k c.args.from (c.args.from / 64) (omega arith) (below c.args.from c.self.inside c.args.self.now c.self.view_is c.requires.none) c.in-Some.wire c.if-wire-self.true one lower)
 
 pub returns-in_default-clause-none : goal.returns-in_default-clause-none
 returns-in_default-clause-none c e wire =
     let (order, k) = opened c.self.inside c.self.invariant in
     let (from, one, lower) = rw c.deref.ensures.value at c.in-Some.ensures in
-    rw (← c.self.view_is) (none-told c.self.inside order k c.args.from (c.args.from / 64) (omega arith) (below c.args.from c.self.inside c.args.self.now c.self.view_is c.requires.none) c.in-Some.wire c.if-wire-self.false lower wire)
+    rw (← c.self.view_is) (none-read c.self.inside order k c.args.from (c.args.from / 64) (omega arith) (below c.args.from c.self.inside c.args.self.now c.self.view_is c.requires.none) c.in-Some.wire c.if-wire-self.false lower wire)
 
 pub returns-in_default-2-clause-none : goal.returns-in_default-2-clause-none
 returns-in_default-2-clause-none c e wire =
     let (order, k) = opened c.self.inside c.self.invariant in
-    rw (← c.self.view_is) (nobody-told c.self.inside order k c.args.from (c.args.from / 64) (omega arith) (below c.args.from c.self.inside c.args.self.now c.self.view_is c.requires.none) (rw c.deref.ensures.value at c.in_default.ensures) wire)
+    rw (← c.self.view_is) (nobody-read c.self.inside order k c.args.from (c.args.from / 64) (omega arith) (below c.args.from c.self.inside c.args.self.now c.self.view_is c.requires.none) (rw c.deref.ensures.value at c.in_default.ensures) wire)

@@ -1,7 +1,7 @@
 use Rattle.std.proofs.Common.{◌≡◌, ◌∙◌, length, refl, sym, arith, rules, vec_len, true, false, eqb}
 use Rattle.std.proofs.lemmas.Bool.Decides.{nat_tests}
 use Rattle.cn_yard.proofs.Wires.{opened, live}
-use Rattle.cn_yard.proofs.Readers.{next-told, wire-told}
+use Rattle.cn_yard.proofs.Readers.{next-read, wire-read}
 use Rattle.cn_yard.proofs.yard.Yard.next.Goals as goal
 
 pub index-record-requires : goal.index-record-requires
@@ -17,14 +17,14 @@ index-requires c =
     let y = c.self.inside in
     let counted : vec_len y.lines ≡ length y.lines.items = search rules in
     let rows = k.wires in
-    let h = wire-told y order k c.args.token c.index-record.result.now (rw (← c.self.view_is) at c.requires) (rw c.number.ensures at c.index-record.ensures) in
+    let h = wire-read y order k c.args.token c.index-record.result.now (rw (← c.self.view_is) at c.requires) (rw c.number.ensures at c.index-record.ensures) in
     omega arith
 
 pub returns-then-index-number : goal.returns-then-index-number
 returns-then-index-number c wire client stands =
     let (order, k) = opened c.self.inside c.self.invariant in
     let y = c.self.inside in
-    let told = next-told y order k c.args.token c.index-record.result.now c.index.result.now wire client (rw (← c.self.view_is) at c.requires) (rw c.number.ensures at c.index-record.ensures) c.index.ensures
+    let told = next-read y order k c.args.token c.index-record.result.now c.index.result.now wire client (rw (← c.self.view_is) at c.requires) (rw c.number.ensures at c.index-record.ensures) c.index.ensures
     (rw (← c.self.view_is) at stands) in
     let test = c.if-index-number.true in
     let number = c.number-2.ensures in
@@ -35,7 +35,7 @@ pub returns : goal.returns
 returns c wire client stands =
     let (order, k) = opened c.self.inside c.self.invariant in
     let y = c.self.inside in
-    let told = next-told y order k c.args.token c.index-record.result.now c.index.result.now wire client (rw (← c.self.view_is) at c.requires) (rw c.number.ensures at c.index-record.ensures) c.index.ensures
+    let told = next-read y order k c.args.token c.index-record.result.now c.index.result.now wire client (rw (← c.self.view_is) at c.requires) (rw c.number.ensures at c.index-record.ensures) c.index.ensures
     (rw (← c.self.view_is) at stands) in
     let test = c.if-index-number.false in
     let number = c.number-2.ensures in

@@ -1,5 +1,5 @@
 use Rattle.std.proofs.Common.{◌≡◌, length, rules, arith, vec_len}
-use Rattle.cn_yard.proofs.Readers.{count-told}
+use Rattle.cn_yard.proofs.Readers.{count-read}
 use Rattle.cn_yard.proofs.Wires.{opened}
 use Rattle.cn_yard.proofs.yard.Yard.spare.Goals as goal
 
@@ -13,4 +13,4 @@ index-requires c =
 pub returns : goal.returns
 returns c =
     let (order, k) = opened c.self.inside c.self.invariant in
-    rw (← c.self.view_is) (count-told c.self.inside order k c.self.inside.wires c.index.result.now (omega arith) c.index.ensures)
+    rw (← c.self.view_is) (count-read c.self.inside order k c.self.inside.wires c.index.result.now (omega arith) c.index.ensures)

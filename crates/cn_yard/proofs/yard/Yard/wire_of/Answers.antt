@@ -1,6 +1,6 @@
 use Rattle.std.proofs.Common.{◌≡◌, length, rules, vec_len}
 use Rattle.cn_yard.proofs.Wires.{opened, live}
-use Rattle.cn_yard.proofs.Readers.{there-told}
+use Rattle.cn_yard.proofs.Readers.{there-read}
 use Rattle.cn_yard.proofs.yard.Yard.wire_of.Goals as goal
 
 pub index-requires : goal.index-requires
@@ -16,5 +16,5 @@ returns c =
     let r = c.index.result.now in (
       r.client,
       rw (← c.self.view_is)
-          (there-told c.self.inside order k c.args.token r (rw (← c.self.view_is) at c.requires) (rw c.number.ensures at c.index.ensures)),
+          (there-read c.self.inside order k c.args.token r (rw (← c.self.view_is) at c.requires) (rw c.number.ensures at c.index.ensures)),
     )

@@ -6,7 +6,7 @@ use Rattle.cn_floor.specs.Steps.{HasMoment}
 use Rattle.cn_walk.specs.Walks.{WalksAll}
 use Rattle.renamer_c.specs.Many.{by_entry, client_of, no_client}
 use Rattle.renamer_c.specs.declared.client.Client.{Client}
-use Rattle.renamer_c.proofs.Listed.{map_part, more, take_both}
+use Rattle.renamer_c.proofs.Listed.{map-part, more, take_both}
 use Rattle.renamer_c.proofs.held_lane.naming_many.name_all.Goals as goal
 
 pub loop-named-preserved : goal.loop-named-preserved
@@ -27,7 +27,7 @@ loop-named-preserved c =
     let many : length ids ≡ n = length-take-le n c.copy_run-count.new.ids run.few.1 in
     let before : length (take i all) ≡ i = length-take-le i all (omega (arith, was.few, long)) in
     let next : take (i + n) all ≡ take i all ++ by_entry (get_or rest 0 no_client).entry ids =
-    take_both i n all (omega (arith, was.few, long)) ∙ ap (λ (cs : List ledger.Client). take i all ++ cs) (sym (map_part client_of i n clients) ∙ ap (λ (cs : List Client). map client_of (take n cs)) (sym whole) ∙ run.are) in
+    take_both i n all (omega (arith, was.few, long)) ∙ ap (λ (cs : List ledger.Client). take i all ++ cs) (sym (map-part client_of i n clients) ∙ ap (λ (cs : List Client). map client_of (take n cs)) (sym whole) ∙ run.are) in
     record {
       few = few;
       ids = c.copy_run-count.ensures.same ∙ was.ids;

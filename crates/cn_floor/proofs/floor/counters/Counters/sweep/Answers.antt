@@ -4,8 +4,8 @@ use Rattle.cn_floor.specs.declared.view.Start.{Start}
 use Rattle.cn_floor.specs.Lane.{FloorValue}
 use Rattle.cn_floor.specs.Rule.{start_of}
 use Rattle.cn_floor.specs.Words.{end_word, word_count}
-use Rattle.cn_floor.proofs.AtMoments.Raised.{end_there}
-use Rattle.cn_floor.proofs.AtMoments.Sweeps.{all_go_on}
+use Rattle.cn_floor.proofs.AtMoments.Raised.{end-there}
+use Rattle.cn_floor.proofs.AtMoments.Sweeps.{all_go-on}
 use Rattle.cn_floor.proofs.floor.counters.Counters.sweep.Goals as goal
 
 pub fetch_add-requires : goal.fetch_add-requires
@@ -16,10 +16,10 @@ fetch_add-requires g c =
     let count : c.self.inside.table.shared.table_id.words ≡ word_count start.network.table = c.self.invariant.words in
     let word : c.word_of-word.result ≡ end_word start.network.table c.args.end = c.word_of-word.ensures ∙ ap (λ (s : Start). end_word s.network.table c.args.end) about in
     let stands : Stands start.network.table c.args.end = subst (λ (s : Start). Stands s.network.table c.args.end) about c.requires.stands in
-    let low = end_there start.network.table c.args.end stands in (
+    let low = end-there start.network.table c.args.end stands in (
       search rules,
       omega arith,
-      all_go_on start _ _ c.args.seat.now.me g.T.SweepOf.sweeping c.args._wire c.args.end c.args.tokens c.word_of-word.result
+      all_go-on start _ _ c.args.seat.now.me g.T.SweepOf.sweeping c.args._wire c.args.end c.args.tokens c.word_of-word.result
           (c.requires.sweeping ∙ ap (λ (s : Start). record { start = s; wire = c.args._wire; end = c.args.end }) about)
           c.requires.slots.0 c.requires.slots.1 (c.requires.own.1 ∙ about) c.requires.once
           (subst (λ (s : Start). length c.args.seat.now.me.0.tokens ≡ length s.network.table.ends) about c.requires.wires)

@@ -1,7 +1,7 @@
 use Rattle.std.proofs.Common.{arith, length, ap}
 use Rattle.cn_report.specs.Reading.Batch.{clients_of}
 use Rattle.cn_report.proofs.ReadingLemmas.GatheredEpochs.{turned}
-use Rattle.cn_report.proofs.ReadingLemmas.ServableEpochs.{all_over, turned_keeps}
+use Rattle.cn_report.proofs.ReadingLemmas.ServableEpochs.{all-over, turned-keeps}
 use Rattle.cn_report.proofs.reading.gathering.Gathering.reach.Goals as goal
 
 pub returns-clause-holds : goal.returns-clause-holds
@@ -12,9 +12,9 @@ returns-clause-holds c =
 pub returns-clause-keeps : goal.returns-clause-keeps
 returns-clause-keeps c = λ entries keeps.
     let (over, number, clients, keys) = c.in_ok-turn.ensures in
-    turned_keeps c.args.self.now c.turn.new.self c.args.epoch entries (omega (arith, c.requires, c.if-self-epoch.false)) over number clients keys keeps
+    turned-keeps c.args.self.now c.turn.new.self c.args.epoch entries (omega (arith, c.requires, c.if-self-epoch.false)) over number clients keys keeps
 
 pub returns-clause-same : goal.returns-clause-same
 returns-clause-same c =
     let (over, number, clients, keys) = c.in_ok-turn.ensures in
-    omega (arith, ap clients_of over, ap length clients, all_over c.args.self.now)
+    omega (arith, ap clients_of over, ap length clients, all-over c.args.self.now)

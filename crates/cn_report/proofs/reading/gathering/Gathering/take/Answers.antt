@@ -3,8 +3,8 @@ use Rattle.cn_ledger.specs.declared.client.Client.{Client}
 use Rattle.cn_report.specs.Reading.Batch.{clients_of}
 use Rattle.std.specs.Result.{is_ok}
 use Rattle.cn_report.proofs.ReadingLemmas.GatheredEpochs.{backwards, out_of_range, taken_of, told_of}
-use Rattle.cn_report.proofs.ReadingLemmas.ServableEpochs.{joined_keeps}
-use Rattle.cn_report.proofs.ReadingLemmas.Results.{if_err_map, on_ok, on_ok_map}
+use Rattle.cn_report.proofs.ReadingLemmas.ServableEpochs.{joined-keeps}
+use Rattle.cn_report.proofs.ReadingLemmas.Results.{if_err-map, on_ok, on_ok_map}
 use Rattle.cn_report.proofs.reading.gathering.Gathering.take.Goals as goal
 
 pub returns-then-arrival-self-clause-err : goal.returns-then-arrival-self-clause-err
@@ -29,7 +29,7 @@ pub returns-clause-err : goal.returns-clause-err
 returns-clause-err c =
     let good : is_ok c.reach.result ≡ true = search rules in
     let (here, keeps) = on_ok c.reach.result good c.reach.ensures.holds in
-    if_err_map c.join.result c.join.ensures.err (λ cause told before gathered size.
+    if_err-map c.join.result c.join.ensures.err (λ cause told before gathered size.
     elim told [
       | inl e ↦
           inl (sym (told_of c.reach.new.self before c.args.entries c.args.at c.args.arrival (keeps before gathered.holds) here (omega (arith, gathered.last, c.if-arrival-self.false)) (omega (arith, c.from.ensures, c.if-arrival-from.false)) size) ∙ e)
@@ -42,7 +42,7 @@ returns-clause-keeps c =
     let reached = on_ok c.reach.result good c.reach.ensures.keeps in
     on_ok_map c.join.result c.join.ensures.ok (λ j keeps.
     let (none, over, number, clients, keys) = j in
-    joined_keeps c.reach.new.self c.join.new.self c.args.at c.args.entries _ none (omega (arith, c.from.ensures, c.if-arrival-from.false)) over number clients keys (reached c.args.entries keeps))
+    joined-keeps c.reach.new.self c.join.new.self c.args.at c.args.entries _ none (omega (arith, c.from.ensures, c.if-arrival-from.false)) over number clients keys (reached c.args.entries keeps))
 
 pub returns-clause-more : goal.returns-clause-more
 returns-clause-more c =

@@ -1,6 +1,6 @@
 use Rattle.std.proofs.Common.{◌∙◌, sym, ap, inl, inr, arith}
-use Rattle.cn_report.proofs.ReadingLemmas.CheckedGrants.{form_back, form_full, joined, told}
-use Rattle.cn_report.proofs.ReadingLemmas.Results.{if_err_map, on_ok_map}
+use Rattle.cn_report.proofs.ReadingLemmas.CheckedGrants.{form-back, form-full, joined, told}
+use Rattle.cn_report.proofs.ReadingLemmas.Results.{if_err-map, on_ok_map}
 use Rattle.cn_report.specs.Reading.Granted.{first_of, twice_cause}
 use Rattle.cn_report.proofs.reading.granting.Granting.take.Goals as goal
 use Rattle.cn_report.proofs.reading.granting.Granting.take.Goals.{then-grant-self-via-then-grant-self, then-grant-self-via-else-grant-self+then-at-gt-MOST_RECORDS}
@@ -9,9 +9,9 @@ pub returns-then-grant-self-clause-err : goal.returns-then-grant-self-clause-err
 returns-then-grant-self-clause-err c = λ before checked size.
     elim c.then-grant-self.branch [
       | then-grant-self-via-then-grant-self w ↦
-          inl (ap (λ form. first_of form (twice_cause before c.args.grant)) (form_back before c.args.grant (omega (arith, checked.last, w.if-grant-self.true))))
+          inl (ap (λ form. first_of form (twice_cause before c.args.grant)) (form-back before c.args.grant (omega (arith, checked.last, w.if-grant-self.true))))
       | then-grant-self-via-else-grant-self+then-at-gt-MOST_RECORDS w ↦
-          inl (ap (λ form. first_of form (twice_cause before c.args.grant)) (form_full before c.args.grant (omega (arith, size, w.if-at-gt-MOST_RECORDS.true))))
+          inl (ap (λ form. first_of form (twice_cause before c.args.grant)) (form-full before c.args.grant (omega (arith, size, w.if-at-gt-MOST_RECORDS.true))))
     ]
 
 pub returns-clause-ok : goal.returns-clause-ok
@@ -25,7 +25,7 @@ returns-clause-ok c =
 
 pub returns-clause-err : goal.returns-clause-err
 returns-clause-err c =
-    if_err_map c.join.result c.join.ensures.err (λ cause e before checked size.
+    if_err-map c.join.result c.join.ensures.err (λ cause e before checked size.
     let held = c.in_ok-reach.ensures.holds before checked.holds in
     elim e [
       | inl is ↦
