@@ -16,7 +16,7 @@ use crate::view::{Grant, View};
 use atomic_table::Seat;
 use cn_balancer::output_of;
 use cn_exit::name_of;
-use cn_wiring::End;
+use cn_wiring::{Counting, End};
 use std::marker::Brand;
 
 /// Those of a list's clients who stand on one wire, first to last: as many as `count`, at every `stride`-th place from
@@ -121,7 +121,14 @@ impl<'a> Floor<'a> {
     }
 
     /// Lets all tokens of a wire, as many as `tokens`, go by its end in one atomic step: the end, and the number of the first.
-    fn let_by(&self, seat: &mut Seat<(), View>, wire: u32, tokens: u64) -> (End, u64)
+    fn let_by(
+        &self,
+        network: &Counting,
+        seat: &mut Seat<(), View>,
+        wire: u32,
+        tokens: u64,
+    ) -> (End, u64)
+        requires network { network.now ≡ self.now.start.network }
         requires own { (seat.old.table_id ≡ self.now.table)
             × (seat.old.me.0.start ≡ self.now.start) }
         requires slots { (seat.old.me.1 ≡ []) × (seat.old.me.0.loads ≡ []) }
@@ -135,7 +142,8 @@ impl<'a> Floor<'a> {
         ensures went { seat.new.me.0 ≡ after_sweep wire result.0 result.1 seat.old.me.0 }
         ensures by { AreLetBy self.now.start seat.old.me.0 seat.new.me.0 wire result.0 result.1 }
     {
-        let end = self.network().end(wire);
+        self.start_laws();
+        let end = network.end(wire);
         let number = self.counters.sweep::<Brand>(seat, wire, end, tokens);
         (end, number)
     }
@@ -144,10 +152,11 @@ impl<'a> Floor<'a> {
     /// a greater wire: those who go on to the greater of two wires leave first.
     fn pass_all(
         &self,
+        network: &Counting,
         seat: &mut Seat<(), View>,
         grants: &mut Vec<Grant>,
         clients: &[u64],
-        group: Group,
+        group: &Group,
         wire: u32,
     )
         requires own { (seat.old.table_id ≡ self.now.table)
@@ -156,9 +165,10 @@ impl<'a> Floor<'a> {
         requires wires { length seat.old.me.0.tokens ≡ length self.now.start.network.table.ends }
         requires wire { wire < length self.now.start.network.table.ends }
         requires once { (token : ℕ) → times_in seat.old.me.0.tokens token ≤ 1 }
-        requires group { Stand clients.now group (on seat.old.me.0.tokens wire) }
+        requires network { network.now ≡ self.now.start.network }
+        requires group { Stand clients.now group.now (on seat.old.me.0.tokens wire) }
         requires above { (u : ℕ) → wire < u → on seat.old.me.0.tokens u ≡ [] }
-        requires room { length grants.old.items + group.count ≤ vec_capacity grants.old }
+        requires room { length grants.old.items + group.now.count ≤ vec_capacity grants.old }
         requires grants { grants.old.items ≡ seat.old.me.0.grants }
         ensures seat { (seat.new.table_id ≡ seat.old.table_id) × (seat.new.me.1 ≡ []) }
         ensures left { HaveLeft seat.old.me.0 seat.new.me.0 wire (on seat.old.me.0.tokens wire) }
@@ -170,22 +180,21 @@ impl<'a> Floor<'a> {
             return;
         }
         self.start_laws();
-        let network = self.network();
-        let (end, number) = self.let_by(seat, wire, group.count as u64);
+        let (end, number) = self.let_by(network, seat, wire, group.count as u64);
         match end {
             End::Balancer(balancer) => {
                 let out = network.entries() + 2 * balancer;
                 let output = output_of(number);
                 if group.count == 1 {
-                    return self.pass_all(seat, grants, clients, group, out + output);
+                    return self.pass_all(network, seat, grants, clients, group, out + output);
                 }
                 let (upper, lower) = group.deal(output, clients);
-                self.pass_all(seat, grants, clients, lower, out + 1);
-                self.pass_all(seat, grants, clients, upper, out);
+                self.pass_all(network, seat, grants, clients, &lower, out + 1);
+                self.pass_all(network, seat, grants, clients, &upper, out);
             }
             End::Exit(exit) => {
                 let width = network.width();
-                grant_all(grants, clients, group, exit, number, width, self.base);
+                grant_all(grants, clients, *group, exit, number, width, self.base);
             }
         }
     }
@@ -228,7 +237,14 @@ impl<'a> Floor<'a> {
             stride: 1,
             count: clients.len(),
         };
-        self.pass_all(&mut lane.seat, &mut lane.grants, clients, all, entry);
+        self.pass_all(
+            self.network(),
+            &mut lane.seat,
+            &mut lane.grants,
+            clients,
+            &all,
+            entry,
+        );
         lane.quota -= count;
         lane.room -= count;
         Ok(())

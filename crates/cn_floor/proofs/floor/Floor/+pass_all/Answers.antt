@@ -18,12 +18,12 @@ use Rattle.cn_floor.proofs.floor.Floor.+pass_all.Goals as goal
 pub returns-then-group-eq0-clause-left : goal.returns-then-group-eq0-clause-left
 unfolding placed
 returns-then-group-eq0-clause-left t c =
-    let g = c.args.group in
+    let g = c.args.group.now in
     nobody-left c.args.seat.now.me.0 c.args.wire (c.requires.group.are ∙ ap (λ (n : ℕ). placed c.args.clients.now g.first g.stride n) c.if-group-eq0.true)
 
 pub let_by-end-requires-clause-tokens : goal.let_by-end-requires-clause-tokens
 let_by-end-requires-clause-tokens t c =
-    let g = c.args.group in
+    let g = c.args.group.now in
     ap length c.requires.group.are ∙ placed-many c.args.clients.now g.first g.stride g.count
 
 pub pass_all-requires : goal.pass_all-requires
@@ -34,7 +34,7 @@ pass_all-requires t c =
     let w : View = c.let_by-end.new.seat.me.0 in
     let b : ℕ = c.in-Balancer.balancer in
     let n : ℕ = c.let_by-end.result.1 in
-    let g = c.args.group in
+    let g = c.args.group.now in
     let clients : List ℕ = c.args.clients.now in
     let many : length (on v.tokens wire) ≡ g.count = ap length c.requires.group.are ∙ placed-many clients g.first g.stride g.count in
     let go : GoTogether start wire (Balancer b) n v w =
@@ -44,7 +44,7 @@ pass_all-requires t c =
     let is = dealt-so start wire b n v w go in
     let like = kin-so start wire b n v w go in
     let alone = goes-on-alone start wire b n v w go (many ∙ c.if-group-eq1.true) in
-    let entries : c.entries.result ≡ start.network.table.entries = c.entries.ensures.value ∙ ap (λ (x : Network). x.table.entries) c.network-network.ensures.value in
+    let entries : c.entries.result ≡ start.network.table.entries = c.entries.ensures.value ∙ ap (λ (x : Network). x.table.entries) c.requires.network in
     let to : c.entries.result + 2 * b + c.output_of-output.result ≡ output_wire start.network.table b (n % 2) = omega (arith, entries, c.output_of-output.ensures) in
     let stand : Stand clients g (on w.tokens (c.entries.result + 2 * b + c.output_of-output.result)) =
     subst (λ (es : List (ℕ × ℕ)). Stand clients g es) (sym alone.to ∙ ap (λ (u : ℕ). on w.tokens u) (sym to)) c.requires.group in (
@@ -60,10 +60,13 @@ pass_all-requires t c =
               (
                 is.once,
                 (
-                  stand,
+                  c.requires.network,
                   (
-                    λ u more. alone.above u (omega (arith, more, to)),
-                    (c.requires.room, c.requires.grants ∙ sym (grants-so start wire b n v w go)),
+                    stand,
+                    (
+                      λ u more. alone.above u (omega (arith, more, to)),
+                      (c.requires.room, c.requires.grants ∙ sym (grants-so start wire b n v w go)),
+                    ),
                   ),
                 ),
               ),
@@ -82,14 +85,14 @@ returns-then-group-eq1-clause-left t c =
     let x : View = c.pass_all.new.seat.me.0 in
     let b : ℕ = c.in-Balancer.balancer in
     let n : ℕ = c.let_by-end.result.1 in
-    let g = c.args.group in
+    let g = c.args.group.now in
     let many : length (on v.tokens wire) ≡ g.count = ap length c.requires.group.are ∙ placed-many c.args.clients.now g.first g.stride g.count in
     let go : GoTogether start wire (Balancer b) n v w =
     subst (λ (e : End). GoTogether start wire e n v w) c.in-Balancer.is
     (together start wire c.let_by-end.result.0 n v w c.start_laws.ensures c.requires.own.1 c.requires.wires c.requires.wire c.requires.once c.requires.above (omega (arith, many, c.if-group-eq0.false))
     c.let_by-end.ensures.end c.let_by-end.ensures.stands c.let_by-end.ensures.went c.let_by-end.ensures.by) in
     let alone = goes-on-alone start wire b n v w go (many ∙ c.if-group-eq1.true) in
-    let entries : c.entries.result ≡ start.network.table.entries = c.entries.ensures.value ∙ ap (λ (y : Network). y.table.entries) c.network-network.ensures.value in
+    let entries : c.entries.result ≡ start.network.table.entries = c.entries.ensures.value ∙ ap (λ (y : Network). y.table.entries) c.requires.network in
     let to : c.entries.result + 2 * b + c.output_of-output.result ≡ output_wire start.network.table b (n % 2) = omega (arith, entries, c.output_of-output.ensures) in
     alone.left x (subst (λ (u : ℕ). HaveLeft w x u (on w.tokens u)) to c.pass_all.ensures.left)
 
@@ -101,7 +104,7 @@ pass_all-requires-in-Balancer t c =
     let w : View = c.let_by-end.new.seat.me.0 in
     let b : ℕ = c.in-Balancer.balancer in
     let n : ℕ = c.let_by-end.result.1 in
-    let g = c.args.group in
+    let g = c.args.group.now in
     let clients : List ℕ = c.args.clients.now in
     let many : length (on v.tokens wire) ≡ g.count = ap length c.requires.group.are ∙ placed-many clients g.first g.stride g.count in
     let go : GoTogether start wire (Balancer b) n v w =
@@ -110,7 +113,7 @@ pass_all-requires-in-Balancer t c =
     c.let_by-end.ensures.end c.let_by-end.ensures.stands c.let_by-end.ensures.went c.let_by-end.ensures.by) in
     let is = dealt-so start wire b n v w go in
     let like = kin-so start wire b n v w go in
-    let entries : c.entries.result ≡ start.network.table.entries = c.entries.ensures.value ∙ ap (λ (x : Network). x.table.entries) c.network-network.ensures.value in
+    let entries : c.entries.result ≡ start.network.table.entries = c.entries.ensures.value ∙ ap (λ (x : Network). x.table.entries) c.requires.network in
     let to : c.entries.result + 2 * b + 1 ≡ output_wire start.network.table b 1 = omega (arith, entries) in
     let stand : Stand clients c.deal.result.1 (on w.tokens (c.entries.result + 2 * b + 1)) =
     subst (λ (es : List (ℕ × ℕ)). Stand clients c.deal.result.1 es)
@@ -127,10 +130,13 @@ pass_all-requires-in-Balancer t c =
               (
                 is.once,
                 (
-                  stand,
+                  c.requires.network,
                   (
-                    λ u more. above-second start wire b n v w go u (omega (arith, more, to)),
-                    (omega (arith, c.requires.room, c.deal.ensures.all), c.requires.grants ∙ sym (grants-so start wire b n v w go)),
+                    stand,
+                    (
+                      λ u more. above-second start wire b n v w go u (omega (arith, more, to)),
+                      (omega (arith, c.requires.room, c.deal.ensures.all), c.requires.grants ∙ sym (grants-so start wire b n v w go)),
+                    ),
                   ),
                 ),
               ),
@@ -149,7 +155,7 @@ pass_all-requires-in-Balancer-2 t c =
     let mid : View = c.pass_all-in-Balancer.new.seat.me.0 in
     let b : ℕ = c.in-Balancer.balancer in
     let n : ℕ = c.let_by-end.result.1 in
-    let g = c.args.group in
+    let g = c.args.group.now in
     let clients : List ℕ = c.args.clients.now in
     let many : length (on v.tokens wire) ≡ g.count = ap length c.requires.group.are ∙ placed-many clients g.first g.stride g.count in
     let go : GoTogether start wire (Balancer b) n v w =
@@ -158,7 +164,7 @@ pass_all-requires-in-Balancer-2 t c =
     c.let_by-end.ensures.end c.let_by-end.ensures.stands c.let_by-end.ensures.went c.let_by-end.ensures.by) in
     let is = dealt-so start wire b n v w go in
     let like = kin-so start wire b n v w go in
-    let entries : c.entries.result ≡ start.network.table.entries = c.entries.ensures.value ∙ ap (λ (x : Network). x.table.entries) c.network-network.ensures.value in
+    let entries : c.entries.result ≡ start.network.table.entries = c.entries.ensures.value ∙ ap (λ (x : Network). x.table.entries) c.requires.network in
     let to0 : c.entries.result + 2 * b ≡ output_wire start.network.table b 0 = omega (arith, entries) in
     let to1 : c.entries.result + 2 * b + 1 ≡ output_wire start.network.table b 1 = omega (arith, entries) in
     let left : HaveLeft w mid (output_wire start.network.table b 1) (on w.tokens (output_wire start.network.table b 1)) =
@@ -184,10 +190,13 @@ pass_all-requires-in-Balancer-2 t c =
               (
                 c.pass_all-in-Balancer.ensures.once,
                 (
-                  stand,
+                  c.requires.network,
                   (
-                    λ u past. above-first start wire b n v w go mid left u (omega (arith, past, to0)),
-                    (omega (arith, c.requires.room, c.deal.ensures.all, grants, c.pass_all-in-Balancer.ensures.capacity), c.pass_all-in-Balancer.ensures.grants),
+                    stand,
+                    (
+                      λ u past. above-first start wire b n v w go mid left u (omega (arith, past, to0)),
+                      (omega (arith, c.requires.room, c.deal.ensures.all, grants, c.pass_all-in-Balancer.ensures.capacity), c.pass_all-in-Balancer.ensures.grants),
+                    ),
                   ),
                 ),
               ),
@@ -207,13 +216,13 @@ returns-else-group-eq1-clause-left t c =
     let x : View = c.pass_all-in-Balancer-2.new.seat.me.0 in
     let b : ℕ = c.in-Balancer.balancer in
     let n : ℕ = c.let_by-end.result.1 in
-    let g = c.args.group in
+    let g = c.args.group.now in
     let many : length (on v.tokens wire) ≡ g.count = ap length c.requires.group.are ∙ placed-many c.args.clients.now g.first g.stride g.count in
     let go : GoTogether start wire (Balancer b) n v w =
     subst (λ (e : End). GoTogether start wire e n v w) c.in-Balancer.is
     (together start wire c.let_by-end.result.0 n v w c.start_laws.ensures c.requires.own.1 c.requires.wires c.requires.wire c.requires.once c.requires.above (omega (arith, many, c.if-group-eq0.false))
     c.let_by-end.ensures.end c.let_by-end.ensures.stands c.let_by-end.ensures.went c.let_by-end.ensures.by) in
-    let entries : c.entries.result ≡ start.network.table.entries = c.entries.ensures.value ∙ ap (λ (y : Network). y.table.entries) c.network-network.ensures.value in
+    let entries : c.entries.result ≡ start.network.table.entries = c.entries.ensures.value ∙ ap (λ (y : Network). y.table.entries) c.requires.network in
     let to0 : c.entries.result + 2 * b ≡ output_wire start.network.table b 0 = omega (arith, entries) in
     let to1 : c.entries.result + 2 * b + 1 ≡ output_wire start.network.table b 1 = omega (arith, entries) in
     left-so start wire b n v w go mid x (subst (λ (u : ℕ). HaveLeft w mid u (on w.tokens u)) to1 c.pass_all-in-Balancer.ensures.left)
@@ -221,7 +230,7 @@ returns-else-group-eq1-clause-left t c =
 
 -- ---- an exit
 
-module _ (t : ℕ) (c : goal.After-grant_all-arg-1 t) where
+module _ (t : ℕ) (c : goal.After-grant_all-arg-in-Exit-1 t) where
   abbrev start : Start
   start = c.args.self.now.start
 
@@ -232,14 +241,14 @@ module _ (t : ℕ) (c : goal.After-grant_all-arg-1 t) where
   begun = c.self.invariant.base ∙ ap (λ (h : FloorValue). base h.start) c.self.view_is
 
   width : c.width-width.result ≡ start.network.table.width
-  width = c.width-width.ensures.value ∙ ap (λ (x : Network). x.table.width) c.network-network.ensures.value
+  width = c.width-width.ensures.value ∙ ap (λ (x : Network). x.table.width) c.requires.network
 
   by : AreLetBy start v c.let_by-end.new.seat.me.0 c.args.wire (Exit c.in-Exit.exit) c.let_by-end.result.1
   by = subst (λ (e : End). AreLetBy start v c.let_by-end.new.seat.me.0 c.args.wire e c.let_by-end.result.1) c.in-Exit.is c.let_by-end.ensures.by
 
 pub grant_all-requires-clause-visits : goal.grant_all-requires-clause-visits
 grant_all-requires-clause-visits t c =
-    let g = c.args.group in
+    let g = c.args.group.now in
     let many : length (on c.args.seat.now.me.0.tokens c.args.wire) ≡ g.count = ap length c.requires.group.are ∙ placed-many c.args.clients.now g.first g.stride g.count in
     omega (arith, (by t c).few, many, c.start_laws.ensures.few, c.start_laws.ensures.quota)
 
@@ -255,7 +264,7 @@ left t c =
     let v : View = c.args.seat.now.me.0 in
     let w : View = c.let_by-end.new.seat.me.0 in
     let n : ℕ = c.let_by-end.result.1 in
-    let g = c.args.group in
+    let g = c.args.group.now in
     let many : length (on v.tokens wire) ≡ g.count = ap length c.requires.group.are ∙ placed-many c.args.clients.now g.first g.stride g.count in
     subst (λ (e : End). GoTogether start wire e n v w) c.in-Exit.is
     (together start wire c.let_by-end.result.0 n v w c.start_laws.ensures c.requires.own.1 c.requires.wires c.requires.wire c.requires.once c.requires.above (omega (arith, many, c.if-group-eq0.false))
@@ -275,7 +284,7 @@ returns-in-Exit-clause-grants t c =
     let i : ℕ = c.in-Exit.exit in
     let n : ℕ = c.let_by-end.result.1 in
     let begun : c.self.inside.base ≡ base start = c.self.invariant.base ∙ ap (λ (h : FloorValue). base h.start) c.self.view_is in
-    let width : c.width-width.result ≡ start.network.table.width = c.width-width.ensures.value ∙ ap (λ (x : Network). x.table.width) c.network-network.ensures.value in
+    let width : c.width-width.result ≡ start.network.table.width = c.width-width.ensures.value ∙ ap (λ (x : Network). x.table.width) c.requires.network in
     c.grant_all.ensures.granted
     ∙ (λ x. c.requires.grants x ++ grants_out (width x) (begun x) i n (sym c.requires.group.are x))
     ∙ sym (grants-by start c.args.wire i n c.args.seat.now.me.0 c.let_by-end.new.seat.me.0 (left t c))
