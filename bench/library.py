@@ -8,8 +8,9 @@ distinct numbers; those of all but the last are dense. All but that begin with r
 its clients in by entries of its own; for the bitonic networks there are rows beside that by which each takes all
 entries.
 
-One thread is compared by processor time, in uncontended adds; several by the clock, each way to the add by as many
-threads. A ratio is the median over ten rounds, in which all ways run in turn; a run is the median of five epochs after
+One thread is compared by processor time, in uncontended adds, and on two networks to a walk in plain Rust, which makes as
+many adds as a name is, each on the word that the last one's number leads to; several by the clock, each way to the add by
+as many threads. A ratio is the median over ten rounds, in which all ways run in turn; a run is the median of five epochs after
 a first, in which its memory comes from the system. It measures the names only, and not what is made before. The rows of
 slabs are left out if the folder of crates has none.
 """
@@ -20,6 +21,8 @@ import measure
 NETWORKS = (("tree", 2), ("tree", 64), ("bitonic", 8), ("bitonic", 64))
 THREADS = {1: "one thread", 2: "two threads", 4: "four threads"}
 TABLE, ADD, REFUSED = "a mutex and table", "the add", "a refused call"
+# How many adds a name is.
+ADDS = {"tree 64": 8, "bitonic 64": 23}
 SLABS = {"a mutex and slab": "slab", "a sharded slab": "sharded"}
 ALL_OVER = {f"{network} {width} by all entries": ["all-over", network, str(width)]
             for network, width in NETWORKS if network == "bitonic"}
@@ -60,12 +63,16 @@ def rows(bench):
     jobs = {(way, threads): [*words, str(threads)] for way, words in found.items() for threads in THREADS}
     jobs |= {(way, threads): [namers, *words, str(threads)] for way, words in ALL_OVER.items() for threads in (2, 4)}
     jobs[REFUSED, 1] = [namers, "refused", "1"]
+    jobs |= {(f"a plain walk of {adds} adds", 1): [namers, "walk", str(adds), "1"] for adds in ADDS.values()}
     spent = measured(bench, jobs)
     for way, threads in jobs:
         if way != ADD:
             by, unit = ("processor", " adds") if threads == 1 else ("clock", "")
             ratio, times = compared(spent, (way, threads), (ADD, threads), by)
             yield measure.Row(f"{way}, {THREADS[threads]}", ratio, f"{times}{' by the clock' * (threads > 1)}", unit)
+    for way, adds in ADDS.items():
+        ratio, times = compared(spent, (way, 1), (f"a plain walk of {adds} adds", 1), "processor")
+        yield measure.Row(f"{way}, one thread, to a plain walk of {adds} adds", ratio, times)
     for way in [way for way, threads in jobs if threads == 4 and way not in (ADD, TABLE, *SLABS)]:
         ratio, times = compared(spent, (way, 4), (TABLE, 4), "clock")
         yield measure.Row(f"{way}, four threads, to {TABLE}", ratio, f"{times} by the clock")

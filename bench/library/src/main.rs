@@ -1,7 +1,8 @@
 //! What a name takes by one of these ways, in so many threads: one atomic add on one word, a table of clients behind a
-//! mutex, or a floor of this repository's library.
+//! mutex, a walk in plain Rust, or a floor of this repository's library.
 //!
 //!     namers add|table|refused THREADS ROUNDS
+//!     namers walk ADDS THREADS ROUNDS
 //!     namers name|many|all-over NETWORK WIDTH THREADS ROUNDS
 //!
 //! By `name` and `many` each thread lets its clients in by entries of its own, by `all-over` each by all entries.
@@ -49,14 +50,10 @@ fn table(threads: u64) -> Spent {
     spent
 }
 
-/// A lane for each thread, with room for its clients.
-fn lanes(floor: &Floor, threads: u64) -> Vec<(u64, Lane)> {
-    let lane = || floor.lane(CLIENTS / threads).expect("there is memory");
-    let mut lanes: Vec<_> = (0..threads).map(|thread| (thread, lane())).collect();
-    for (_, lane) in &mut lanes {
-        lane.reserve(CLIENTS / threads).expect("there is memory");
-    }
-    lanes
+/// A lane of a thread with room for its clients, who are made before the clock starts.
+struct Part {
+    lane: Lane,
+    clients: Vec<Client>,
 }
 
 /// Which entries a thread's clients come by.
@@ -79,15 +76,25 @@ fn entries(lane: &Lane, entering: Entering, thread: u64, threads: u64) -> impl I
     (from..to).cycle().map(move |entry| entry % entries)
 }
 
+/// The part of each thread.
+fn parts(floor: &Floor, entering: Entering, threads: u64) -> Vec<Part> {
+    let part = |thread| {
+        let lane = floor.lane(CLIENTS / threads).expect("there is memory");
+        let entries = entries(&lane, entering, thread, threads);
+        let clients = clients(thread, threads).zip(entries).map(|(client, entry)| Client { client, entry }).collect();
+        Part { lane, clients }
+    };
+    let mut parts: Vec<_> = (0..threads).map(part).collect();
+    for part in &mut parts {
+        part.lane.reserve(CLIENTS / threads).expect("there is memory");
+    }
+    parts
+}
+
 fn name(kind: Kind, width: u32, entering: Entering, threads: u64) -> Spent {
     let floor = Floor::open(kind, width, CLIENTS).expect("there is memory");
-    let (spent, sum) = in_threads(lanes(&floor, threads), |(thread, lane)| {
-        let entries = entries(lane, entering, *thread, threads);
-        let mut sum = 0;
-        for (client, entry) in clients(*thread, threads).zip(entries) {
-            sum += lane.name(client, entry).expect("there is room");
-        }
-        sum
+    let (spent, sum) = in_threads(parts(&floor, entering, threads), |Part { lane, clients }| {
+        clients.iter().map(|one| lane.name(one.client, one.entry).expect("there is room")).sum()
     });
     is_tight(sum);
     spent
@@ -97,15 +104,11 @@ fn name(kind: Kind, width: u32, entering: Entering, threads: u64) -> Spent {
 fn many(kind: Kind, width: u32, threads: u64) -> Spent {
     const LIST: usize = 64;
     let floor = Floor::open(kind, width, CLIENTS).expect("there is memory");
-    let (spent, sum) = in_threads(lanes(&floor, threads), |(thread, lane)| {
-        let mut waiting = clients(*thread, threads).zip(entries(lane, Entering::Apart, *thread, threads));
-        let (mut list, mut grants) = ([Client::default(); LIST], [Grant::default(); LIST]);
+    let (spent, sum) = in_threads(parts(&floor, Entering::Apart, threads), |Part { lane, clients }| {
+        let mut grants = [Grant::default(); LIST];
         let mut sum = 0;
-        for _ in 0..CLIENTS / threads / LIST as u64 {
-            for (place, (client, entry)) in list.iter_mut().zip(&mut waiting) {
-                *place = Client { client, entry };
-            }
-            lane.name_many_into(&list, &mut grants).expect("there is room");
+        for list in clients.chunks_exact(LIST) {
+            lane.name_many_into(list, &mut grants).expect("there is room");
             sum += grants.iter().map(|grant| grant.name).sum::<u64>();
         }
         sum
@@ -114,11 +117,36 @@ fn many(kind: Kind, width: u32, threads: u64) -> Spent {
     spent
 }
 
+/// A walk in plain Rust, without a floor: so many atomic adds for each client, each on the word that the number of the last
+/// one leads to, by a table of where wires end. What it gives are no names.
+fn walk(adds: usize, threads: u64) -> Spent {
+    const LAYER: usize = 32;
+    let words: Vec<AtomicU64> = (0..adds * LAYER).map(|_| AtomicU64::new(0)).collect();
+    // Output p of word w is wire 2 w + p.
+    let ends: Vec<u32> = (0..2 * words.len())
+        .map(|wire| (wire / (2 * LAYER) + 1) * LAYER + wire % LAYER)
+        .map(|word| u32::try_from(word).expect("there are few words"))
+        .collect();
+    let (spent, sum) = in_threads((0..threads).collect(), |thread| {
+        let walk = |client: u64| {
+            let mut word = client as usize % LAYER;
+            for _ in 1..adds {
+                let number = words[word].fetch_add(1, Ordering::SeqCst);
+                word = ends[2 * word + (number % 2) as usize] as usize;
+            }
+            words[word].fetch_add(1, Ordering::SeqCst)
+        };
+        clients(*thread, threads).map(walk).sum()
+    });
+    black_box(sum);
+    spent
+}
+
 /// A call that is refused: the network has no such entry.
 fn refused(threads: u64) -> Spent {
     let floor = Floor::open(Kind::Tree, 64, CLIENTS).expect("there is memory");
-    let (spent, refusals) = in_threads(lanes(&floor, threads), |(thread, lane)| {
-        clients(*thread, threads).filter(|client| black_box(lane.name(*client, 1)).is_err()).count() as u64
+    let (spent, refusals) = in_threads(parts(&floor, Entering::Apart, threads), |Part { lane, clients }| {
+        clients.iter().filter(|one| black_box(lane.name(one.client, 1)).is_err()).count() as u64
     });
     assert_eq!(refusals, CLIENTS / threads * threads);
     spent
@@ -129,7 +157,7 @@ fn number<N: std::str::FromStr>(word: &str) -> N {
 }
 
 fn usage() -> ! {
-    eprintln!("namers: add|table|refused THREADS ROUNDS, or name|many|all-over bitonic|periodic|tree WIDTH THREADS ROUNDS");
+    eprintln!("namers: add|table|refused THREADS ROUNDS, walk ADDS THREADS ROUNDS, or name|many|all-over bitonic|periodic|tree WIDTH THREADS ROUNDS");
     process::exit(2)
 }
 
@@ -149,6 +177,7 @@ fn main() {
         ["add", ..] => Box::new(add),
         ["table", ..] => Box::new(table),
         ["refused", ..] => Box::new(refused),
+        ["walk", adds, ..] => Box::new(move |threads| walk(number(adds), threads)),
         ["name", network, width, ..] => {
             Box::new(move |threads| name(kind(network), number(width), Entering::Apart, threads))
         }

@@ -2,7 +2,7 @@ use Rattle.std.proofs.Common.{◌∷◌, ◌++◌, [], refl, arith, length-appen
 use Rattle.cn_report.specs.Reading.Grants.{IsOfReading, header_cause, record_cause}
 use Rattle.cn_report.specs.Reading.Records.{records_of}
 use Rattle.cn_report.proofs.ReadingLemmas.GrantRecords.{at-grants, first-flaw, taken-end, taken-header, taken-next}
-use Rattle.cn_report.proofs.ReadingLemmas.Results.{if_ok_map}
+use Rattle.cn_report.proofs.ReadingLemmas.Results.{if_ok-map}
 use Rattle.cn_report.proofs.ReadingLemmas.FirstFaults.{stop_at, stop-before}
 use Rattle.cn_report.proofs.reading.tight.take_grants.Goals as goal
 
@@ -27,7 +27,7 @@ returns-in-Ok-false g c = record {
       let (before, grants, now, size, t, checked) = c.loop-at.invariant.taken text read in
       let (all, ended) = rw c.in-Ok-false.field-0-test at (c.in-Ok-false.ensures.found text before grants now checked (omega (arith, t.counted, size))) in
       taken-end c.args.width (records_of text) before grants c.finish.result t all (c.finish.ensures.answer grants ended.holds)
-      (if_ok_map c.finish.result c.finish.ensures.told (λ tight told. told grants ended.holds ended.tells));
+      (if_ok-map c.finish.result c.finish.ensures.told (λ tight told. told grants ended.holds ended.tells));
 }
 
 pub returns-in-Err-take_grant : goal.returns-in-Err-take_grant

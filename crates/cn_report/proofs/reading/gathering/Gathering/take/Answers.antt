@@ -4,7 +4,7 @@ use Rattle.cn_report.specs.Reading.Batch.{clients_of}
 use Rattle.std.specs.Result.{is_ok}
 use Rattle.cn_report.proofs.ReadingLemmas.GatheredEpochs.{backwards, out_of_range, taken_of, told_of}
 use Rattle.cn_report.proofs.ReadingLemmas.ServableEpochs.{joined-keeps}
-use Rattle.cn_report.proofs.ReadingLemmas.Results.{if_err-map, on_ok, on_ok_map}
+use Rattle.cn_report.proofs.ReadingLemmas.Results.{if_err-map, on_ok, on_ok-map}
 use Rattle.cn_report.proofs.reading.gathering.Gathering.take.Goals as goal
 
 pub returns-then-arrival-self-clause-err : goal.returns-then-arrival-self-clause-err
@@ -18,7 +18,7 @@ pub returns-clause-ok : goal.returns-clause-ok
 returns-clause-ok c =
     let good : is_ok c.reach.result ≡ true = search rules in
     let (here, keeps) = on_ok c.reach.result good c.reach.ensures.holds in
-    on_ok_map c.join.result c.join.ensures.ok (λ j before gathered size.
+    on_ok-map c.join.result c.join.ensures.ok (λ j before gathered size.
     let (none, over, number, clients, keys) = j in
     let held = keeps before gathered.holds in (
       sym (told_of c.reach.new.self before c.args.entries c.args.at c.args.arrival held here (omega (arith, gathered.last, c.if-arrival-self.false)) (omega (arith, c.from.ensures, c.if-arrival-from.false)) size) ∙ none,
@@ -40,7 +40,7 @@ pub returns-clause-keeps : goal.returns-clause-keeps
 returns-clause-keeps c =
     let good : is_ok c.reach.result ≡ true = search rules in
     let reached = on_ok c.reach.result good c.reach.ensures.keeps in
-    on_ok_map c.join.result c.join.ensures.ok (λ j keeps.
+    on_ok-map c.join.result c.join.ensures.ok (λ j keeps.
     let (none, over, number, clients, keys) = j in
     joined-keeps c.reach.new.self c.join.new.self c.args.at c.args.entries _ none (omega (arith, c.from.ensures, c.if-arrival-from.false)) over number clients keys (reached c.args.entries keeps))
 
@@ -48,7 +48,7 @@ pub returns-clause-more : goal.returns-clause-more
 returns-clause-more c =
     let good : is_ok c.reach.result ≡ true = search rules in
     let same = on_ok c.reach.result good c.reach.ensures.same in
-    on_ok_map c.join.result c.join.ensures.ok (λ j.
+    on_ok-map c.join.result c.join.ensures.ok (λ j.
     let (none, over, number, clients, keys) = j in
     let client : Client = record { id = c.args.arrival.client; entry = c.args.arrival.entry } in
     omega (arith, same, ap (λ es. clients_of es.items) over, ap length clients, length-append c.reach.new.self.latest.clients.items (client ∷ [])))

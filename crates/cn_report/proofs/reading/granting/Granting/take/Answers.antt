@@ -1,6 +1,6 @@
 use Rattle.std.proofs.Common.{◌∙◌, sym, ap, inl, inr, arith}
 use Rattle.cn_report.proofs.ReadingLemmas.CheckedGrants.{form-back, form-full, joined, told}
-use Rattle.cn_report.proofs.ReadingLemmas.Results.{if_err-map, on_ok_map}
+use Rattle.cn_report.proofs.ReadingLemmas.Results.{if_err-map, on_ok-map}
 use Rattle.cn_report.specs.Reading.Granted.{first_of, twice_cause}
 use Rattle.cn_report.proofs.reading.granting.Granting.take.Goals as goal
 use Rattle.cn_report.proofs.reading.granting.Granting.take.Goals.{then-grant-self-via-then-grant-self, then-grant-self-via-else-grant-self+then-at-gt-MOST_RECORDS}
@@ -16,7 +16,7 @@ returns-then-grant-self-clause-err c = λ before checked size.
 
 pub returns-clause-ok : goal.returns-clause-ok
 returns-clause-ok c =
-    on_ok_map c.join.result c.join.ensures.ok (λ j before checked size.
+    on_ok-map c.join.result c.join.ensures.ok (λ j before checked size.
     let (none, over, gap, latest, count, clients, names) = j in
     let held = c.in_ok-reach.ensures.holds before checked.holds in (
       sym (told c.reach.new.self before c.args.grant held c.in_ok-reach.ensures.here (omega (arith, checked.last, c.if-grant-self.false)) (omega (arith, size, c.if-at-gt-MOST_RECORDS.false))) ∙ none,
