@@ -11,6 +11,7 @@ pub mod Fresh
 pub mod Kept
 pub mod Steps
 pub mod Sweeps
+pub mod EntersAll
 pub mod Openings
 pub mod Loading
 pub mod Sharing

@@ -6,6 +6,7 @@ pub mod InsideNetworkRef
 pub mod InsideWords
 pub mod Steps
 pub mod Sweeps
+pub mod EntersAll
 pub mod Plays
 pub mod Lane
 pub mod InsideLane

@@ -19,6 +19,7 @@ use Rattle.cn_yard.proofs.CallerLemmas.{others-on}
 use Rattle.cn_floor.specs.declared.view.Grant.{Grant}
 use Rattle.cn_floor.specs.declared.view.Start.{Start}
 use Rattle.cn_floor.specs.declared.view.View.{View}
+use Rattle.cn_floor.specs.EntersAll.{after_enter_all, after_enters}
 use Rattle.cn_floor.specs.Listed.{AreTheirs, CameIn, HaveLeft, placed}
 use Rattle.cn_floor.specs.Rule.{IsStart}
 use Rattle.cn_floor.specs.Steps.{HasMoment}
@@ -543,6 +544,37 @@ came-more v w clients entry k is inside some =
       wires = length-map-range_with_len make 0 (length w.tokens) ∙ is.wires;
       there = add entry ∙ (λ i. is.there i ++ here i) ∙ ap (λ (j : ℕ). placed clients 0 1 k ++ (j, slice_index clients j) ∷ []) at ∙ sym (placed-more clients 0 1 k);
       others = λ u other. add u ∙ (λ i. is.others u other i ++ (let away : last_on k client entry u ≡ [] = rw (ne_eqb entry u (λ e. other (sym e))) refl in away i));
+    }
+
+-- so many more of them, one after the other
+came-on : (v w : View) (clients : List ℕ) (entry k n : ℕ) → CameIn v w clients entry k → entry < length v.tokens → k + n ≤ v.quota
+    → CameIn v (after_enters clients entry k n w) clients entry (k + n)
+unfolding after_enters
+came-on v w clients entry k zero is inside enough =
+    let all : k ≡ k + 0 = omega arith in
+    subst (λ (j : ℕ). CameIn v w clients entry j) all is
+came-on v w clients entry k (suc n) is inside enough =
+    let all : suc k + n ≡ k + suc n = omega arith in
+    subst (λ (j : ℕ). CameIn v (after_enters clients entry (suc k) n (after_enter k (slice_index clients k) entry w)) clients entry j) all
+    (came-on v (after_enter k (slice_index clients k) entry w) clients entry (suc k) n
+    (came-more v w clients entry k is (omega (arith, inside, is.wires)) (omega (arith, enough, is.quota))) inside (omega (arith, enough)))
+
+-- all of a list come in by one step
+pub all-came-in : (v : View) (clients : List ℕ) (entry : ℕ) → ((u : ℕ) → on v.tokens u ≡ []) → entry < length v.tokens → length clients ≤ v.quota
+    → CameIn v (after_enter_all clients entry v) clients entry (length clients)
+all-came-in v clients entry out inside enough =
+    let is = came-on v v clients entry 0 (length clients) (none-came v clients entry out) inside (omega (arith, enough)) in
+    let all : 0 + length clients ≡ length clients = omega arith in
+    record {
+      start = is.start;
+      quota = omega (arith, is.quota);
+      entries = is.entries ∙ ap (λ (k : ℕ). v.entries ++ replicate k entry) all;
+      seen = is.seen;
+      loads = is.loads;
+      grants = is.grants;
+      wires = is.wires;
+      there = is.there ∙ ap (placed clients 0 1) all;
+      others = is.others;
     }
 
 -- each place is one of a list's at most once

@@ -8,6 +8,7 @@ ghost use Rattle.std.specs.Mem.Slots.{slots_items, slots_len, IsFull};
 ghost use Rattle.cn_wiring.specs.Table.{Stands, end_of};
 ghost use Rattle.cn_yard.specs.Lists.{IsThere, on, times_in};
 ghost use Rattle.cn_floor.specs.Closing.{IsEnding};
+ghost use Rattle.cn_floor.specs.EntersAll.{after_enter_all};
 ghost use Rattle.cn_floor.specs.Plays.{ComesIn, GoesOn};
 ghost use Rattle.cn_floor.specs.Rule.{IsStart};
 ghost use Rattle.cn_floor.specs.Sweeps.{AllGoOn};
@@ -15,8 +16,8 @@ ghost use Rattle.cn_floor.specs.Views.{after_join, after_split, empty_view, on_i
 ghost use Rattle.cn_floor.specs.Words.{end_word, word_count};
 
 use super::plays::{
-    EnterOf, EnterPlay, FloorRule, JoinSeats, Portion, SplitSeat, StepOf, StepPlay, SweepOf,
-    SweepPlay,
+    EnterAllOf, EnterAllPlay, EnterOf, EnterPlay, FloorRule, JoinSeats, Portion, SplitSeat, StepOf,
+    StepPlay, SweepOf, SweepPlay,
 };
 use crate::view::{Opening, View};
 use atomic_table::{Closed, Seat, Table};
@@ -131,28 +132,29 @@ impl Counters {
             .fetch_add::<EnterPlay<T>>(seat, 1 + entry as usize, 1);
     }
 
-    /// As [`Counters::enter`], for a client whose token has the number of its place in a list.
-    pub(super) fn come<T: EnterOf>(
+    /// The clients of a list come in by the entry, in one atomic step: an add of their number on the entry's word. Each one's
+    /// token has the number of its place in the list, which is only for the proof.
+    pub(super) fn enter_all<T: EnterAllOf>(
         &self,
         seat: &mut Seat<(), View>,
-        _place: usize,
-        _client: u64,
+        _clients: &[u64],
         entry: u32,
+        count: u64,
     )
         requires own { (seat.old.table_id ≡ self.now.table)
             × (seat.old.me.0.start ≡ self.now.start) }
-        requires coming { T.coming
-            ≡ record { start = self.now.start; token = _place; client = _client; entry = entry } }
+        requires entering { T.entering ≡ record { clients = _clients.now; entry = entry } }
+        requires count { length _clients.now ≡ count }
         requires slots { (seat.old.me.1 ≡ []) × (seat.old.me.0.loads ≡ []) }
         requires entry { (entry < self.now.start.network.table.entries)
             × (entry < length seat.old.me.0.tokens) }
-        requires quota { 0 < seat.old.me.0.quota }
+        requires quota { count ≤ seat.old.me.0.quota }
         ensures seat { (seat.new.table_id ≡ seat.old.table_id) × (seat.new.me.1 ≡ []) }
-        ensures came { ComesIn T.coming seat.old.me.0 seat.new.me.0 }
+        ensures came { seat.new.me.0 ≡ after_enter_all _clients.now entry seat.old.me.0 }
     {
         self.table
             .shared
-            .fetch_add::<EnterPlay<T>>(seat, 1 + entry as usize, 1);
+            .fetch_add::<EnterAllPlay<T>>(seat, 1 + entry as usize, count);
     }
 
     /// The token goes by the end of its wire, in one atomic step: an add on the end's word, which gives its number. The

@@ -100,8 +100,8 @@ fn grant_all(
 }
 
 impl<'a> Floor<'a> {
-    /// Lets the clients of a list in by one entry, one after the other, by a view with nobody inside. Each one's token has
-    /// the number of its place in the list.
+    /// Lets the clients of a list in by one entry, in one atomic step, by a view with nobody inside. Each one's token has the
+    /// number of its place in the list.
     fn come_in(&self, seat: &mut Seat<(), View>, clients: &[u64], entry: u32)
         requires own { (seat.old.table_id ≡ self.now.table)
             × (seat.old.me.0.start ≡ self.now.start) }
@@ -114,10 +114,8 @@ impl<'a> Floor<'a> {
         ensures came { CameIn seat.old.me.0 seat.new.me.0 clients.now entry (length clients.now) }
     {
         self.start_laws();
-        for place in 0..clients.len() {
-            self.counters
-                .come::<Brand>(seat, place, clients[place], entry);
-        }
+        self.counters
+            .enter_all::<Brand>(seat, clients, entry, clients.len() as u64);
     }
 
     /// Lets all tokens of a wire, as many as `tokens`, go by its end in one atomic step: the end, and the number of the first.
@@ -199,8 +197,8 @@ impl<'a> Floor<'a> {
         }
     }
 
-    /// Lets the clients of a list in by one entry and walks them out, all who stand on a wire by one atomic step: a step for
-    /// each client that comes in, and one for each end that any of them come to. Nobody of the lane is inside. Where they
+    /// Lets the clients of a list in by one entry and walks them out, all who stand on a wire by one atomic step: a step by
+    /// which they come in, and one for each end that any of them come to. Nobody of the lane is inside. Where they
     /// stand is in locals, and not in the lane's yard. It waits for nobody, and takes memory only if the lane lacks room.
     ///
     /// # Errors

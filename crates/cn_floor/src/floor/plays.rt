@@ -41,6 +41,31 @@ impl<T: EnterOf> Play<(), View> for EnterPlay<T> {
     ghost then = { λ _ me n new. (new.1 ≡ []) × ComesIn T.coming me.0 new.0 };
 }
 
+/// Who of a list come in together.
+pub trait EnterAllOf {
+    ghost use Rattle.cn_floor.specs.EntersAll.{EnteringAll};
+
+    ghost entering: { EnteringAll };
+}
+
+impl EnterAllOf for Brand {
+    ghost use Rattle.cn_floor.specs.EntersAll.{nobody_enters};
+
+    ghost entering = { nobody_enters };
+}
+
+/// A step by which the clients of a list come in by one entry.
+pub struct EnterAllPlay<T> {
+    of: PhantomData<T>,
+}
+
+impl<T: EnterAllOf> Play<(), View> for EnterAllPlay<T> {
+    ghost use Rattle.std.specs.Prelude.{◌≡◌, []};
+    ghost use Rattle.cn_floor.specs.EntersAll.{after_enter_all};
+
+    ghost then = { λ _ me n new. (new.1 ≡ []) × (new.0 ≡ after_enter_all T.entering.clients T.entering.entry me.0) };
+}
+
 /// Who goes on.
 pub trait StepOf {
     ghost use Rattle.cn_floor.specs.Plays.{Going};

@@ -1,4 +1,4 @@
-use Rattle.std.proofs.Common.{◌≡◌, ℕ, ap, arith}
+use Rattle.std.proofs.Common.{ap, arith}
 use Rattle.cn_wiring.specs.Network.{Network}
 use Rattle.cn_floor.proofs.floor.Floor.let_by.Goals as goal
 

@@ -1,11 +1,10 @@
 use Rattle.std.proofs.Common.{◌≡◌, ◌<◌, rules, sym, ap, ◌∙◌, subst, arith}
 use Rattle.cn_floor.specs.declared.view.Start.{Start}
 use Rattle.cn_floor.specs.Lane.{FloorValue}
-use Rattle.cn_floor.specs.Plays.{Coming}
 use Rattle.cn_floor.specs.Rule.{start_of}
 use Rattle.cn_floor.specs.Words.{word_count}
-use Rattle.cn_floor.proofs.AtMoments.Steps.{lets-in-by}
-use Rattle.cn_floor.proofs.floor.counters.Counters.come.Goals as goal
+use Rattle.cn_floor.proofs.AtMoments.EntersAll.{enter-all-by}
+use Rattle.cn_floor.proofs.floor.counters.Counters.enter_all.Goals as goal
 
 pub fetch_add-requires : goal.fetch_add-requires
 fetch_add-requires g c =
@@ -15,6 +14,6 @@ fetch_add-requires g c =
     let entry : c.args.entry < key.network.value.table.entries = subst (λ (s : Start). c.args.entry < s.network.table.entries) about c.requires.entry.0 in (
       search rules,
       omega arith,
-      lets-in-by (start_of key) _ _ c.args.seat.now.me g.T.EnterOf.coming c.args.entry (ap (λ (x : Coming). x.entry) c.requires.coming)
-          (ap (λ (x : Coming). x.start) c.requires.coming ∙ about) c.requires.slots.0 c.requires.slots.1 (c.requires.own.1 ∙ about) entry c.requires.entry.1 c.requires.quota,
+      enter-all-by (start_of key) _ _ c.args.seat.now.me g.T.EnterAllOf.entering c.args._clients.now c.args.entry c.args.count c.requires.entering
+          c.requires.slots.0 c.requires.slots.1 (c.requires.own.1 ∙ about) entry c.requires.entry.1 c.requires.quota c.requires.count,
     )
