@@ -151,9 +151,9 @@ uint32_t renamer_reserve(renamer_lane *lane, uint64_t clients);
    RENAMER_NONE, _STILL_WALKING, _NO_SUCH_ENTRY, _QUOTA_SPENT, _MEMORY. */
 uint32_t renamer_name(renamer_lane *lane, uint64_t client, uint64_t entry, uint64_t *name);
 
-/* Names clients by one call. Those who follow one another in the list by one entry, up to 64 of them, go on together, by one
-   atomic add for all that are on a wire; one who has none of its entry beside it walks as by renamer_name. So clients by one
-   entry cost few adds each, and a list by entries in turn as many as single calls.
+/* Names clients by one call. Those who follow one another in the list by one entry, up to 64 of them, come in by one atomic
+   add and go on together, by one more for all that are on a wire; one who has none of its entry beside it walks as by
+   renamer_name. So clients by one entry cost few adds each, and a list by entries in turn as many as single calls.
    Copies their grants, in the order in which they left, which has not to be that of the clients; they are the lane's last
    ones too. Takes memory only if the lane has less room.
    RENAMER_NONE, _SIZE (there are not as many grants as clients), _STILL_WALKING, _NO_SUCH_ENTRY, _QUOTA_SPENT,

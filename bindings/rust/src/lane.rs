@@ -67,9 +67,10 @@ impl Lane {
         self.raw.name(client, entry)
     }
 
-    /// Names clients by one call. Those who follow one another in the list by one entry, up to 64 of them, go on together,
-    /// by one atomic add for all that are on a wire; one who has none of its entry beside it walks as by [`Lane::name`]. So
-    /// clients by one entry cost few adds each, and a list by entries in turn as many as single calls.
+    /// Names clients by one call. Those who follow one another in the list by one entry, up to 64 of them, come in by one
+    /// atomic add and go on together, by one more for all that are on a wire; one who has none of its entry beside it walks
+    /// as by [`Lane::name`]. So clients by one entry cost few adds each, and a list by entries in turn as many as single
+    /// calls.
     ///
     /// Their grants come in the order in which they left, which has not to be that of the clients.
     ///

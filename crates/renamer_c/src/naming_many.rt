@@ -12,8 +12,7 @@ use crate::granting::Grant;
 use crate::handle::Handle;
 use std::alloc::Global;
 
-/// Names clients: lets them in, and then out together, or one after the other if they are few. Copies their grants, in the
-/// order in which they left.
+/// Names clients, those who follow one another by one entry together. Copies their grants, in the order in which they left.
 #[unsafe(no_mangle)]
 pub extern "C" fn renamer_name_many(
     alloc: Global,
