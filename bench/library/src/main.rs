@@ -15,7 +15,7 @@ use std::hint::black_box;
 use std::process;
 use std::sync::atomic::{AtomicU64, Ordering};
 use std::sync::Mutex;
-use timing::{in_threads, print_median, Spent, CLIENTS};
+use timing::{in_threads, keep_memory, print_median, Spent, CLIENTS};
 
 /// The identities of a thread's clients: they rise, and are no small numbers.
 fn clients(thread: u64, threads: u64) -> impl Iterator<Item = u64> {
@@ -50,10 +50,14 @@ fn table(threads: u64) -> Spent {
     spent
 }
 
-/// A lane of a thread with room for its clients, who are made before the clock starts.
-struct Part {
-    lane: Lane,
-    clients: Vec<Client>,
+/// A lane for each thread, with room for its clients.
+fn lanes(floor: &Floor, threads: u64) -> Vec<(u64, Lane)> {
+    let lane = || floor.lane(CLIENTS / threads).expect("there is memory");
+    let mut lanes: Vec<_> = (0..threads).map(|thread| (thread, lane())).collect();
+    for (_, lane) in &mut lanes {
+        lane.reserve(CLIENTS / threads).expect("there is memory");
+    }
+    lanes
 }
 
 /// Which entries a thread's clients come by.
@@ -73,42 +77,36 @@ fn entries(lane: &Lane, entering: Entering, thread: u64, threads: u64) -> impl I
         Entering::Apart => ((thread + 1) * entries / threads).max(from + 1),
         Entering::AllOver => from + entries,
     };
-    (from..to).cycle().map(move |entry| entry % entries)
-}
-
-/// The part of each thread.
-fn parts(floor: &Floor, entering: Entering, threads: u64) -> Vec<Part> {
-    let part = |thread| {
-        let lane = floor.lane(CLIENTS / threads).expect("there is memory");
-        let entries = entries(&lane, entering, thread, threads);
-        let clients = clients(thread, threads).zip(entries).map(|(client, entry)| Client { client, entry }).collect();
-        Part { lane, clients }
-    };
-    let mut parts: Vec<_> = (0..threads).map(part).collect();
-    for part in &mut parts {
-        part.lane.reserve(CLIENTS / threads).expect("there is memory");
-    }
-    parts
+    // No remainder, which would take as long as an add.
+    (from..to).cycle().map(move |entry| if entry < entries { entry } else { entry - entries })
 }
 
 fn name(kind: Kind, width: u32, entering: Entering, threads: u64) -> Spent {
     let floor = Floor::open(kind, width, CLIENTS).expect("there is memory");
-    let (spent, sum) = in_threads(parts(&floor, entering, threads), |Part { lane, clients }| {
-        clients.iter().map(|one| lane.name(one.client, one.entry).expect("there is room")).sum()
+    let (spent, sum) = in_threads(lanes(&floor, threads), |(thread, lane)| {
+        let entries = entries(lane, entering, *thread, threads);
+        let mut sum = 0;
+        for (client, entry) in clients(*thread, threads).zip(entries) {
+            sum += lane.name(client, entry).expect("there is room");
+        }
+        sum
     });
     is_tight(sum);
     spent
 }
 
-/// Names clients by lists of 64.
+/// Names clients by lists of 64, the same list again and again: a floor compares no clients.
 fn many(kind: Kind, width: u32, threads: u64) -> Spent {
     const LIST: usize = 64;
     let floor = Floor::open(kind, width, CLIENTS).expect("there is memory");
-    let (spent, sum) = in_threads(parts(&floor, Entering::Apart, threads), |Part { lane, clients }| {
+    let (spent, sum) = in_threads(lanes(&floor, threads), |(thread, lane)| {
+        let entries = entries(lane, Entering::Apart, *thread, threads);
+        let coming = clients(*thread, threads).zip(entries).map(|(client, entry)| Client { client, entry });
+        let list: Vec<_> = coming.take(LIST).collect();
         let mut grants = [Grant::default(); LIST];
         let mut sum = 0;
-        for list in clients.chunks_exact(LIST) {
-            lane.name_many_into(list, &mut grants).expect("there is room");
+        for _ in 0..CLIENTS / threads / LIST as u64 {
+            lane.name_many_into(&list, &mut grants).expect("there is room");
             sum += grants.iter().map(|grant| grant.name).sum::<u64>();
         }
         sum
@@ -145,8 +143,8 @@ fn walk(adds: usize, threads: u64) -> Spent {
 /// A call that is refused: the network has no such entry.
 fn refused(threads: u64) -> Spent {
     let floor = Floor::open(Kind::Tree, 64, CLIENTS).expect("there is memory");
-    let (spent, refusals) = in_threads(parts(&floor, Entering::Apart, threads), |Part { lane, clients }| {
-        clients.iter().filter(|one| black_box(lane.name(one.client, 1)).is_err()).count() as u64
+    let (spent, refusals) = in_threads(lanes(&floor, threads), |(thread, lane)| {
+        clients(*thread, threads).filter(|client| black_box(lane.name(*client, 1)).is_err()).count() as u64
     });
     assert_eq!(refusals, CLIENTS / threads * threads);
     spent
@@ -157,7 +155,8 @@ fn number<N: std::str::FromStr>(word: &str) -> N {
 }
 
 fn usage() -> ! {
-    eprintln!("namers: add|table|refused THREADS ROUNDS, walk ADDS THREADS ROUNDS, or name|many|all-over bitonic|periodic|tree WIDTH THREADS ROUNDS");
+    eprintln!("namers: add|table|refused THREADS ROUNDS, walk ADDS THREADS ROUNDS, or");
+    eprintln!("        name|many|all-over bitonic|periodic|tree WIDTH THREADS ROUNDS");
     process::exit(2)
 }
 
@@ -171,6 +170,7 @@ fn kind(word: &str) -> Kind {
 }
 
 fn main() {
+    keep_memory();
     let words: Vec<String> = env::args().skip(1).collect();
     let words: Vec<&str> = words.iter().map(String::as_str).collect();
     let round: Box<dyn Fn(u64) -> Spent> = match words[..] {

@@ -31,6 +31,18 @@ fn processor_time() -> f64 {
     time.seconds as f64 * 1e9 + time.nanoseconds as f64
 }
 
+/// Keeps what is freed with the process, so that no round after the first asks the system for memory.
+pub fn keep_memory() {
+    const TRIM_THRESHOLD: i32 = -1;
+    const MMAP_THRESHOLD: i32 = -3;
+    extern "C" {
+        fn mallopt(parameter: i32, value: i32) -> i32;
+    }
+    // SAFETY: it is called before there is a second thread, and takes any numbers.
+    let kept = unsafe { mallopt(TRIM_THRESHOLD, i32::MAX) == 1 && mallopt(MMAP_THRESHOLD, 1 << 25) == 1 };
+    assert!(kept, "the C library takes other parameters");
+}
+
 /// Runs a part in each thread, at once, and adds up what they return. A thread's part is made before the clock starts.
 pub fn in_threads<P: Send>(parts: Vec<P>, run: impl Fn(&mut P) -> u64 + Sync) -> (Spent, u64) {
     let (start, run) = (&Barrier::new(parts.len()), &run);
