@@ -4,7 +4,7 @@ use Rattle.clap.specs.Words.{Row, Text, first_of}
 use Rattle.cn_wiring.specs.Kinds.{kind_word}
 use Rattle.cn_wiring.specs.Widths.{IsWidth}
 use Rattle.cn_cli.specs.Net.{Description}
-use Rattle.cn_cli.specs.Options.{IsWithin, Settings}
+use Rattle.cn_cli.specs.Options.{SettingsFit, Settings}
 use Rattle.cn_cli.specs.declared.options.Form.{Form}
 use Rattle.cn_cli.specs.declared.options.Form.TheVariants.{Report, Grants}
 
@@ -27,14 +27,14 @@ abbrev pub NamesWidth : List Row → ℕ → Type 0
 NamesWidth options width = Gives options (codes "width") (decimal width)
 
 -- the options name this network: its kind by the word for it, and its width
-pub record Names (options : List Row) (net : Description) : Type 0 where
+pub record NamesNetwork (options : List Row) (net : Description) : Type 0 where
   pub kind : Gives options (codes "network") (kind_word net.kind)
   pub width : NamesWidth options net.width
 
 -- the options name these settings of a run: the network, both numbers in decimal digits, the form by
 -- the word for it, and that counters are carried by a flag
 pub record NamesRun (options : List Row) (settings : Settings) : Type 0 where
-  pub net : Names options settings.net
+  pub net : NamesNetwork options settings.net
   pub workers : Gives options (codes "workers") (decimal settings.workers)
   pub hand : Gives options (codes "hand") (decimal settings.hand)
   pub form : Gives options (codes "form") (form_word settings.form)
@@ -54,8 +54,8 @@ NamesNoWidth options = (width : ℕ) → IsWidth width → ¬ NamesWidth options
 
 -- the options name no network that is built
 abbrev pub NamesNoNet : List Row → Type 0
-NamesNoNet options = (net : Description) → Names options net → ¬ IsWidth net.width
+NamesNoNet options = (net : Description) → NamesNetwork options net → ¬ IsWidth net.width
 
 -- the options name no settings that are within their limits
 abbrev pub NamesNoRun : List Row → Type 0
-NamesNoRun options = (settings : Settings) → NamesRun options settings → ¬ IsWithin settings
+NamesNoRun options = (settings : Settings) → NamesRun options settings → ¬ SettingsFit settings

@@ -23,6 +23,6 @@ abbrev pub HandFits : ℕ → Type 0
 HandFits hand = (1 ≤ hand) × (hand ≤ MOST_HAND)
 
 -- the network is built, and both numbers are within their limits
-abbrev pub IsWithin : Settings → Type 0
-IsWithin settings =
+abbrev pub SettingsFit : Settings → Type 0
+SettingsFit settings =
     IsWidth settings.net.width × WorkersFit settings.workers × HandFits settings.hand

@@ -4,9 +4,9 @@ use Rattle.clap.specs.Words.{IsAmong, Kinds, Row, Text, fault_of, subcommand_of}
 use Rattle.clap.specs.declared.error.ErrorKind.{ErrorKind}
 use Rattle.clap.specs.declared.error.ErrorKind.TheVariants.{DisplayHelp, DisplayVersion, OutOfMemory}
 use Rattle.cn_wiring.specs.Widths.{IsWidth}
-use Rattle.cn_cli.specs.Choices.{Names, NamesRun, NamesWidth}
+use Rattle.cn_cli.specs.Choices.{NamesNetwork, NamesRun, NamesWidth}
 use Rattle.cn_cli.specs.CommandLine.{command_line}
-use Rattle.cn_cli.specs.Options.{IsWithin}
+use Rattle.cn_cli.specs.Options.{SettingsFit}
 use Rattle.cn_cli.specs.declared.choices.ChoiceFault.{ChoiceFault}
 use Rattle.cn_cli.specs.declared.choices.ChoiceFault.TheVariants as choice
 use Rattle.cn_cli.specs.declared.words.Job.{Job}
@@ -25,13 +25,13 @@ status_of Memory = 3
 abbrev pub Asks : Option (Text × List Row) → Job → Type 0
 Asks None job = ⊥
 Asks (Some (name, options)) (Run settings) =
-    (name ≡ codes "run") × NamesRun options settings × IsWithin settings
+    (name ≡ codes "run") × NamesRun options settings × SettingsFit settings
 Asks (Some (name, options)) (Replay net) =
-    (name ≡ codes "replay") × Names options net × IsWidth net.width
+    (name ≡ codes "replay") × NamesNetwork options net × IsWidth net.width
 Asks (Some (name, options)) (Check width) =
     (name ≡ codes "check") × NamesWidth options width × IsWidth width
 Asks (Some (name, options)) (Show net) =
-    (name ≡ codes "show") × Names options net × IsWidth net.width
+    (name ≡ codes "show") × NamesNetwork options net × IsWidth net.width
 
 -- it asks for no job
 abbrev pub AsksNone : Option (Text × List Row) → Type 0

@@ -6,9 +6,9 @@ ghost use Rattle.clap.specs.Words.{first_of, found_of, rows_of};
 ghost use Rattle.cn_wiring.specs.declared.kind.Kind.{Kind};
 ghost use Rattle.cn_wiring.specs.Kinds.{kind_word};
 ghost use Rattle.cn_wiring.specs.Widths.{IsWidth};
-ghost use Rattle.cn_cli.specs.Choices.{Flags, GivesNoNumber, GivesNumber, Names, NamesNoNet};
+ghost use Rattle.cn_cli.specs.Choices.{Flags, GivesNoNumber, GivesNumber, NamesNetwork, NamesNoNet};
 ghost use Rattle.cn_cli.specs.Choices.{NamesNoRun, NamesNoWidth, NamesRun, NamesWidth, form_word};
-ghost use Rattle.cn_cli.specs.Options.{IsWithin};
+ghost use Rattle.cn_cli.specs.Options.{SettingsFit};
 ghost use Rattle.cn_cli.specs.declared.choices.ChoiceFault.TheVariants as choice;
 ghost use Rattle.cn_cli.specs.declared.options.Form.{Form};
 
@@ -165,7 +165,7 @@ pub(crate) fn chosen_width(alloc: Global, options: &ArgMatches<'_>) -> Result<u3
 /// The network that the options name.
 pub(crate) fn chosen_net(alloc: Global, options: &ArgMatches<'_>) -> Result<Net, ChoiceFault>
     ensures { let given = rows_of (found_of options.now) in
-        MatchResult result (λ net. Names given net × IsWidth net.width)
+        MatchResult result (λ net. NamesNetwork given net × IsWidth net.width)
         (λ fault. fault ≢ choice.Memory → NamesNoNet given) }
 {
     let width = chosen_width(alloc, options)?;
@@ -181,7 +181,7 @@ pub(crate) fn chosen_options(
     options: &ArgMatches<'_>,
 ) -> Result<Options, ChoiceFault>
     ensures { let given = rows_of (found_of options.now) in
-        MatchResult result (λ settings. NamesRun given settings × IsWithin settings)
+        MatchResult result (λ settings. NamesRun given settings × SettingsFit settings)
         (λ fault. fault ≢ choice.Memory → NamesNoRun given) }
 {
     let net = chosen_net(alloc, options)?;

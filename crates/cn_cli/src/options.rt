@@ -2,7 +2,7 @@
 
 ghost use Rattle.std.specs.Prelude.{◌≡◌, ◌↔◌, IfOk, IsErrOf, false, true};
 ghost use Rattle.cn_cli.specs.Choices.{form_word};
-ghost use Rattle.cn_cli.specs.Options.{HandFits, IsWithin, Settings, WorkersFit};
+ghost use Rattle.cn_cli.specs.Options.{HandFits, SettingsFit, Settings, WorkersFit};
 
 use crate::net::Net;
 use cn_spec::limits::{MOST_HAND, MOST_WORKERS};
@@ -44,7 +44,7 @@ pub struct Options {
 }
 
 impl Model for Options {
-    ghost use Rattle.cn_cli.specs.Options.{IsWithin, Settings};
+    ghost use Rattle.cn_cli.specs.Options.{SettingsFit, Settings};
 
     ghost Value = { Settings };
 
@@ -56,7 +56,7 @@ impl Model for Options {
       carry = options.carry;
     } };
 
-    ghost invariant = { λ options. IsWithin (record {
+    ghost invariant = { λ options. SettingsFit (record {
       net = options.net;
       workers = options.workers;
       hand = options.hand;
@@ -126,7 +126,7 @@ impl Options {
     /// The network.
     pub fn net(&self) -> Net
         ensures net { result ≡ self.now.net }
-        ensures within { IsWithin self.now }
+        ensures within { SettingsFit self.now }
     {
         self.net
     }
@@ -134,7 +134,7 @@ impl Options {
     /// How many workers share out the clients.
     pub fn workers(&self) -> u32
         ensures workers { result ≡ self.now.workers }
-        ensures within { IsWithin self.now }
+        ensures within { SettingsFit self.now }
     {
         self.workers
     }
@@ -142,7 +142,7 @@ impl Options {
     /// How many tokens each worker has in hand at most.
     pub fn hand(&self) -> u32
         ensures hand { result ≡ self.now.hand }
-        ensures within { IsWithin self.now }
+        ensures within { SettingsFit self.now }
     {
         self.hand
     }

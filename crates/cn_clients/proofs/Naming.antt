@@ -6,7 +6,7 @@ use Rattle.cn_spec.proofs.CallerLemmas.{times-append}
 use Rattle.cn_floor.specs.declared.view.Grant.{Grant}
 use Rattle.cn_floor.specs.Lane.{LaneValue}
 use Rattle.cn_floor.specs.Named.{IsNamed}
-use Rattle.cn_clients.specs.Naming.{GaveNames, names_in}
+use Rattle.cn_clients.specs.Naming.{GaveNames, names_granted}
 
 pub gave-none : (lane : LaneValue) → GaveNames lane lane [] []
 gave-none lane = record { home = refl; lists = refl; grants = ([], sym (append-nil lane.view.grants), (refl, refl)) }
@@ -29,15 +29,15 @@ gave-one a b c clients names client entry name gave is =
     }
 
 -- the names that a lane gave are among those of its grants
-pub among : (a b : LaneValue) (clients names : List ℕ) → GaveNames a b clients names → (name : ℕ) → times name names ≤ times name (names_in b.view.grants)
+pub among : (a b : LaneValue) (clients names : List ℕ) → GaveNames a b clients names → (name : ℕ) → times name names ≤ times name (names_granted b.view.grants)
 among a b clients names gave name =
     let (more, grants, (_, told)) = gave.grants in
     omega (
       arith,
       ap (λ (ns : List ℕ). times name ns) told,
-      ap (λ (gs : List Grant). times name (names_in gs)) grants,
+      ap (λ (gs : List Grant). times name (names_granted gs)) grants,
       ap (λ (ns : List ℕ). times name ns) (map-append (λ (g : Grant). g.name) a.view.grants more),
-      times-append name (names_in a.view.grants) (names_in more),
+      times-append name (names_granted a.view.grants) (names_granted more),
     )
 
 -- what is below a bound in a lane is below it among these names

@@ -5,16 +5,16 @@ use Rattle.cn_floor.specs.declared.view.Grant.{Grant}
 use Rattle.cn_floor.specs.Lane.{LaneValue}
 
 -- the names that grants give, in their order
-abbrev pub names_in : List Grant → List ℕ
-names_in grants = map (λ g. g.name) grants
+abbrev pub names_granted : List Grant → List ℕ
+names_granted grants = map (λ g. g.name) grants
 
 -- the clients that grants name, in their order
-abbrev pub clients_in : List Grant → List ℕ
-clients_in grants = map (λ g. g.client) grants
+abbrev pub clients_granted : List Grant → List ℕ
+clients_granted grants = map (λ g. g.client) grants
 
 -- grants of these clients with these names, in their order
 abbrev pub AreGrantsOf : List ℕ → List ℕ → List Grant → Type 0
-AreGrantsOf clients names grants = (clients ≡ clients_in grants) × (names ≡ names_in grants)
+AreGrantsOf clients names grants = (clients ≡ clients_granted grants) × (names ≡ names_granted grants)
 
 -- a lane named these clients, one after the other: its newest grants are theirs, and nobody is inside
 pub record GaveNames (old new : LaneValue) (clients names : List ℕ) : Type 0 where

@@ -18,8 +18,8 @@ abbrev pub given : Grant → ℕ × ℕ
 given g = (g.name, g.client)
 
 -- the clients that slots were filled with
-abbrev pub clients_of : List Filled → List ℕ
-clients_of filled = map (λ f. f.client) filled
+abbrev pub clients_filled : List Filled → List ℕ
+clients_filled filled = map (λ f. f.client) filled
 
 -- what was filled is the slot of the name among these
 abbrev pub AreSlotsOf : List Named → List Filled → Type 0
@@ -33,5 +33,5 @@ pub record FilledBy (slots : List Named) (old new : LaneValue) (clients : List �
   pub lists : new.yard.lists ≡ old.yard.lists
   pub grants : (more : List Grant) × (new.view.grants ≡ old.view.grants ++ more)
       × (map written filled ≡ map given more)
-  pub all : clients_of filled ≡ clients
+  pub all : clients_filled filled ≡ clients
   pub own : AreSlotsOf slots filled

@@ -4,7 +4,7 @@
 ghost use Rattle.std.specs.Prelude.{◌≡◌, ◌+◌, ◌≤◌, ◌++◌, [], IfSome, length};
 ghost use Rattle.cn_spec.specs.Step.{IsEachBelow};
 ghost use Rattle.cn_yard.specs.Lists.{tokens_in};
-ghost use Rattle.cn_clients.specs.Slots.{AreSlotsOf, FilledBy, clients_of, names_of};
+ghost use Rattle.cn_clients.specs.Slots.{AreSlotsOf, FilledBy, clients_filled, names_of};
 
 use crate::filled::Filled;
 use cn_floor::{Floor, Lane};
@@ -135,8 +135,8 @@ pub fn fill_by_two<'s, R: Threads>(
     requires out { tokens_in lane.yard.lists ≡ 0 }
     requires fresh { lane.view.grants ≡ [] }
     requires slots { floor.start.quota ≤ length slots.now }
-    ensures all { IfSome result (λ r. (clients_of r.0.items ≡ first.now)
-        × (clients_of r.1.items ≡ second.now)) }
+    ensures all { IfSome result (λ r. (clients_filled r.0.items ≡ first.now)
+        × (clients_filled r.1.items ≡ second.now)) }
     ensures full { IfSome result (λ r. IsEachBelow (length r.0.items + length r.1.items)
         (names_of r.0.items ++ names_of r.1.items)) }
     ensures own { IfSome result (λ r. AreSlotsOf slots.now r.0.items × AreSlotsOf slots.now r.1.items) }

@@ -9,7 +9,7 @@ use Rattle.std.proofs.lemmas.List.Sums.{sum_by-cons}
 use Rattle.cn_yard.specs.Lists.{Admits, Lists, Moves, Releases, Yard, standing, tokens_in}
 use Rattle.cn_names.specs.declared.standing.Standing.{Standing}
 use Rattle.cn_names.specs.declared.standing.Standing.TheVariants.{Walking, Holds as Named}
-use Rattle.cn_names.specs.Names.{is_walking, standing_in, with_standing}
+use Rattle.cn_names.specs.Names.{is_walking, standing_of_client, with_standing}
 use Rattle.cn_core.specs.declared.position.Position.{Position}
 use Rattle.cn_core.specs.declared.position.Position.TheVariants.{On, Holds}
 use Rattle.cn_core.specs.State.{is_inside, position_in}
@@ -20,12 +20,12 @@ use Rattle.cn_core.specs.InsideClients.{IsPlaced, StandsFor, position_by, with_p
 abbrev pub placed : Lists → List (ℕ × Standing) → List (ℕ × Position)
 placed y names = map (λ e. (e.0, position_by y e.1)) names
 
-pub position-found : (y : Lists) (names : List (ℕ × Standing)) (client : ℕ) → position_in (placed y names) client ≡ option_map (position_by y) (standing_in names client)
+pub position-found : (y : Lists) (names : List (ℕ × Standing)) (client : ℕ) → position_in (placed y names) client ≡ option_map (position_by y) (standing_of_client names client)
 position-found y [] client = refl
 position-found y (e ∷ names) client = by (nat_eq client e.0) (position-found y names client)
   where
-    by : (b : Bool) → position_in (placed y names) client ≡ option_map (position_by y) (standing_in names client)
-        → cond b (Some (position_by y e.1)) (position_in (placed y names) client) ≡ option_map (position_by y) (cond b (Some e.1) (standing_in names client))
+    by : (b : Bool) → position_in (placed y names) client ≡ option_map (position_by y) (standing_of_client names client)
+        → cond b (Some (position_by y e.1)) (position_in (placed y names) client) ≡ option_map (position_by y) (cond b (Some e.1) (standing_of_client names client))
     by true rest = refl
     by false rest = rest
 
@@ -151,11 +151,11 @@ stand-one y z client s (e ∷ names) spares is all once =
         push-front z e (with_standing names client s) (spares e (all 0 e (omega arith)) differ).1 (rest (omega arith))
 
 -- a standing that a client has already
-with-same : (client : ℕ) (s : Standing) (names : List (ℕ × Standing)) → standing_in names client ≡ Some s → with_standing names client s ≡ names
+with-same : (client : ℕ) (s : Standing) (names : List (ℕ × Standing)) → standing_of_client names client ≡ Some s → with_standing names client s ≡ names
 with-same client s [] found = refl
 with-same client s (e ∷ names) found = by (nat_eq client e.0) found (with-same client s names)
   where
-    by : (b : Bool) → cond b (Some e.1) (standing_in names client) ≡ Some s → (standing_in names client ≡ Some s → with_standing names client s ≡ names)
+    by : (b : Bool) → cond b (Some e.1) (standing_of_client names client) ≡ Some s → (standing_of_client names client ≡ Some s → with_standing names client s ≡ names)
         → cond b ((e.0, s) ∷ names) (e ∷ with_standing names client s) ≡ e ∷ names
     by true found rest = let its : e.1 ≡ s = cc in rw (sym its) refl
     by false found rest = ap (λ es. e ∷ es) (rest found)
@@ -167,13 +167,13 @@ spared : (y z : Lists) (client token wire : ℕ) → standing y token ≡ Some (
 spared y z client token wire stands same e its differ = stays y z e.0 token e.1 same (apart-by y client e.0 token wire e.1 stands its differ) its
 
 -- the token of a walking client stands for it
-pub stands-for : (y : Lists) (names : List (ℕ × Standing)) (client token : ℕ) → AllStand y names → standing_in names client ≡ Some (Walking token)
+pub stands-for : (y : Lists) (names : List (ℕ × Standing)) (client token : ℕ) → AllStand y names → standing_of_client names client ≡ Some (Walking token)
     → (wire : ℕ) × (standing y token ≡ Some (wire, client))
 stands-for y [] client token all found = absurd (cc)
 stands-for y (e ∷ names) client token all found = by (nat_eq client e.0) refl found (stands-for y names client token (tail y e names all))
   where
-    by : (b : Bool) → nat_eq client e.0 ≡ b → cond b (Some e.1) (standing_in names client) ≡ Some (Walking token)
-        → (standing_in names client ≡ Some (Walking token) → (wire : ℕ) × (standing y token ≡ Some (wire, client))) → (wire : ℕ) × (standing y token ≡ Some (wire, client))
+    by : (b : Bool) → nat_eq client e.0 ≡ b → cond b (Some e.1) (standing_of_client names client) ≡ Some (Walking token)
+        → (standing_of_client names client ≡ Some (Walking token) → (wire : ℕ) × (standing y token ≡ Some (wire, client))) → (wire : ℕ) × (standing y token ≡ Some (wire, client))
     by true here found rest =
         let its : e.1 ≡ Walking token = cc in
         let who : client ≡ e.0 = eqb-true client e.0 here in
@@ -181,7 +181,7 @@ stands-for y (e ∷ names) client token all found = by (nat_eq client e.0) refl 
     by false here found rest = rest found
 
 -- a client comes in with a token
-pub come : (y z : Yard) (names : List (ℕ × Standing)) (client token wire : ℕ) → Admits y z token client wire → IsPlaced (record { yard = y; names = names }) → standing_in names client ≡ None
+pub come : (y z : Yard) (names : List (ℕ × Standing)) (client token wire : ℕ) → Admits y z token client wire → IsPlaced (record { yard = y; names = names }) → standing_of_client names client ≡ None
     → (placed z.lists (names ++ (client, Walking token) ∷ []) ≡ placed y.lists names ++ (client, On wire) ∷ []) × IsPlaced (record { yard = z; names = names ++ (client, Walking token) ∷ [] })
 come y z names client token wire a is absent =
     let self : standing z.lists token ≡ Some (wire, client) = a.standing_now token ∙ (let yes : eqb token token ≡ true = grind (arith, nat_tests) in rw yes refl) in
@@ -207,7 +207,7 @@ come y z names client token wire a is absent =
 
 -- a client's token goes to another wire
 pub go : (y z : Yard) (names : List (ℕ × Standing)) (client token wire : ℕ) → ((from who : ℕ) → standing y.lists token ≡ Some (from, who) → Moves y z token who wire)
-    → IsPlaced (record { yard = y; names = names }) → standing_in names client ≡ Some (Walking token)
+    → IsPlaced (record { yard = y; names = names }) → standing_of_client names client ≡ Some (Walking token)
     → (placed z.lists names ≡ with_position (placed y.lists names) client (On wire)) × IsPlaced (record { yard = z; names = names })
 go y z names client token wire moves is found =
     let (from, stands) = stands-for y.lists names client token is.stand found in
@@ -221,7 +221,7 @@ go y z names client token wire moves is found =
 
 -- a client leaves with a name
 pub leave : (y z : Yard) (names : List (ℕ × Standing)) (client token name : ℕ) → Releases y z token
-    → IsPlaced (record { yard = y; names = names }) → standing_in names client ≡ Some (Walking token)
+    → IsPlaced (record { yard = y; names = names }) → standing_of_client names client ≡ Some (Walking token)
     → (placed z.lists (with_standing names client (Named name)) ≡ with_position (placed y.lists names) client (Holds name)) × IsPlaced (record { yard = z; names = with_standing names client (Named name) })
 leave y z names client token name r is found =
     let (from, stands) = stands-for y.lists names client token is.stand found in
@@ -255,14 +255,14 @@ undo y z w names client token wire a r is =
 
 -- ---- who is in the table
 
-pub absent-found : (y : Lists) (names : List (ℕ × Standing)) (client : ℕ) → position_in (placed y names) client ≡ None → standing_in names client ≡ None
-absent-found y names client none = by (standing_in names client) refl (sym (position-found y names client) ∙ none)
+pub absent-found : (y : Lists) (names : List (ℕ × Standing)) (client : ℕ) → position_in (placed y names) client ≡ None → standing_of_client names client ≡ None
+absent-found y names client none = by (standing_of_client names client) refl (sym (position-found y names client) ∙ none)
   where
-    by : (s : Option Standing) → standing_in names client ≡ s → option_map (position_by y) s ≡ None → standing_in names client ≡ None
+    by : (s : Option Standing) → standing_of_client names client ≡ s → option_map (position_by y) s ≡ None → standing_of_client names client ≡ None
     by None e h = e
     by (Some s) e h = absurd (cc)
 
-pub live-found : (y : Yard) (names : List (ℕ × Standing)) (client token : ℕ) → IsPlaced (record { yard = y; names = names }) → standing_in names client ≡ Some (Walking token) → IsSome (standing y.lists token)
+pub live-found : (y : Yard) (names : List (ℕ × Standing)) (client token : ℕ) → IsPlaced (record { yard = y; names = names }) → standing_of_client names client ≡ Some (Walking token) → IsSome (standing y.lists token)
 live-found y names client token is found = let (wire, stands) = stands-for y.lists names client token is.stand found in rw stands refl
 
 pub nobody : (y : Yard) → tokens_in y.lists ≡ 0 → IsPlaced (record { yard = y; names = [] })

@@ -4,7 +4,7 @@ use Rattle.std.specs.Map.{set_value, values_of}
 use Rattle.cn_yard.specs.Lists.{Lists, Yard, standing, tokens_in}
 use Rattle.cn_names.specs.declared.standing.Standing.{Standing}
 use Rattle.cn_names.specs.declared.standing.Standing.TheVariants.{Walking, Holds as Named}
-use Rattle.cn_names.specs.Names.{is_walking, standing_in}
+use Rattle.cn_names.specs.Names.{is_walking, standing_of_client}
 use Rattle.cn_core.specs.declared.position.Position.{Position}
 use Rattle.cn_core.specs.declared.position.Position.TheVariants.{On, Holds}
 use Rattle.cn_core.specs.declared.clients.Found.{Found}
@@ -51,5 +51,5 @@ position_found (WithName name) = Holds name
 
 -- who is found walking has this token
 abbrev pub IsFound : Clients → ℕ → Found → Type 0
-IsFound c client (InYard token wire) = standing_in c.names client ≡ Some (Walking token)
+IsFound c client (InYard token wire) = standing_of_client c.names client ≡ Some (Walking token)
 IsFound c client (WithName name) = Unit {0}

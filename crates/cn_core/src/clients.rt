@@ -4,7 +4,7 @@ ghost use Rattle.std.specs.Prelude.{◌≡◌, ℕ, ◌<◌, ◌++◌, ◌∷◌
 ghost use Rattle.std.specs.Map.{values_of};
 ghost use Rattle.cn_spec.specs.declared.limits.TheConstants.{MOST_CLIENTS};
 ghost use Rattle.cn_yard.specs.Lists.{empty};
-ghost use Rattle.cn_names.specs.Names.{standing_in};
+ghost use Rattle.cn_names.specs.Names.{standing_of_client};
 ghost use Rattle.cn_names.specs.Grants.{ListsByName};
 ghost use Rattle.cn_core.specs.State.{is_inside, position_in};
 ghost use Rattle.cn_core.specs.InsideClients.{IsFound, position_found, positions, with_position};
@@ -105,9 +105,9 @@ impl Clients {
     /// A client's token goes to another wire, on which it stands last.
     pub(crate) fn walk(&mut self, token: Token, wire: u32)
         requires walking { (client : ℕ)
-            × (standing_in self.old.names client ≡ Some (Walking token)) }
+            × (standing_of_client self.old.names client ≡ Some (Walking token)) }
         requires wire { wire < length self.old.yard.lists }
-        ensures walked { (client : ℕ) → standing_in self.old.names client ≡ Some (Walking token)
+        ensures walked { (client : ℕ) → standing_of_client self.old.names client ≡ Some (Walking token)
             → positions self.new ≡ with_position (positions self.old) client (On wire) }
         ensures wires { length self.new.yard.lists ≡ length self.old.yard.lists }
     {
@@ -116,7 +116,7 @@ impl Clients {
 
     /// A client leaves with a name, and its token is gone.
     pub(crate) fn settle(&mut self, client: u64, token: Token, name: u64)
-        requires walking { standing_in self.old.names client ≡ Some (Walking token) }
+        requires walking { standing_of_client self.old.names client ≡ Some (Walking token) }
         ensures settled { positions self.new
             ≡ with_position (positions self.old) client (Holds name) }
         ensures wires { length self.new.yard.lists ≡ length self.old.yard.lists }

@@ -20,8 +20,8 @@ abbrev pub NobodyInside : Start → List View → Type 0
 NobodyInside start views = (u : ℕ) → u < length start.network.table.ends → sum_by (on_in u) views ≡ 0
 
 -- how many left by each exit since the floor began: the words minus the carried ones
-abbrev pub counts_of : Start → List ℕ → List ℕ
-counts_of start words =
+abbrev pub counts_by_exit : Start → List ℕ → List ℕ
+counts_by_exit start words =
     let t = start.network.table in
     let first = 1 + t.entries + t.balancers in
     map (λ i. slice_index words (first + i) - slice_index start.words (first + i)) (range_with_len 0 t.width)
@@ -70,7 +70,7 @@ pub record IsClosedFloor (start : Start) (v : View) (words : List ℕ) : Type 0 
   -- flow brings there, and each name is granted once
   pub tight : IsTight start.network.table (ledger_of start.network.table start.words words (v ∷ []))
   -- each exit's count is its share of all that ever came minus its share of those that came before
-  pub shares : counts_of start words ≡ shares_after (base start) (length v.grants) start.network.table.width
+  pub shares : counts_by_exit start words ≡ shares_after (base start) (length v.grants) start.network.table.width
   -- every answer that the lane was given is at most their number
   pub seen : v.seen ≤ length v.grants
   -- each grant has the name of its exit and visit, and the names are those below the number of grants, each once
@@ -94,5 +94,5 @@ pub record ListsHolders (grants : List Grant) (holders : List ℕ) : Type 0 wher
 
 -- this came of a closed floor
 pub record IsOutcomeOf (quiet : QuietValue) (outcome : OutcomeValue) : Type 0 where
-  pub counts : outcome.counts ≡ counts_of quiet.start quiet.words
+  pub counts : outcome.counts ≡ counts_by_exit quiet.start quiet.words
   pub holders : ListsHolders quiet.did.grants outcome.holders

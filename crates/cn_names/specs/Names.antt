@@ -5,12 +5,12 @@ use Rattle.cn_names.specs.declared.standing.Standing.{Standing}
 use Rattle.cn_names.specs.declared.standing.Standing.TheVariants.{Walking, Holds}
 
 -- the standing of a client, if it has one
-abbrev pub standing_in : List (ℕ × Standing) → ℕ → Option Standing
-standing_in names client = lookup (nat_eq client) names
+abbrev pub standing_of_client : List (ℕ × Standing) → ℕ → Option Standing
+standing_of_client names client = lookup (nat_eq client) names
 
 -- the token of a client is on its way
 abbrev pub IsWalking : List (ℕ × Standing) → ℕ → Type 0
-IsWalking names client = (token : ℕ) × (standing_in names client ≡ Some (Walking token))
+IsWalking names client = (token : ℕ) × (standing_of_client names client ≡ Some (Walking token))
 
 -- the client with another standing
 abbrev pub with_standing : List (ℕ × Standing) → ℕ → Standing → List (ℕ × Standing)

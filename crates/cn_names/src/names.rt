@@ -4,7 +4,7 @@ ghost use Rattle.std.specs.Prelude.{◌≡◌, ℕ, ◌≤◌, ◌++◌, ◌∷�
 ghost use Rattle.std.specs.List.{IsDistinct, list_any};
 ghost use Rattle.std.specs.Map.{keys_of, values_of};
 ghost use Rattle.cn_names.specs.Grants.{ListsByName, grants_in};
-ghost use Rattle.cn_names.specs.Names.{IsWalking, is_walking, standing_in, with_standing};
+ghost use Rattle.cn_names.specs.Names.{IsWalking, is_walking, standing_of_client, with_standing};
 
 use crate::standing::Standing;
 use cn_yard::Token;
@@ -80,7 +80,7 @@ impl Names {
 
     /// The standing of a client, if it has one.
     pub fn standing(&self, client: u64) -> Option<Standing>
-        ensures { result ≡ standing_in self.now client }
+        ensures { result ≡ standing_of_client self.now client }
     {
         self.map.get(&client).copied()
     }
@@ -91,7 +91,7 @@ impl Names {
     /// `Held` if the client has a standing, `Memory` if the map could not grow. Then nothing has changed.
     pub fn admit(&mut self, client: u64, token: Token) -> Result<(), NamesFault>
         ensures ok { OnOk result (self.new ≡ self.old ++ (client, Standing.Walking token) ∷ []) }
-        ensures held { (result ≡ Err NamesFault.Held) ↔ IsSome (standing_in self.old client) }
+        ensures held { (result ≡ Err NamesFault.Held) ↔ IsSome (standing_of_client self.old client) }
         ensures err { OnErr result (self.new ≡ self.old) }
     {
         match self.map.entry(client) {

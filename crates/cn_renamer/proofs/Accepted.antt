@@ -11,8 +11,8 @@ use Rattle.cn_report.specs.Reading.Batch.{AreRising}
 use Rattle.cn_report.specs.Reading.Grants.{IsTightList}
 use Rattle.cn_report.specs.Reading.Records.{records_of}
 use Rattle.cn_report.specs.Reading.Told.{names_in, told_epochs}
-use Rattle.cn_report.specs.Writing.Grants.{AreRisingRecords, AreTight, HasOwnNames, checked_epoch}
-use Rattle.cn_report.specs.Writing.Report.{clients_of}
+use Rattle.cn_report.specs.Writing.Grants.{AreRisingRecords, AreTightRecords, HasOwnNames, checked_epoch}
+use Rattle.cn_report.specs.Writing.Report.{clients_of_records}
 use Rattle.cn_report.specs.declared.reading.gathering.BatchEpoch.{BatchEpoch}
 use Rattle.cn_cli.specs.Net.{Description, entries_of}
 use Rattle.cn_cli.specs.declared.options.Form.TheVariants.{Grants}
@@ -53,7 +53,7 @@ all-names width (e ∷ epochs) (r ∷ records) served small =
 
 -- they list as many clients as came
 all-clients : (width : ℕ) (epochs : List BatchEpoch) (records : List EpochRecord) → AllZip (AfterSome width) epochs records
-    → clients_of records ≡ sum_by (λ e. length e.clients.items) epochs
+    → clients_of_records records ≡ sum_by (λ e. length e.clients.items) epochs
 all-clients width [] [] served = refl
 all-clients width [] (r ∷ records) served = absurd served
 all-clients width (e ∷ epochs) [] served = absurd served
@@ -86,7 +86,7 @@ module _ (net : Description) (carry : Bool) (bytes text : List ℕ) (run : IsRun
   each : AllZip (AfterSome run.network.table.width) run.epochs run.records
   each = each-served carry run.network.table.width 0 run.epochs run.records run.served
 
-  tight : AreTight run.records
+  tight : AreTightRecords run.records
   tight =
       let width = run.network.table.width in
       let numbers = batch-numbers (entries_of net.kind net.width) (records_of bytes) run.epochs run.batch in

@@ -11,7 +11,7 @@ use Rattle.cn_spec.specs.Sums.{when}
 use Rattle.cn_wiring.specs.Network.{Network}
 use Rattle.cn_ledger.specs.declared.client.Client.{Client}
 use Rattle.cn_record.specs.declared.record.EpochRecord.{EpochRecord}
-use Rattle.cn_report.specs.Reading.Batch.{IsBatch, clients_of}
+use Rattle.cn_report.specs.Reading.Batch.{IsBatch, clients_of_epochs}
 use Rattle.cn_report.specs.Reading.Records.{records_of}
 use Rattle.cn_report.specs.declared.reading.gathering.BatchEpoch.{BatchEpoch}
 use Rattle.cn_report.proofs.CallerLemmas.{known-map}
@@ -63,7 +63,7 @@ unfolding came
 none-came [] = refl
 none-came (e ∷ epochs) = none-came epochs
 
-all-came : (m : ℕ) (epochs : List BatchEpoch) → came true m epochs ≡ m + clients_of epochs
+all-came : (m : ℕ) (epochs : List BatchEpoch) → came true m epochs ≡ m + clients_of_epochs epochs
 unfolding came
 all-came m [] = omega arith
 all-came m (e ∷ epochs) = all-came (m + length e.clients.items) epochs ∙ omega (arith, sum_by-cons (λ (x : BatchEpoch). length x.clients.items) e epochs)
@@ -74,7 +74,7 @@ when-more false m n = refl
 when-more true m n = refl
 
 pub served-next : (carry : Bool) (width : ℕ) (epochs : List BatchEpoch) (records : List EpochRecord) (e : BatchEpoch) (r : EpochRecord) → AreServed carry width 0 epochs records
-    → IsServed width (when carry (clients_of epochs)) e r → AreServed carry width 0 (epochs ++ e ∷ []) (records ++ r ∷ [])
+    → IsServed width (when carry (clients_of_epochs epochs)) e r → AreServed carry width 0 (epochs ++ e ∷ []) (records ++ r ∷ [])
 served-next false width epochs records e r served one = served-more false width 0 epochs records e r served (subst (λ (m : ℕ). IsServed width m e r) (sym (none-came epochs)) one)
 served-next true width epochs records e r served one = served-more true width 0 epochs records e r served (subst (λ (m : ℕ). IsServed width m e r) (sym (all-came 0 epochs ∙ omega arith)) one)
 

@@ -9,7 +9,7 @@ use Rattle.std.proofs.lemmas.List.Sums.{sum_by-cons, sum_by-take-drop}
 use Rattle.cn_spec.specs.Sums.{when}
 use Rattle.cn_wiring.specs.Network.{Network}
 use Rattle.cn_record.specs.declared.record.EpochRecord.{EpochRecord}
-use Rattle.cn_report.specs.Reading.Batch.{IsBatch, MayCome, clients_of}
+use Rattle.cn_report.specs.Reading.Batch.{IsBatch, MayCome, clients_of_epochs}
 use Rattle.cn_report.specs.Reading.Records.{records_of}
 use Rattle.cn_report.specs.declared.reading.gathering.BatchEpoch.{BatchEpoch}
 use Rattle.cn_report.specs.Writing.Records.{AreRecordsOf}
@@ -26,7 +26,7 @@ none-listed carry w = record { records = []; served = none-served carry w 0; lis
 
 -- those of one more epoch stand after the others
 pub listed-next : (carry : Bool) (w : ℕ) (epochs : List BatchEpoch) (epoch : BatchEpoch) (r : EpochRecord) (holders : List ℕ) → AreHoldersOf carry w epochs holders
-    → IsServed w (when carry (clients_of epochs)) epoch r → AreHoldersOf carry w (epochs ++ epoch ∷ []) (holders ++ r.holders.items)
+    → IsServed w (when carry (clients_of_epochs epochs)) epoch r → AreHoldersOf carry w (epochs ++ epoch ∷ []) (holders ++ r.holders.items)
 listed-next carry w epochs epoch r holders before one = record {
   records = before.records ++ r ∷ [];
   served = served-next carry w epochs before.records epoch r before.served one;
@@ -43,15 +43,15 @@ listed-both w epochs first second xs ys both a b = record {
 }
 
 -- epochs that each have some client have some client
-pub some-client : (epochs : List BatchEpoch) → 0 < length epochs → All (λ (e : BatchEpoch). 0 < length e.clients.items) epochs → 0 < clients_of epochs
+pub some-client : (epochs : List BatchEpoch) → 0 < length epochs → All (λ (e : BatchEpoch). 0 < length e.clients.items) epochs → 0 < clients_of_epochs epochs
 some-client [] none some = absurd (omega (arith, none))
 some-client (e ∷ epochs) many some =
     omega (arith, sum_by-cons (λ (x : BatchEpoch). length x.clients.items) e epochs, All-head (λ (x : BatchEpoch). 0 < length x.clients.items) e epochs some)
 
 -- the epochs before a cut may be run, and those after it
-module _ (entries : ℕ) (epochs : List BatchEpoch) (places at front : ℕ) (may : MayRunAll entries epochs places) (is : front ≡ clients_of (take at epochs)) where
+module _ (entries : ℕ) (epochs : List BatchEpoch) (places at front : ℕ) (may : MayRunAll entries epochs places) (is : front ≡ clients_of_epochs (take at epochs)) where
   -- the clients of both are all
-  all-cut : clients_of (take at epochs) + clients_of (drop at epochs) ≡ clients_of epochs
+  all-cut : clients_of_epochs (take at epochs) + clients_of_epochs (drop at epochs) ≡ clients_of_epochs epochs
   all-cut = sum_by-take-drop (λ (e : BatchEpoch). length e.clients.items) epochs at
 
   pub may-front : MayRunAll entries (take at epochs) front

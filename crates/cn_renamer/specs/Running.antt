@@ -4,7 +4,7 @@ use Rattle.std.specs.List.{flat_map}
 use Rattle.cn_spec.specs.declared.limits.TheConstants.{MOST_RECORDS, MOST_WORKERS}
 use Rattle.cn_cli.specs.Options.{HandFits}
 use Rattle.cn_record.specs.declared.record.EpochRecord.{EpochRecord}
-use Rattle.cn_report.specs.Reading.Batch.{MayCome, clients_of}
+use Rattle.cn_report.specs.Reading.Batch.{MayCome, clients_of_epochs}
 use Rattle.cn_report.specs.declared.reading.gathering.BatchEpoch.{BatchEpoch}
 use Rattle.cn_renamer.specs.declared.crew.Crew.{Crew}
 use Rattle.cn_renamer.specs.Headline.{AreServed}
@@ -21,7 +21,7 @@ pub record MayRunAll (entries : ℕ) (epochs : List BatchEpoch) (places : ℕ) :
   pub come : All (λ e. MayCome entries e.clients.items) epochs
   pub some : All (λ e. 0 < length e.clients.items) epochs
   pub few : places ≤ MOST_RECORDS
-  pub all : places ≡ clients_of epochs
+  pub all : places ≡ clients_of_epochs epochs
 
 -- the epochs were served one after another, and these are the holders of all their names: those of the first epoch by
 -- rising name, then those of the next

@@ -4,7 +4,7 @@ ghost use Rattle.std.specs.Prelude.{◌≡◌, ◌+◌, ◌++◌, ◌<◌, ◌�
 ghost use Rattle.cn_spec.specs.declared.limits.TheConstants.{MOST_CARRIED, MOST_RECORDS};
 ghost use Rattle.cn_spec.specs.Sums.{when};
 ghost use Rattle.cn_floor.specs.Carried.{client_count};
-ghost use Rattle.cn_report.specs.Reading.Batch.{AreServable, MayCome, clients_of};
+ghost use Rattle.cn_report.specs.Reading.Batch.{AreServable, MayCome, clients_of_epochs};
 ghost use Rattle.cn_renamer.specs.Headline.{IsServed};
 ghost use Rattle.cn_renamer.specs.Running.{AreHoldersOf, IsCrew, MayRunAll};
 ghost use denote.Param.Send.{IsSync};
@@ -107,8 +107,8 @@ fn run_in_turn<G: Gate + Sync, R: Threads + Wait + Sync>(
 
 /// How many clients epochs have.
 fn clients_in(epochs: &[BatchEpoch]) -> usize
-    requires { clients_of epochs.now ≤ MOST_RECORDS }
-    ensures { result ≡ clients_of epochs.now }
+    requires { clients_of_epochs epochs.now ≤ MOST_RECORDS }
+    ensures { result ≡ clients_of_epochs epochs.now }
 {
     epochs.iter().map(|epoch| epoch.clients.len()).sum()
 }
@@ -117,9 +117,9 @@ fn clients_in(epochs: &[BatchEpoch]) -> usize
 /// have. It is the first place at which so many clients are reached.
 fn cut(epochs: &[BatchEpoch], wanted: usize) -> (usize, usize)
     requires two { 2 ≤ length epochs.now }
-    requires few { clients_of epochs.now ≤ MOST_RECORDS }
+    requires few { clients_of_epochs epochs.now ≤ MOST_RECORDS }
     ensures both { (0 < result.0) × (result.0 < length epochs.now) }
-    ensures clients { result.1 ≡ clients_of (take result.0 epochs.now) }
+    ensures clients { result.1 ≡ clients_of_epochs (take result.0 epochs.now) }
 {
     let mut at = 1;
     let mut clients = epochs[0].clients.len();
@@ -185,10 +185,10 @@ pub(crate) fn run_all<G: Gate + Sync, R: Threads + Wait + Sync>(
     gate: &G,
 ) -> Result<Vec<u64>, AllocError>
     requires servable { AreServable network.now.table.entries epochs.now }
-    requires few { clients_of epochs.now ≤ MOST_RECORDS }
+    requires few { clients_of_epochs epochs.now ≤ MOST_RECORDS }
     ensures listed { IfOk result (λ holders.
         AreHoldersOf options.now.carry network.now.table.width epochs.now holders.items) }
-    ensures many { IfOk result (λ holders. clients_of epochs.now ≡ length holders.items) }
+    ensures many { IfOk result (λ holders. clients_of_epochs epochs.now ≡ length holders.items) }
 {
     let mut holders = vec![in alloc; 0; clients_in(epochs)]?;
     let crew = Crew {

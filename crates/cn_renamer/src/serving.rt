@@ -3,7 +3,7 @@
 ghost use Rattle.std.specs.Prelude.{◌≡◌, ◌≤◌, IfErr, List, length};
 ghost use Rattle.cn_spec.specs.declared.limits.TheConstants.{MOST_RECORDS};
 ghost use Rattle.cn_record.specs.declared.record.EpochRecord.{EpochRecord};
-ghost use Rattle.cn_report.specs.Reading.Batch.{AreServable, clients_of};
+ghost use Rattle.cn_report.specs.Reading.Batch.{AreServable, clients_of_epochs};
 ghost use Rattle.cn_report.specs.Writing.Pieces.{nothing_put};
 ghost use Rattle.cn_report.specs.Writing.Records.{AreRecordsOf};
 ghost use Rattle.cn_report.specs.Writing.Written.{First, HasWritten, written_by};
@@ -36,8 +36,8 @@ fn write_epochs<W: Write>(
 ) -> Result<(), EmitFault>
     requires fresh { pieces ≡ nothing_put }
     requires servable { AreServable network.now.table.entries epochs.now }
-    requires as_many { clients_of epochs.now ≡ length holders.now }
-    requires few { clients_of epochs.now ≤ MOST_RECORDS }
+    requires as_many { clients_of_epochs epochs.now ≡ length holders.now }
+    requires few { clients_of_epochs epochs.now ≤ MOST_RECORDS }
     ensures { (records : List EpochRecord)
         → AreRecordsOf options.now.carry network.now.table.width 0 epochs.now records holders.now
         → let written = written_by (λ fault. First fault.written) result in

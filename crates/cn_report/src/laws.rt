@@ -8,7 +8,7 @@ ghost use Rattle.cn_record.specs.declared.record.EpochRecord.{EpochRecord};
 ghost use Rattle.cn_report.specs.Reading.Grants.{IsTightList};
 ghost use Rattle.cn_report.specs.Reading.Records.{Record, records_of};
 ghost use Rattle.cn_report.specs.Reading.Told.{told_epochs};
-ghost use Rattle.cn_report.specs.Writing.Grants.{AreTight, checked_epoch, grants_text};
+ghost use Rattle.cn_report.specs.Writing.Grants.{AreTightRecords, checked_epoch, grants_text};
 
 /// The records of a text determine its batch: two batches that they are have the same epochs.
 pub fn batch_is_one()
@@ -21,9 +21,9 @@ pub fn batch_is_one()
 /// [`crate::render_grants`] wrote of them. If each epoch has some client, a check reports of each its number, its
 /// number of clients, and as many names for each exit as its share: how many are `i` modulo the width.
 pub fn written_grants_are_tight()
-    ensures tight { (records : List EpochRecord) → AreTight records
+    ensures tight { (records : List EpochRecord) → AreTightRecords records
         → IsTightList (records_of (grants_text records)) }
-    ensures told { (width : ℕ) (records : List EpochRecord) → AreTight records
+    ensures told { (width : ℕ) (records : List EpochRecord) → AreTightRecords records
         → AllByRecursion (λ r. 0 < r.clients) records
         → told_epochs width (records_of (grants_text records)) ≡ map (checked_epoch width) records }
 {}

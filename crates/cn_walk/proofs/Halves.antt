@@ -8,7 +8,7 @@ use Rattle.cn_ledger.specs.declared.client.Client.{Client}
 use Rattle.cn_walk.specs.declared.forking.Lanes.{Lanes}
 use Rattle.cn_walk.specs.declared.forking.Lanes.TheVariants.{One, Halves'}
 use Rattle.cn_floor.specs.declared.view.Grant.{Grant}
-use Rattle.cn_walk.specs.Halves.{AreOf, AreReady, HasNothing, IsPair, IsReady, first_of, together, whole}
+use Rattle.cn_walk.specs.Halves.{AreOf, AreReady, HasNothing, IsPair, IsReady, first_position, together, whole}
 use Rattle.cn_floor.specs.Lane.{FloorValue, LaneValue, empty_lane, with_room}
 use Rattle.cn_floor.specs.Views.{after_look, after_split, split_off}
 use Rattle.cn_walk.specs.Walks.{WalksAll}
@@ -61,16 +61,16 @@ whole-ready home n (One lane worker) r = r
 whole-ready home n (Halves' at p left q right) r = r.0
 
 -- a later worker's clients come later
-pub first-later : (k w a b : ℕ) → 0 < w → a ≤ b → first_of k w a ≤ first_of k w b
+pub first-later : (k w a b : ℕ) → 0 < w → a ≤ b → first_position k w a ≤ first_position k w b
 first-later k w a b some h = le-div (a * k / w) (b * k) w some (omega (arith, div-mul-le_self (a * k) w, mul-le-mul_right k h))
 
 -- workers before, or after, who have no clients: the lanes are of them too
-pub none_before : (k w from middle to : ℕ) (lanes : Lanes) → from ≤ middle → first_of k w middle ≡ first_of k w from → AreOf k w middle to lanes → AreOf k w from to lanes
+pub none_before : (k w from middle to : ℕ) (lanes : Lanes) → from ≤ middle → first_position k w middle ≡ first_position k w from → AreOf k w middle to lanes → AreOf k w from to lanes
 none_before k w from middle to (One lane worker) before same (low, high, first, last) = (omega (arith, before, low), high, first ∙ same, last)
 none_before k w from middle to (Halves' at p left q right) before same (m, low, high, is, one, two) =
-    (m, omega (arith, before, low), high, is ∙ ap (λ (n : ℕ). first_of k w m - n) same, none_before k w from middle m left before same one, two)
+    (m, omega (arith, before, low), high, is ∙ ap (λ (n : ℕ). first_position k w m - n) same, none_before k w from middle m left before same one, two)
 
-pub none_after : (k w from middle to : ℕ) (lanes : Lanes) → middle ≤ to → first_of k w middle ≡ first_of k w to → AreOf k w from middle lanes → AreOf k w from to lanes
+pub none_after : (k w from middle to : ℕ) (lanes : Lanes) → middle ≤ to → first_position k w middle ≡ first_position k w to → AreOf k w from middle lanes → AreOf k w from to lanes
 none_after k w from middle to (One lane worker) after same (low, high, first, last) = (low, omega (arith, after, high), first, last ∙ same)
 none_after k w from middle to (Halves' at p left q right) after same (m, low, high, is, one, two) =
     (m, low, omega (arith, after, high), is, one, none_after k w m middle to right after same two)

@@ -15,7 +15,7 @@ use Rattle.cn_floor.specs.declared.view.View.{View}
 use Rattle.cn_floor.specs.Carried.{WordsValue, client_count, words_before, zero_words}
 use Rattle.cn_floor.specs.Closing.{IsMissing}
 use Rattle.cn_floor.specs.Ends.{IsClosedFloor, QuietValue}
-use Rattle.cn_walk.specs.Halves.{HasNothing, first_of}
+use Rattle.cn_walk.specs.Halves.{HasNothing, first_position}
 use Rattle.cn_floor.specs.Lane.{FloorValue, IsIdle, LaneValue, empty_lane}
 use Rattle.cn_walk.specs.Runs.{IsRun, IsRunAfter}
 use Rattle.cn_floor.specs.Views.{base}
@@ -27,7 +27,7 @@ use Rattle.cn_floor.proofs.AtMoments.Openings.{none-came, none-counted, none-ent
 use Rattle.cn_floor.proofs.AtMoments.Raised.{count-word}
 
 -- all clients lie between the first of the first worker and that of the one after the last
-pub all-first : (k w : ℕ) → 0 < w → first_of k w w - first_of k w 0 ≡ k
+pub all-first : (k w : ℕ) → 0 < w → first_position k w w - first_position k w 0 ≡ k
 all-first k w some =
     let one : w * k / w ≡ k = ap (λ (x : ℕ). x / w) (omega arith) ∙ div-mul-add k w 0 some in
     let none : 0 * k / w ≡ 0 = ap (λ (x : ℕ). x / w) (omega arith) ∙ div-mul-add 0 w 0 some in

@@ -8,8 +8,8 @@ use Rattle.cn_floor.specs.Lane.{FloorValue, LaneValue}
 use Rattle.cn_floor.specs.Views.{after_join, after_look}
 
 -- the position of a worker's first client among k, of w workers
-abbrev pub first_of : ℕ → ℕ → ℕ → ℕ
-first_of k w worker = worker * k / w
+abbrev pub first_position : ℕ → ℕ → ℕ → ℕ
+first_position k w worker = worker * k / w
 
 -- the second lane taken into the first
 abbrev pub together : LaneValue → LaneValue → LaneValue
@@ -48,9 +48,9 @@ AreReady home clients (Halves' at p left q right) =
 abbrev pub AreOf : ℕ → ℕ → ℕ → ℕ → Lanes → Type 0
 AreOf k w from to (One lane worker) =
     (from ≤ worker) × (worker < to)
-    × (first_of k w worker ≡ first_of k w from) × (first_of k w (worker + 1) ≡ first_of k w to)
+    × (first_position k w worker ≡ first_position k w from) × (first_position k w (worker + 1) ≡ first_position k w to)
 AreOf k w from to (Halves' at p left q right) =
-    (middle : ℕ) × (from < middle) × (middle < to) × (at ≡ first_of k w middle - first_of k w from)
+    (middle : ℕ) × (from < middle) × (middle < to) × (at ≡ first_position k w middle - first_position k w from)
     × AreOf k w from middle left × AreOf k w middle to right
 
 -- these clients may be walked through the lanes
@@ -64,5 +64,5 @@ pub record IsPair (at : ℕ) (left right lanes : Lanes) : Type 0 where
   pub ready : (home : FloorValue) (n : ℕ) → IsReady home n (together (whole left) (whole right)) → at ≤ n
       → AreReady home at left → AreReady home (n - at) right → AreReady home n lanes
   -- and if the halves are of workers that follow one another, the lanes are of all these
-  pub of : (k w from middle to : ℕ) → from < middle → middle < to → at ≡ first_of k w middle - first_of k w from
+  pub of : (k w from middle to : ℕ) → from < middle → middle < to → at ≡ first_position k w middle - first_position k w from
       → AreOf k w from middle left → AreOf k w middle to right → AreOf k w from to lanes

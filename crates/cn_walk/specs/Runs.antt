@@ -12,7 +12,7 @@ use Rattle.cn_ledger.specs.declared.client.Client.{Client}
 use Rattle.cn_walk.specs.declared.running.RunFault.{RunFault}
 use Rattle.cn_walk.specs.declared.running.RunFault.TheVariants.{Workers, Hand, TooMany, NoSuchEntry, Memory}
 use Rattle.cn_floor.specs.Carried.{WordsValue, client_count}
-use Rattle.cn_floor.specs.Ends.{QuietValue, counts_of, passes_of}
+use Rattle.cn_floor.specs.Ends.{QuietValue, counts_by_exit, passes_of}
 use Rattle.cn_walk.specs.Walks.{AreFor}
 use Rattle.cn_floor.specs.Words.{clients_in, count_in, entered_in}
 
@@ -55,7 +55,7 @@ pub record IsRunAfter (before : WordsValue) (clients : List Client) (quiet : Qui
   -- they came after the clients of the words
   pub came : clients_in before.network.table quiet.words ≡ client_count before + length clients
   -- each exit let out its share of all minus its share of those that came before
-  pub counts : counts_of quiet.start quiet.words ≡ shares_after (client_count before) (length clients) before.network.table.width
+  pub counts : counts_by_exit quiet.start quiet.words ≡ shares_after (client_count before) (length clients) before.network.table.width
   -- each balancer passed what the full flow of all entries brings there, minus what passed before
   pub passes : (f : ℕ → ℕ) → IsFullFlow before.network.table f
       → ((u : ℕ) → u < before.network.table.entries
@@ -75,7 +75,7 @@ pub record IsRunAfter (before : WordsValue) (clients : List Client) (quiet : Qui
 pub record IsRun (network : Network) (clients : List Client) (quiet : QuietValue) : Type 0 where
   pub over : quiet.start.network ≡ network
   -- each exit let out its share of them
-  pub counts : counts_of quiet.start quiet.words ≡ shares (length clients) network.table.width
+  pub counts : counts_by_exit quiet.start quiet.words ≡ shares (length clients) network.table.width
   -- each balancer passed what the full flow of their entries brings there
   pub passes : (f : ℕ → ℕ) → IsFullFlow network.table f
       → ((u : ℕ) → u < network.table.entries → f u ≡ times u (map (λ c. c.entry) clients))

@@ -3,7 +3,7 @@
 ghost use Rattle.std.specs.Prelude.{◌≡◌, ◌+◌, ◌-◌, ◌*◌, ◌/◌, ◌<◌, ◌≤◌, All, IfSome, length};
 ghost use Rattle.cn_spec.specs.declared.limits.TheConstants.{MOST_CLIENTS};
 ghost use Rattle.cn_yard.specs.Lists.{tokens_in};
-ghost use Rattle.cn_walk.specs.Halves.{AreOf, AreReady, HasNothing, IsPair, IsReady, MayWalk, first_of, together, whole};
+ghost use Rattle.cn_walk.specs.Halves.{AreOf, AreReady, HasNothing, IsPair, IsReady, MayWalk, first_position, together, whole};
 ghost use Rattle.cn_walk.specs.Walks.{WalksAll};
 ghost use denote.Param.Send.{IsSync};
 
@@ -78,9 +78,9 @@ impl<'a> LaneWalker for Floor<'a> {
 }
 
 /// The position of a worker's first client among all; that of the worker after the last is the number of clients.
-fn first_of(clients: u32, workers: u32, worker: u32) -> u32
+fn first_position(clients: u32, workers: u32, worker: u32) -> u32
     requires { (0 < workers) × (worker ≤ workers) }
-    ensures value { result ≡ first_of clients workers worker }
+    ensures value { result ≡ first_position clients workers worker }
     ensures within { result ≤ clients }
 {
     (u64::from(worker) * u64::from(clients) / u64::from(workers)) as u32
@@ -101,14 +101,14 @@ pub(crate) fn make_lanes<'a>(
     requires own { lane.home ≡ floor.now }
     requires range { (from < to) × (to ≤ workers) × (clients ≤ MOST_CLIENTS) }
     requires nothing { HasNothing lane }
-    requires quota { first_of clients workers to - first_of clients workers from ≤ lane.view.quota }
+    requires quota { first_position clients workers to - first_position clients workers from ≤ lane.view.quota }
     ensures ready { IfSome result (λ lanes.
-        AreReady floor.now (first_of clients workers to - first_of clients workers from) lanes) }
+        AreReady floor.now (first_position clients workers to - first_position clients workers from) lanes) }
     ensures workers { IfSome result (λ lanes. AreOf clients workers from to lanes) }
     ensures room { IfSome result (λ lanes. lane.room ≤ (whole lanes).room) }
 {
-    let first = first_of(clients, workers, from);
-    let own = first_of(clients, workers, to) - first;
+    let first = first_position(clients, workers, from);
+    let own = first_position(clients, workers, to) - first;
     let Ok(()) = lane.reserve(u64::from(own)) else {
         return None;
     };
@@ -116,7 +116,7 @@ pub(crate) fn make_lanes<'a>(
         return Some(Lanes::One(lane, from));
     }
     let middle = from + (to - from) / 2;
-    let at = first_of(clients, workers, middle) - first;
+    let at = first_position(clients, workers, middle) - first;
     if at == 0 {
         return make_lanes(alloc, floor, lane, clients, workers, middle, to);
     }

@@ -8,7 +8,7 @@ use Rattle.cn_spec.specs.Sums.{times}
 use Rattle.cn_yard.specs.declared.yard.Yard.TheInside.{Inside}
 use Rattle.cn_yard.specs.declared.records.Record.{Record}
 use Rattle.cn_yard.specs.declared.lines.Line.{Line}
-use Rattle.cn_yard.specs.Lists.{IsLowest, IsThere, after, first_of, on, standing}
+use Rattle.cn_yard.specs.Lists.{IsLowest, IsThere, next_after, first_of, on, standing}
 use Rattle.cn_yard.specs.Chains.{last_or}
 use Rattle.cn_yard.specs.Lines.{Ends, count_of, line_of, no_line}
 use Rattle.cn_yard.specs.Records.{client_of, next_of, no_record, prev_of, wire_of}
@@ -78,7 +78,7 @@ module _ (y : Inside) (order : ℕ → List ℕ) (k : Keeps y order) where
   -- the one after it
   pub next-read : (t : ℕ) (r : Record) (line : Line) (wire client : ℕ) → IsSome (standing (lists_of y) t)
       → r ≡ get_or y.records.items t r → line ≡ get_or y.lines.items r.wire line
-      → standing (lists_of y) t ≡ Some (wire, client) → after t (on (lists_of y) wire) ≡ cond (eqb line.last t) None (Some r.next)
+      → standing (lists_of y) t ≡ Some (wire, client) → next_after t (on (lists_of y) wire) ≡ cond (eqb line.last t) None (Some r.next)
   next-read t r line wire client stands at line_at is =
       let rows = k.wires in
       let (h, on') = live y order k t stands in

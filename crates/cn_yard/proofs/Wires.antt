@@ -12,7 +12,7 @@ use Rattle.cn_spec.specs.Sums.{sum_below, times}
 use Rattle.cn_spec.proofs.CallerLemmas.{times-cons, times-nil, sum-below-same}
 use Rattle.cn_yard.specs.declared.yard.Yard.TheInside.{Inside}
 use Rattle.cn_yard.proofs.There.{there}
-use Rattle.cn_yard.specs.Lists.{IsThere, after, last_on, on, standing, times_in, tokens_in, without}
+use Rattle.cn_yard.specs.Lists.{IsThere, next_after, last_on, on, standing, times_in, tokens_in, without}
 use Rattle.cn_yard.specs.Chains.{Chain, but, last_of, last_or, moved}
 use Rattle.cn_yard.specs.Lines.{count_of, line_of}
 use Rattle.cn_yard.specs.Records.{client_of, next_of, prev_of, wire_of}
@@ -74,8 +74,8 @@ clients-last client t to u = by (eqb to u)
 
 -- the token after one
 pub after-clients : (n p : ℕ → ℕ) (client : ℕ → ℕ) (t d : ℕ) (xs : List ℕ) → Chain n p xs → times t xs ≡ 1
-    → after t (with_clients client xs) ≡ cond (eqb (last_or d xs) t) None (Some (n t))
-unfolding after last_or
+    → next_after t (with_clients client xs) ≡ cond (eqb (last_or d xs) t) None (Some (n t))
+unfolding next_after last_or
 after-clients n p client t d [] c one = absurd (omega (arith, times-nil t))
 after-clients n p client t d (x ∷ []) c one =
     let m = times-cons t x [] in let none = times-nil t in

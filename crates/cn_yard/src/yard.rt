@@ -2,7 +2,7 @@
 
 ghost use Rattle.std.specs.Prelude.{◌≡◌, ℕ, ◌+◌, ◌<◌, ◌≤◌, ◌↔◌, max, None, Some, length, IfOk, OnOk, OnErr, IsOk, IfSome, IsSome, IsTrue, []};
 ghost use Rattle.cn_spec.specs.declared.limits.TheConstants.{MOST_TOKENS};
-ghost use Rattle.cn_yard.specs.Lists.{Admits, IsLowest, IsThere, Moves, Releases, after, empty, first_of, on, standing, times_in, tokens_in};
+ghost use Rattle.cn_yard.specs.Lists.{Admits, IsLowest, IsThere, Moves, Releases, next_after, empty, first_of, on, standing, times_in, tokens_in};
 
 use crate::lines::Line;
 use crate::marks::least_from;
@@ -178,7 +178,7 @@ impl Yard {
     pub fn next(&self, token: Token) -> Option<Token>
         requires { IsSome (standing self.now.lists token) }
         ensures { (wire client : ℕ) → standing self.now.lists token ≡ Some (wire, client)
-            → result ≡ after token (on self.now.lists wire) }
+            → result ≡ next_after token (on self.now.lists wire) }
     {
         let record = self.records[token.number() as usize];
         if self.lines[record.wire as usize].last == token.number() {

@@ -4,7 +4,7 @@ use Rattle.cn_wiring.specs.declared.kind.Kind.{Kind}
 use Rattle.cn_wiring.specs.declared.kind.Kind.TheVariants.{Bitonic, Periodic, Tree}
 use Rattle.cn_cli.specs.Net.{IsNetworkOf}
 use Rattle.cn_floor.specs.Carried.{start_after}
-use Rattle.cn_floor.specs.Ends.{IsClosedFloor, ListsHolders, counts_of}
+use Rattle.cn_floor.specs.Ends.{IsClosedFloor, ListsHolders, counts_by_exit}
 use Rattle.cn_floor.specs.Lane.{LaneValue, empty_lane, with_room}
 use Rattle.cn_floor.specs.Named.{IsNamed}
 use Rattle.cn_floor.specs.Steps.{HasMoment, IsAnswer}
@@ -35,10 +35,12 @@ abbrev pub Names : Option LaneValue → Option LaneValue → ℕ → ℕ → ℕ
 Names old new client entry name =
     (l k : LaneValue) × (old ≡ Some l) × (new ≡ Some k) × IsNamed l k client entry name
 
+-- a lane split one off with this quota
 abbrev pub Splits : Option LaneValue → Option LaneValue → Option LaneValue → ℕ → Type 0
 Splits old new other quota =
     (l k m : LaneValue) × (old ≡ Some l) × (new ≡ Some k) × (other ≡ Some m) × IsSplit l k m quota
 
+-- a lane answered how many came in
 abbrev pub Answers : Option LaneValue → Option LaneValue → ℕ → Type 0
 Answers old new answer = (l k : LaneValue) × (old ≡ Some l) × (new ≡ Some k) × IsAnswered l k answer
 
@@ -59,9 +61,10 @@ Opens new kind width quota =
 pub record IsClosedBy (l : LaneValue) (r : RecordValue) : Type 0 where
   pub closed : IsClosedFloor l.home.start l.view r.words.words
   pub network : r.words.network ≡ l.home.start.network
-  pub counts : r.counts ≡ counts_of l.home.start r.words.words
+  pub counts : r.counts ≡ counts_by_exit l.home.start r.words.words
   pub holders : ListsHolders l.view.grants r.holders
 
+-- a lane closed its floor, which left this record
 abbrev pub Closes : Option LaneValue → Option RecordValue → Type 0
 Closes old closed = (l : LaneValue) × (r : RecordValue) × (old ≡ Some l) × (closed ≡ Some r) × IsClosedBy l r
 

@@ -6,22 +6,23 @@ use Rattle.renamer_c.specs.declared.held.Held.{Held}
 use Rattle.renamer_c.specs.declared.held.Held.TheVariants.{Nothing, Lane, Closed}
 
 -- the lane there, if one is
-abbrev pub lane_of : Held → Option LaneValue
-lane_of Nothing = None
-lane_of (Lane l) = Some l
-lane_of (Closed r) = None
+abbrev pub lane_held : Held → Option LaneValue
+lane_held Nothing = None
+lane_held (Lane l) = Some l
+lane_held (Closed r) = None
 
 -- the record of a closed floor there, if one is
-abbrev pub record_of : Held → Option RecordValue
-record_of Nothing = None
-record_of (Lane l) = None
-record_of (Closed r) = Some r
+abbrev pub record_held : Held → Option RecordValue
+record_held Nothing = None
+record_held (Lane l) = None
+record_held (Closed r) = Some r
 
--- the same of a handle, which is none or has something
+-- the lane there, if a handle has one
 abbrev pub lane_in : Option Held → Option LaneValue
 lane_in None = None
-lane_in (Some h) = lane_of h
+lane_in (Some h) = lane_held h
 
+-- the record of a closed floor there, if a handle has one
 abbrev pub record_in : Option Held → Option RecordValue
 record_in None = None
-record_in (Some h) = record_of h
+record_in (Some h) = record_held h

@@ -2,5 +2,6 @@
 use Rattle.renamer_c.specs.declared.record_of_floor.Record.TheInside.{Inside}
 use Rattle.renamer_c.specs.Records.{RecordValue}
 
+-- its words and its lists
 abbrev pub record_of : Inside → RecordValue
 record_of r = record { words = r.words; counts = r.counts.items; holders = r.holders.items }

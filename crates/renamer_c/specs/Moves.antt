@@ -26,8 +26,9 @@ abbrev pub IsEntered : LaneValue → LaneValue → ℕ → ℕ → Type 0
 IsEntered l k client entry = (token : ℕ) × LetsIn l k token client entry
 
 -- the same of what handles have
-abbrev pub Enters : Option LaneValue → Option LaneValue → ℕ → ℕ → Type 0
-Enters old new client entry = (l k : LaneValue) × (old ≡ Some l) × (new ≡ Some k) × IsEntered l k client entry
+abbrev pub EntersBy : Option LaneValue → Option LaneValue → ℕ → ℕ → Type 0
+EntersBy old new client entry = (l k : LaneValue) × (old ≡ Some l) × (new ≡ Some k) × IsEntered l k client entry
 
+-- the first client on a wire of a lane goes by its end
 abbrev pub Steps : Option LaneValue → Option LaneValue → ℕ → Moved → Type 0
 Steps old new wire moved = (l k : LaneValue) × (old ≡ Some l) × (new ≡ Some k) × IsStepped l k wire moved

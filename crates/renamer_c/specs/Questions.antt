@@ -8,12 +8,12 @@ use Rattle.renamer_c.specs.declared.question.Question.TheVariants.{Quota, Inside
 use Rattle.renamer_c.specs.declared.granting.Grant.{Grant}
 
 -- what a lane answers
-abbrev pub answer_to : Question → LaneValue → ℕ
-answer_to Quota l = l.view.quota
-answer_to Inside l = tokens_in l.yard.lists
-answer_to Entries l = l.home.start.network.table.entries
-answer_to Exits l = l.home.start.network.table.width
-answer_to Grants l = length l.view.grants
+abbrev pub number_asked : Question → LaneValue → ℕ
+number_asked Quota l = l.view.quota
+number_asked Inside l = tokens_in l.yard.lists
+number_asked Entries l = l.home.start.network.table.entries
+number_asked Exits l = l.home.start.network.table.width
+number_asked Grants l = length l.view.grants
 
 -- a grant as C sees it
 abbrev pub copy_of : floor.Grant → Grant

@@ -1,7 +1,7 @@
 -- What a closed floor leaves.
 use Rattle.std.specs.Prelude.{◌≡◌, ℕ, List}
 use Rattle.cn_floor.specs.Carried.{WordsValue}
-use Rattle.cn_floor.specs.Ends.{ListsHolders, QuietValue, counts_of, words_after}
+use Rattle.cn_floor.specs.Ends.{ListsHolders, QuietValue, counts_by_exit, words_after}
 use Rattle.renamer_c.specs.declared.record_of_floor.Listed.{Listed}
 use Rattle.renamer_c.specs.declared.record_of_floor.Listed.TheVariants.{Counts, Holders}
 
@@ -12,9 +12,9 @@ pub record RecordValue : Type 0 where
   pub holders : List ℕ
 
 -- the record of a closed floor
-pub record IsRecordOf (quiet : QuietValue) (r : RecordValue) : Type 0 where
+pub record IsRecordOfClosed (quiet : QuietValue) (r : RecordValue) : Type 0 where
   pub words : r.words ≡ words_after quiet
-  pub counts : r.counts ≡ counts_of quiet.start quiet.words
+  pub counts : r.counts ≡ counts_by_exit quiet.start quiet.words
   pub holders : ListsHolders quiet.did.grants r.holders
 
 -- one of its lists

@@ -74,10 +74,10 @@ NobodyOn lane wire NobodyThere = WithLane lane (λ l. length (on l.yard.lists wi
 NobodyOn lane wire r = ⊥
 
 -- why no wire is the lowest with a client
-abbrev pub NobodyInside : Option LaneValue → Refusal → Type 0
-NobodyInside lane Nothing = lane ≡ None
-NobodyInside lane NobodyThere = WithLane lane (λ l. tokens_in l.yard.lists ≡ 0)
-NobodyInside lane r = ⊥
+abbrev pub NoLowestWire : Option LaneValue → Refusal → Type 0
+NoLowestWire lane Nothing = lane ≡ None
+NoLowestWire lane NobodyThere = WithLane lane (λ l. tokens_in l.yard.lists ≡ 0)
+NoLowestWire lane r = ⊥
 
 -- why a lane gets no more room
 abbrev pub NotReserved : Option LaneValue → Refusal → Type 0

@@ -18,5 +18,6 @@ pub record IsSwept (old new : LaneValue) (wire : ℕ) (swept : Swept) : Type 0 w
   pub went : SweepsOn old new wire number answer
   pub copied : swept ≡ swept_of answer
 
+-- all clients on a wire of a lane go by its end
 abbrev pub Sweeps : Option LaneValue → Option LaneValue → ℕ → Swept → Type 0
 Sweeps old new wire swept = (l k : LaneValue) × (old ≡ Some l) × (new ≡ Some k) × IsSwept l k wire swept

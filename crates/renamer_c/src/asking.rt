@@ -4,7 +4,7 @@ ghost use Rattle.std.specs.Prelude.{◌≡◌, ◌<◌, length};
 ghost use Rattle.cn_yard.specs.Lists.{tokens_in};
 ghost use Rattle.renamer_c.specs.Calls.{Answers, Reserves};
 ghost use Rattle.renamer_c.specs.Handles.{lane_in};
-ghost use Rattle.renamer_c.specs.Questions.{answer_to};
+ghost use Rattle.renamer_c.specs.Questions.{number_asked};
 ghost use Rattle.renamer_c.specs.Refusals.{IsRefusal, NotReserved, NotThere, WithLane};
 ghost use Rattle.renamer_c.specs.declared.refusal.TheConstants.{DONE};
 
@@ -50,7 +50,7 @@ pub extern "C" fn renamer_reserve(alloc: Global, lane: &mut Handle, clients: u64
 /// Asks a lane for a number.
 fn ask(alloc: Global, lane: &mut Handle, question: Question, to: &mut u64) -> u32
     ensures answered { result ≡ DONE
-        → WithLane (lane_in lane.old.held) (λ l. to.new ≡ answer_to question l) }
+        → WithLane (lane_in lane.old.held) (λ l. to.new ≡ number_asked question l) }
     ensures lane { lane.new.held ≡ lane.old.held }
     ensures kept { 0 < result → to.new ≡ to.old }
     ensures refused { 0 < result → IsRefusal (NotThere (lane_in lane.old.held)) result }

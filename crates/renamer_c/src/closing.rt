@@ -2,7 +2,7 @@
 
 ghost use Rattle.std.specs.Prelude.{◌≡◌, ◌<◌, None, Some, IfErr, IfOk};
 ghost use Rattle.renamer_c.specs.Calls.{Closes, OpensAfter};
-ghost use Rattle.renamer_c.specs.Handles.{lane_in, lane_of, record_in, record_of};
+ghost use Rattle.renamer_c.specs.Handles.{lane_in, lane_held, record_in, record_held};
 ghost use Rattle.renamer_c.specs.Refusals.{IsRefusal, NotClosed, NotOpenedAfter};
 ghost use Rattle.renamer_c.specs.declared.refusal.TheConstants.{DONE};
 
@@ -43,7 +43,7 @@ pub extern "C" fn renamer_close(alloc: Global, lane: &mut Handle, quiet: &mut Ha
 /// # Errors
 /// The first that stands: `Carried`, `Quota`, `Memory`.
 fn open_after(alloc: Global, closed: &Record, quota: u64) -> Result<Box<Held>, Refusal>
-    ensures ok { IfOk result (λ b. OpensAfter (Some closed.now) (lane_of b.value) quota) }
+    ensures ok { IfOk result (λ b. OpensAfter (Some closed.now) (lane_held b.value) quota) }
     ensures refused { IfErr result (NotOpenedAfter (Some closed.now) quota) }
 {
     if closed.words().clients() > MOST_CARRIED {
@@ -64,8 +64,8 @@ fn open_after(alloc: Global, closed: &Record, quota: u64) -> Result<Box<Held>, R
 /// # Errors
 /// `Nothing` if that is no record, else as [`open_after`].
 fn open_from(alloc: Global, held: &Held, quota: u64) -> Result<Box<Held>, Refusal>
-    ensures ok { IfOk result (λ b. OpensAfter (record_of held.now) (lane_of b.value) quota) }
-    ensures refused { IfErr result (NotOpenedAfter (record_of held.now) quota) }
+    ensures ok { IfOk result (λ b. OpensAfter (record_held held.now) (lane_held b.value) quota) }
+    ensures refused { IfErr result (NotOpenedAfter (record_held held.now) quota) }
 {
     match held.record() {
         Ok(closed) => open_after(alloc, closed, quota),

@@ -1,7 +1,7 @@
 //! The grants of a lane, copied.
 
 ghost use Rattle.std.specs.Prelude.{◌≡◌, ◌+◌, ◌<◌, ◌≤◌, length, IfErr, OnErr, OnOk};
-ghost use Rattle.renamer_c.specs.Handles.{lane_in, lane_of};
+ghost use Rattle.renamer_c.specs.Handles.{lane_in, lane_held};
 ghost use Rattle.renamer_c.specs.Questions.{AreGrantsFrom, copy_of};
 ghost use Rattle.renamer_c.specs.Refusals.{IsRefusal, NotGranted, WithLane};
 ghost use Rattle.renamer_c.specs.declared.refusal.TheConstants.{DONE};
@@ -54,9 +54,9 @@ pub(crate) fn copy_from(grants: &[cn_floor::Grant], first: usize, copies: &mut [
 /// # Errors
 /// The first that stands: `Nothing`, `Size`. Then nothing has changed.
 fn copy(held: &Held, first: u64, copies: &mut [Grant]) -> Result<(), Refusal>
-    ensures ok { OnOk result (WithLane (lane_of held.now) (λ l. AreGrantsFrom l.view.grants first copies.new)) }
+    ensures ok { OnOk result (WithLane (lane_held held.now) (λ l. AreGrantsFrom l.view.grants first copies.new)) }
     ensures err { OnErr result (copies.new ≡ copies.old) }
-    ensures refused { IfErr result (NotGranted (lane_of held.now) first (length copies.old)) }
+    ensures refused { IfErr result (NotGranted (lane_held held.now) first (length copies.old)) }
 {
     let grants = match held.lane() {
         Ok(lane) => lane.lane().grants(),

@@ -6,8 +6,8 @@ mod stepping;
 
 ghost use Rattle.std.specs.Prelude.{◌≡◌, Some, IfErr, IfOk, OnErr, OnOk};
 ghost use Rattle.renamer_c.specs.Calls.{Answers, Closes, Names, Reserves, Splits};
-ghost use Rattle.renamer_c.specs.Handles.{lane_of, record_of};
-ghost use Rattle.renamer_c.specs.Questions.{answer_to};
+ghost use Rattle.renamer_c.specs.Handles.{lane_held, record_held};
+ghost use Rattle.renamer_c.specs.Questions.{number_asked};
 ghost use Rattle.renamer_c.specs.Refusals.{NotClosed, NotNamed, NotReserved, NotSplit, NotThere, WithLane};
 
 use crate::held_lane::HeldLane;
@@ -37,7 +37,7 @@ fn split_lane(
     lane: HeldLane,
     quota: u64,
 ) -> Result<(HeldLane, Box<Held>), (Refusal, HeldLane)>
-    ensures ok { IfOk result (λ r. Splits (Some lane) (Some r.0) (lane_of r.1.value) quota) }
+    ensures ok { IfOk result (λ r. Splits (Some lane) (Some r.0) (lane_held r.1.value) quota) }
     ensures err { IfErr result (λ r. r.1 ≡ lane) }
     ensures refused { IfErr result (λ r. NotSplit (Some lane) quota r.0) }
 {
@@ -62,9 +62,9 @@ impl Held {
     /// # Errors
     /// `Nothing` if there is no lane, else as [`HeldLane::name`]. Then nothing has changed.
     pub(crate) fn name(&mut self, client: u64, entry: u64) -> Result<u64, Refusal>
-        ensures ok { IfOk result (λ name. Names (lane_of self.old) (lane_of self.new) client entry name) }
+        ensures ok { IfOk result (λ name. Names (lane_held self.old) (lane_held self.new) client entry name) }
         ensures err { OnErr result (self.new ≡ self.old) }
-        ensures refused { IfErr result (NotNamed (lane_of self.old) entry) }
+        ensures refused { IfErr result (NotNamed (lane_held self.old) entry) }
     {
         match self {
             Held::Lane(lane) => lane.name(client, entry),
@@ -77,9 +77,9 @@ impl Held {
     /// # Errors
     /// `Nothing` if there is no lane, else `QuotaTooSmall` or `Memory`. Then nothing has changed.
     pub(crate) fn split(&mut self, alloc: Global, quota: u64) -> Result<Box<Held>, Refusal>
-        ensures ok { IfOk result (λ other. Splits (lane_of self.old) (lane_of self.new) (lane_of other.value) quota) }
+        ensures ok { IfOk result (λ other. Splits (lane_held self.old) (lane_held self.new) (lane_held other.value) quota) }
         ensures err { OnErr result (self.new ≡ self.old) }
-        ensures refused { IfErr result (NotSplit (lane_of self.old) quota) }
+        ensures refused { IfErr result (NotSplit (lane_held self.old) quota) }
     {
         match replace(self, Held::Nothing) {
             Held::Lane(lane) => match split_lane(alloc, lane, quota) {
@@ -105,9 +105,9 @@ impl Held {
     /// # Errors
     /// `Nothing` if there is no lane.
     pub(crate) fn entered(&mut self) -> Result<u64, Refusal>
-        ensures ok { IfOk result (λ entered. Answers (lane_of self.old) (lane_of self.new) entered) }
+        ensures ok { IfOk result (λ entered. Answers (lane_held self.old) (lane_held self.new) entered) }
         ensures err { OnErr result (self.new ≡ self.old) }
-        ensures refused { IfErr result (NotThere (lane_of self.old)) }
+        ensures refused { IfErr result (NotThere (lane_held self.old)) }
     {
         match self {
             Held::Lane(lane) => Ok(lane.entered()),
@@ -120,8 +120,8 @@ impl Held {
     /// # Errors
     /// `Nothing` if there is none.
     pub(crate) fn lane(&self) -> Result<&HeldLane, Refusal>
-        ensures ok { IfOk result (λ lane. lane_of self.now ≡ Some lane.now) }
-        ensures refused { IfErr result (NotThere (lane_of self.now)) }
+        ensures ok { IfOk result (λ lane. lane_held self.now ≡ Some lane.now) }
+        ensures refused { IfErr result (NotThere (lane_held self.now)) }
     {
         match self {
             Held::Lane(lane) => Ok(lane),
@@ -134,8 +134,8 @@ impl Held {
     /// # Errors
     /// `Nothing` if there is none.
     pub(crate) fn record(&self) -> Result<&Record, Refusal>
-        ensures ok { IfOk result (λ closed. record_of self.now ≡ Some closed.now) }
-        ensures refused { IfErr result (NotThere (record_of self.now)) }
+        ensures ok { IfOk result (λ closed. record_held self.now ≡ Some closed.now) }
+        ensures refused { IfErr result (NotThere (record_held self.now)) }
     {
         match self {
             Held::Closed(record) => Ok(record),
@@ -148,8 +148,8 @@ impl Held {
     /// # Errors
     /// `Nothing` if there is no lane.
     pub(crate) fn ask(&self, question: Question) -> Result<u64, Refusal>
-        ensures ok { IfOk result (λ n. WithLane (lane_of self.now) (λ l. n ≡ answer_to question l)) }
-        ensures refused { IfErr result (NotThere (lane_of self.now)) }
+        ensures ok { IfOk result (λ n. WithLane (lane_held self.now) (λ l. n ≡ number_asked question l)) }
+        ensures refused { IfErr result (NotThere (lane_held self.now)) }
     {
         match self.lane() {
             Ok(lane) => Ok(lane.ask(question)),
@@ -162,9 +162,9 @@ impl Held {
     /// # Errors
     /// `Nothing` if there is no lane, else as [`HeldLane::reserve`]. Then nothing has changed.
     pub(crate) fn reserve(&mut self, clients: u64) -> Result<(), Refusal>
-        ensures ok { OnOk result (Reserves (lane_of self.old) (lane_of self.new) clients) }
+        ensures ok { OnOk result (Reserves (lane_held self.old) (lane_held self.new) clients) }
         ensures err { OnErr result (self.new ≡ self.old) }
-        ensures refused { IfErr result (NotReserved (lane_of self.old)) }
+        ensures refused { IfErr result (NotReserved (lane_held self.old)) }
     {
         match self {
             Held::Lane(lane) => lane.reserve(clients),
@@ -177,9 +177,9 @@ impl Held {
     /// # Errors
     /// `Nothing` if there is no lane, else as [`HeldLane::close`]. Then nothing has changed.
     pub(crate) fn close(&mut self, alloc: Global) -> Result<(), Refusal>
-        ensures ok { OnOk result (Closes (lane_of self.old) (record_of self.new)) }
+        ensures ok { OnOk result (Closes (lane_held self.old) (record_held self.new)) }
         ensures err { OnErr result (self.new ≡ self.old) }
-        ensures refused { IfErr result (NotClosed (lane_of self.old)) }
+        ensures refused { IfErr result (NotClosed (lane_held self.old)) }
     {
         match replace(self, Held::Nothing) {
             Held::Lane(lane) => match lane.close(alloc) {

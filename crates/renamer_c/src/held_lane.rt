@@ -13,7 +13,7 @@ ghost use Rattle.cn_floor.specs.Named.{IsNamed};
 ghost use Rattle.cn_floor.specs.Steps.{HasMoment, IsAnswer};
 ghost use Rattle.cn_floor.specs.Views.{after_entered};
 ghost use Rattle.renamer_c.specs.Calls.{IsOpened, IsSplit};
-ghost use Rattle.renamer_c.specs.Questions.{answer_to};
+ghost use Rattle.renamer_c.specs.Questions.{number_asked};
 ghost use Rattle.renamer_c.specs.Refusals.{NotNamed, NotReserved};
 ghost use Rattle.renamer_c.specs.Returns.{IsBack};
 
@@ -149,7 +149,7 @@ impl HeldLane {
 
     /// What the lane answers.
     pub(crate) fn ask(&self, question: Question) -> u64
-        ensures { result ≡ answer_to question self.now }
+        ensures { result ≡ number_asked question self.now }
     {
         match question {
             Question::Quota => self.lane.quota(),

@@ -4,7 +4,7 @@ ghost use Rattle.std.specs.Prelude.{◌≡◌, ◌<◌, ◌≤◌, None, IfErr, 
 ghost use Rattle.cn_spec.specs.declared.limits.TheConstants.{MOST_CLIENTS};
 ghost use Rattle.cn_wiring.specs.Widths.{IsWidth};
 ghost use Rattle.renamer_c.specs.Calls.{Opens, Splits, number_of};
-ghost use Rattle.renamer_c.specs.Handles.{lane_in, lane_of};
+ghost use Rattle.renamer_c.specs.Handles.{lane_in, lane_held};
 ghost use Rattle.renamer_c.specs.Refusals.{IsRefusal, NotOpened, NotSplit};
 ghost use Rattle.renamer_c.specs.declared.refusal.TheConstants.{DONE};
 
@@ -54,7 +54,7 @@ fn asked(kind: u32, width: u32, quota: u64) -> Result<Net, Refusal>
 /// # Errors
 /// The first that stands: `Kind`, `Width`, `Quota`, `Memory`.
 fn open(alloc: Global, kind: u32, width: u32, quota: u64) -> Result<Box<Held>, Refusal>
-    ensures ok { IfOk result (λ b. Opens (lane_of b.value) kind width quota) }
+    ensures ok { IfOk result (λ b. Opens (lane_held b.value) kind width quota) }
     ensures err { IfErr result (NotOpened kind width quota) }
 {
     let net = asked(kind, width, quota)?;

@@ -1,7 +1,7 @@
 //! Calls that read what a closed floor left.
 
 ghost use Rattle.std.specs.Prelude.{◌≡◌, ◌<◌, length, IfErr, IfOk, OnErr, OnOk};
-ghost use Rattle.renamer_c.specs.Handles.{record_in, record_of};
+ghost use Rattle.renamer_c.specs.Handles.{record_in, record_held};
 ghost use Rattle.renamer_c.specs.Records.{list_of};
 ghost use Rattle.renamer_c.specs.Refusals.{IsRefusal, NotCopied, NotThere, WithRecord};
 ghost use Rattle.renamer_c.specs.declared.refusal.TheConstants.{DONE};
@@ -18,8 +18,8 @@ use std::alloc::Global;
 /// # Errors
 /// `Nothing` if there is no record.
 fn size_of(held: &Held, listed: Listed) -> Result<u64, Refusal>
-    ensures ok { IfOk result (λ n. WithRecord (record_of held.now) (λ r. n ≡ length (list_of listed r))) }
-    ensures refused { IfErr result (NotThere (record_of held.now)) }
+    ensures ok { IfOk result (λ n. WithRecord (record_held held.now) (λ r. n ≡ length (list_of listed r))) }
+    ensures refused { IfErr result (NotThere (record_held held.now)) }
 {
     match held.record() {
         Ok(closed) => Ok(closed.list(listed).len() as u64),
@@ -49,9 +49,9 @@ fn ask_size(alloc: Global, quiet: &mut Handle, listed: Listed, size: &mut u64) -
 /// # Errors
 /// The first that stands: `Nothing`, `Size`. Then nothing has changed.
 fn copy(held: &Held, listed: Listed, to: &mut [u64]) -> Result<(), Refusal>
-    ensures ok { OnOk result (WithRecord (record_of held.now) (λ r. to.new ≡ list_of listed r)) }
+    ensures ok { OnOk result (WithRecord (record_held held.now) (λ r. to.new ≡ list_of listed r)) }
     ensures err { OnErr result (to.new ≡ to.old) }
-    ensures refused { IfErr result (NotCopied (record_of held.now) listed (length to.old)) }
+    ensures refused { IfErr result (NotCopied (record_held held.now) listed (length to.old)) }
 {
     let list = match held.record() {
         Ok(closed) => closed.list(listed),

@@ -2,7 +2,7 @@
 
 ghost use Rattle.std.specs.Prelude.{◌≡◌, length};
 ghost use Rattle.cn_floor.specs.Ends.{ListsHolders};
-ghost use Rattle.renamer_c.specs.Records.{IsRecordOf, list_of};
+ghost use Rattle.renamer_c.specs.Records.{IsRecordOfClosed, list_of};
 
 use cn_floor::{Quiet, Words};
 use std::marker::Model;
@@ -50,7 +50,7 @@ impl Record {
     pub(crate) fn of(quiet: Quiet<'static>, mut counts: Vec<u64>, mut holders: Vec<u64>) -> Record
         requires counts { length counts.items ≡ quiet.start.network.table.width }
         requires holders { length holders.items ≡ length quiet.did.grants }
-        ensures { IsRecordOf quiet.entry result }
+        ensures { IsRecordOfClosed quiet.entry result }
     {
         counts.copy_from_slice(quiet.counts());
         write_holders(&quiet, &mut holders);

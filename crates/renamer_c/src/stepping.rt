@@ -3,8 +3,8 @@
 ghost use Rattle.std.specs.Prelude.{◌≡◌, ◌<◌};
 ghost use Rattle.cn_yard.specs.Lists.{IsLowest};
 ghost use Rattle.renamer_c.specs.Handles.{lane_in};
-ghost use Rattle.renamer_c.specs.Moves.{Enters, Steps};
-ghost use Rattle.renamer_c.specs.Refusals.{IsRefusal, NobodyInside, NobodyOn, NotEntered, WithLane};
+ghost use Rattle.renamer_c.specs.Moves.{EntersBy, Steps};
+ghost use Rattle.renamer_c.specs.Refusals.{IsRefusal, NoLowestWire, NobodyOn, NotEntered, WithLane};
 ghost use Rattle.renamer_c.specs.Sweepings.{Sweeps};
 ghost use Rattle.renamer_c.specs.declared.refusal.TheConstants.{DONE};
 
@@ -17,7 +17,7 @@ use std::alloc::Global;
 #[unsafe(no_mangle)]
 pub extern "C" fn renamer_enter(alloc: Global, lane: &mut Handle, client: u64, entry: u64) -> u32
     ensures entered { result ≡ DONE
-        → Enters (lane_in lane.old.held) (lane_in lane.new.held) client entry }
+        → EntersBy (lane_in lane.old.held) (lane_in lane.new.held) client entry }
     ensures kept { 0 < result → lane.new.held ≡ lane.old.held }
     ensures refused { 0 < result → IsRefusal (NotEntered (lane_in lane.old.held) entry) result }
 {
@@ -81,7 +81,7 @@ pub extern "C" fn renamer_lowest(alloc: Global, lane: &mut Handle, wire: &mut u6
         → WithLane (lane_in lane.old.held) (λ l. IsLowest l.yard.lists wire.new) }
     ensures lane { lane.new.held ≡ lane.old.held }
     ensures kept { 0 < result → wire.new ≡ wire.old }
-    ensures refused { 0 < result → IsRefusal (NobodyInside (lane_in lane.old.held)) result }
+    ensures refused { 0 < result → IsRefusal (NoLowestWire (lane_in lane.old.held)) result }
 {
     let held = match lane.take(alloc) {
         Ok(held) => held,

@@ -20,7 +20,7 @@ use Rattle.cn_floor.specs.declared.view.Start.{Start}
 use Rattle.cn_floor.specs.declared.view.View.{View}
 use Rattle.cn_ledger.specs.Grants.{Grant as Listed, ListsGrants, is_grant}
 use Rattle.cn_floor.specs.Closing.{IsEnding}
-use Rattle.cn_floor.specs.Ends.{IsClosedFloor, NobodyInside, counts_of}
+use Rattle.cn_floor.specs.Ends.{IsClosedFloor, NobodyInside, counts_by_exit}
 use Rattle.cn_floor.specs.Rule.{HoldsAt, ledger_of}
 use Rattle.cn_floor.specs.Views.{base, given_in, granted_in, on_in, standing_in}
 use Rattle.cn_floor.specs.Words.{clients_in, count_in, entered_in}
@@ -115,7 +115,7 @@ module _ (start : Start) (s : State (Unit {0}) View) (id : ℕ) (v : View) (kept
 
   -- the counts of the floor are shares
   shares-at : IsTight start.network.table (ledger_of start.network.table start.words s.words (v ∷ [])) → clients_in start.network.table s.words ≡ base start + length v.grants
-      → counts_of start s.words ≡ map (λ i. share (base start + length v.grants) start.network.table.width i - share (base start) start.network.table.width i) (range_with_len 0 start.network.table.width)
+      → counts_by_exit start s.words ≡ map (λ i. share (base start + length v.grants) start.network.table.width i - share (base start) start.network.table.width i) (range_with_len 0 start.network.table.width)
   shares-at end all =
       let t = start.network.table in
       let old = tight-before start kept.began in

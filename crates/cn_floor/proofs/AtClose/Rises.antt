@@ -11,7 +11,7 @@ use Rattle.cn_yard.proofs.CallerLemmas.{nobody-on}
 use Rattle.cn_ledger.proofs.CallerLemmas.{counts-few}
 use Rattle.cn_floor.specs.declared.view.Start.{Start}
 use Rattle.cn_floor.specs.Carried.{IsClosed, WordsValue, client_count}
-use Rattle.cn_floor.specs.Ends.{HasRisen, counts_of, passes_of}
+use Rattle.cn_floor.specs.Ends.{HasRisen, counts_by_exit, passes_of}
 use Rattle.cn_floor.specs.Rule.{ledger_of}
 use Rattle.cn_floor.specs.Words.{IsDifference, NoneWent, count_in, end_word, word_count}
 use Rattle.cn_floor.proofs.AtClose.Closings.{map-same}
@@ -34,7 +34,7 @@ module _ (start : Start) (words risen : List ℕ) (is : HasRisen start words ris
   abbrev t : Table
   t = start.network.table
 
-  pub counts-part : take t.width (drop (1 + t.entries + t.balancers) risen) ≡ counts_of start words
+  pub counts-part : take t.width (drop (1 + t.entries + t.balancers) risen) ≡ counts_by_exit start words
   counts-part = part risen _ (1 + t.entries + t.balancers) t.width (omega (arith, is.count)) (λ i l. is.each (Exit i) l)
 
   pub passes-part : take t.balancers (drop (1 + t.entries) risen) ≡ passes_of start words
@@ -42,7 +42,7 @@ module _ (start : Start) (words risen : List ℕ) (is : HasRisen start words ris
 
 -- exit by exit, by the words of each
 pub exits-list : (start : Start) (words : List ℕ)
-    → map (λ i. count_in start.network.table words (Exit i) - count_in start.network.table start.words (Exit i)) (range_with_len 0 start.network.table.width) ≡ counts_of start words
+    → map (λ i. count_in start.network.table words (Exit i) - count_in start.network.table start.words (Exit i)) (range_with_len 0 start.network.table.width) ≡ counts_by_exit start words
 exits-list start words =
     let t : Table = start.network.table in
     map-same (λ i. count_in t words (Exit i) - count_in t start.words (Exit i)) (λ i. get_or words (1 + t.entries + t.balancers + i) 0 - get_or start.words (1 + t.entries + t.balancers + i) 0) 0 t.width

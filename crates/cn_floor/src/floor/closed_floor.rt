@@ -2,7 +2,7 @@
 
 ghost use Rattle.std.specs.Prelude.{◌≡◌, IfOk};
 ghost use Rattle.cn_floor.specs.Carried.{words_before};
-ghost use Rattle.cn_floor.specs.Ends.{IsClosedFloor, IsOutcomeOf, ListsHolders, counts_of};
+ghost use Rattle.cn_floor.specs.Ends.{IsClosedFloor, IsOutcomeOf, ListsHolders, counts_by_exit};
 
 use super::lane::Lane;
 use super::leftovers::Leftovers;
@@ -51,7 +51,7 @@ impl<'a> ClosedFloor<'a> {
     /// `AllocError` if the list gets no memory.
     fn counts_since(&self, before: &Words<'_>) -> Result<Vec<u64>, AllocError>
         requires { before.now ≡ words_before self.now.start }
-        ensures { IfOk result (λ counts. counts.items ≡ counts_of self.now.start self.now.words) }
+        ensures { IfOk result (λ counts. counts.items ≡ counts_by_exit self.now.start self.now.words) }
     {
         let width = self.words.network().width();
         let mut counts = Vec::with_capacity(self.alloc, width as usize)?;

@@ -2,7 +2,7 @@
 
 ghost use Rattle.std.specs.Prelude.{◌≡◌, ℕ, ◌+◌, ◌<◌, ◌≤◌, ◌↔◌, None, Some, [], max, length, IfSome, IsSome, IsTrue, OnErr, OnOk};
 ghost use Rattle.cn_spec.specs.declared.limits.TheConstants.{MOST_CLIENTS, MOST_ROOM};
-ghost use Rattle.cn_yard.specs.Lists.{IsLowest, IsThere, after, first_of, on, standing, times_in, tokens_in};
+ghost use Rattle.cn_yard.specs.Lists.{IsLowest, IsThere, next_after, first_of, on, standing, times_in, tokens_in};
 
 use crate::view::{Grant, View};
 use atomic_table::Seat;
@@ -129,7 +129,7 @@ impl Lane {
     pub fn next(&self, token: Token) -> Option<Token>
         requires { IsSome (standing self.now.yard.lists token) }
         ensures { (wire client : ℕ) → standing self.now.yard.lists token ≡ Some (wire, client)
-            → result ≡ after token (on self.now.yard.lists wire) }
+            → result ≡ next_after token (on self.now.yard.lists wire) }
     {
         self.yard.next(token)
     }

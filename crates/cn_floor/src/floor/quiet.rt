@@ -1,7 +1,7 @@
 //! What a closed floor leaves.
 
 ghost use Rattle.std.specs.Prelude.{◌≡◌, IfOk};
-ghost use Rattle.cn_floor.specs.Ends.{HasRisen, IsClosedFloor, ListsHolders, counts_of, passes_of};
+ghost use Rattle.cn_floor.specs.Ends.{HasRisen, IsClosedFloor, ListsHolders, counts_by_exit, passes_of};
 
 use super::closed_floor::ClosedFloor;
 use super::words::Words;
@@ -60,7 +60,7 @@ impl<'a> Quiet<'a> {
 
     /// How many left by each exit since the floor began: each exit's share.
     pub fn counts(&self) -> &[u64]
-        ensures { result.now ≡ counts_of self.now.start self.now.words }
+        ensures { result.now ≡ counts_by_exit self.now.start self.now.words }
     {
         let network = self.closed.words().network();
         let first = 1 + network.entries() as usize + network.balancers() as usize;

@@ -13,7 +13,7 @@ use Rattle.cn_record.specs.declared.record.EpochRecord.{EpochRecord}
 use Rattle.cn_report.specs.Reading.Granted.{of_epoch}
 use Rattle.cn_report.specs.declared.reading.grant.Granted.{Granted}
 use Rattle.cn_report.specs.Writing.Grants.{grant_lines}
-use Rattle.cn_report.specs.Writing.Report.{clients_of}
+use Rattle.cn_report.specs.Writing.Report.{clients_of_records}
 use Rattle.cn_report.proofs.ReadBack.Rows.{line_of}
 
 -- who holds a name of an epoch
@@ -33,7 +33,7 @@ lines-of-all (r ∷ records) =
     (λ i. sym (flat_map-map line_of (grant_at r) (range_with_len 0 r.clients)) i ++ lines-of-all records i)
     ∙ sym (flat_map-append line_of (grants_of r) (all_grants records))
 
-pub grants-many : (records : List EpochRecord) → length (all_grants records) ≡ clients_of records
+pub grants-many : (records : List EpochRecord) → length (all_grants records) ≡ clients_of_records records
 grants-many [] = refl
 grants-many (r ∷ records) =
     length-append (grants_of r) (all_grants records) ∙ (λ i. length-map-range_with_len (grant_at r) 0 r.clients i + grants-many records i)

@@ -7,7 +7,7 @@ use Rattle.std.proofs.lemmas.List.{append-nil, map-append}
 use Rattle.std.proofs.lemmas.Bool.Decides.{nat_tests}
 use Rattle.cn_spec.specs.declared.limits.TheConstants.{MOST_RECORDS}
 use Rattle.cn_report.specs.Reading.Faults.{IsClean}
-use Rattle.cn_report.specs.Reading.Granted.{form_cause, granted_in, grants_in, last_epoch}
+use Rattle.cn_report.specs.Reading.Granted.{form_cause, grant_spelled, grants_spelled, last_epoch}
 use Rattle.cn_report.specs.Reading.Grants.{grants_form, header_cause, record_form}
 use Rattle.cn_report.specs.declared.reading.grant.Granted.{Granted}
 use Rattle.cn_report.proofs.ReadBack.Fields.{decimal-back}
@@ -15,11 +15,11 @@ use Rattle.cn_report.proofs.ReadBack.Rows.{AllSmall, IsSmall, header_row, row_of
 use Rattle.cn_report.proofs.ReadingLemmas.FirstFaults.{AreClean, clean-all, clean-header, clean-more}
 
 -- a grant that is written is read
-granted-back : (g : Granted) → IsSmall g → granted_in (row_of g) ≡ Some g
-unfolding granted_in
+granted-back : (g : Granted) → IsSmall g → grant_spelled (row_of g) ≡ Some g
+unfolding grant_spelled
 granted-back g small = rw (decimal-back g.epoch small.epoch, decimal-back g.client small.client, decimal-back g.name small.name) refl
 
-pub grants-read : (gs : List Granted) → AllSmall gs → grants_in (map row_of gs) ≡ gs
+pub grants-read : (gs : List Granted) → AllSmall gs → grants_spelled (map row_of gs) ≡ gs
 unfolding AllSmall
 grants-read [] small = refl
 grants-read (g ∷ gs) small = rw (granted-back g small.0) (ap (λ (l : List Granted). g ∷ l) (grants-read gs small.1))

@@ -11,19 +11,19 @@ use Rattle.std.specs.Prelude.{true, false}
 use Rattle.cn_spec.proofs.CallerLemmas.{times-nil}
 use Rattle.cn_record.specs.declared.record.EpochRecord.{EpochRecord}
 use Rattle.cn_report.specs.Reading.Granted.{of_epoch}
-use Rattle.cn_report.specs.Reading.Grants.{IsTightEpoch, IsTightList}
+use Rattle.cn_report.specs.Reading.Grants.{AreTightGrants, IsTightList}
 use Rattle.cn_report.specs.Reading.Records.{records_of}
 use Rattle.cn_report.specs.declared.reading.grant.Granted.{Granted}
-use Rattle.cn_report.specs.Writing.Grants.{AreRisingRecords, AreTight, HasOwnNames, grants_header, grants_text}
+use Rattle.cn_report.specs.Writing.Grants.{AreRisingRecords, AreTightRecords, HasOwnNames, grants_header, grants_text}
 use Rattle.cn_report.proofs.ReadBack.Epochs.{all_grants, clients-held, first-epoch, grant_at, grants-many, grants_of, later-epoch, lines-of-all, names-given}
 use Rattle.cn_report.proofs.ReadBack.Form.{NeverFall, form-clean, grants-read}
 use Rattle.cn_report.proofs.ReadBack.Rows.{AllSmall, grants-back, header_row, row_of}
 
 -- an epoch with no grants has no record
-none-tight : IsTightEpoch []
+none-tight : AreTightGrants []
 none-tight = record { clients = λ client. omega (arith, times-nil client); names = IsPermutation-refl [] }
 
-own-tight : (r : EpochRecord) → HasOwnNames r → IsTightEpoch (grants_of r)
+own-tight : (r : EpochRecord) → HasOwnNames r → AreTightGrants (grants_of r)
 own-tight r own = record {
   clients = λ client. rw (clients-held r own.holders) (own.once client);
   names =
@@ -32,15 +32,15 @@ own-tight r own = record {
 }
 
 -- each epoch is tight
-pub each-tight : (records : List EpochRecord) → AreRisingRecords records → AllByRecursion HasOwnNames records → (e : ℕ) → IsTightEpoch (of_epoch e (all_grants records))
+pub each-tight : (records : List EpochRecord) → AreRisingRecords records → AllByRecursion HasOwnNames records → (e : ℕ) → AreTightGrants (of_epoch e (all_grants records))
 unfolding AreRisingRecords
 each-tight [] rising own e = none-tight
 each-tight (r ∷ records) rising own e = by (eqb_tells r.number e) (each-tight records rising.1 own.1 e)
   where
     by : ((eqb r.number e ≡ true) × (r.number ≡ e)) ⊎ ((eqb r.number e ≡ false) × (r.number ≢ e))
-        → IsTightEpoch (of_epoch e (all_grants records)) → IsTightEpoch (of_epoch e (all_grants (r ∷ records)))
+        → AreTightGrants (of_epoch e (all_grants records)) → AreTightGrants (of_epoch e (all_grants (r ∷ records)))
     by (inl w) later =
-        subst (λ (n : ℕ). IsTightEpoch (of_epoch n (all_grants (r ∷ records)))) w.1
+        subst (λ (n : ℕ). AreTightGrants (of_epoch n (all_grants (r ∷ records)))) w.1
         (rw (first-epoch r records rising.0) (own-tight r own.0))
     by (inr w) later = rw (later-epoch e r records w.1) later
 
@@ -99,16 +99,16 @@ all_small (r ∷ records) own few =
     (small-names r 0 r.clients own.0 (omega (arith, few, size, length-map-range_with_len (grant_at r) 0 r.clients)))
     (all_small records own.1 (omega (arith, few, size)))
 
-pub small-grants : (records : List EpochRecord) → AreTight records → AllSmall (all_grants records)
+pub small-grants : (records : List EpochRecord) → AreTightRecords records → AllSmall (all_grants records)
 small-grants records tight = all_small records tight.names (omega (arith, tight.few, grants-many records))
 
 -- the records of the written list, and the grants that they spell
-pub records-back : (records : List EpochRecord) → AreTight records → records_of (grants_text records) ≡ header_row ∷ map row_of (all_grants records)
+pub records-back : (records : List EpochRecord) → AreTightRecords records → records_of (grants_text records) ≡ header_row ∷ map row_of (all_grants records)
 records-back records tight =
     ap (λ (more : List ℕ). records_of (grants_header ++ more)) (lines-of-all records)
     ∙ grants-back (all_grants records) (small-grants records tight)
 
-pub written-tight : (records : List EpochRecord) → AreTight records → IsTightList (records_of (grants_text records))
+pub written-tight : (records : List EpochRecord) → AreTightRecords records → IsTightList (records_of (grants_text records))
 written-tight records tight =
     let small = small-grants records tight in
     let falls = all-fall 0 records (any-number records) tight.rising in

@@ -10,12 +10,12 @@ use Rattle.std.proofs.lemmas.List.Sums.{fold-append}
 use Rattle.cn_spec.specs.Step.{counts_after, counts_of, shares, shares_after}
 use Rattle.cn_spec.proofs.CallerLemmas.{counts-shares, counts-shares-after}
 use Rattle.cn_record.specs.declared.record.EpochRecord.{EpochRecord}
-use Rattle.cn_report.specs.Reading.Granted.{grants_in, of_epoch}
+use Rattle.cn_report.specs.Reading.Granted.{grants_spelled, of_epoch}
 use Rattle.cn_report.specs.Reading.Records.{Record, records_of}
 use Rattle.cn_report.specs.Reading.Grants.{IsTightList}
 use Rattle.cn_report.specs.Reading.Told.{epoch_numbers, names_in, told_epoch, told_epochs, with_number}
 use Rattle.cn_report.specs.declared.reading.grant.Granted.{Granted}
-use Rattle.cn_report.specs.Writing.Grants.{AreRisingRecords, AreTight, checked_epoch, grants_text}
+use Rattle.cn_report.specs.Writing.Grants.{AreRisingRecords, AreTightRecords, checked_epoch, grants_text}
 use Rattle.cn_report.proofs.ReadBack.Epochs.{all_grants, first-epoch, grant_at, grants_of, later-epoch, names-given}
 use Rattle.cn_report.proofs.ReadBack.Form.{grants-read}
 use Rattle.cn_report.proofs.ReadBack.Tight.{records-back, small-grants}
@@ -119,12 +119,12 @@ told-each width all [] own = refl
 told-each width all (r ∷ records) own = λ i. told-one width all r own.0 i ∷ told-each width all records own.1 i
 
 -- a check of a written list finds its epochs
-pub told-back : (width : ℕ) (records : List EpochRecord) → AreTight records → AllByRecursion (λ r. 0 < r.clients) records
+pub told-back : (width : ℕ) (records : List EpochRecord) → AreTightRecords records → AllByRecursion (λ r. 0 < r.clients) records
     → told_epochs width (records_of (grants_text records)) ≡ map (checked_epoch width) records
 told-back width records tight some =
     let all = all_grants records in
-    let spells : grants_in (drop 1 (records_of (grants_text records))) ≡ all =
-    ap (λ (rows : List Record). grants_in (drop 1 rows)) (records-back records tight) ∙ grants-read all (small-grants records tight) in
+    let spells : grants_spelled (drop 1 (records_of (grants_text records))) ≡ all =
+    ap (λ (rows : List Record). grants_spelled (drop 1 rows)) (records-back records tight) ∙ grants-read all (small-grants records tight) in
     (λ i. map (told_epoch width (spells i)) (epoch_numbers (spells i)))
     ∙ ap (map (told_epoch width all)) (all-numbers [] records tight.rising some (none_below records))
     ∙ told-each width all records (own-grants records tight.rising)
@@ -134,7 +134,7 @@ told-back width records tight some =
 -- each epoch's names are those below their number, so they are shared out, after any number of clients
 pub tight-after : (rows : List Record) → IsTightList rows → (w m epoch : ℕ) → counts_after m w (names_in epoch rows) ≡ shares_after m (length (names_in epoch rows)) w
 tight-after rows tight w m epoch =
-    let grants = of_epoch epoch (grants_in (drop 1 rows)) in
+    let grants = of_epoch epoch (grants_spelled (drop 1 rows)) in
     let many : length (names_in epoch rows) ≡ length grants = length-map grants (λ (g : Granted). g.name) in
     counts-shares-after w m (length grants) (names_in epoch rows) (tight.tight epoch).names
     ∙ ap (λ (k : ℕ). shares_after m k w) (sym many)

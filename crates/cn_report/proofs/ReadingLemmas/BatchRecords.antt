@@ -4,7 +4,7 @@ use Rattle.std.specs.Prelude.{Ok}
 use Rattle.std.proofs.lemmas.List.Elements.{filter_map-append}
 use Rattle.std.specs.Result.{result_ok}
 use Rattle.cn_report.specs.Reading.Arrival.{arrival_cause, arrival_in, arrivals_in, spelled_cause}
-use Rattle.cn_report.specs.Reading.Batch.{IsBatch, AreEpochs, cause_of_heading, header_cause, record_cause}
+use Rattle.cn_report.specs.Reading.Batch.{IsBatch, AreEpochsOf, cause_of_heading, header_cause, record_cause}
 use Rattle.cn_report.specs.Reading.Heading.{heading_in, heading_of, heading_or}
 use Rattle.cn_report.specs.Reading.Records.{Record}
 use Rattle.cn_report.specs.declared.reading.arrival.Arrival.{Arrival}
@@ -56,7 +56,7 @@ taken-next heading entries (r ∷ rows) arrivals fields arrival t is none = reco
 }
 
 pub taken_all : (heading : Heading) (entries : ℕ) (all rows : List Record) (arrivals : List Arrival) (epochs : List BatchEpoch) → AreTaken heading entries rows arrivals → all ≡ rows
-    → AreEpochs epochs arrivals → IsBatch entries all epochs
+    → AreEpochsOf epochs arrivals → IsBatch entries all epochs
 taken_all heading entries all rows arrivals epochs t e are =
     let spells : arrivals_in (heading_in rows) entries (drop 1 rows) ≡ arrivals = ap (λ (h : Heading). arrivals_in h entries (drop 1 rows)) t.headed ∙ t.spells in
     rw e (record { clean = clean-all header_cause (record_cause entries) rows t.clean; holds = rw spells are })

@@ -10,9 +10,9 @@ use Rattle.std.proofs.lemmas.Bool.{lt-ltb, le-ltb, le-leb, lt-leb, ne_eqb, eq-eq
 use Rattle.std.proofs.lemmas.Bool.Decides.{leb_tells}
 use Rattle.std.proofs.Math.Dec.{leb}
 use Rattle.cn_spec.specs.declared.limits.TheConstants.{MOST_RECORDS}
-use Rattle.cn_report.specs.Reading.Checked.{AreTold, Holds, IsChecked, IsGapBelow, Tells, joining_cause, latest_number, latest_told}
+use Rattle.cn_report.specs.Reading.Checked.{AreTold, HoldsGrants, IsChecked, IsGapBelow, Tells, joining_cause, latest_number, latest_told}
 use Rattle.cn_report.specs.Reading.Told.{epoch_numbers, plain_tight, shared_epoch, with_number}
-use Rattle.cn_report.specs.Reading.Granted.{form_cause, first_of, has_client, has_name, last_epoch, of_epoch, twice_cause}
+use Rattle.cn_report.specs.Reading.Granted.{form_cause, first_cause, has_client, has_name, last_epoch, of_epoch, twice_cause}
 use Rattle.cn_report.specs.Reading.Grants.{IsGap, Lacks}
 use Rattle.cn_report.specs.Reading.Numbers.{has}
 use Rattle.cn_report.specs.declared.reading.grant.Granted.{Granted}
@@ -57,7 +57,7 @@ gap-further k end grants (Some gap) h all least = record {
 
 -- what was seen, once a later epoch has come
 pub reached : (old new : Granting) (grants : List Granted) → old.latest < new.latest → new.count ≡ 0 → ((n : ℕ) → has new.clients n ≡ false) → ((n : ℕ) → has new.names n ≡ false)
-    → IsGapBelow (old.latest + 1) grants new.gap → Holds old grants → Holds new grants
+    → IsGapBelow (old.latest + 1) grants new.gap → HoldsGrants old grants → HoldsGrants new grants
 reached old new grants h count clients names gap held =
     let none = none-above old.latest new.latest grants h held.below in record {
       below = all_below old.latest new.latest grants (omega (arith, h)) held.below;
@@ -85,8 +85,8 @@ unfolding form_cause
 form-none before g h few = rw (le-ltb g.epoch (last_epoch before) h, lt-leb MOST_RECORDS (length before) few) refl
 
 -- the reported cause is that of the grant
-pub told : (g : Granting) (before : List Granted) (grant : Granted) → Holds g before → g.latest ≡ grant.epoch → last_epoch before ≤ grant.epoch → length before < MOST_RECORDS
-    → joining_cause g grant ≡ first_of (form_cause before grant) (twice_cause before grant)
+pub told : (g : Granting) (before : List Granted) (grant : Granted) → HoldsGrants g before → g.latest ≡ grant.epoch → last_epoch before ≤ grant.epoch → length before < MOST_RECORDS
+    → joining_cause g grant ≡ first_cause (form_cause before grant) (twice_cause before grant)
 unfolding twice_cause
 told g before grant held here last few =
     let clients = held.clients grant.client in
@@ -198,7 +198,7 @@ pub told-end : (width : ℕ) (over : List (ℕ × ℕ × List ℕ)) (next : ℕ)
 told-end width over next grants t = t.told ∙ ap (map (shared_epoch width grants)) (sym (t.numbers ∙ append-nil (map (λ (p : ℕ × ℕ × List ℕ). p.0) over)))
 
 -- one more grant of the latest epoch
-pub joined : (width : ℕ) (old new : Granting) (before : List Granted) (grant : Granted) → Holds old before → Tells width old before → old.latest ≡ grant.epoch → new.over ≡ old.over → new.gap ≡ old.gap → new.latest ≡ old.latest
+pub joined : (width : ℕ) (old new : Granting) (before : List Granted) (grant : Granted) → HoldsGrants old before → Tells width old before → old.latest ≡ grant.epoch → new.over ≡ old.over → new.gap ≡ old.gap → new.latest ≡ old.latest
     → new.count ≡ old.count + 1 → ((n : ℕ) → has new.clients n ≡ ((n == grant.client) || has old.clients n)) → ((n : ℕ) → has new.names n ≡ ((n == grant.name) || has old.names n))
     → IsChecked width new (before ++ grant ∷ [])
 joined width old new before grant held tells here over gap latest count clients names =
@@ -218,7 +218,7 @@ joined width old new before grant held tells here over gap latest count clients 
     }
 
 -- the first gap of those up to the greatest is the first of all
-pub gap-of-all : (g : Granting) (grants : List Granted) (gap : Gap) → Holds g grants → IsGapBelow (g.latest + 1) grants (Some gap) → IsGap grants gap.epoch gap.name
+pub gap-of-all : (g : Granting) (grants : List Granted) (gap : Gap) → HoldsGrants g grants → IsGapBelow (g.latest + 1) grants (Some gap) → IsGap grants gap.epoch gap.name
 gap-of-all g grants gap held least = record {
   lacks = least.lacks;
   first = λ e n lack. each e n lack (leb_tells e g.latest);
@@ -229,5 +229,5 @@ gap-of-all g grants gap held least = record {
     each e n lack (inl w) = least.first e n (omega (arith, w.1)) lack
     each e n lack (inr w) = absurd (no-lack-above g.latest e n grants w.1 held.below lack)
 
-pub no_gap : (g : Granting) (grants : List Granted) → Holds g grants → IsGapBelow (g.latest + 1) grants None → (e n : ℕ) → Lacks grants e n → ⊥
+pub no_gap : (g : Granting) (grants : List Granted) → HoldsGrants g grants → IsGapBelow (g.latest + 1) grants None → (e n : ℕ) → Lacks grants e n → ⊥
 no_gap g grants held none e n lack = gap-further g.latest (e + g.latest + 1) grants None (omega arith) held.below none e n (omega arith) lack

@@ -16,8 +16,8 @@ use Rattle.cn_report.specs.declared.reading.arrival.Arrival.{Arrival}
 use Rattle.cn_report.specs.declared.reading.gathering.BatchEpoch.{BatchEpoch}
 use Rattle.cn_report.specs.declared.reading.gathering.Gathering.{Gathering}
 use Rattle.cn_report.specs.Reading.Arrival.{arrival_cause, last_epoch, of_epoch}
-use Rattle.cn_report.specs.Reading.Batch.{AreEpochs, AreRising, arrivals_of}
-use Rattle.cn_report.specs.Reading.Gathered.{Holds, IsGathered, joining_cause, over_after}
+use Rattle.cn_report.specs.Reading.Batch.{AreEpochsOf, AreRising, arrivals_of}
+use Rattle.cn_report.specs.Reading.Gathered.{HoldsArrivals, IsGathered, joining_cause, over_after}
 
 -- an arrival of this client
 abbrev pub arrival_at : ℕ → Client → Arrival
@@ -55,7 +55,7 @@ pub out_of_range : (entries : ℕ) (before : List Arrival) (a : Arrival) → las
 unfolding arrival_cause
 out_of_range entries before a h out = rw (le-ltb a.epoch (last_epoch before) h, le-leb entries a.entry out) refl
 
-module _ (g : Gathering) (before : List Arrival) (held : Holds g before) where
+module _ (g : Gathering) (before : List Arrival) (held : HoldsArrivals g before) where
   -- the arrivals of the latest epoch
   latest-only : of_epoch g.latest.number before ≡ arrivals_of g.latest
   latest-only =
@@ -101,10 +101,10 @@ below_more k n [] h all = tt
 below_more k n (x ∷ es) h all = (omega (arith, h, all.0), below_more k n es h all.1)
 
 -- the epochs are those of the arrivals once the latest is over
-pub over-epochs : (g : Gathering) (arrivals : List Arrival) → Holds g arrivals → AreEpochs (over_after g) arrivals
+pub over-epochs : (g : Gathering) (arrivals : List Arrival) → HoldsArrivals g arrivals → AreEpochsOf (over_after g) arrivals
 over-epochs g arrivals held = by g.latest.clients.items refl
   where
-    by : (cs : List Client) → g.latest.clients.items ≡ cs → AreEpochs (over_after g) arrivals
+    by : (cs : List Client) → g.latest.clients.items ≡ cs → AreEpochsOf (over_after g) arrivals
     by [] e = rw (le-ltb 0 (length g.latest.clients.items) (omega (arith, ap length e))) (record {
       rising = held.rising;
       some = held.some;
@@ -127,7 +127,7 @@ over_below g n h below = by (leb_tells 1 (length g.latest.clients.items))
 
 -- a gathering that has come to a later epoch holds the same arrivals
 pub turned : (old new : Gathering) (n : ℕ) (before : List Arrival) → old.latest.number < n → new.over.items ≡ over_after old → new.latest.number ≡ n
-    → new.latest.clients.items ≡ [] → new.standing.keys ≡ [] → Holds old before → Holds new before
+    → new.latest.clients.items ≡ [] → new.standing.keys ≡ [] → HoldsArrivals old before → HoldsArrivals new before
 turned old new n before h over number clients keys held =
     let epochs = over-epochs old before held in record {
       spells = (λ i. flat_map arrivals_of (over i) ++ map (arrival_at new.latest.number) (clients i)) ∙ append-nil (flat_map arrivals_of (over_after old)) ∙ epochs.spells;
@@ -138,7 +138,7 @@ turned old new n before h over number clients keys held =
     }
 
 -- a client more of the latest epoch
-pub joined : (old new : Gathering) (before : List Arrival) (c : Client) → Holds old before → new.over ≡ old.over → new.latest.number ≡ old.latest.number
+pub joined : (old new : Gathering) (before : List Arrival) (c : Client) → HoldsArrivals old before → new.over ≡ old.over → new.latest.number ≡ old.latest.number
     → new.latest.clients.items ≡ old.latest.clients.items ++ c ∷ [] → new.standing.keys ≡ old.standing.keys ++ c.id ∷ []
     → IsGathered new (before ++ arrival_at old.latest.number c ∷ [])
 joined old new before c held over number clients keys = record {
@@ -178,13 +178,13 @@ as-arrival : (n : ℕ) (a : Arrival) → n ≡ a.epoch → arrival_at n (client_
 as-arrival n a e = λ i. record { epoch = e i; client = a.client; entry = a.entry }
 
 -- the cause of an arrival in whose epoch the gathering has come
-pub told_of : (g : Gathering) (before : List Arrival) (entries at : ℕ) (a : Arrival) → Holds g before → g.latest.number ≡ a.epoch → last_epoch before ≤ a.epoch → a.entry < entries
+pub told_of : (g : Gathering) (before : List Arrival) (entries at : ℕ) (a : Arrival) → HoldsArrivals g before → g.latest.number ≡ a.epoch → last_epoch before ≤ a.epoch → a.entry < entries
     → length before + 1 ≡ at → joining_cause at g (client_of a) ≡ arrival_cause entries before a
 told_of g before entries at a held number last within size =
     told g before held entries at (client_of a) (omega (arith, number, last)) within size ∙ ap (arrival_cause entries before) (as-arrival g.latest.number a number)
 
 -- that arrival more
-pub taken_of : (old new : Gathering) (before : List Arrival) (a : Arrival) → Holds old before → old.latest.number ≡ a.epoch → new.over ≡ old.over → new.latest.number ≡ old.latest.number
+pub taken_of : (old new : Gathering) (before : List Arrival) (a : Arrival) → HoldsArrivals old before → old.latest.number ≡ a.epoch → new.over ≡ old.over → new.latest.number ≡ old.latest.number
     → new.latest.clients.items ≡ old.latest.clients.items ++ client_of a ∷ [] → new.standing.keys ≡ old.standing.keys ++ a.client ∷ [] → IsGathered new (before ++ a ∷ [])
 taken_of old new before a held here over number clients keys =
     subst (λ (x : Arrival). IsGathered new (before ++ x ∷ [])) (as-arrival old.latest.number a here) (joined old new before (client_of a) held over number clients keys)

@@ -1,7 +1,7 @@
 -- The records of a grant list that were taken so far.
 use Rattle.std.proofs.Common.{◌≡◌, ◌+◌, ℕ, List, ◌∷◌, [], ◌++◌, Some, None, length, drop, refl, arith, sym, ap, ◌∙◌, length-append}
 use Rattle.std.proofs.lemmas.List.Elements.{filter_map-append}
-use Rattle.cn_report.specs.Reading.Granted.{granted_in, grants_in, of_epoch, spelled_cause}
+use Rattle.cn_report.specs.Reading.Granted.{grant_spelled, grants_spelled, of_epoch, spelled_cause}
 use Rattle.cn_report.specs.Reading.Grants.{header_cause, record_cause}
 use Rattle.std.specs.Prelude.{IfOk, MatchResult, Ok, Err, Result, map}
 use Rattle.cn_spec.specs.Step.{counts_of, shares}
@@ -15,14 +15,14 @@ use Rattle.cn_report.specs.declared.reading.grant.GrantCause.{GrantCause}
 use Rattle.cn_spec.proofs.CallerLemmas.{times-nil}
 use Rattle.cn_report.proofs.ReadingLemmas.FirstFaults.{AreClean, clean-all, clean-header, clean-more}
 use Rattle.cn_report.proofs.ReadingLemmas.TightFacts.{AreOnce, list-tight, once-next}
-use Rattle.cn_report.specs.Reading.Grants.{IsFirst, IsFlaw, IsEndFlaw, flaw_of, IsTightEpoch, IsTightList, Lacks}
+use Rattle.cn_report.specs.Reading.Grants.{IsFirstWithCause, IsFlaw, IsEndFlaw, flaw_of, AreTightGrants, IsTightList, Lacks}
 use Rattle.cn_report.specs.declared.reading.grant.Flaw.{Flaw}
 use Rattle.cn_report.specs.declared.reading.grant.Flaw.TheVariants.{Read, Form, DuplicateClient, DuplicateName, Gap, Memory}
 
 -- the records so far: a header, and a record for each grant
 pub record AreTaken (rows : List Record) (grants : List Granted) : Type 0 where
   pub clean : AreClean header_cause record_cause rows
-  pub spells : grants_in (drop 1 rows) ≡ grants
+  pub spells : grants_spelled (drop 1 rows) ≡ grants
   pub counted : length grants + 1 ≡ length rows
   pub once : AreOnce grants
 
@@ -30,17 +30,17 @@ pub taken-header : (fields : Record) → header_cause fields ≡ None → AreTak
 taken-header fields e = record { clean = clean-header header_cause record_cause fields e; spells = refl; counted = refl; once = λ e n. omega (arith, times-nil n) }
 
 -- the grants of one record more
-pub grants-next : (rows : List Record) (fields : Record) (grant : Granted) → granted_in fields ≡ Some grant → grants_in (rows ++ fields ∷ []) ≡ grants_in rows ++ grant ∷ []
-grants-next rows fields grant is = filter_map-append granted_in rows (fields ∷ []) ∙ ap (λ (l : List Granted). grants_in rows ++ l) (one fields grant is)
+pub grants-next : (rows : List Record) (fields : Record) (grant : Granted) → grant_spelled fields ≡ Some grant → grants_spelled (rows ++ fields ∷ []) ≡ grants_spelled rows ++ grant ∷ []
+grants-next rows fields grant is = filter_map-append grant_spelled rows (fields ∷ []) ∙ ap (λ (l : List Granted). grants_spelled rows ++ l) (one fields grant is)
   where
-    one : (row : Record) (g : Granted) → granted_in row ≡ Some g → grants_in (row ∷ []) ≡ g ∷ []
+    one : (row : Record) (g : Granted) → grant_spelled row ≡ Some g → grants_spelled (row ∷ []) ≡ g ∷ []
     one row g e = rw e refl
 
 pub taken-next : (rows : List Record) (grants : List Granted) (fields : Record) (grant : Granted) → AreTaken rows grants
-    → granted_in fields ≡ Some grant → spelled_cause grants (Some grant) ≡ None → AreTaken (rows ++ fields ∷ []) (grants ++ grant ∷ [])
+    → grant_spelled fields ≡ Some grant → spelled_cause grants (Some grant) ≡ None → AreTaken (rows ++ fields ∷ []) (grants ++ grant ∷ [])
 taken-next [] grants fields grant t is none = absurd (omega (arith, t.clean.some))
 taken-next (r ∷ rows) grants fields grant t is none = record {
-  clean = clean-more header_cause record_cause (r ∷ rows) fields t.clean (ap (spelled_cause (grants_in rows)) is ∙ ap (λ (l : List Granted). spelled_cause l (Some grant)) t.spells ∙ none);
+  clean = clean-more header_cause record_cause (r ∷ rows) fields t.clean (ap (spelled_cause (grants_spelled rows)) is ∙ ap (λ (l : List Granted). spelled_cause l (Some grant)) t.spells ∙ none);
   spells = grants-next rows fields grant is ∙ ap (λ (l : List Granted). l ++ grant ∷ []) t.spells;
   counted = omega (arith, t.counted, length-append grants (grant ∷ []), length-append (r ∷ rows) (fields ∷ []));
   once = once-next grants grant t.once none;
@@ -48,8 +48,8 @@ taken-next (r ∷ rows) grants fields grant t is none = record {
 
 -- the cause of the next record, by the grants before it
 pub at-grants : (rows : List Record) (grants : List Granted) (fields : Record) → AreTaken rows grants → (cause : GrantCause)
-    → spelled_cause grants (granted_in fields) ≡ Some cause → record_cause rows fields ≡ Some cause
-at-grants rows grants fields t cause e = ap (λ (l : List Granted). spelled_cause l (granted_in fields)) t.spells ∙ e
+    → spelled_cause grants (grant_spelled fields) ≡ Some cause → record_cause rows fields ≡ Some cause
+at-grants rows grants fields t cause e = ap (λ (l : List Granted). spelled_cause l (grant_spelled fields)) t.spells ∙ e
 
 -- all of them
 pub taken_all : (all rows : List Record) (grants : List Granted) → AreTaken rows grants → all ≡ rows → ((e n : ℕ) → Lacks grants e n → ⊥) → IsTightList all
@@ -64,7 +64,7 @@ taken-gap all rows grants (DuplicateClient at) t e gap = absurd gap
 taken-gap all rows grants (DuplicateName at) t e gap = absurd gap
 
 -- the shares of a tight epoch are its counts
-shared-told : (width : ℕ) (grants : List Granted) (numbers : List ℕ) → ((e : ℕ) → IsTightEpoch (of_epoch e grants)) → map (shared_epoch width grants) numbers ≡ map (told_epoch width grants) numbers
+shared-told : (width : ℕ) (grants : List Granted) (numbers : List ℕ) → ((e : ℕ) → AreTightGrants (of_epoch e grants)) → map (shared_epoch width grants) numbers ≡ map (told_epoch width grants) numbers
 shared-told width grants [] tight = refl
 shared-told width grants (e ∷ numbers) tight =
     let counts : counts_of width (map (λ (g : Granted). g.name) (of_epoch e grants)) ≡ shares (length (of_epoch e grants)) width =
@@ -78,15 +78,15 @@ pub taken-end : (width : ℕ) (all rows : List Record) (grants : List Granted) (
     → MatchResult result (λ tight. IsTightList all × IsTold width all tight.epochs.items) (IsFlaw all)
 taken-end width all rows grants (Ok tight) t e full told =
     let list = taken_all all rows grants t e full in
-    let spells : grants_in (drop 1 all) ≡ grants = ap (λ (l : List Record). grants_in (drop 1 l)) e ∙ t.spells in (
+    let spells : grants_spelled (drop 1 all) ≡ grants = ap (λ (l : List Record). grants_spelled (drop 1 l)) e ∙ t.spells in (
       list,
       told ∙ (λ i. map (shared_epoch width (sym spells i)) (epoch_numbers (sym spells i)))
-          ∙ shared-told width (grants_in (drop 1 all)) (epoch_numbers (grants_in (drop 1 all))) list.tight,
+          ∙ shared-told width (grants_spelled (drop 1 all)) (epoch_numbers (grants_spelled (drop 1 all))) list.tight,
     )
 taken-end width all rows grants (Err flaw) t e gap told = taken-gap all rows grants flaw t e gap
 
 -- a record's cause is the flaw's
-pub first-flaw : (rows : List Record) (at : ℕ) (why : GrantCause) → IsFirst rows at why → IsFlaw rows (flaw_of at why)
+pub first-flaw : (rows : List Record) (at : ℕ) (why : GrantCause) → IsFirstWithCause rows at why → IsFlaw rows (flaw_of at why)
 first-flaw rows at cause.Read h = h
 first-flaw rows at cause.Form h = h
 first-flaw rows at cause.DuplicateClient h = h

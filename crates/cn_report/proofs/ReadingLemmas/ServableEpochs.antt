@@ -14,8 +14,8 @@ use Rattle.cn_spec.specs.declared.limits.TheConstants.{MOST_CLIENTS}
 use Rattle.cn_spec.proofs.CallerLemmas.{times-append, times-cons, times-nil}
 use Rattle.cn_report.specs.declared.reading.gathering.BatchEpoch.{BatchEpoch}
 use Rattle.cn_report.specs.declared.reading.gathering.Gathering.{Gathering}
-use Rattle.cn_report.specs.Reading.Batch.{AreRising, AreServable, MayCome, clients_of}
-use Rattle.cn_report.specs.Reading.Gathered.{Keeps, gathered, joining_cause, over_after}
+use Rattle.cn_report.specs.Reading.Batch.{AreRising, AreServable, MayCome, clients_of_epochs}
+use Rattle.cn_report.specs.Reading.Gathered.{StaysServable, gathered, joining_cause, over_after}
 use Rattle.cn_report.proofs.ReadingLemmas.GatheredEpochs.{over_below, rising_more}
 
 -- no client is few
@@ -23,7 +23,7 @@ none-come : (entries : ℕ) → MayCome entries []
 none-come entries = record { few = omega arith; within = All-nil (λ (c : Client). c.entry < entries); once = λ client. omega (arith, times-nil client) }
 
 -- at the start
-pub none_kept : (g : Gathering) (entries : ℕ) → g.over.items ≡ [] → g.latest.clients.items ≡ [] → g.standing.keys ≡ [] → Keeps entries g
+pub none_kept : (g : Gathering) (entries : ℕ) → g.over.items ≡ [] → g.latest.clients.items ≡ [] → g.standing.keys ≡ [] → StaysServable entries g
 unfolding AreRising
 none_kept g entries over clients keys = record {
   over = rw over (record { rising = tt; some = All-nil (λ (e : BatchEpoch). 0 < length e.clients.items); come = All-nil (λ (e : BatchEpoch). MayCome entries e.clients.items) });
@@ -33,7 +33,7 @@ none_kept g entries over clients keys = record {
 }
 
 -- once the latest epoch is over
-pub over-servable : (g : Gathering) (entries : ℕ) → Keeps entries g → AreServable entries (over_after g)
+pub over-servable : (g : Gathering) (entries : ℕ) → StaysServable entries g → AreServable entries (over_after g)
 over-servable g entries keeps = by g.latest.clients.items refl
   where
     by : (cs : List Client) → g.latest.clients.items ≡ cs → AreServable entries (over_after g)
@@ -45,17 +45,17 @@ over-servable g entries keeps = by g.latest.clients.items refl
     })
 
 -- and has the clients of all
-pub all-over : (g : Gathering) → clients_of (over_after g) ≡ gathered g
+pub all-over : (g : Gathering) → clients_of_epochs (over_after g) ≡ gathered g
 all-over g = by g.latest.clients.items refl
   where
-    by : (cs : List Client) → g.latest.clients.items ≡ cs → clients_of (over_after g) ≡ gathered g
+    by : (cs : List Client) → g.latest.clients.items ≡ cs → clients_of_epochs (over_after g) ≡ gathered g
     by [] e = rw (le-ltb 0 (length g.latest.clients.items) (omega (arith, ap length e))) (omega (arith, ap length e))
     by (c ∷ cs) e =
         rw (lt-ltb 0 (length g.latest.clients.items) (omega (arith, ap length e))) (sum_by_push (λ (x : BatchEpoch). length x.clients.items) g.over.items g.latest)
 
 -- once it has come to a later epoch
 pub turned-keeps : (old new : Gathering) (n entries : ℕ) → old.latest.number < n → new.over.items ≡ over_after old → new.latest.number ≡ n
-    → new.latest.clients.items ≡ [] → new.standing.keys ≡ [] → Keeps entries old → Keeps entries new
+    → new.latest.clients.items ≡ [] → new.standing.keys ≡ [] → StaysServable entries old → StaysServable entries new
 turned-keeps old new n entries h over number clients keys keeps = record {
   over = rw over (over-servable old entries keeps);
   below = rw (over, number) (over_below old n h keeps.below);
@@ -87,7 +87,7 @@ new-and-few at g c none = by (list_any (nat_eq c.id) g.standing.keys) refl (nat_
 -- a client more of the latest epoch
 pub joined-keeps : (old new : Gathering) (at entries : ℕ) (c : Client) → joining_cause at old c ≡ None → c.entry < entries → new.over ≡ old.over
     → new.latest.number ≡ old.latest.number → new.latest.clients.items ≡ old.latest.clients.items ++ c ∷ []
-    → new.standing.keys ≡ old.standing.keys ++ c.id ∷ [] → Keeps entries old → Keeps entries new
+    → new.standing.keys ≡ old.standing.keys ++ c.id ∷ [] → StaysServable entries old → StaysServable entries new
 joined-keeps old new at entries c none entry over number clients keys keeps =
     let (fresh, room) = new-and-few at old c none in
     let ids : map (λ (x : Client). x.id) new.latest.clients.items ≡ map (λ (x : Client). x.id) old.latest.clients.items ++ c.id ∷ [] =

@@ -13,8 +13,8 @@ use Rattle.cn_spec.specs.Sums.{times}
 use Rattle.cn_spec.proofs.CallerLemmas.{times-append, times-nil}
 use Rattle.cn_spec.proofs.CallerLemmas.{times-cons}
 use Rattle.cn_report.specs.Reading.Faults.{IsClean, cause_by}
-use Rattle.cn_report.specs.Reading.Granted.{first_of, form_cause, granted_in, grants_in, has_client, has_name, of_epoch, spelled_cause, spelled_form, twice_cause}
-use Rattle.cn_report.specs.Reading.Grants.{IsFirst, IsFlaw, IsOfReading, IsOutside, IsTightEpoch, IsTightList, Lacks, grants_cause, grants_form, header_cause, record_cause, record_form}
+use Rattle.cn_report.specs.Reading.Granted.{first_cause, form_cause, grant_spelled, grants_spelled, has_client, has_name, of_epoch, spelled_cause, spelled_form, twice_cause}
+use Rattle.cn_report.specs.Reading.Grants.{IsFirstWithCause, IsFlaw, IsOfReading, IsOutside, AreTightGrants, IsTightList, Lacks, grants_cause, grants_form, header_cause, record_cause, record_form}
 use Rattle.cn_report.specs.Reading.Records.{Record}
 use Rattle.cn_report.specs.declared.reading.grant.Granted.{Granted}
 use Rattle.cn_report.specs.declared.reading.grant.GrantCause.{GrantCause}
@@ -46,7 +46,7 @@ none-times f n (g ∷ gs) h = each (eqb_tells n (f g)) (none-times f n gs)
         omega (arith, times-cons n (f g) (map f gs), none, more (rw w.0 at h))
 
 -- of two causes none, where the first of them is none
-first_none : (a b : Option GrantCause) → first_of a b ≡ None → (a ≡ None) × (b ≡ None)
+first_none : (a b : Option GrantCause) → first_cause a b ≡ None → (a ≡ None) × (b ≡ None)
 first_none (Some x) b e = absurd (none-some x (sym e))
 first_none None b e = (refl, e)
 
@@ -106,7 +106,7 @@ form_of before None e = e
 form_of before (Some g) e = (first_none (form_cause before g) (twice_cause before g) e).0
 
 -- an epoch that lacks no name is tight
-epoch-tight : (grants : List Granted) → ((n : ℕ) → times n (map (λ (g : Granted). g.client) grants) ≤ 1) → ((n : ℕ) → n < length grants → has_name n grants ≡ true) → IsTightEpoch grants
+epoch-tight : (grants : List Granted) → ((n : ℕ) → times n (map (λ (g : Granted). g.client) grants) ≤ 1) → ((n : ℕ) → n < length grants → has_name n grants ≡ true) → AreTightGrants grants
 epoch-tight grants once there = record {
   clients = once;
   names = all_below (length grants) (map (λ (g : Granted). g.name) grants) (length-map grants (λ (g : Granted). g.name)) (λ n h. any-times (λ g. g.name) n grants (there n h));
@@ -117,14 +117,14 @@ not_false true h = refl
 not_false false h = absurd (h refl)
 
 -- the list is tight where no record has a cause, no client stands twice in an epoch, and no epoch lacks a name
-pub list-tight : (rows : List Record) (grants : List Granted) → IsClean grants_cause rows → grants_in (drop 1 rows) ≡ grants → AreOnce grants → ((e n : ℕ) → Lacks grants e n → ⊥) → IsTightList rows
+pub list-tight : (rows : List Record) (grants : List Granted) → IsClean grants_cause rows → grants_spelled (drop 1 rows) ≡ grants → AreOnce grants → ((e n : ℕ) → Lacks grants e n → ⊥) → IsTightList rows
 list-tight rows grants clean spells once full = record {
-  form = λ at. weaker header_cause record_cause record_form (λ before fields. form_of (grants_in (drop 1 before)) (granted_in fields)) rows at (clean at);
+  form = λ at. weaker header_cause record_cause record_form (λ before fields. form_of (grants_spelled (drop 1 before)) (grant_spelled fields)) rows at (clean at);
   tight = λ e. rw spells (epoch-tight (of_epoch e grants) (once e) (λ n h. not_false (has_name n (of_epoch e grants)) (λ f. full e n (h, f))));
 }
 
 -- the other way: each record of a tight list has no cause
-module _ (gb gm : List Granted) (g : Granted) (tight : IsTightEpoch (of_epoch g.epoch (gb ++ g ∷ gm))) where
+module _ (gb gm : List Granted) (g : Granted) (tight : AreTightGrants (of_epoch g.epoch (gb ++ g ∷ gm))) where
   around : of_epoch g.epoch (gb ++ g ∷ gm) ≡ of_epoch g.epoch gb ++ g ∷ of_epoch g.epoch gm
   around = filter-append (λ (x : Granted). x.epoch == g.epoch) gb (g ∷ gm) ∙ ap (λ (l : List Granted). of_epoch g.epoch gb ++ l) one
     where
@@ -159,27 +159,27 @@ module _ (gb gm : List Granted) (g : Granted) (tight : IsTightEpoch (of_epoch g.
       rw (first_time (λ x. x.client) (tight.clients g.client), first_time (λ x. x.name) names) refl
 
 -- the grants round a record
-grants-round : (rows : List Record) (m : ℕ) (g : Granted) → m < length rows → granted_in (get_or rows m []) ≡ Some g → grants_in rows ≡ grants_in (take m rows) ++ g ∷ grants_in (drop (suc m) rows)
+grants-round : (rows : List Record) (m : ℕ) (g : Granted) → m < length rows → grant_spelled (get_or rows m []) ≡ Some g → grants_spelled rows ≡ grants_spelled (take m rows) ++ g ∷ grants_spelled (drop (suc m) rows)
 grants-round [] m g h is = absurd (omega (arith, h))
 grants-round (r ∷ rows) zero g h is = rw is refl
-grants-round (r ∷ rows) (suc m) g h is = each (granted_in r) (grants-round rows m g (omega (arith, h)) is)
+grants-round (r ∷ rows) (suc m) g h is = each (grant_spelled r) (grants-round rows m g (omega (arith, h)) is)
   where
-    each : (spelled : Option Granted) → grants_in rows ≡ grants_in (take m rows) ++ g ∷ grants_in (drop (suc m) rows)
-        → cons_option spelled (grants_in rows) ≡ cons_option spelled (grants_in (take m rows)) ++ g ∷ grants_in (drop (suc m) rows)
+    each : (spelled : Option Granted) → grants_spelled rows ≡ grants_spelled (take m rows) ++ g ∷ grants_spelled (drop (suc m) rows)
+        → cons_option spelled (grants_spelled rows) ≡ cons_option spelled (grants_spelled (take m rows)) ++ g ∷ grants_spelled (drop (suc m) rows)
     each (Some x) more = ap (λ (l : List Granted). x ∷ l) more
     each None more = more
 
-at-record : (r : Record) (rows : List Record) (m : ℕ) → m < length rows → ((epoch : ℕ) → IsTightEpoch (of_epoch epoch (grants_in rows)))
-    → spelled_form (grants_in (take m rows)) (granted_in (get_or rows m [])) ≡ None → spelled_cause (grants_in (take m rows)) (granted_in (get_or rows m [])) ≡ None
-at-record r rows m h tight = each (granted_in (get_or rows m [])) refl
+at-record : (r : Record) (rows : List Record) (m : ℕ) → m < length rows → ((epoch : ℕ) → AreTightGrants (of_epoch epoch (grants_spelled rows)))
+    → spelled_form (grants_spelled (take m rows)) (grant_spelled (get_or rows m [])) ≡ None → spelled_cause (grants_spelled (take m rows)) (grant_spelled (get_or rows m [])) ≡ None
+at-record r rows m h tight = each (grant_spelled (get_or rows m [])) refl
   where
-    each : (spelled : Option Granted) → granted_in (get_or rows m []) ≡ spelled → spelled_form (grants_in (take m rows)) spelled ≡ None → spelled_cause (grants_in (take m rows)) spelled ≡ None
+    each : (spelled : Option Granted) → grant_spelled (get_or rows m []) ≡ spelled → spelled_form (grants_spelled (take m rows)) spelled ≡ None → spelled_cause (grants_spelled (take m rows)) spelled ≡ None
     each None is e = e
     each (Some g) is e =
-        rw e (no-twice (grants_in (take m rows)) (grants_in (drop (suc m) rows)) g
-        (subst (λ (l : List Granted). IsTightEpoch (of_epoch g.epoch l)) (grants-round rows m g h is) (tight g.epoch)))
+        rw e (no-twice (grants_spelled (take m rows)) (grants_spelled (drop (suc m) rows)) g
+        (subst (λ (l : List Granted). AreTightGrants (of_epoch g.epoch l)) (grants-round rows m g h is) (tight g.epoch)))
 
-tight_at : (rows : List Record) (at : ℕ) → ((epoch : ℕ) → IsTightEpoch (of_epoch epoch (grants_in (drop 1 rows)))) → grants_form rows at ≡ None → grants_cause rows at ≡ None
+tight_at : (rows : List Record) (at : ℕ) → ((epoch : ℕ) → AreTightGrants (of_epoch epoch (grants_spelled (drop 1 rows)))) → grants_form rows at ≡ None → grants_cause rows at ≡ None
 unfolding cause_by
 tight_at rows zero tight e = e
 tight_at [] (suc m) tight e =
@@ -201,11 +201,11 @@ tight_at (r ∷ rows) (suc m) tight e = each (leb_tells (suc m) (length rows)) e
 tight-clean : (rows : List Record) → IsTightList rows → IsClean grants_cause rows
 tight-clean rows t at = tight_at rows at t.tight (t.form at)
 
-tight-full : (grants : List Granted) → IsTightEpoch grants → (n : ℕ) → n < length grants → has_name n grants ≡ false → ⊥
+tight-full : (grants : List Granted) → AreTightGrants grants → (n : ℕ) → n < length grants → has_name n grants ≡ false → ⊥
 tight-full grants t n h e =
     omega (arith, none-times (λ g. g.name) n grants e, once_each (length grants) (map (λ (g : Granted). g.name) grants) t.names n, once-there (length grants) n h)
 
-no_first : (rows : List Record) (at : ℕ) (why : GrantCause) → (IsOfReading why → ⊥) → IsFirst rows at why → IsTightList rows → ⊥
+no_first : (rows : List Record) (at : ℕ) (why : GrantCause) → (IsOfReading why → ⊥) → IsFirstWithCause rows at why → IsTightList rows → ⊥
 no_first rows at why inside fault t =
     elim fault.told [
       | inl e ↦ none-some why (sym (tight-clean rows t at) ∙ e)
@@ -231,7 +231,7 @@ tight-flaw rows Memory h t = tt
 tight-flaw rows (Form at) h t = no_first rows at cause.Form is-form h t
 tight-flaw rows (DuplicateClient at) h t = no_first rows at cause.DuplicateClient is-client h t
 tight-flaw rows (DuplicateName at) h t = no_first rows at cause.DuplicateName is_name h t
-tight-flaw rows (Gap epoch name) h t = tight-full (of_epoch epoch (grants_in (drop 1 rows))) (t.tight epoch) name h.1.lacks.0 h.1.lacks.1
+tight-flaw rows (Gap epoch name) h t = tight-full (of_epoch epoch (grants_spelled (drop 1 rows))) (t.tight epoch) name h.1.lacks.0 h.1.lacks.1
 
 pub exact : {T : Type 0} (P : T → Type 0) (rows : List Record) (result : Result T Flaw) → MatchResult result P (IsFlaw rows) → IfErr result (λ flaw. IsTightList rows → IsOutside flaw)
 exact P rows (Ok x) h = tt

@@ -10,7 +10,7 @@ use Rattle.cn_ledger.specs.declared.client.Client.{Client}
 use Rattle.cn_report.specs.declared.reading.arrival.Arrival.{Arrival}
 use Rattle.cn_report.specs.declared.reading.gathering.BatchEpoch.{BatchEpoch}
 use Rattle.cn_report.specs.Reading.Arrival.{of_epoch}
-use Rattle.cn_report.specs.Reading.Batch.{AreEpochs, AreRising, arrivals_of, plain_epoch}
+use Rattle.cn_report.specs.Reading.Batch.{AreEpochsOf, AreRising, arrivals_of, plain_epoch}
 use Rattle.cn_report.proofs.ReadingLemmas.GatheredEpochs.{arrival_at, client_of, other-epoch, same-epoch}
 
 -- the epochs above a number have none of its arrivals
@@ -64,5 +64,5 @@ epochs-same (x ∷ xs) (y ∷ ys) rx ry sx sy same =
     let rest = epochs-same xs ys rx.1 ry.1 sx.1 sy.1 (rest_same (arrivals_of x) (arrivals_of y) (flat_map arrivals_of xs) (flat_map arrivals_of ys) firsts same) in
     λ i. (number i, clients i) ∷ rest i
 
-pub unique : (xs ys : List BatchEpoch) (arrivals : List Arrival) → AreEpochs xs arrivals → AreEpochs ys arrivals → map plain_epoch xs ≡ map plain_epoch ys
+pub unique : (xs ys : List BatchEpoch) (arrivals : List Arrival) → AreEpochsOf xs arrivals → AreEpochsOf ys arrivals → map plain_epoch xs ≡ map plain_epoch ys
 unique xs ys arrivals x y = epochs-same xs ys x.rising y.rising x.some y.some (x.spells ∙ sym y.spells)

@@ -18,8 +18,8 @@ use Rattle.cn_report.specs.declared.reading.gathering.BatchEpoch.{BatchEpoch}
 use Rattle.cn_report.specs.Reading.Batch as batch
 use Rattle.cn_report.specs.Writing.Grants.{grant_line, grant_lines, grants_header, grants_text}
 use Rattle.cn_report.specs.Writing.Outcome.{exit_line, exit_lines, name_line, name_lines}
-use Rattle.cn_report.specs.Writing.Records.{AreRecordsOf, IsRecordOf}
-use Rattle.cn_report.specs.Writing.Report.{clients_of, epoch_line, epoch_lines, report_end, report_text}
+use Rattle.cn_report.specs.Writing.Records.{AreRecordsOf, IsRecordOfEpoch}
+use Rattle.cn_report.specs.Writing.Report.{clients_of_records, epoch_line, epoch_lines, report_end, report_text}
 use Rattle.cn_report.specs.Writing.Text.{heading}
 use Rattle.cn_report.proofs.WritingLemmas.LineEnds.{number_is-short}
 use Rattle.cn_report.proofs.WritingLemmas.Records.{when-le}
@@ -68,7 +68,7 @@ fit-left k numbers fit i = rw (get_or-drop k numbers i 0) (fit (k + i))
 abbrev pub grants-of : EpochRecord → List ℕ
 grants-of r = grant_lines r.number r.clients r.holders.items
 
-module _ (w m : ℕ) (e : BatchEpoch) (own : List ℕ) (r : EpochRecord) (is : IsRecordOf w m e own r) (number : e.number < 2 ^ 64) (few : length e.clients.items ≤ MOST_RECORDS) (fit : Fit own) where
+module _ (w m : ℕ) (e : BatchEpoch) (own : List ℕ) (r : EpochRecord) (is : IsRecordOfEpoch w m e own r) (number : e.number < 2 ^ 64) (few : length e.clients.items ≤ MOST_RECORDS) (fit : Fit own) where
   pub grants-few : length (grants-of r) ≤ 64 * length e.clients.items
   grants-few =
       let k = length e.clients.items in
@@ -98,7 +98,7 @@ module _ (w m : ℕ) (e : BatchEpoch) (own : List ℕ) (r : EpochRecord) (is : I
 
 -- how many records, and how many clients they have
 pub as-many-records : (carry : Bool) (w m : ℕ) (epochs : List BatchEpoch) (records : List EpochRecord) (holders : List ℕ) → AreRecordsOf carry w m epochs records holders
-    → (length records ≡ length epochs) × (clients_of records ≡ batch.clients_of epochs)
+    → (length records ≡ length epochs) × (clients_of_records records ≡ batch.clients_of_epochs epochs)
 unfolding AreRecordsOf
 as-many-records carry w m [] [] holders are = (refl, refl)
 as-many-records carry w m [] (r ∷ records) holders are = absurd are
@@ -116,7 +116,7 @@ as-many-records carry w m (e ∷ epochs) (r ∷ records) holders (mine, rest) =
     )
 
 pub all-grants-few : (carry : Bool) (w m : ℕ) (epochs : List BatchEpoch) (records : List EpochRecord) (holders : List ℕ) → AllByRecursion (λ e. e.number < 2 ^ 64) epochs
-    → batch.clients_of epochs ≤ MOST_RECORDS → Fit holders → AreRecordsOf carry w m epochs records holders → length (flat_map grants-of records) ≤ 64 * batch.clients_of epochs
+    → batch.clients_of_epochs epochs ≤ MOST_RECORDS → Fit holders → AreRecordsOf carry w m epochs records holders → length (flat_map grants-of records) ≤ 64 * batch.clients_of_epochs epochs
 unfolding AreRecordsOf
 all-grants-few carry w m [] [] holders numbers few fit are = omega arith
 all-grants-few carry w m [] (r ∷ records) holders numbers few fit are = absurd are
@@ -133,8 +133,8 @@ all-grants-few carry w m (e ∷ epochs) (r ∷ records) holders (number, numbers
     )
 
 pub all-epochs-few : (carry : Bool) (w m : ℕ) (epochs : List BatchEpoch) (records : List EpochRecord) (holders : List ℕ) → AllByRecursion (λ e. e.number < 2 ^ 64) epochs
-    → AllByRecursion (λ e. 0 < length e.clients.items) epochs → m + batch.clients_of epochs ≤ MOST_RECORDS → w ≤ MOST_ENDS → Fit holders → AreRecordsOf carry w m epochs records holders
-    → length (flat_map (epoch_lines w) records) ≤ 262272 * batch.clients_of epochs
+    → AllByRecursion (λ e. 0 < length e.clients.items) epochs → m + batch.clients_of_epochs epochs ≤ MOST_RECORDS → w ≤ MOST_ENDS → Fit holders → AreRecordsOf carry w m epochs records holders
+    → length (flat_map (epoch_lines w) records) ≤ 262272 * batch.clients_of_epochs epochs
 unfolding AreRecordsOf
 all-epochs-few carry w m [] [] holders numbers some few wide fit are = omega arith
 all-epochs-few carry w m [] (r ∷ records) holders numbers some few wide fit are = absurd are
@@ -153,7 +153,7 @@ all-epochs-few carry w m (e ∷ epochs) (r ∷ records) holders (number, numbers
     )
 
 -- each epoch has some client, so there are no more of them
-pub epochs-few : (epochs : List BatchEpoch) → AllByRecursion (λ e. 0 < length e.clients.items) epochs → length epochs ≤ batch.clients_of epochs
+pub epochs-few : (epochs : List BatchEpoch) → AllByRecursion (λ e. 0 < length e.clients.items) epochs → length epochs ≤ batch.clients_of_epochs epochs
 epochs-few [] some = omega arith
 epochs-few (e ∷ epochs) (come, some) = omega (arith, come, epochs-few epochs some, sum_by-cons (λ (x : BatchEpoch). length x.clients.items) e epochs)
 
@@ -162,24 +162,24 @@ unfolding grants_header
 header-short = omega arith
 
 pub grants-fit : (carry : Bool) (w : ℕ) (epochs : List BatchEpoch) (records : List EpochRecord) (holders : List ℕ) → AllByRecursion (λ e. e.number < 2 ^ 64) epochs
-    → batch.clients_of epochs ≤ MOST_RECORDS → Fit holders → AreRecordsOf carry w 0 epochs records holders → length (grants_text records) < 2 ^ 64
+    → batch.clients_of_epochs epochs ≤ MOST_RECORDS → Fit holders → AreRecordsOf carry w 0 epochs records holders → length (grants_text records) < 2 ^ 64
 grants-fit carry w epochs records holders numbers few fit are =
     omega (arith, few, header-short, length-append grants_header (flat_map grants-of records), all-grants-few carry w 0 epochs records holders numbers few fit are)
 
 pub report-fits : (network : Network) (carry : Bool) (epochs : List BatchEpoch) (records : List EpochRecord) (holders : List ℕ) → length (heading network) ≤ 128 → network.table.width ≤ MOST_ENDS
-    → AllByRecursion (λ e. e.number < 2 ^ 64) epochs → AllByRecursion (λ e. 0 < length e.clients.items) epochs → batch.clients_of epochs ≤ MOST_RECORDS → Fit holders
+    → AllByRecursion (λ e. e.number < 2 ^ 64) epochs → AllByRecursion (λ e. 0 < length e.clients.items) epochs → batch.clients_of_epochs epochs ≤ MOST_RECORDS → Fit holders
     → AreRecordsOf carry network.table.width 0 epochs records holders → length (report_text network records) < 2 ^ 64
 report-fits network carry epochs records holders short wide numbers some few fit are =
     let w = network.table.width in
     let (many, clients) = as-many-records carry w 0 epochs records holders are in
-    let end = end-short (length records) (clients_of records) (omega (arith, many, epochs-few epochs some, few)) (omega (arith, clients, few)) in
+    let end = end-short (length records) (clients_of_records records) (omega (arith, many, epochs-few epochs some, few)) (omega (arith, clients, few)) in
     omega (
       arith,
       few,
       short,
       end,
       all-epochs-few carry w 0 epochs records holders numbers some (omega (arith, few)) wide fit are,
-      length-append (heading network ++ flat_map (epoch_lines w) records) (report_end (length records) (clients_of records)),
+      length-append (heading network ++ flat_map (epoch_lines w) records) (report_end (length records) (clients_of_records records)),
       length-append (heading network) (flat_map (epoch_lines w) records),
     )
 

@@ -6,7 +6,7 @@ use Rattle.std.proofs.lemmas.List.{drop_more}
 use Rattle.cn_spec.specs.Sums.{when}
 use Rattle.cn_record.specs.declared.record.EpochRecord.{EpochRecord}
 use Rattle.cn_report.specs.declared.reading.gathering.BatchEpoch.{BatchEpoch}
-use Rattle.cn_report.specs.Writing.Records.{AreRecordsOf, IsRecordOf}
+use Rattle.cn_report.specs.Writing.Records.{AreRecordsOf, IsRecordOfEpoch}
 
 pub when-le : (carry : Bool) (n : ℕ) → when carry n ≤ n
 when-le true n = omega arith
@@ -16,7 +16,7 @@ when-le false n = omega arith
 pub record FirstRecord (lines : EpochRecord → List ℕ) (carry : Bool) (w m : ℕ) (e : BatchEpoch) (epochs : List BatchEpoch) (records : List EpochRecord) (holders : List ℕ) : Type 0 where
   pub first : EpochRecord
   pub later : List EpochRecord
-  pub mine : IsRecordOf w m e (take (length e.clients.items) holders) first
+  pub mine : IsRecordOfEpoch w m e (take (length e.clients.items) holders) first
   pub rest : AreRecordsOf carry w (when carry (m + length e.clients.items)) epochs later (drop (length e.clients.items) holders)
   pub parts : flat_map lines records ≡ lines first ++ flat_map lines later
 

@@ -71,7 +71,7 @@ AreRising (epoch ∷ later) = AllByRecursion (λ e. epoch.number < e.number) lat
 
 -- these epochs spell these arrivals: the numbers rise, each epoch has some client, and the clients are the arrivals in
 -- their order
-pub record AreEpochs (epochs : List BatchEpoch) (arrivals : List Arrival) : Type 0 where
+pub record AreEpochsOf (epochs : List BatchEpoch) (arrivals : List Arrival) : Type 0 where
   pub rising : AreRising epochs
   pub some : AllByRecursion (λ e. 0 < length e.clients.items) epochs
   pub spells : flat_map arrivals_of epochs ≡ arrivals
@@ -90,13 +90,13 @@ pub record AreServable (entries : ℕ) (epochs : List BatchEpoch) : Type 0 where
   pub come : All (λ e. MayCome entries e.clients.items) epochs
 
 -- how many clients epochs have
-abbrev pub clients_of : List BatchEpoch → ℕ
-clients_of epochs = sum_by (λ e. length e.clients.items) epochs
+abbrev pub clients_of_epochs : List BatchEpoch → ℕ
+clients_of_epochs epochs = sum_by (λ e. length e.clients.items) epochs
 
 -- the records are a batch of these epochs: none has a cause, and the epochs spell those after the header
 pub record IsBatch (entries : ℕ) (rows : List Record) (epochs : List BatchEpoch) : Type 0 where
   pub clean : IsClean (batch_cause entries) rows
-  pub holds : AreEpochs epochs (arrivals_in (heading_in rows) entries (drop 1 rows))
+  pub holds : AreEpochsOf epochs (arrivals_in (heading_in rows) entries (drop 1 rows))
 
 -- the fault gives the first record with a cause, and its first cause
 abbrev pub IsBatchFault : ℕ → List Record → BatchFault → Type 0

@@ -25,7 +25,7 @@ IsGapBelow end grants None = (e n : ℕ) → e < end → Lacks grants e n → �
 IsGapBelow end grants (Some gap) = IsLeastGap end grants gap
 
 -- no grant is of a later epoch, the sets hold the latest epoch's clients and names, and the gap is the first before it
-pub record Holds (g : Granting) (grants : List Granted) : Type 0 where
+pub record HoldsGrants (g : Granting) (grants : List Granted) : Type 0 where
   pub below : AllByRecursion (λ x. x.epoch ≤ g.latest) grants
   pub count : g.count ≡ length (of_epoch g.latest grants)
   pub clients : (n : ℕ) → has g.clients n ≡ has_client n (of_epoch g.latest grants)
@@ -52,7 +52,7 @@ Tells width g grants = g.gap ≡ None → AreTold width (map plain_tight g.over.
 
 -- and the latest epoch is that of the last grant
 pub record IsChecked (width : ℕ) (g : Granting) (grants : List Granted) : Type 0 where
-  pub holds : Holds g grants
+  pub holds : HoldsGrants g grants
   pub last : last_epoch grants ≡ g.latest
   pub tells : Tells width g grants
 

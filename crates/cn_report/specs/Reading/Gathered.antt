@@ -4,7 +4,7 @@ use Rattle.std.specs.List.{AllByRecursion, flat_map, list_any}
 use Rattle.cn_ledger.specs.declared.client.Client.{Client}
 use Rattle.cn_spec.specs.declared.limits.TheConstants.{MOST_CLIENTS, MOST_RECORDS}
 use Rattle.cn_report.specs.Reading.Arrival.{last_epoch}
-use Rattle.cn_report.specs.Reading.Batch.{AreRising, AreServable, MayCome, arrivals_of, clients_of}
+use Rattle.cn_report.specs.Reading.Batch.{AreRising, AreServable, MayCome, arrivals_of, clients_of_epochs}
 use Rattle.cn_report.specs.declared.reading.arrival.Arrival.{Arrival}
 use Rattle.cn_report.specs.declared.reading.batch_fault.BatchCause.{BatchCause}
 use Rattle.cn_report.specs.declared.reading.batch_fault.BatchCause.TheVariants.{Duplicate, EpochFull, BatchFull}
@@ -12,7 +12,7 @@ use Rattle.cn_report.specs.declared.reading.gathering.BatchEpoch.{BatchEpoch}
 use Rattle.cn_report.specs.declared.reading.gathering.Gathering.{Gathering}
 
 -- the gathering holds these arrivals: those of the epochs that are over, and then those of the latest
-pub record Holds (g : Gathering) (arrivals : List Arrival) : Type 0 where
+pub record HoldsArrivals (g : Gathering) (arrivals : List Arrival) : Type 0 where
   pub spells : flat_map arrivals_of g.over.items ++ arrivals_of g.latest ≡ arrivals
   pub rising : AreRising g.over.items
   pub some : AllByRecursion (λ e. 0 < length e.clients.items) g.over.items
@@ -21,12 +21,12 @@ pub record Holds (g : Gathering) (arrivals : List Arrival) : Type 0 where
 
 -- and the latest epoch is that of the last arrival
 pub record IsGathered (g : Gathering) (arrivals : List Arrival) : Type 0 where
-  pub holds : Holds g arrivals
+  pub holds : HoldsArrivals g arrivals
   pub last : last_epoch arrivals ≡ g.latest.number
 
 -- what the gathering keeps whatever was read: the epochs that are over can be served, and the clients of the latest, whose
 -- number is greater, may come
-pub record Keeps (entries : ℕ) (g : Gathering) : Type 0 where
+pub record StaysServable (entries : ℕ) (g : Gathering) : Type 0 where
   pub over : AreServable entries g.over.items
   pub below : AllByRecursion (λ e. e.number < g.latest.number) g.over.items
   pub latest : MayCome entries g.latest.clients.items
@@ -34,7 +34,7 @@ pub record Keeps (entries : ℕ) (g : Gathering) : Type 0 where
 
 -- how many clients the gathering has
 abbrev pub gathered : Gathering → ℕ
-gathered g = clients_of g.over.items + length g.latest.clients.items
+gathered g = clients_of_epochs g.over.items + length g.latest.clients.items
 
 -- the epochs that are over once the latest is
 abbrev pub over_after : Gathering → List BatchEpoch

@@ -16,13 +16,13 @@ granting (Some epoch) (Some client) None = None
 granting (Some epoch) (Some client) (Some name) = Some (record { epoch = epoch; client = client; name = name })
 
 -- the grant that a record spells
-unfoldable pub granted_in : Record → Option Granted
-granted_in (epoch ∷ client ∷ name ∷ []) = granting (number_in epoch) (number_in client) (number_in name)
-granted_in fields = None
+unfoldable pub grant_spelled : Record → Option Granted
+grant_spelled (epoch ∷ client ∷ name ∷ []) = granting (number_in epoch) (number_in client) (number_in name)
+grant_spelled fields = None
 
 -- the grants of these records
-abbrev pub grants_in : List Record → List Granted
-grants_in rows = filter_map granted_in rows
+abbrev pub grants_spelled : List Record → List Granted
+grants_spelled rows = filter_map grant_spelled rows
 
 -- those of them that are of this epoch
 abbrev pub of_epoch : ℕ → List Granted → List Granted
@@ -52,9 +52,9 @@ twice_cause before g =
     else None
 
 -- the first of two causes
-abbrev pub first_of : Option GrantCause → Option GrantCause → Option GrantCause
-first_of (Some cause) other = Some cause
-first_of None other = other
+abbrev pub first_cause : Option GrantCause → Option GrantCause → Option GrantCause
+first_cause (Some cause) other = Some cause
+first_cause None other = other
 
 -- the form's cause of what a record spells, after the grants before it
 abbrev pub spelled_form : List Granted → Option Granted → Option GrantCause
@@ -64,4 +64,4 @@ spelled_form before (Some g) = form_cause before g
 -- its first cause
 abbrev pub spelled_cause : List Granted → Option Granted → Option GrantCause
 spelled_cause before None = Some Form
-spelled_cause before (Some g) = first_of (form_cause before g) (twice_cause before g)
+spelled_cause before (Some g) = first_cause (form_cause before g) (twice_cause before g)

@@ -5,7 +5,7 @@ use Rattle.std.specs.Str.{bytes_eq}
 use Rattle.cn_spec.specs.Step.{IsEachBelow}
 use Rattle.cn_spec.specs.Sums.{times}
 use Rattle.cn_report.specs.Reading.Faults.{IsClean, IsFirstFault, cause_by}
-use Rattle.cn_report.specs.Reading.Granted.{granted_in, grants_in, has_name, of_epoch, spelled_cause, spelled_form}
+use Rattle.cn_report.specs.Reading.Granted.{grant_spelled, grants_spelled, has_name, of_epoch, spelled_cause, spelled_form}
 use Rattle.cn_report.specs.Reading.Records.{Record}
 use Rattle.cn_report.specs.declared.reading.grant.Granted.{Granted}
 use Rattle.cn_report.specs.declared.reading.grant.GrantCause.{GrantCause}
@@ -47,11 +47,11 @@ header_cause fields = if is_grants_header fields then None else Some cause.Form
 
 -- what is wrong with the form of a record after those before it, the header first
 abbrev pub record_form : List Record → Record → Option GrantCause
-record_form before fields = spelled_form (grants_in (drop 1 before)) (granted_in fields)
+record_form before fields = spelled_form (grants_spelled (drop 1 before)) (grant_spelled fields)
 
 -- the first cause of a record after those before it
 abbrev pub record_cause : List Record → Record → Option GrantCause
-record_cause before fields = spelled_cause (grants_in (drop 1 before)) (granted_in fields)
+record_cause before fields = spelled_cause (grants_spelled (drop 1 before)) (grant_spelled fields)
 
 -- the same of the record with this number
 abbrev pub grants_form : List Record → ℕ → Option GrantCause
@@ -85,16 +85,16 @@ IsEndFlaw grants (DuplicateClient at) = ⊥
 IsEndFlaw grants (DuplicateName at) = ⊥
 
 -- the record has this cause, and it is the first with one
-abbrev pub IsFirst : List Record → ℕ → GrantCause → Type 0
-IsFirst rows at why = IsFirstFault grants_cause IsOfReading rows at why
+abbrev pub IsFirstWithCause : List Record → ℕ → GrantCause → Type 0
+IsFirstWithCause rows at why = IsFirstFault grants_cause IsOfReading rows at why
 
 -- the first record with a cause, and its first cause; or the first gap if no record has one
 abbrev pub IsFlaw : List Record → Flaw → Type 0
-IsFlaw rows (Read at) = IsFirst rows at cause.Read
-IsFlaw rows (Form at) = IsFirst rows at cause.Form
-IsFlaw rows (DuplicateClient at) = IsFirst rows at cause.DuplicateClient
-IsFlaw rows (DuplicateName at) = IsFirst rows at cause.DuplicateName
-IsFlaw rows (Gap epoch name) = IsClean grants_cause rows × IsGap (grants_in (drop 1 rows)) epoch name
+IsFlaw rows (Read at) = IsFirstWithCause rows at cause.Read
+IsFlaw rows (Form at) = IsFirstWithCause rows at cause.Form
+IsFlaw rows (DuplicateClient at) = IsFirstWithCause rows at cause.DuplicateClient
+IsFlaw rows (DuplicateName at) = IsFirstWithCause rows at cause.DuplicateName
+IsFlaw rows (Gap epoch name) = IsClean grants_cause rows × IsGap (grants_spelled (drop 1 rows)) epoch name
 IsFlaw rows Memory = ⊤
 
 -- the flaw is no fault of the records
@@ -107,14 +107,14 @@ IsOutside (DuplicateName at) = ⊥
 IsOutside (Gap epoch name) = ⊥
 
 -- these grants of one epoch pair distinct clients with the names below their number, each once
-pub record IsTightEpoch (grants : List Granted) : Type 0 where
+pub record AreTightGrants (grants : List Granted) : Type 0 where
   pub clients : (client : ℕ) → times client (map (λ g. g.client) grants) ≤ 1
   pub names : IsEachBelow (length grants) (map (λ g. g.name) grants)
 
 -- the form holds, and each epoch is tight
 pub record IsTightList (rows : List Record) : Type 0 where
   pub form : IsClean grants_form rows
-  pub tight : (epoch : ℕ) → IsTightEpoch (of_epoch epoch (grants_in (drop 1 rows)))
+  pub tight : (epoch : ℕ) → AreTightGrants (of_epoch epoch (grants_spelled (drop 1 rows)))
 
 -- the least number below the count that is not among these
 abbrev pub IsLeastMissing : (ℕ → Bool) → ℕ → Option ℕ → Type 0

@@ -2,7 +2,7 @@
 use Rattle.std.specs.Prelude.{ℕ, ◌≡◌, ◌∷◌, [], List, drop, length, map, ◌++◌, nat_eq, Result, MatchResult, if◌then◌else◌}
 use Rattle.std.specs.List.{fold, list_any}
 use Rattle.cn_spec.specs.Step.{counts_of, shares}
-use Rattle.cn_report.specs.Reading.Granted.{grants_in, of_epoch}
+use Rattle.cn_report.specs.Reading.Granted.{grants_spelled, of_epoch}
 use Rattle.cn_report.specs.Reading.Grants.{IsFlaw, IsTightList}
 use Rattle.cn_report.specs.Reading.Records.{Record}
 use Rattle.cn_report.specs.declared.reading.grant.Granted.{Granted}
@@ -32,11 +32,11 @@ plain_tight epoch = (epoch.number, epoch.clients, epoch.counts.items)
 
 -- the names that the records give in an epoch
 abbrev pub names_in : ℕ → List Record → List ℕ
-names_in epoch rows = map (λ g. g.name) (of_epoch epoch (grants_in (drop 1 rows)))
+names_in epoch rows = map (λ g. g.name) (of_epoch epoch (grants_spelled (drop 1 rows)))
 
 -- what the records say of their epochs, in order
 abbrev pub told_epochs : ℕ → List Record → List (ℕ × ℕ × List ℕ)
-told_epochs width rows = map (told_epoch width (grants_in (drop 1 rows))) (epoch_numbers (grants_in (drop 1 rows)))
+told_epochs width rows = map (told_epoch width (grants_spelled (drop 1 rows))) (epoch_numbers (grants_spelled (drop 1 rows)))
 
 -- these are the epochs of the records
 abbrev pub IsTold : ℕ → List Record → List TightEpoch → Type 0

@@ -6,7 +6,7 @@ use Rattle.cn_spec.specs.Step.{shares}
 use Rattle.cn_spec.specs.Sums.{times}
 use Rattle.cn_spec.specs.declared.limits.TheConstants.{MOST_RECORDS}
 use Rattle.cn_record.specs.declared.record.EpochRecord.{EpochRecord}
-use Rattle.cn_report.specs.Writing.Report.{clients_of}
+use Rattle.cn_report.specs.Writing.Report.{clients_of_records}
 
 -- a record has a holder for each client
 abbrev pub HasHolders : EpochRecord → Type 0
@@ -42,10 +42,10 @@ AreRisingRecords [] = ⊤
 AreRisingRecords (r ∷ later) = AllByRecursion (λ s. r.number < s.number) later × AreRisingRecords later
 
 -- the epochs can be written as a tight list, which takes no more grants than the limit of records
-pub record AreTight (records : List EpochRecord) : Type 0 where
+pub record AreTightRecords (records : List EpochRecord) : Type 0 where
   pub rising : AreRisingRecords records
   pub names : AllByRecursion HasOwnNames records
-  pub few : clients_of records ≤ MOST_RECORDS
+  pub few : clients_of_records records ≤ MOST_RECORDS
 
 -- what a check says of an epoch: its number, its number of clients, and how many of its names are those of each exit
 abbrev pub checked_epoch : ℕ → EpochRecord → ℕ × ℕ × List ℕ

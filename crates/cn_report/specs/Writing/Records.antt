@@ -7,7 +7,7 @@ use Rattle.cn_report.specs.declared.reading.gathering.BatchEpoch.{BatchEpoch}
 
 -- the record is that of an epoch whose clients came after m others: each of w exits has its share of all of them, less
 -- its share of those before, and these are the holders of its names
-pub record IsRecordOf (w m : ℕ) (epoch : BatchEpoch) (own : List ℕ) (r : EpochRecord) : Type 0 where
+pub record IsRecordOfEpoch (w m : ℕ) (epoch : BatchEpoch) (own : List ℕ) (r : EpochRecord) : Type 0 where
   pub number : r.number ≡ epoch.number
   pub clients : r.clients ≡ length epoch.clients.items
   pub counts : r.counts.items ≡ shares_after m r.clients w
@@ -20,5 +20,5 @@ AreRecordsOf carry w m [] [] holders = ⊤
 AreRecordsOf carry w m [] (r ∷ records) holders = ⊥
 AreRecordsOf carry w m (e ∷ epochs) [] holders = ⊥
 AreRecordsOf carry w m (e ∷ epochs) (r ∷ records) holders =
-    IsRecordOf w m e (take (length e.clients.items) holders) r
+    IsRecordOfEpoch w m e (take (length e.clients.items) holders) r
     × AreRecordsOf carry w (when carry (m + length e.clients.items)) epochs records (drop (length e.clients.items) holders)

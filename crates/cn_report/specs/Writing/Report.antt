@@ -15,8 +15,8 @@ abbrev pub epoch_lines : ℕ → EpochRecord → List ℕ
 epoch_lines width r = epoch_line r.number r.clients ++ outcome_lines width r
 
 -- how many clients the epochs had, each of which got a name
-abbrev pub clients_of : List EpochRecord → ℕ
-clients_of records = sum_by (λ r. r.clients) records
+abbrev pub clients_of_records : List EpochRecord → ℕ
+clients_of_records records = sum_by (λ r. r.clients) records
 
 -- how many epochs and grants there are
 unfoldable pub report_end : ℕ → ℕ → List ℕ
@@ -25,4 +25,4 @@ report_end epochs grants = line (codes "end" ∷ codes "epochs" ∷ decimal epoc
 -- the whole text of a report
 abbrev pub report_text : Network → List EpochRecord → List ℕ
 report_text network records =
-    heading network ++ flat_map (epoch_lines network.table.width) records ++ report_end (length records) (clients_of records)
+    heading network ++ flat_map (epoch_lines network.table.width) records ++ report_end (length records) (clients_of_records records)

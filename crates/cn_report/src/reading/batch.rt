@@ -5,8 +5,8 @@ ghost use Rattle.std.specs.Bool.{MatchBool};
 ghost use Rattle.cn_spec.specs.declared.limits.TheConstants.{MOST_RECORDS};
 ghost use Rattle.cn_report.specs.declared.reading.arrival.Arrival.{Arrival};
 ghost use Rattle.cn_report.specs.Reading.Arrival.{arrival_cause, arrival_in, spelled_cause};
-ghost use Rattle.cn_report.specs.Reading.Batch.{AnswersBatch, AreServable, IsBatchFault, clients_of};
-ghost use Rattle.cn_report.specs.Reading.Gathered.{IsGathered, Keeps, gathered};
+ghost use Rattle.cn_report.specs.Reading.Batch.{AnswersBatch, AreServable, IsBatchFault, clients_of_epochs};
+ghost use Rattle.cn_report.specs.Reading.Gathered.{IsGathered, StaysServable, gathered};
 ghost use Rattle.cn_report.specs.Reading.Heading.{heading_of};
 ghost use Rattle.cn_report.specs.Reading.Records.{HasRead, IsPlain, Record, records_of};
 
@@ -79,7 +79,7 @@ fn take_arrival<R: Read>(
         × (spelled_cause entries arrivals (arrival_in heading entries fields) ≡ Some cause))
         ⊎ (cause ≡ BatchCause.Read) ⊎ (cause ≡ BatchCause.Memory)) }
     ensures few { IfOk result (λ found. found ≡ true → at ≤ MOST_RECORDS) }
-    ensures keeps { OnOk result (Keeps entries gathering.old → Keeps entries gathering.new) }
+    ensures keeps { OnOk result (StaysServable entries gathering.old → StaysServable entries gathering.new) }
     ensures more { IfOk result (λ found.
         MatchBool found (gathered gathering.new ≡ gathered gathering.old + 1)
         (gathered gathering.new ≡ gathered gathering.old)) }
@@ -105,7 +105,7 @@ fn take_arrivals<R: Read>(
     ensures answer { (text : List ℕ) → HasRead R.remaining rows.old text []
         → AnswersBatch entries (records_of text) result }
     ensures fits { IfOk result (λ batch. AreServable entries batch.epochs.items) }
-    ensures few { IfOk result (λ batch. clients_of batch.epochs.items ≤ MOST_RECORDS) }
+    ensures few { IfOk result (λ batch. clients_of_epochs batch.epochs.items ≤ MOST_RECORDS) }
 {
     let mut gathering = Gathering::new(alloc, state);
     let heading = match take_header(rows, row) {
@@ -151,7 +151,7 @@ pub fn read_batch<R: Read + Drop>(
     ensures answer { IfSome (R.remaining reader) (λ text.
         AnswersBatch entries (records_of text) result) }
     ensures fits { IfOk result (λ batch. AreServable entries batch.epochs.items) }
-    ensures few { IfOk result (λ batch. clients_of batch.epochs.items ≤ MOST_RECORDS) }
+    ensures few { IfOk result (λ batch. clients_of_epochs batch.epochs.items ≤ MOST_RECORDS) }
 {
     let mut rows = open_rows(alloc, reader);
     let mut row = ByteRecord::new(alloc);

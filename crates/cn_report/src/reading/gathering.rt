@@ -3,8 +3,8 @@
 ghost use Rattle.std.specs.Prelude.{◌≡◌, ℕ, ◌≤◌, ◌+◌, ◌⊎◌, ◌∷◌, ◌++◌, [], List, None, Some, OnOk, IfErr, IfOk, length};
 ghost use Rattle.cn_report.specs.declared.reading.arrival.Arrival.{Arrival};
 ghost use Rattle.cn_report.specs.Reading.Arrival.{arrival_cause};
-ghost use Rattle.cn_report.specs.Reading.Batch.{AreEpochs, AreServable, clients_of};
-ghost use Rattle.cn_report.specs.Reading.Gathered.{Holds, IsGathered, Keeps, gathered, joining_cause, over_after};
+ghost use Rattle.cn_report.specs.Reading.Batch.{AreEpochsOf, AreServable, clients_of_epochs};
+ghost use Rattle.cn_report.specs.Reading.Gathered.{HoldsArrivals, IsGathered, StaysServable, gathered, joining_cause, over_after};
 
 use crate::reading::arrival::Arrival;
 use crate::reading::batch_fault::BatchCause;
@@ -36,7 +36,7 @@ pub(crate) struct Gathering {
 impl Gathering {
     pub(crate) fn new(alloc: Global, state: RandomState) -> Self
         ensures none { IsGathered result [] }
-        ensures keeps { (entries : ℕ) → Keeps entries result }
+        ensures keeps { (entries : ℕ) → StaysServable entries result }
         ensures nobody { gathered result ≡ 0 }
     {
         Gathering {
@@ -73,9 +73,9 @@ impl Gathering {
     fn reach(&mut self, alloc: Global, epoch: u64) -> Result<(), AllocError>
         requires { self.old.latest.number ≤ epoch }
         ensures holds { OnOk result ((self.new.latest.number ≡ epoch)
-            × ((before : List Arrival) → Holds self.old before → Holds self.new before)) }
-        ensures keeps { OnOk result ((entries : ℕ) → Keeps entries self.old
-            → Keeps entries self.new) }
+            × ((before : List Arrival) → HoldsArrivals self.old before → HoldsArrivals self.new before)) }
+        ensures keeps { OnOk result ((entries : ℕ) → StaysServable entries self.old
+            → StaysServable entries self.new) }
         ensures same { OnOk result (gathered self.new ≡ gathered self.old) }
     {
         if self.latest.number == epoch {
@@ -126,7 +126,7 @@ impl Gathering {
             → (arrival_cause entries before arrival ≡ None)
             × IsGathered self.new (before ++ arrival ∷ [])) }
         ensures few { OnOk result (at ≤ MOST_RECORDS) }
-        ensures keeps { OnOk result (Keeps entries self.old → Keeps entries self.new) }
+        ensures keeps { OnOk result (StaysServable entries self.old → StaysServable entries self.new) }
         ensures more { OnOk result (gathered self.new ≡ gathered self.old + 1) }
         ensures err { IfErr result (λ cause. (before : List Arrival) → IsGathered self.old before
             → length before + 1 ≡ at
@@ -151,10 +151,10 @@ impl Gathering {
     /// The epochs.
     pub(crate) fn finish(self, alloc: Global) -> Result<Vec<BatchEpoch>, AllocError>
         ensures epochs { IfOk result (λ epochs. (arrivals : List Arrival) → IsGathered self arrivals
-            → AreEpochs epochs.items arrivals) }
-        ensures fits { IfOk result (λ epochs. (entries : ℕ) → Keeps entries self
+            → AreEpochsOf epochs.items arrivals) }
+        ensures fits { IfOk result (λ epochs. (entries : ℕ) → StaysServable entries self
             → AreServable entries epochs.items) }
-        ensures all { IfOk result (λ epochs. clients_of epochs.items ≡ gathered self) }
+        ensures all { IfOk result (λ epochs. clients_of_epochs epochs.items ≡ gathered self) }
     {
         let mut gathering = self;
         gathering.turn(alloc, 0)?;

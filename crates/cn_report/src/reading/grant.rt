@@ -3,7 +3,7 @@
 ghost use Rattle.std.specs.Prelude.{◌≡◌, Some};
 ghost use Rattle.csv.specs.Records.{fields_of};
 ghost use Rattle.cn_report.specs.Reading.Number.{number_in};
-ghost use Rattle.cn_report.specs.Reading.Granted.{granted_in, granting};
+ghost use Rattle.cn_report.specs.Reading.Granted.{grant_spelled, granting};
 ghost use Rattle.cn_report.specs.Reading.Grants.{flaw_name, flaw_of, grant_cause_of_row};
 ghost use Rattle.cn_report.specs.declared.reading.grant.Flaw.TheVariants as flaws;
 ghost use Rattle.cn_report.specs.declared.reading.grant.GrantCause.TheVariants as causes;
@@ -128,7 +128,7 @@ fn granted_from(epoch: &[u8], client: &[u8], name: &[u8]) -> Option<Granted>
 /// The grant of a record, if it is one.
 #[tactic(auto, using(crate::proofs::ReadingLemmas::GrantFields::granted_of_three, crate::proofs::ReadingLemmas::GrantFields::granted_of_others))]
 pub(crate) fn granted_of(row: &ByteRecord) -> Option<Granted>
-    ensures { result ≡ granted_in (fields_of row.now) }
+    ensures { result ≡ grant_spelled (fields_of row.now) }
 {
     if row.len() != 3 {
         return None;

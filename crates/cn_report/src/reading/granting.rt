@@ -3,7 +3,7 @@
 ghost use Rattle.std.specs.Prelude.{◌≡◌, ◌==◌, ◌||◌, ◌<◌, ◌≤◌, ◌+◌, ◌⊎◌, ◌∷◌, ◌++◌, ℕ, [], List, None, Some, OnOk, IfErr, IfOk, MatchResult, length, map};
 ghost use Rattle.cn_report.specs.declared.reading.grant.Granted.{Granted};
 ghost use Rattle.cn_report.specs.Reading.Granted.{spelled_cause};
-ghost use Rattle.cn_report.specs.Reading.Checked.{Holds, IsGapBelow, IsChecked, Tells, joining_cause, latest_told};
+ghost use Rattle.cn_report.specs.Reading.Checked.{HoldsGrants, IsGapBelow, IsChecked, Tells, joining_cause, latest_told};
 ghost use Rattle.cn_report.specs.Reading.Told.{epoch_numbers, plain_tight, shared_epoch};
 ghost use Rattle.cn_report.specs.Reading.Grants.{IsEndFlaw, Lacks};
 ghost use Rattle.cn_report.specs.Reading.Numbers.{has};
@@ -63,7 +63,7 @@ impl Granting {
 
     /// The first gap of the epochs so far, if the latest is over.
     pub(crate) fn first_gap(&self) -> Option<Gap>
-        ensures gap { (grants : List Granted) → Holds self.now grants
+        ensures gap { (grants : List Granted) → HoldsGrants self.now grants
             → IsGapBelow (self.now.latest + 1) grants result }
         ensures none { result ≡ None → self.now.gap ≡ None }
     {
@@ -83,7 +83,7 @@ impl Granting {
         requires few { self.old.count ≤ MOST_RECORDS }
         ensures same { OnOk result ((self.new.latest ≡ self.old.latest)
             × (self.new.count ≡ self.old.count)) }
-        ensures gap { OnOk result ((grants : List Granted) → Holds self.old grants
+        ensures gap { OnOk result ((grants : List Granted) → HoldsGrants self.old grants
             → IsGapBelow (self.old.latest + 1) grants self.new.gap) }
         ensures over { OnOk result (self.new.gap ≡ None → (self.old.gap ≡ None)
             × (map plain_tight self.new.over.items
@@ -108,9 +108,9 @@ impl Granting {
         requires few { self.old.count ≤ MOST_RECORDS }
         requires later { self.old.latest ≤ epoch }
         ensures here { OnOk result (self.new.latest ≡ epoch) }
-        ensures holds { OnOk result ((grants : List Granted) → Holds self.old grants
-            → Holds self.new grants) }
-        ensures tells { OnOk result ((grants : List Granted) → Holds self.old grants
+        ensures holds { OnOk result ((grants : List Granted) → HoldsGrants self.old grants
+            → HoldsGrants self.new grants) }
+        ensures tells { OnOk result ((grants : List Granted) → HoldsGrants self.old grants
             → Tells width self.old grants → Tells width self.new grants) }
         ensures count { OnOk result (self.new.count ≤ self.old.count) }
     {
@@ -182,9 +182,9 @@ impl Granting {
     pub(crate) fn finish(self, alloc: Global, width: u32) -> Result<Tight, Flaw>
         requires width { IsWidth width }
         requires few { self.count ≤ MOST_RECORDS }
-        ensures answer { (grants : List Granted) → Holds self grants
+        ensures answer { (grants : List Granted) → HoldsGrants self grants
             → MatchResult result (λ _. (e n : ℕ) → Lacks grants e n → ⊥) (IsEndFlaw grants) }
-        ensures told { IfOk result (λ tight. (grants : List Granted) → Holds self grants
+        ensures told { IfOk result (λ tight. (grants : List Granted) → HoldsGrants self grants
             → Tells width self grants
             → map plain_tight tight.epochs.items
             ≡ map (shared_epoch width grants) (epoch_numbers grants)) }

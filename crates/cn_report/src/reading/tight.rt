@@ -5,8 +5,8 @@ ghost use Rattle.std.specs.Bool.{MatchBool};
 ghost use Rattle.cn_spec.specs.declared.limits.TheConstants.{MOST_RECORDS};
 ghost use Rattle.cn_wiring.specs.Widths.{IsWidth};
 ghost use Rattle.cn_report.specs.declared.reading.grant.Granted.{Granted};
-ghost use Rattle.cn_report.specs.Reading.Granted.{granted_in, spelled_cause};
-ghost use Rattle.cn_report.specs.Reading.Grants.{IsFirst, IsOutside, IsTightList, header_cause};
+ghost use Rattle.cn_report.specs.Reading.Granted.{grant_spelled, spelled_cause};
+ghost use Rattle.cn_report.specs.Reading.Grants.{IsFirstWithCause, IsOutside, IsTightList, header_cause};
 ghost use Rattle.cn_report.specs.Reading.Checked.{IsChecked};
 ghost use Rattle.cn_report.specs.Reading.Told.{AnswersTight};
 ghost use Rattle.cn_report.specs.Reading.Records.{HasRead, IsPlain, Record, records_of};
@@ -27,7 +27,7 @@ fn take_header<R: Read>(rows: &mut Reader<R>, row: &mut ByteRecord) -> Result<()
         → (fields : Record) × HasRead R.remaining rows.new text (fields ∷ [])
         × (header_cause fields ≡ None)) }
     ensures err { IfErr result (λ cause. (text : List ℕ) → HasRead R.remaining rows.old text []
-        → IsFirst (records_of text) 0 cause) }
+        → IsFirstWithCause (records_of text) 0 cause) }
 {
     if next_row(rows, row)? && is_header(row, b"epoch", b"client", b"name") {
         Ok(())
@@ -55,7 +55,7 @@ fn take_grant<R: Read>(
         → IsChecked width granting.old grants → length grants + 1 ≡ at
         → MatchBool found ((fields : Record) × (grant : Granted)
         × HasRead R.remaining rows.new text (before ++ fields ∷ [])
-        × (granted_in fields ≡ Some grant) × (spelled_cause grants (Some grant) ≡ None)
+        × (grant_spelled fields ≡ Some grant) × (spelled_cause grants (Some grant) ≡ None)
         × IsChecked width granting.new (grants ++ grant ∷ []))
         ((records_of text ≡ before) × IsChecked width granting.new grants)) }
     ensures refused { IfErr result (λ cause.
@@ -63,7 +63,7 @@ fn take_grant<R: Read>(
         → HasRead R.remaining rows.old text before
         → IsChecked width granting.old grants → length grants + 1 ≡ at
         → ((fields : Record) × HasRead R.remaining rows.new text (before ++ fields ∷ [])
-        × (spelled_cause grants (granted_in fields) ≡ Some cause))
+        × (spelled_cause grants (grant_spelled fields) ≡ Some cause))
         ⊎ (cause ≡ GrantCause.Read) ⊎ (cause ≡ GrantCause.Memory)) }
     ensures few { IfOk result (λ found. found ≡ true → at ≤ MOST_RECORDS) }
     ensures count { IfOk result (λ found.

@@ -4,7 +4,7 @@
 ghost use Rattle.std.specs.Prelude.{◌≡◌, ◌<◌, ◌≤◌, ◌^◌, All, Bool, List, length, ℕ};
 ghost use Rattle.cn_spec.specs.declared.limits.TheConstants.{MOST_ENDS, MOST_RECORDS};
 ghost use Rattle.cn_record.specs.declared.record.EpochRecord.{EpochRecord};
-ghost use Rattle.cn_report.specs.Reading.Batch.{AreServable, clients_of};
+ghost use Rattle.cn_report.specs.Reading.Batch.{AreServable, clients_of_epochs};
 ghost use Rattle.cn_report.specs.Writing.Grants.{grants_text};
 ghost use Rattle.cn_report.specs.Writing.Records.{AreRecordsOf};
 ghost use Rattle.cn_report.specs.Writing.Report.{report_text};
@@ -39,8 +39,8 @@ fn heading_is_short(network: &Counting)
 /// The report of epochs that can be served has fewer than 2^64 bytes.
 pub(crate) fn report_is_countable(network: &Counting, epochs: &[BatchEpoch], holders: &[u64])
     requires servable { AreServable network.now.table.entries epochs.now }
-    requires as_many { clients_of epochs.now ≡ length holders.now }
-    requires few { clients_of epochs.now ≤ MOST_RECORDS }
+    requires as_many { clients_of_epochs epochs.now ≡ length holders.now }
+    requires few { clients_of_epochs epochs.now ≤ MOST_RECORDS }
     ensures { (carry : Bool) (records : List EpochRecord)
         → AreRecordsOf carry network.now.table.width 0 epochs.now records holders.now
         → length (report_text network.now records) < 2 ^ 64 }
@@ -51,8 +51,8 @@ pub(crate) fn report_is_countable(network: &Counting, epochs: &[BatchEpoch], hol
 
 /// The grant list of few clients has fewer than 2^64 bytes.
 pub(crate) fn grants_are_countable(epochs: &[BatchEpoch], holders: &[u64])
-    requires as_many { clients_of epochs.now ≡ length holders.now }
-    requires few { clients_of epochs.now ≤ MOST_RECORDS }
+    requires as_many { clients_of_epochs epochs.now ≡ length holders.now }
+    requires few { clients_of_epochs epochs.now ≤ MOST_RECORDS }
     ensures { (carry : Bool) (width : ℕ) (records : List EpochRecord)
         → AreRecordsOf carry width 0 epochs.now records holders.now
         → length (grants_text records) < 2 ^ 64 }

@@ -6,7 +6,7 @@ ghost use Rattle.std.specs.List.{flat_map};
 ghost use Rattle.cn_spec.specs.declared.limits.TheConstants.{MOST_RECORDS};
 ghost use Rattle.cn_record.specs.declared.record.EpochRecord.{EpochRecord};
 ghost use Rattle.cn_report.specs.Writing.Grants.{HasHolders, grant_lines, grants_header, grants_text};
-ghost use Rattle.cn_report.specs.Reading.Batch.{clients_of};
+ghost use Rattle.cn_report.specs.Reading.Batch.{clients_of_epochs};
 ghost use Rattle.cn_report.specs.Writing.Pieces.{Puts, nothing_put};
 ghost use Rattle.cn_report.specs.Writing.Records.{AreRecordsOf};
 ghost use Rattle.cn_report.specs.Writing.Written.{First, HasWritten, written_by};
@@ -48,7 +48,7 @@ fn send_epochs<W: Write>(
     epochs: &[BatchEpoch],
     holders: &[u64],
 ) -> Result<(), EmitFault>
-    requires { clients_of epochs.now ≡ length holders.now }
+    requires { clients_of_epochs epochs.now ≡ length holders.now }
     ensures { (carry : Bool) (width : ℕ) (records : List EpochRecord)
         → AreRecordsOf carry width 0 epochs.now records holders.now
         → Puts W.contents writer.old writer.new pieces.old pieces.new result
@@ -127,8 +127,8 @@ pub fn write_grants<W: Write>(
     holders: &[u64],
 ) -> Result<(), EmitFault>
     requires fresh { pieces ≡ nothing_put }
-    requires as_many { clients_of epochs.now ≡ length holders.now }
-    requires few { clients_of epochs.now ≤ MOST_RECORDS }
+    requires as_many { clients_of_epochs epochs.now ≡ length holders.now }
+    requires few { clients_of_epochs epochs.now ≤ MOST_RECORDS }
     ensures { (carry : Bool) (width : ℕ) (records : List EpochRecord)
         → AreRecordsOf carry width 0 epochs.now records holders.now
         → let written = written_by (λ fault. First fault.written) result in

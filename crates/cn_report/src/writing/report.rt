@@ -7,7 +7,7 @@ ghost use Rattle.cn_spec.specs.Step.{shares_after};
 ghost use Rattle.cn_spec.specs.Sums.{when};
 ghost use Rattle.cn_spec.specs.declared.limits.TheConstants.{MOST_ENDS, MOST_RECORDS};
 ghost use Rattle.cn_record.specs.declared.record.EpochRecord.{EpochRecord};
-ghost use Rattle.cn_report.specs.Reading.Batch.{AreServable, clients_of};
+ghost use Rattle.cn_report.specs.Reading.Batch.{AreServable, clients_of_epochs};
 ghost use Rattle.cn_report.specs.Writing.Outcome.{IsWholeRecord, exit_lines, name_lines};
 ghost use Rattle.cn_report.specs.Writing.Pieces.{Puts, nothing_put};
 ghost use Rattle.cn_report.specs.Writing.Records.{AreRecordsOf};
@@ -76,8 +76,8 @@ fn send_epochs<W: Write>(
     holders: &[u64],
 ) -> Result<(), EmitFault>
     requires width { width ≤ MOST_ENDS }
-    requires as_many { clients_of epochs.now ≡ length holders.now }
-    requires few { clients_of epochs.now ≤ MOST_RECORDS }
+    requires as_many { clients_of_epochs epochs.now ≡ length holders.now }
+    requires few { clients_of_epochs epochs.now ≤ MOST_RECORDS }
     ensures { (records : List EpochRecord)
         → AreRecordsOf carries width 0 epochs.now records holders.now
         → Puts W.contents writer.old writer.new pieces.old pieces.new result
@@ -210,8 +210,8 @@ pub fn write_report<W: Write>(
 ) -> Result<(), EmitFault>
     requires fresh { pieces ≡ nothing_put }
     requires servable { AreServable network.now.table.entries epochs.now }
-    requires as_many { clients_of epochs.now ≡ length holders.now }
-    requires few { clients_of epochs.now ≤ MOST_RECORDS }
+    requires as_many { clients_of_epochs epochs.now ≡ length holders.now }
+    requires few { clients_of_epochs epochs.now ≤ MOST_RECORDS }
     ensures { (records : List EpochRecord)
         → AreRecordsOf carries network.now.table.width 0 epochs.now records holders.now
         → let written = written_by (λ fault. First fault.written) result in

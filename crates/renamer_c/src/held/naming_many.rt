@@ -1,7 +1,7 @@
 //! Many clients are named by the lane that a handle has.
 
 ghost use Rattle.std.specs.Prelude.{◌≡◌, ◌≢◌, Some, length, IfErr, OnErr, OnOk};
-ghost use Rattle.renamer_c.specs.Handles.{lane_of};
+ghost use Rattle.renamer_c.specs.Handles.{lane_held};
 ghost use Rattle.renamer_c.specs.Many.{NamesMany};
 ghost use Rattle.renamer_c.specs.Refusals.{NotNamedMany};
 
@@ -40,9 +40,9 @@ impl Held {
         clients: &[Client],
         grants: &mut [Grant],
     ) -> Result<(), Refusal>
-        ensures ok { OnOk result (NamesMany (lane_of self.old) (lane_of self.new) clients.now grants.new) }
+        ensures ok { OnOk result (NamesMany (lane_held self.old) (lane_held self.new) clients.now grants.new) }
         ensures err { OnErr result ((self.new ≡ self.old) × (grants.new ≡ grants.old)) }
-        ensures refused { IfErr result (NotNamedMany (lane_of self.old) clients.now (length grants.old)) }
+        ensures refused { IfErr result (NotNamedMany (lane_held self.old) clients.now (length grants.old)) }
     {
         match self {
             Held::Lane(lane) => name_many(lane, clients, grants),

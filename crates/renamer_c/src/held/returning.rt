@@ -1,7 +1,7 @@
 //! Lanes that are handed back, and taken into others, of what a handle has.
 
 ghost use Rattle.std.specs.Prelude.{◌≡◌, IfErr, OnErr, OnOk};
-ghost use Rattle.renamer_c.specs.Handles.{lane_of};
+ghost use Rattle.renamer_c.specs.Handles.{lane_held};
 ghost use Rattle.renamer_c.specs.Refusals.{NotHandedBack, NotJoined};
 ghost use Rattle.renamer_c.specs.Returns.{HandsBack, Joins};
 
@@ -15,9 +15,9 @@ impl Held {
     /// # Errors
     /// `Nothing` if there is no lane, else as [`HeldLane::hand_back`]. Then nothing has changed.
     pub(crate) fn hand_back(&mut self) -> Result<(), Refusal>
-        ensures ok { OnOk result (HandsBack (lane_of self.old)) }
+        ensures ok { OnOk result (HandsBack (lane_held self.old)) }
         ensures err { OnErr result (self.new ≡ self.old) }
-        ensures refused { IfErr result (NotHandedBack (lane_of self.old)) }
+        ensures refused { IfErr result (NotHandedBack (lane_held self.old)) }
     {
         match replace(self, Held::Nothing) {
             Held::Lane(lane) => match lane.hand_back() {
@@ -40,9 +40,9 @@ impl Held {
     /// # Errors
     /// `Nothing` if there is no lane, else as [`HeldLane::join`]. Then nothing has changed.
     pub(crate) fn join(&mut self) -> Result<(), Refusal>
-        ensures ok { OnOk result (Joins (lane_of self.old) (lane_of self.new)) }
+        ensures ok { OnOk result (Joins (lane_held self.old) (lane_held self.new)) }
         ensures err { OnErr result (self.new ≡ self.old) }
-        ensures refused { IfErr result (NotJoined (lane_of self.old)) }
+        ensures refused { IfErr result (NotJoined (lane_held self.old)) }
     {
         match replace(self, Held::Nothing) {
             Held::Lane(lane) => match lane.join() {

@@ -4,7 +4,7 @@ ghost use Rattle.std.specs.Prelude.{◌≡◌, ℕ, ◌<◌, ◌≤◌, [], All,
 ghost use Rattle.cn_yard.specs.Lists.{tokens_in};
 ghost use Rattle.cn_floor.specs.Steps.{HasMoment};
 ghost use Rattle.cn_walk.specs.Walks.{WalksAll};
-ghost use Rattle.renamer_c.specs.Many.{AreNamed, IsRun, by_entry};
+ghost use Rattle.renamer_c.specs.Many.{AreAllNamed, ComeByOneEntry, by_entry};
 ghost use Rattle.renamer_c.specs.Refusals.{NotNamedMany};
 
 use super::HeldLane;
@@ -32,7 +32,7 @@ const TOGETHER: usize = 64;
 /// room for. Returns how many.
 fn copy_run(clients: &[Client], ids: &mut [u64]) -> usize
     requires some { (0 < length clients.now) × (0 < length ids.old) }
-    ensures run { IsRun clients.now ids.new result }
+    ensures run { ComeByOneEntry clients.now ids.new result }
     ensures same { length ids.new ≡ length ids.old }
 {
     let entry = clients[0].entry;
@@ -74,7 +74,7 @@ fn name_all(floor: &Floor<'static>, lane: &mut Lane, clients: &[Client])
     requires entries { All (λ c. c.entry < floor.now.start.network.table.entries) clients.now }
     requires quota { length clients.now ≤ lane.old.view.quota }
     requires room { length clients.now ≤ lane.old.room }
-    ensures { AreNamed lane.old lane.new clients.now }
+    ensures { AreAllNamed lane.old lane.new clients.now }
 {
     floor.names_are_once();
     let mut ids = [0; TOGETHER];
@@ -93,7 +93,7 @@ impl HeldLane {
     /// # Errors
     /// The first that stands: `StillWalking`, `NoSuchEntry`, `QuotaSpent`, `Memory`. Then nothing has changed.
     pub(crate) fn name_many(&mut self, clients: &[Client]) -> Result<(), Refusal>
-        ensures ok { OnOk result (AreNamed self.old self.new clients.now) }
+        ensures ok { OnOk result (AreAllNamed self.old self.new clients.now) }
         ensures err { OnErr result (self.new ≡ self.old) }
         ensures refused { IfErr result (NotNamedMany (Some self.old) clients.now (length clients.now)) }
     {

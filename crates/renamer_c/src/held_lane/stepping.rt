@@ -3,7 +3,7 @@
 ghost use Rattle.std.specs.Prelude.{◌≡◌, ◌<◌, Some, length, IfErr, IfOk, OnErr, OnOk};
 ghost use Rattle.cn_yard.specs.Lists.{IsLowest, on};
 ghost use Rattle.renamer_c.specs.Moves.{IsEntered, IsStepped};
-ghost use Rattle.renamer_c.specs.Refusals.{NobodyInside, NobodyOn, NotEntered};
+ghost use Rattle.renamer_c.specs.Refusals.{NoLowestWire, NobodyOn, NotEntered};
 ghost use Rattle.renamer_c.specs.Sweepings.{IsSwept};
 
 use super::HeldLane;
@@ -87,7 +87,7 @@ impl HeldLane {
     /// `NobodyThere` if none does.
     pub(crate) fn lowest(&self) -> Result<u64, Refusal>
         ensures ok { IfOk result (IsLowest self.now.yard.lists) }
-        ensures refused { IfErr result (NobodyInside (Some self.now)) }
+        ensures refused { IfErr result (NoLowestWire (Some self.now)) }
     {
         match self.lane.lowest() {
             Some(wire) => Ok(u64::from(wire)),

@@ -1,7 +1,7 @@
 use Rattle.std.proofs.Common.{ap, arith}
 use Rattle.cn_spec.specs.Sums.{times}
 use Rattle.cn_floor.specs.Lane.{LaneValue}
-use Rattle.cn_clients.specs.Naming.{names_in}
+use Rattle.cn_clients.specs.Naming.{names_granted}
 use Rattle.cn_clients.proofs.Naming.{among, as-many, below, gave-still}
 use Rattle.cn_clients.proofs.two_threads.name_by_two.Goals as goal
 
@@ -21,8 +21,8 @@ returns-clause-all g c =
 pub returns-clause-differ : goal.returns-clause-differ
 returns-clause-differ g c name =
     let gave = c.in-Some.ensures in
-    let one = ap (λ (l : LaneValue). times name (names_in l.view.grants)) c.look_at_both-lane.ensures.first in
-    let two = ap (λ (l : LaneValue). times name (names_in l.view.grants)) c.look_at_both-lane.ensures.second in
+    let one = ap (λ (l : LaneValue). times name (names_granted l.view.grants)) c.look_at_both-lane.ensures.first in
+    let two = ap (λ (l : LaneValue). times name (names_granted l.view.grants)) c.look_at_both-lane.ensures.second in
     omega (arith, c.look_at_both-lane.ensures.apart name, one, two, among _ _ _ _ gave.0 name, among _ _ _ _ gave.1 name)
 
 pub returns-clause-low : goal.returns-clause-low

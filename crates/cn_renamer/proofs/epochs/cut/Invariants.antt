@@ -1,12 +1,12 @@
 use Rattle.std.proofs.Common.{◌≡◌, ◌-◌, ◌<◌, length, take}
-use Rattle.cn_report.specs.Reading.Batch.{clients_of}
+use Rattle.cn_report.specs.Reading.Batch.{clients_of_epochs}
 use Rattle.cn_renamer.proofs.epochs.cut.Given as goal
 
 abbrev pub invariant-loop-clients : goal.invariant-loop-clients
 invariant-loop-clients l = record {
   some : 0 < l.at;
   others : l.at < length l.epochs;
-  clients : l.clients ≡ clients_of (take l.at l.epochs);
+  clients : l.clients ≡ clients_of_epochs (take l.at l.epochs);
 }
 
 abbrev pub decreases-loop-clients : goal.decreases-loop-clients

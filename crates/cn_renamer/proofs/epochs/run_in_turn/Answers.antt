@@ -4,7 +4,7 @@ use Rattle.std.proofs.lemmas.List.Sums.{sum_by_push, sum_by-take-le}
 use Rattle.cn_spec.specs.Sums.{when}
 use Rattle.cn_wiring.specs.Network.{Network}
 use Rattle.cn_floor.specs.Carried.{client_count}
-use Rattle.cn_report.specs.Reading.Batch.{clients_of}
+use Rattle.cn_report.specs.Reading.Batch.{clients_of_epochs}
 use Rattle.cn_report.specs.declared.reading.gathering.BatchEpoch.{BatchEpoch}
 use Rattle.cn_renamer.specs.Headline.{IsServed}
 use Rattle.cn_renamer.specs.Running.{AreHoldersOf}
@@ -29,8 +29,8 @@ put-requires g c =
     let epochs = c.args.epochs.now in
     let i = c.loop-epoch.epoch-index in
     let front : take i epochs ++ c.epoch-item.result ∷ [] ≡ take (i + 1) epochs = grind (arith, common_steps) in
-    let more : clients_of (take i epochs) + length c.epoch-item.result.clients.items ≡ clients_of (take (i + 1) epochs) =
-    sym (sum_by_push (λ (e : BatchEpoch). length e.clients.items) (take i epochs) c.epoch-item.result) ∙ ap clients_of front in
+    let more : clients_of_epochs (take i epochs) + length c.epoch-item.result.clients.items ≡ clients_of_epochs (take (i + 1) epochs) =
+    sym (sum_by_push (λ (e : BatchEpoch). length e.clients.items) (take i epochs) c.epoch-item.result) ∙ ap clients_of_epochs front in
     let one = c.in_ok-record.ensures.served in
     omega (
       arith,
@@ -53,9 +53,9 @@ loop-epoch-preserved g c =
     let i = c.loop-epoch.epoch-index in
     let epoch : BatchEpoch = c.epoch-item.result in
     let front : take i epochs ++ epoch ∷ [] ≡ take (i + 1) epochs = grind (arith, common_steps) in
-    let more : clients_of (take i epochs) + length epoch.clients.items ≡ clients_of (take (i + 1) epochs) =
-    sym (sum_by_push (λ (e : BatchEpoch). length e.clients.items) (take i epochs) epoch) ∙ ap clients_of front in
-    let one : IsServed width (when carry (clients_of (take i epochs))) epoch c.in_ok-record.record =
+    let more : clients_of_epochs (take i epochs) + length epoch.clients.items ≡ clients_of_epochs (take (i + 1) epochs) =
+    sym (sum_by_push (λ (e : BatchEpoch). length e.clients.items) (take i epochs) epoch) ∙ ap clients_of_epochs front in
+    let one : IsServed width (when carry (clients_of_epochs (take i epochs))) epoch c.in_ok-record.record =
     subst (λ (m : ℕ). IsServed width m epoch c.in_ok-record.record) before.came
     (subst (λ (n : Network). IsServed n.table.width (client_count c.loop-epoch.runner.words) epoch c.in_ok-record.record) before.over c.in_ok-record.ensures.served) in
     let own : List ℕ = c.in_ok-record.record.holders.items in
@@ -74,7 +74,7 @@ loop-epoch-preserved g c =
       came = c.in_ok-record.ensures.came
           ∙ ap (λ (b : Bool). client_count c.loop-epoch.runner.words + when b (length epoch.clients.items)) before.carries
           ∙ ap (λ (m : ℕ). m + when carry (length epoch.clients.items)) before.came
-          ∙ when-more carry (clients_of (take i epochs)) (length epoch.clients.items)
+          ∙ when-more carry (clients_of_epochs (take i epochs)) (length epoch.clients.items)
           ∙ ap (λ (m : ℕ). when carry m) more;
       at = omega (arith, before.at, more, c.len-at.ensures);
       places = c.put.ensures.places ∙ before.places;

@@ -2,7 +2,7 @@ use Rattle.std.proofs.Common.{rules, ◌≡◌, ◌+◌, ◌-◌, ◌*◌, ◌�
 use Rattle.std.specs.Prelude.{slice_index}
 use Rattle.cn_wiring.specs.declared.end.End.TheVariants.{Balancer, Exit}
 use Rattle.cn_wiring.specs.Table.{end_of}
-use Rattle.cn_names.specs.Names.{standing_in}
+use Rattle.cn_names.specs.Names.{standing_of_client}
 use Rattle.cn_names.specs.declared.standing.Standing.TheVariants.{Walking}
 use Rattle.cn_core.specs.InsideClients.{positions, with_position}
 use Rattle.cn_core.specs.InsideCore.{state_of}
@@ -27,7 +27,7 @@ invariant_of-self c =
     let s : State = state_of c.self.inside in
     let on : position_in s.clients c.args.client ≡ Some (On c.in-Walking.wire) = search rules in
     let ends : end_of s.network.table c.in-Walking.wire ≡ Balancer c.in-Balancer.balancer = search rules in
-    let token : standing_in c.self.inside.clients.names c.args.client ≡ Some (Walking c.in-Walking.token) = rw c.in-Walking.is at c.in-Some.ensures.token in
+    let token : standing_of_client c.self.inside.clients.names c.args.client ≡ Some (Walking c.in-Walking.token) = rw c.in-Walking.is at c.in-Some.ensures.token in
     let clients : positions c.walk.new.self ≡ with_position s.clients c.args.client (position_past s.network.table s.base (Balancer c.in-Balancer.balancer) (slice_index s.passes c.in-Balancer.balancer)) =
     rw (c.entries.ensures.value, c.output_of.ensures, c.count_one-number.ensures.before) at (c.walk.ensures.walked c.args.client token) in
     record {

@@ -1,7 +1,7 @@
 use Rattle.std.proofs.Common.{◌≡◌, ℕ, Bool, List, drop, length}
 use Rattle.std.specs.List.{flat_map}
 use Rattle.cn_record.specs.declared.record.EpochRecord.{EpochRecord}
-use Rattle.cn_report.specs.Reading.Batch.{clients_of}
+use Rattle.cn_report.specs.Reading.Batch.{clients_of_epochs}
 use Rattle.cn_report.specs.Writing.Grants.{grant_lines}
 use Rattle.cn_report.specs.Writing.Records.{AreRecordsOf}
 use Rattle.cn_report.proofs.WritingLemmas.Pieces.{Leads}
@@ -14,7 +14,7 @@ lines records = flat_map (λ r. grant_lines r.number r.clients r.holders.items) 
 abbrev pub invariant-loop-epoch : goal.invariant-loop-epoch
 invariant-loop-epoch g l =
     record {
-      as_many : clients_of (drop l.epoch-index l.epochs) ≡ length l.left;
+      as_many : clients_of_epochs (drop l.epoch-index l.epochs) ≡ length l.left;
       put : (carry : Bool) (width : ℕ) (records : List EpochRecord) → AreRecordsOf carry width 0 l.epochs records l.holders
           → (m : ℕ) × (later : List EpochRecord) × AreRecordsOf carry width m (drop l.epoch-index l.epochs) later l.left
           × Leads g.W.Write.contents l.initial.writer l.writer l.initial.pieces l.pieces (lines records) (lines later);

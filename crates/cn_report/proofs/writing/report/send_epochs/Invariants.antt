@@ -2,7 +2,7 @@ use Rattle.std.proofs.Common.{◌≡◌, ◌+◌, ◌≤◌, List, drop, length}
 use Rattle.std.specs.List.{flat_map}
 use Rattle.cn_spec.specs.declared.limits.TheConstants.{MOST_RECORDS}
 use Rattle.cn_record.specs.declared.record.EpochRecord.{EpochRecord}
-use Rattle.cn_report.specs.Reading.Batch.{clients_of}
+use Rattle.cn_report.specs.Reading.Batch.{clients_of_epochs}
 use Rattle.cn_report.specs.Writing.Records.{AreRecordsOf}
 use Rattle.cn_report.specs.Writing.Report.{epoch_lines}
 use Rattle.cn_report.proofs.WritingLemmas.Pieces.{Leads}
@@ -12,7 +12,7 @@ use Rattle.cn_report.proofs.writing.report.send_epochs.Given as goal
 abbrev pub invariant-loop-epoch : goal.invariant-loop-epoch
 invariant-loop-epoch g l =
     record {
-      as_many : clients_of (drop l.epoch-index l.epochs) ≡ length l.left;
+      as_many : clients_of_epochs (drop l.epoch-index l.epochs) ≡ length l.left;
       few : l.before + length l.left ≤ MOST_RECORDS;
       put : (records : List EpochRecord) → AreRecordsOf l.carries l.width 0 l.epochs records l.holders
           → (later : List EpochRecord) × AreRecordsOf l.carries l.width l.before (drop l.epoch-index l.epochs) later l.left

@@ -2,7 +2,7 @@ use Rattle.std.specs.Io.KnownBytes.{Appends}
 use Rattle.std.proofs.Common.{◌≡◌, List, [], ◌++◌, ◌∙◌, ℕ, append_assoc, append-nil, ap, length, sym}
 use Rattle.std.specs.List.{flat_map}
 use Rattle.cn_report.specs.Writing.Pieces.{IsCutShort}
-use Rattle.cn_report.specs.Writing.Report.{clients_of, epoch_lines, report_end, report_text}
+use Rattle.cn_report.specs.Writing.Report.{clients_of_records, epoch_lines, report_end, report_text}
 use Rattle.cn_report.specs.Writing.Text.{heading}
 use Rattle.cn_report.proofs.WritingLemmas.Pieces.{begun, whole-at-ok}
 use Rattle.cn_report.proofs.writing.report.send_report.Goals as goal
@@ -20,7 +20,7 @@ returns g c =
     let records = c.args.records.now in
     let text = report_text network records in
     let lines = flat_map (epoch_lines network.table.width) records in
-    let end = report_end (length records) (clients_of records) in
+    let end = report_end (length records) (clients_of_records records) in
     let way0 = begun start c.args.pieces text (heading network ++ (lines ++ (end ++ []))) c.requires.fresh (in-parts (heading network) lines end) in
     let way1 = c.in_ok-send_heading.ensures start text _ way0 in
     let way2 = (rw c.width.ensures.value at c.in_ok-send_records.ensures) start text _ way1 in

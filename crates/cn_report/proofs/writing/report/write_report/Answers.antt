@@ -1,7 +1,7 @@
 use Rattle.std.proofs.Common.{◌≡◌, ℕ, List, [], ◌++◌, ◌∙◌, append_assoc, append-nil, ap, ap₂, arith, length, sym}
 use Rattle.std.specs.List.{flat_map}
 use Rattle.std.proofs.lemmas.Result.{err_from_is_err_and}
-use Rattle.cn_report.specs.Writing.Report.{clients_of, epoch_lines, report_end, report_text}
+use Rattle.cn_report.specs.Writing.Report.{clients_of_records, epoch_lines, report_end, report_text}
 use Rattle.cn_report.specs.Writing.Text.{heading}
 use Rattle.cn_report.proofs.WritingLemmas.Lengths.{as-many-records}
 use Rattle.cn_report.proofs.WritingLemmas.Pieces.{begun, same-left, text-cut, text-written}
@@ -21,7 +21,7 @@ returns-in_err-send_heading g c records are =
     let text = report_text network records in
     let fits = c.report_is_countable.ensures c.args.carries records are in
     let lines = flat_map (epoch_lines network.table.width) records in
-    let end = report_end (length records) (clients_of records) in
+    let end = report_end (length records) (clients_of_records records) in
     let way0 = begun start c.args.pieces text (heading network ++ (lines ++ (end ++ []))) c.requires.fresh (in-parts (heading network) lines end) in
     rw (fault.1, fault.2)
     (text-cut g.W.Write.contents c.args.writer.now c.send_heading.new.writer text c.in_err-send_heading.field-0.0 fits (c.in_err-send_heading.ensures start text _ way0))
@@ -34,7 +34,7 @@ returns-in_err-send_epochs g c records are =
     let text = report_text network records in
     let fits = c.report_is_countable.ensures c.args.carries records are in
     let lines = flat_map (epoch_lines network.table.width) records in
-    let end = report_end (length records) (clients_of records) in
+    let end = report_end (length records) (clients_of_records records) in
     let way0 = begun start c.args.pieces text (heading network ++ (lines ++ (end ++ []))) c.requires.fresh (in-parts (heading network) lines end) in
     let way1 = c.in_ok-send_heading.ensures start text _ way0 in
     rw (fault.1, fault.2)
@@ -48,7 +48,7 @@ returns-in_err-send_end g c records are =
     let text = report_text network records in
     let fits = c.report_is_countable.ensures c.args.carries records are in
     let lines = flat_map (epoch_lines network.table.width) records in
-    let end = report_end (length records) (clients_of records) in
+    let end = report_end (length records) (clients_of_records records) in
     let way0 = begun start c.args.pieces text (heading network ++ (lines ++ (end ++ []))) c.requires.fresh (in-parts (heading network) lines end) in
     let way1 = c.in_ok-send_heading.ensures start text _ way0 in
     let way2 = (rw c.width.ensures.value at c.in_ok-send_epochs.ensures) records are start text _ way1 in
@@ -65,7 +65,7 @@ returns g c records are =
     let text = report_text network records in
     let fits = c.report_is_countable.ensures c.args.carries records are in
     let lines = flat_map (epoch_lines network.table.width) records in
-    let end = report_end (length records) (clients_of records) in
+    let end = report_end (length records) (clients_of_records records) in
     let way0 = begun start c.args.pieces text (heading network ++ (lines ++ (end ++ []))) c.requires.fresh (in-parts (heading network) lines end) in
     let way1 = c.in_ok-send_heading.ensures start text _ way0 in
     let way2 = (rw c.width.ensures.value at c.in_ok-send_epochs.ensures) records are start text _ way1 in

@@ -1,7 +1,7 @@
 use Rattle.std.proofs.Common.{◌≡◌, ◌-◌, ◌<◌, ◌≤◌, length, map, take}
 use Rattle.cn_floor.specs.Steps.{HasMoment}
 use Rattle.cn_walk.specs.Walks.{WalksAll}
-use Rattle.renamer_c.specs.Many.{client_of}
+use Rattle.renamer_c.specs.Many.{client_from}
 use Rattle.renamer_c.proofs.held_lane.naming_many.name_all.Given as goal
 
 -- the clients so far are named
@@ -9,7 +9,7 @@ abbrev pub invariant-loop-named : goal.invariant-loop-named
 invariant-loop-named l = record {
   few : l.named ≤ length l.clients;
   ids : length l.ids ≡ 64;
-  walked : WalksAll l.initial.lane l.lane (take l.named (map client_of l.clients));
+  walked : WalksAll l.initial.lane l.lane (take l.named (map client_from l.clients));
   moment : 0 < l.named → HasMoment l.initial.lane.home.start l.lane.view;
 }
 

@@ -1,5 +1,5 @@
 use Rattle.std.proofs.Common.{arith, length, ap}
-use Rattle.cn_report.specs.Reading.Batch.{clients_of}
+use Rattle.cn_report.specs.Reading.Batch.{clients_of_epochs}
 use Rattle.cn_report.proofs.ReadingLemmas.GatheredEpochs.{turned}
 use Rattle.cn_report.proofs.ReadingLemmas.ServableEpochs.{all-over, turned-keeps}
 use Rattle.cn_report.proofs.reading.gathering.Gathering.reach.Goals as goal
@@ -17,4 +17,4 @@ returns-clause-keeps c = λ entries keeps.
 pub returns-clause-same : goal.returns-clause-same
 returns-clause-same c =
     let (over, number, clients, keys) = c.in_ok-turn.ensures in
-    omega (arith, ap clients_of over, ap length clients, all-over c.args.self.now)
+    omega (arith, ap clients_of_epochs over, ap length clients, all-over c.args.self.now)

@@ -1,6 +1,6 @@
 use Rattle.std.proofs.Common.{◌≡◌, ◌∙◌, ◌∷◌, [], length, true, sym, ap, inl, inr, arith, rules, length-append}
 use Rattle.cn_ledger.specs.declared.client.Client.{Client}
-use Rattle.cn_report.specs.Reading.Batch.{clients_of}
+use Rattle.cn_report.specs.Reading.Batch.{clients_of_epochs}
 use Rattle.std.specs.Result.{is_ok}
 use Rattle.cn_report.proofs.ReadingLemmas.GatheredEpochs.{backwards, out_of_range, taken_of, told_of}
 use Rattle.cn_report.proofs.ReadingLemmas.ServableEpochs.{joined-keeps}
@@ -51,4 +51,4 @@ returns-clause-more c =
     on_ok-map c.join.result c.join.ensures.ok (λ j.
     let (none, over, number, clients, keys) = j in
     let client : Client = record { id = c.args.arrival.client; entry = c.args.arrival.entry } in
-    omega (arith, same, ap (λ es. clients_of es.items) over, ap length clients, length-append c.reach.new.self.latest.clients.items (client ∷ [])))
+    omega (arith, same, ap (λ es. clients_of_epochs es.items) over, ap length clients, length-append c.reach.new.self.latest.clients.items (client ∷ [])))

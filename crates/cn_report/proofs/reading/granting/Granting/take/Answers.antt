@@ -1,7 +1,7 @@
 use Rattle.std.proofs.Common.{◌∙◌, sym, ap, inl, inr, arith}
 use Rattle.cn_report.proofs.ReadingLemmas.CheckedGrants.{form-back, form-full, joined, told}
 use Rattle.cn_report.proofs.ReadingLemmas.Results.{if_err-map, on_ok-map}
-use Rattle.cn_report.specs.Reading.Granted.{first_of, twice_cause}
+use Rattle.cn_report.specs.Reading.Granted.{first_cause, twice_cause}
 use Rattle.cn_report.proofs.reading.granting.Granting.take.Goals as goal
 use Rattle.cn_report.proofs.reading.granting.Granting.take.Goals.{then-grant-self-via-then-grant-self, then-grant-self-via-else-grant-self+then-at-gt-MOST_RECORDS}
 
@@ -9,9 +9,9 @@ pub returns-then-grant-self-clause-err : goal.returns-then-grant-self-clause-err
 returns-then-grant-self-clause-err c = λ before checked size.
     elim c.then-grant-self.branch [
       | then-grant-self-via-then-grant-self w ↦
-          inl (ap (λ form. first_of form (twice_cause before c.args.grant)) (form-back before c.args.grant (omega (arith, checked.last, w.if-grant-self.true))))
+          inl (ap (λ form. first_cause form (twice_cause before c.args.grant)) (form-back before c.args.grant (omega (arith, checked.last, w.if-grant-self.true))))
       | then-grant-self-via-else-grant-self+then-at-gt-MOST_RECORDS w ↦
-          inl (ap (λ form. first_of form (twice_cause before c.args.grant)) (form-full before c.args.grant (omega (arith, size, w.if-at-gt-MOST_RECORDS.true))))
+          inl (ap (λ form. first_cause form (twice_cause before c.args.grant)) (form-full before c.args.grant (omega (arith, size, w.if-at-gt-MOST_RECORDS.true))))
     ]
 
 pub returns-clause-ok : goal.returns-clause-ok

@@ -1,8 +1,8 @@
 use Rattle.std.proofs.Common.{◌≡◌, ap₂, arith, subst, sym}
 use Prim.Native.Nat.{ℕ, ◌*◌, ◌/◌, ◌≤◌}
 use Rattle.std.proofs.Math.Nat.{div-le_of_le-mul, mul-le-mul, mul-le-mul_right}
-use Rattle.cn_walk.specs.Halves.{first_of}
-use Rattle.cn_walk.proofs.forking.first_of.Goals as goal
+use Rattle.cn_walk.specs.Halves.{first_position}
+use Rattle.cn_walk.proofs.forking.first_position.Goals as goal
 
 pub overflow_mul-result : goal.overflow_mul-result
 overflow_mul-result c =
@@ -18,6 +18,6 @@ returns-clause-value c = ap₂ (λ all w. all / w) (ap₂ (λ a b. a * b) c.from
 
 pub returns-clause-within : goal.returns-clause-within
 returns-clause-within c =
-    let few : first_of c.args.clients c.args.workers c.args.worker ≤ c.args.clients =
+    let few : first_position c.args.clients c.args.workers c.args.worker ≤ c.args.clients =
     div-le_of_le-mul c.args.workers (mul-le-mul_right c.args.clients c.requires.1) in
     subst (λ (at : ℕ). at ≤ c.args.clients) (sym (returns-clause-value c)) few
