@@ -121,11 +121,11 @@ class Bench:
         """Whether the folder of crates has each of these."""
         return all(any(pathlib.Path(self.crates).glob(f"{name}-[0-9]*")) for name in names)
 
-    def apart(self, folder, name, word):
-        """A program in Rattle of a folder of bench/, proved in a copy of the crates; the word is one that it takes."""
+    def apart(self, folder, name):
+        """A program in Rattle of a folder of bench/, proved in a copy of the crates."""
         built = BENCH / folder / "out" / name
         with self.building():
-            apart.build(built, BENCH / folder, name, ["run", "--", word])
+            apart.build(built, BENCH / folder, name)
         return str(built)
 
     def compiled(self, words, source, name):

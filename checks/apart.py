@@ -34,7 +34,7 @@ def libraries():
 
 @contextlib.contextmanager
 def as_a_crate(folder, name, uses=()):
-    """The folder as a crate of that name, which also uses these of the kit, in a copy of the libraries with what is
+    """The folder as a crate of that name, which also uses these of the kit, in a copy of the libraries with what rt has
     proved of them."""
     with tempfile.TemporaryDirectory() as copied:
         copy, below = pathlib.Path(copied), libraries()
@@ -52,13 +52,15 @@ def as_a_crate(folder, name, uses=()):
         yield crate
 
 
-def build(built, folder, name, words, uses=()):
-    """Builds the crate by `rt` and these words, where a source is newer than what is built."""
+def build(built, folder, name, uses=(), tests=False):
+    """Builds the crate where a source is newer than what is built: its tests by rt, a program by tools/build, which takes
+    what it has proved of the libraries."""
     if is_current(built, folder):
         return
     with as_a_crate(folder, name, uses) as crate:
-        # What the program or a test ends with says nothing of the build: that is judged when it is run.
-        subprocess.run(["rt", *words], cwd=crate, stdout=subprocess.DEVNULL, stdin=subprocess.DEVNULL)
+        words = ["rt", "test"] if tests else [ROOT / "tools" / "build", name, name, crate.parent.parent]
+        # What a test ends with says nothing of the build: that is judged when it is run.
+        subprocess.run(words, cwd=crate, stdout=subprocess.DEVNULL, stdin=subprocess.DEVNULL)
         if not (crate / "out" / built.name).exists():
             raise SystemExit(f"{name} is not built")
         built.parent.mkdir(exist_ok=True)
