@@ -237,8 +237,8 @@ uint32_t renamer_holders(renamer_quiet *quiet, uint64_t *holders, size_t size);
    RENAMER_NONE, _CARRIED, _QUOTA, _MEMORY. */
 uint32_t renamer_open_after(renamer_lane *lane, renamer_quiet *quiet, uint64_t quota);
 
-/* Frees what the handle has, if it has something. A lane is handed back if that can be done. Else, with clients inside or
-   where renamer_hand_back would be refused, its quota and names are lost with it, and its floor cannot be closed any more;
+/* Frees what the handle has, if it has something. A lane is handed back if that can be done. Else, if clients are inside or
+   renamer_hand_back would be refused, its quota and names are lost with it, and its floor cannot be closed any more;
    the names of other lanes stay as good as they were. */
 void renamer_free(renamer_lane *lane);
 void renamer_free_quiet(renamer_quiet *quiet);

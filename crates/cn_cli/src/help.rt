@@ -126,8 +126,8 @@ With `--carry` the network's counters are not cleared between epochs. The k
 clients of an epoch after m earlier ones have the names 0 to k-1 as ever, and
 each exit has its share of m + k clients less its share of m.
 
-Either form is held whole before it is written: a run prints nothing before its
-last epoch has ended.
+A run prints nothing before its last epoch has ended. Then either form is
+written in pieces.
 
 A batch is refused at its first wrong record, by a line on standard error:
 

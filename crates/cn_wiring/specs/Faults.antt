@@ -19,8 +19,8 @@ abbrev pub IsWithin : ℕ → ℕ → ℕ → Type 0
 IsWithin least most n = (least ≤ n) × (n ≤ most)
 
 -- the wire ends at a balancer or an exit of the table
-abbrev pub StandsAt : Table → ℕ → Type 0
-StandsAt t u = Stands t (end_of t u)
+abbrev pub EndStandsAt : Table → ℕ → Type 0
+EndStandsAt t u = Stands t (end_of t u)
 
 -- the wire is no output of the balancer at which it ends, and of no later one
 abbrev pub LeadsOnAt : Table → ℕ → Type 0
@@ -44,7 +44,7 @@ pub record SizesFit (t : Table) : Type 0 where
 -- and each of the ends is there,
 pub record EndsStand (t : Table) : Type 0 where
   pub sizes : SizesFit t
-  pub stand : (u : ℕ) → u < length t.ends → StandsAt t u
+  pub stand : (u : ℕ) → u < length t.ends → EndStandsAt t u
 
 -- and no wire leads back,
 pub record EndsLeadOn (t : Table) : Type 0 where
@@ -60,7 +60,7 @@ pub record BalancersFed (t : Table) : Type 0 where
 -- of the first three kinds stands
 abbrev pub IsFault : Table → WiringFault → Type 0
 IsFault t Length = ¬ SizesFit t
-IsFault t (NoSuchEnd wire) = SizesFit t × IsFirst (length t.ends) (StandsAt t) wire
+IsFault t (NoSuchEnd wire) = SizesFit t × IsFirst (length t.ends) (EndStandsAt t) wire
 IsFault t (Backward wire) = EndsStand t × IsFirst (length t.ends) (LeadsOnAt t) wire
 IsFault t (InDegree balancer) = EndsLeadOn t × IsFirst t.balancers (IsFed t) balancer
 IsFault t (ExitCount exit) = BalancersFed t × IsFirst t.width (HasOneWire t) exit

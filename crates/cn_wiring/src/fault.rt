@@ -2,7 +2,7 @@
 
 ghost use Rattle.std.specs.Prelude.{◌≡◌, ℕ, ◌+◌, ◌*◌, ◌<◌, ◌↔◌, ◌^◌, IfErr, IfOk, IsTrue, length, slice_index, vec_len};
 ghost use Rattle.cn_spec.specs.Sums.{total_where};
-ghost use Rattle.cn_wiring.specs.Faults.{EndsStand, IsFault, IsFirstFailure, IsWithin, LeadsOnAt, SizesFit, StandsAt};
+ghost use Rattle.cn_wiring.specs.Faults.{EndStandsAt, EndsStand, IsFault, IsFirstFailure, IsWithin, LeadsOnAt, SizesFit};
 ghost use Rattle.cn_wiring.specs.Table.{IsWellFormed, is_end, table_with};
 ghost use Rattle.cn_wiring.specs.declared.end.End.TheVariants.{Balancer, Exit};
 
@@ -76,7 +76,7 @@ fn sizes_fit(entries: u32, width: u32, balancers: u32, ends: &[End]) -> bool
 fn find_no_such_end(entries: u32, width: u32, balancers: u32, ends: &[End]) -> Option<u32>
     requires { length ends.now < 2 ^ 32 }
     ensures { let table = table_with entries width balancers ends.now in
-        IsFirstFailure result (length ends.now) (StandsAt table) }
+        IsFirstFailure result (length ends.now) (EndStandsAt table) }
 {
     for (u, end) in ends.iter().enumerate() {
         let stands = match end {
