@@ -41,7 +41,8 @@ fn write_epochs<W: Write>(
     ensures { (records : List EpochRecord)
         → AreRecordsOf options.now.carry network.now.table.width 0 epochs.now records holders.now
         → let written = written_by (λ fault. First fault.written) result in
-        HasWritten W.contents (λ text. text ≡ text_in options.now.form network.now records) written writer.old writer.new }
+        HasWritten W.contents (λ text. text ≡ text_in options.now.form network.now records) written
+        writer.old writer.new }
 {
     match options.form() {
         Form::Report => write_report(writer, pieces, network, options.carries(), epochs, holders),

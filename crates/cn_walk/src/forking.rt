@@ -101,7 +101,8 @@ pub(crate) fn make_lanes<'a>(
     requires own { lane.home ≡ floor.now }
     requires range { (from < to) × (to ≤ workers) × (clients ≤ MOST_CLIENTS) }
     requires nothing { HasNothing lane }
-    requires quota { first_position clients workers to - first_position clients workers from ≤ lane.view.quota }
+    requires quota { first_position clients workers to - first_position clients workers from
+        ≤ lane.view.quota }
     ensures ready { IfSome result (λ lanes.
         AreReady floor.now (first_position clients workers to - first_position clients workers from) lanes) }
     ensures workers { IfSome result (λ lanes. AreOf clients workers from to lanes) }

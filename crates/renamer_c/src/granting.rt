@@ -54,7 +54,8 @@ pub(crate) fn copy_from(grants: &[cn_floor::Grant], first: usize, copies: &mut [
 /// # Errors
 /// The first that stands: `Nothing`, `Size`. Then nothing has changed.
 fn copy(held: &Held, first: u64, copies: &mut [Grant]) -> Result<(), Refusal>
-    ensures ok { OnOk result (WithLane (lane_held held.now) (λ l. AreGrantsFrom l.view.grants first copies.new)) }
+    ensures ok { OnOk result
+        (WithLane (lane_held held.now) (λ l. AreGrantsFrom l.view.grants first copies.new)) }
     ensures err { OnErr result (copies.new ≡ copies.old) }
     ensures refused { IfErr result (NotGranted (lane_held held.now) first (length copies.old)) }
 {

@@ -62,7 +62,8 @@ impl Held {
     /// # Errors
     /// `Nothing` if there is no lane, else as [`HeldLane::name`]. Then nothing has changed.
     pub(crate) fn name(&mut self, client: u64, entry: u64) -> Result<u64, Refusal>
-        ensures ok { IfOk result (λ name. Names (lane_held self.old) (lane_held self.new) client entry name) }
+        ensures ok { IfOk result (λ name.
+            Names (lane_held self.old) (lane_held self.new) client entry name) }
         ensures err { OnErr result (self.new ≡ self.old) }
         ensures refused { IfErr result (NotNamed (lane_held self.old) entry) }
     {
@@ -77,7 +78,8 @@ impl Held {
     /// # Errors
     /// `Nothing` if there is no lane, else `QuotaTooSmall` or `Memory`. Then nothing has changed.
     pub(crate) fn split(&mut self, alloc: Global, quota: u64) -> Result<Box<Held>, Refusal>
-        ensures ok { IfOk result (λ other. Splits (lane_held self.old) (lane_held self.new) (lane_held other.value) quota) }
+        ensures ok { IfOk result (λ other.
+            Splits (lane_held self.old) (lane_held self.new) (lane_held other.value) quota) }
         ensures err { OnErr result (self.new ≡ self.old) }
         ensures refused { IfErr result (NotSplit (lane_held self.old) quota) }
     {
@@ -105,7 +107,8 @@ impl Held {
     /// # Errors
     /// `Nothing` if there is no lane.
     pub(crate) fn entered(&mut self) -> Result<u64, Refusal>
-        ensures ok { IfOk result (λ entered. Answers (lane_held self.old) (lane_held self.new) entered) }
+        ensures ok { IfOk result (λ entered.
+            Answers (lane_held self.old) (lane_held self.new) entered) }
         ensures err { OnErr result (self.new ≡ self.old) }
         ensures refused { IfErr result (NotThere (lane_held self.old)) }
     {
@@ -148,7 +151,8 @@ impl Held {
     /// # Errors
     /// `Nothing` if there is no lane.
     pub(crate) fn ask(&self, question: Question) -> Result<u64, Refusal>
-        ensures ok { IfOk result (λ n. WithLane (lane_held self.now) (λ l. n ≡ number_asked question l)) }
+        ensures ok { IfOk result (λ n.
+            WithLane (lane_held self.now) (λ l. n ≡ number_asked question l)) }
         ensures refused { IfErr result (NotThere (lane_held self.now)) }
     {
         match self.lane() {

@@ -18,7 +18,8 @@ use std::alloc::Global;
 /// # Errors
 /// `Nothing` if there is no record.
 fn size_of(held: &Held, listed: Listed) -> Result<u64, Refusal>
-    ensures ok { IfOk result (λ n. WithRecord (record_held held.now) (λ r. n ≡ length (list_of listed r))) }
+    ensures ok { IfOk result (λ n.
+        WithRecord (record_held held.now) (λ r. n ≡ length (list_of listed r))) }
     ensures refused { IfErr result (NotThere (record_held held.now)) }
 {
     match held.record() {

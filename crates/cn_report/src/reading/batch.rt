@@ -79,7 +79,8 @@ fn take_arrival<R: Read>(
         × (spelled_cause entries arrivals (arrival_in heading entries fields) ≡ Some cause))
         ⊎ (cause ≡ BatchCause.Read) ⊎ (cause ≡ BatchCause.Memory)) }
     ensures few { IfOk result (λ found. found ≡ true → at ≤ MOST_RECORDS) }
-    ensures keeps { OnOk result (StaysServable entries gathering.old → StaysServable entries gathering.new) }
+    ensures keeps { OnOk result (StaysServable entries gathering.old
+        → StaysServable entries gathering.new) }
     ensures more { IfOk result (λ found.
         MatchBool found (gathered gathering.new ≡ gathered gathering.old + 1)
         (gathered gathering.new ≡ gathered gathering.old)) }

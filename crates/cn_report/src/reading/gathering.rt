@@ -73,7 +73,8 @@ impl Gathering {
     fn reach(&mut self, alloc: Global, epoch: u64) -> Result<(), AllocError>
         requires { self.old.latest.number ≤ epoch }
         ensures holds { OnOk result ((self.new.latest.number ≡ epoch)
-            × ((before : List Arrival) → HoldsArrivals self.old before → HoldsArrivals self.new before)) }
+            × ((before : List Arrival) → HoldsArrivals self.old before
+            → HoldsArrivals self.new before)) }
         ensures keeps { OnOk result ((entries : ℕ) → StaysServable entries self.old
             → StaysServable entries self.new) }
         ensures same { OnOk result (gathered self.new ≡ gathered self.old) }
@@ -126,7 +127,8 @@ impl Gathering {
             → (arrival_cause entries before arrival ≡ None)
             × IsGathered self.new (before ++ arrival ∷ [])) }
         ensures few { OnOk result (at ≤ MOST_RECORDS) }
-        ensures keeps { OnOk result (StaysServable entries self.old → StaysServable entries self.new) }
+        ensures keeps { OnOk result (StaysServable entries self.old
+            → StaysServable entries self.new) }
         ensures more { OnOk result (gathered self.new ≡ gathered self.old + 1) }
         ensures err { IfErr result (λ cause. (before : List Arrival) → IsGathered self.old before
             → length before + 1 ≡ at

@@ -40,9 +40,11 @@ impl Held {
         clients: &[Client],
         grants: &mut [Grant],
     ) -> Result<(), Refusal>
-        ensures ok { OnOk result (NamesMany (lane_held self.old) (lane_held self.new) clients.now grants.new) }
+        ensures ok { OnOk result
+            (NamesMany (lane_held self.old) (lane_held self.new) clients.now grants.new) }
         ensures err { OnErr result ((self.new ≡ self.old) × (grants.new ≡ grants.old)) }
-        ensures refused { IfErr result (NotNamedMany (lane_held self.old) clients.now (length grants.old)) }
+        ensures refused { IfErr result
+            (NotNamedMany (lane_held self.old) clients.now (length grants.old)) }
     {
         match self {
             Held::Lane(lane) => name_many(lane, clients, grants),

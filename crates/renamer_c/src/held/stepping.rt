@@ -32,7 +32,8 @@ impl Held {
     /// # Errors
     /// `Nothing` if there is no lane, else as [`HeldLane::step`]. Then nothing has changed.
     pub(crate) fn step(&mut self, wire: u64) -> Result<Moved, Refusal>
-        ensures ok { IfOk result (λ moved. Steps (lane_held self.old) (lane_held self.new) wire moved) }
+        ensures ok { IfOk result (λ moved.
+            Steps (lane_held self.old) (lane_held self.new) wire moved) }
         ensures err { OnErr result (self.new ≡ self.old) }
         ensures refused { IfErr result (NobodyOn (lane_held self.old) wire) }
     {
@@ -47,7 +48,8 @@ impl Held {
     /// # Errors
     /// `Nothing` if there is no lane, else as [`HeldLane::sweep`]. Then nothing has changed.
     pub(crate) fn sweep(&mut self, wire: u64) -> Result<Swept, Refusal>
-        ensures ok { IfOk result (λ swept. Sweeps (lane_held self.old) (lane_held self.new) wire swept) }
+        ensures ok { IfOk result (λ swept.
+            Sweeps (lane_held self.old) (lane_held self.new) wire swept) }
         ensures err { OnErr result (self.new ≡ self.old) }
         ensures refused { IfErr result (NobodyOn (lane_held self.old) wire) }
     {
@@ -62,7 +64,8 @@ impl Held {
     /// # Errors
     /// `Nothing` if there is no lane, else as [`HeldLane::lowest`].
     pub(crate) fn lowest(&self) -> Result<u64, Refusal>
-        ensures ok { IfOk result (λ wire. WithLane (lane_held self.now) (λ l. IsLowest l.yard.lists wire)) }
+        ensures ok { IfOk result (λ wire.
+            WithLane (lane_held self.now) (λ l. IsLowest l.yard.lists wire)) }
         ensures refused { IfErr result (NoLowestWire (lane_held self.now)) }
     {
         match self {
