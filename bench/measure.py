@@ -1,7 +1,8 @@
 """What the scripts of bench/ share: the programs and their peers, times of runs in turn, and rows with their goals.
 
-A script has a function `rows(bench)` that yields what it measured, row by row, and ends in `measure.main(__doc__, rows)`.
-A ratio is the median of the ratios of runs that were made in turn, so that a load that comes and goes meets both sides.
+A script has a function `rows(bench)` that yields what it measured, row by row, and ends in `measure.main(__doc__,
+rows)`. A ratio is the median of the ratios of runs that were made in turn, so that a load that comes and goes meets
+both sides.
 """
 import argparse
 import contextlib
@@ -63,7 +64,8 @@ def line(script, row, small):
     """A row as it is printed, and whether it has a goal that it misses."""
     goal = goals().get((script, row.name))
     missed = goal is not None and row.value > goal
-    judged = "no goal" if goal is None else f"at most {goal:g}, {'not met' if missed else 'met'}{' at a small size' * small}"
+    met = ("not met" if missed else "met") + " at a small size" * small
+    judged = "no goal" if goal is None else f"at most {goal:g}, {met}"
     detail = f" ({row.detail})" if row.detail else ""
     return f"{script}, {row.name}: {row.value:.3f}{row.unit}; {judged}{detail}", missed
 
@@ -109,7 +111,7 @@ class Bench:
         return self.cargo("plain", "plain")
 
     def cargo(self, folder, name, library=False):
-        """A program in plain Rust of a folder of bench/, with the crates of the peers; one over the library wants that."""
+        """A program in plain Rust of a folder of bench/, with the peers' crates; one over the library wants that."""
         source = ['source.crates-io.replace-with="folder"', f'source.folder.directory="{self.crates}"']
         configs = [] if library else [word for one in source for word in ("--config", one)]
         if library:
@@ -194,7 +196,7 @@ class Bench:
             raise Failed(f"outputs differ: {', '.join(' '.join(words) for words in jobs)}")
 
     def in_turn(self, jobs, rounds):
-        """What so many runs of each job take, in turn; each round another one begins. A job is its words and its input."""
+        """What so many runs of each job take, in turn; another begins each round. A job is its words and its input."""
         spent = [[] for _ in jobs]
         for first in range(rounds):
             for place in range(len(jobs)):
@@ -249,7 +251,7 @@ def measure(script, rows, chosen):
                 print(text, flush=True)
                 names.append(row.name)
                 missed += [row.name] * is_missed
-        except (Failed, subprocess.SubprocessError, OSError) as failure:
+        except (Failed, SystemExit, subprocess.SubprocessError, OSError) as failure:
             print(f"{script} failed: {failure}", flush=True)
             return names, missed, True
     return names, missed, not names

@@ -1,15 +1,16 @@
 #!/usr/bin/env python3
 """How many uncontended atomic adds a step costs, beside a loop of `fetch_add` in plain Rust. Ten runs each.
 
-On the floor, by one worker with one token in hand: what a run of a million clients takes longer on bitonic 64, with 22
-steps each, than on bitonic 2, with 2 steps each, by step; and what a run of the full batch through one entry takes longer
-on bitonic 64, with 21 balancers on a token's way, than on the tree of width 64, with six, by balancer. On floors over this
-tree also what it takes to name a client by one call, which is eight adds; less what it takes to open the floors.
+On the floor, by one worker with one token in hand: what a run of a million clients takes longer on bitonic 64, with
+22 steps each, than on bitonic 2, with 2 steps each, by step; and what a run of the full batch through one entry takes
+longer on bitonic 64, with 21 balancers on a token's way, than on the tree of width 64, with six, by balancer. On
+floors over this tree also what it takes to name a client by one call, which is eight adds; less what it takes to open
+the floors.
 
-Of a core over bitonic 64, with 60,000 clients: what a step takes where each client is walked out before the next enters,
-so that one is inside, and where all enter and then each takes one step after the other; less what the enters take. A
-look-up in the table of clients is measured by look-ups in the place of the steps. The program is core/, on cn_core and
-cn_floor.
+Of a core over bitonic 64, with 60,000 clients: what a step takes where each client is walked out before the next
+enters, so that one is inside, and where all enter and then each takes one step after the other; less what the enters
+take. A look-up in the table of clients is measured by look-ups in the place of the steps. The program is core/, on
+cn_core and cn_floor.
 """
 import measure
 

@@ -5,10 +5,12 @@ temporary folder, and what is built there is kept in the folder's out/.
 """
 import contextlib
 import itertools
+import os
 import pathlib
 import shutil
 import subprocess
 import tempfile
+import time
 
 ROOT = pathlib.Path(__file__).resolve().parent.parent
 # The endings of such a file, and in a crate.
@@ -22,6 +24,7 @@ def is_current(built, folder):
     parts = itertools.product(("src", "specs", "proofs"), ("*.rt", "*.antt"))
     sources = [path for part, kind in parts for path in ROOT.glob(f"crates/*/{part}/**/{kind}")]
     sources += (path for kind in ENDINGS for path in folder.glob(f"**/*{kind}"))
+    sources.append(ROOT / "crates.txt")
     return all(path.stat().st_mtime <= built.stat().st_mtime for path in sources)
 
 
@@ -33,13 +36,14 @@ def libraries():
 
 
 @contextlib.contextmanager
-def as_a_crate(folder, name, uses=()):
-    """The folder as a crate of that name, which also uses these of the kit, in a copy of the libraries with what rt has
-    proved of them."""
+def as_a_crate(folder, name, uses=(), tests=False):
+    """The folder as a crate of that name, which also uses these of the kit, in a copy of the libraries; for its tests
+    with what rt has proved of them."""
     with tempfile.TemporaryDirectory() as copied:
         copy, below = pathlib.Path(copied), libraries()
         for library in below:
-            shutil.copytree(ROOT / "crates" / library, copy / "crates" / library)
+            left_out = None if tests else shutil.ignore_patterns("out")
+            shutil.copytree(ROOT / "crates" / library, copy / "crates" / library, ignore=left_out)
         crate = copy / "crates" / name
         for path in folder.glob("**/*"):
             if path.suffix in ENDINGS:
@@ -53,11 +57,12 @@ def as_a_crate(folder, name, uses=()):
 
 
 def build(built, folder, name, uses=(), tests=False):
-    """Builds the crate where a source is newer than what is built: its tests by rt, a program by tools/build, which takes
+    """Builds the crate if a source is newer than what is built: its tests by rt, a program by tools/build, which takes
     what it has proved of the libraries."""
     if is_current(built, folder):
         return
-    with as_a_crate(folder, name, uses) as crate:
+    began = time.time()
+    with as_a_crate(folder, name, uses, tests) as crate:
         words = ["rt", "test"] if tests else [ROOT / "tools" / "build", name, name, crate.parent.parent]
         # What a test ends with says nothing of the build: that is judged when it is run.
         subprocess.run(words, cwd=crate, stdout=subprocess.DEVNULL, stdin=subprocess.DEVNULL)
@@ -65,3 +70,5 @@ def build(built, folder, name, uses=(), tests=False):
             raise SystemExit(f"{name} is not built")
         built.parent.mkdir(exist_ok=True)
         shutil.copy(crate / "out" / built.name, built)
+        # An edit that came during the build is newer.
+        os.utime(built, (began, began))
