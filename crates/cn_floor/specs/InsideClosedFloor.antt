@@ -1,14 +1,18 @@
 -- What a closed floor keeps.
 use Rattle.std.specs.Prelude.{◌≡◌}
 use Rattle.cn_floor.specs.declared.floor.closed_floor.ClosedFloor.TheInside.{Inside}
-use Rattle.cn_floor.specs.Ends.{IsClosedFloor, QuietValue}
+use Rattle.cn_floor.specs.Carried.{IsClosed, client_count}
+use Rattle.cn_floor.specs.Ends.{IsClosedFloor, QuietValue, words_after}
 
 -- a closed floor as contracts see it
 abbrev pub closed_of : Inside → QuietValue
-closed_of e = record { start = e.lane.value.home.start; did = e.lane.value.view; words = e.words.words }
+closed_of e = record { start = e.lane.value.home.start; did = e.lane.value.view; words = e.words }
 
--- its grants are those of the lane, and its words those of the floor
+-- its grants are those of the lane, and its words those of the floor: another may begin with them, and the number of
+-- clients is theirs
 pub record KeepsClosedFloor (e : Inside) : Type 0 where
-  pub quiet : IsClosedFloor e.lane.value.home.start e.lane.value.view e.words.words
-  pub network : e.words.network ≡ e.lane.value.home.start.network
+  pub quiet : IsClosedFloor e.lane.value.home.start e.lane.value.view e.words
+  pub network : e.network ≡ e.lane.value.home.start.network
+  pub closed : IsClosed (words_after (closed_of e))
+  pub clients : e.clients ≡ client_count (words_after (closed_of e))
   pub grants : e.grants.items ≡ e.lane.value.view.grants

@@ -1,9 +1,18 @@
--- What a closed floor keeps.
+-- What a quiet floor keeps.
 use Rattle.std.specs.Prelude.{◌≡◌, None, IfSome}
 use Rattle.cn_floor.specs.declared.floor.quiet.Quiet.TheInside.{Inside}
+use Rattle.cn_floor.specs.Ends.{IsClosedFloor, QuietValue}
 use Rattle.cn_floor.specs.Words.{IsDifference, NoneWent}
 
--- it has what the words have risen, or nobody went before
+-- a closed floor as contracts see it
+abbrev pub quiet_of : Inside → QuietValue
+quiet_of q = record { start = q.lane.value.home.start; did = q.lane.value.view; words = q.words.words }
+
+-- its grants are those of the lane, and its words those of the floor; and it has what the words have risen, or nobody
+-- went before
 pub record KeepsQuiet (q : Inside) : Type 0 where
-  pub risen : IfSome q.risen (λ list. IsDifference q.closed.start.words q.closed.words list.items)
-  pub none : q.risen ≡ None → NoneWent q.closed.start.network.table q.closed.start.words
+  pub quiet : IsClosedFloor q.lane.value.home.start q.lane.value.view q.words.words
+  pub network : q.words.network ≡ q.lane.value.home.start.network
+  pub grants : q.grants.items ≡ q.lane.value.view.grants
+  pub risen : IfSome q.risen (λ list. IsDifference q.lane.value.home.start.words q.words.words list.items)
+  pub none : q.risen ≡ None → NoneWent q.lane.value.home.start.network.table q.lane.value.home.start.words

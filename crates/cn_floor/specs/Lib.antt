@@ -12,6 +12,7 @@ pub mod Lane
 pub mod InsideLane
 pub mod Ends
 pub mod Closing
+pub mod InsideEndWords
 pub mod InsideCounters
 pub mod InsideFloor
 pub mod InsideLeftovers

@@ -3,6 +3,8 @@
 mod closed_floor;
 mod closing;
 mod counters;
+mod end_words;
+mod holders;
 mod lane;
 mod laws;
 mod leftovers;

@@ -1,21 +1,28 @@
 -- The record of an epoch that was run.
-use Rattle.std.proofs.Common.{◌≡◌, ℕ, ◌≤◌, List, length, map, sym, subst, ◌∙◌, arith}
+use Rattle.std.proofs.Common.{◌≡◌, ℕ, ◌+◌, ◌-◌, ◌^◌, ◌<◌, ◌≤◌, Global, List, Vec, ap, get_or, length, map, refl, sym, subst, ◌∙◌, arith}
 use Rattle.std.specs.List.Sorted.{IsPermutation}
+use Rattle.std.proofs.lemmas.List.FromFn.{length-map-range_with_len}
 use Rattle.std.proofs.lemmas.List.Sorted.{IsPermutation-trans}
 use Rattle.cn_spec.specs.Step.{shares_after}
 use Rattle.cn_spec.specs.Sums.{times}
+use Rattle.cn_spec.specs.declared.limits.TheConstants.{MOST_CLIENTS, MOST_ENDS}
 use Rattle.cn_spec.proofs.CallerLemmas.{order-times, times-map, times-order}
 use Rattle.cn_ledger.specs.declared.client.Client.{Client}
+use Rattle.cn_wiring.specs.Network.{Network}
 use Rattle.cn_record.specs.declared.record.EpochRecord.{EpochRecord}
 use Rattle.cn_floor.specs.declared.view.Grant.{Grant}
 use Rattle.cn_floor.specs.Carried.{WordsValue, client_count}
-use Rattle.cn_floor.specs.Ends.{ListsHolders, QuietValue}
-use Rattle.cn_floor.specs.Ends.{IsOutcomeOf, OutcomeValue}
+use Rattle.cn_floor.specs.Ends.{IsOutcomeOf, ListsHolders, OutcomeValue, QuietValue, counts_by_exit}
 use Rattle.cn_walk.specs.Runs.{IsRunAfter}
 use Rattle.cn_walk.specs.Walks.{AreFor}
 use Rattle.cn_report.specs.Reading.Batch.{MayCome}
 use Rattle.cn_report.specs.declared.reading.gathering.BatchEpoch.{BatchEpoch}
 use Rattle.cn_renamer.specs.Headline.{IsServed}
+use Rattle.cn_renamer.specs.Running.{AreHoldersOfOne}
+
+-- what has risen at an exit's word
+abbrev risen : QuietValue → ℕ → ℕ
+risen q i = let first : ℕ = 1 + q.start.network.table.entries + q.start.network.table.balancers in get_or q.words (first + i) 0 - get_or q.start.words (first + i) 0
 
 -- the clients that came hold the names, one each
 module _ (clients : List Client) (grants : List Grant) (theirs : AreFor clients grants) (holders : List ℕ) (lists : ListsHolders grants holders) where
@@ -45,4 +52,29 @@ served entries width m epoch before quiet outcome r come wide after run came num
       counts = counts ∙ came.counts ∙ run.counts ∙ (λ x. shares_after (after x) (sym many x) (wide x));
       holders = own clients quiet.did.grants run.theirs r.holders.items lists;
       once = once clients quiet.did.grants run.theirs r.holders.items lists come.once;
+    }
+
+-- a list as a vector has it; where that would lie does not matter
+abbrev vector_of : {X : Type 0} → Vec X Global → (ns : List ℕ) → length ns < 2 ^ 63 → Vec ℕ Global
+vector_of v ns few = record { ptr = v.ptr; len = length ns; cap = length ns; alloc = v.alloc; items = ns; ok = (refl, omega arith); small = few }
+
+-- the holders of a run of an epoch's clients are those of its names, and the record that has them, and the counts of the
+-- floor, is that of its epoch, served after so many clients
+pub served-by : (entries width m : ℕ) (epoch : BatchEpoch) (before : WordsValue) (quiet : QuietValue) (holders : List ℕ) → MayCome entries epoch.clients.items
+    → before.network.table.width ≡ width → client_count before ≡ m → width ≤ MOST_ENDS → IsRunAfter before epoch.clients.items quiet → ListsHolders quiet.did.grants holders
+    → AreHoldersOfOne width m epoch holders
+served-by entries width m epoch before quiet holders come wide after narrow run lists =
+    let counts : List ℕ = counts_by_exit quiet.start quiet.words in
+    let exits : length counts ≡ width = length-map-range_with_len (risen quiet) 0 quiet.start.network.table.width ∙ ap (λ (n : Network). n.table.width) run.over ∙ wide in
+    let many : length holders < 2 ^ 63 = omega (arith, lists.all, run.theirs.as_many, come.few) in
+    let r : EpochRecord = record {
+      number = epoch.number;
+      clients = length epoch.clients.items;
+      counts = vector_of epoch.clients counts (omega (arith, exits, narrow));
+      holders = vector_of epoch.clients holders many;
+    } in
+    record {
+      made = r;
+      served = served entries width m epoch before quiet (record { counts = counts; holders = holders }) r come wide after run (record { counts = refl; holders = lists }) refl refl refl refl;
+      listed = refl;
     }

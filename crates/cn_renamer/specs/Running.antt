@@ -7,7 +7,7 @@ use Rattle.cn_record.specs.declared.record.EpochRecord.{EpochRecord}
 use Rattle.cn_report.specs.Reading.Batch.{MayCome, clients_of_epochs}
 use Rattle.cn_report.specs.declared.reading.gathering.BatchEpoch.{BatchEpoch}
 use Rattle.cn_renamer.specs.declared.crew.Crew.{Crew}
-use Rattle.cn_renamer.specs.Headline.{AreServed}
+use Rattle.cn_renamer.specs.Headline.{AreServed, IsServed}
 
 -- some worker is there, none has a number that no worker may have, and each may have so many clients in hand
 pub record IsCrew (crew : Crew) : Type 0 where
@@ -22,6 +22,12 @@ pub record MayRunAll (entries : ℕ) (epochs : List BatchEpoch) (places : ℕ) :
   pub some : All (λ e. 0 < length e.clients.items) epochs
   pub few : places ≤ MOST_RECORDS
   pub all : places ≡ clients_of_epochs epochs
+
+-- the epoch was served after m clients, and these are the holders of its names, by rising name
+pub record AreHoldersOfOne (w m : ℕ) (epoch : BatchEpoch) (holders : List ℕ) : Type 0 where
+  pub made : EpochRecord
+  pub served : IsServed w m epoch made
+  pub listed : made.holders.items ≡ holders
 
 -- the epochs were served one after another, and these are the holders of all their names: those of the first epoch by
 -- rising name, then those of the next

@@ -5,37 +5,19 @@ ghost use Rattle.cn_spec.specs.declared.limits.TheConstants.{MOST_CARRIED, MOST_
 ghost use Rattle.cn_spec.specs.Sums.{when};
 ghost use Rattle.cn_floor.specs.Carried.{client_count};
 ghost use Rattle.cn_report.specs.Reading.Batch.{AreServable, MayCome, clients_of_epochs};
-ghost use Rattle.cn_renamer.specs.Headline.{IsServed};
-ghost use Rattle.cn_renamer.specs.Running.{AreHoldersOf, IsCrew, MayRunAll};
+ghost use Rattle.cn_renamer.specs.Running.{AreHoldersOf, AreHoldersOfOne, IsCrew, MayRunAll};
 ghost use denote.Param.Send.{IsSync};
 
 use crate::crew::{Crew, CrewGate};
 use cn_cli::Options;
-use cn_epoch::EpochRecord;
 use cn_report::BatchEpoch;
-use cn_walk::{Gate, Outcome, RunFault, Runner};
+use cn_walk::{Gate, RunFault, Runner};
 use cn_wiring::Counting;
 use std::alloc::{AllocError, Global};
 use std::sync::Wait;
 use std::thread::{Threads, join_mut};
 
-/// The record of an epoch of a batch, by what came of it.
-fn record_of(epoch: &BatchEpoch, outcome: Outcome) -> EpochRecord
-    ensures number { result.number ≡ epoch.now.number }
-    ensures clients { result.clients ≡ length epoch.now.clients.items }
-    ensures counts { result.counts.items ≡ outcome.counts }
-    ensures holders { result.holders.items ≡ outcome.holders }
-{
-    let (counts, holders) = outcome.into_lists();
-    EpochRecord {
-        number: epoch.number,
-        clients: epoch.clients.len() as u64,
-        counts,
-        holders,
-    }
-}
-
-/// Runs the next epoch of a batch by a crew: its record, and the runner for the one after it.
+/// Runs the next epoch of a batch by a crew, and writes who has which name: the runner for the epoch after it.
 fn run_next<'n, G: Gate + Sync, R: Threads + Wait + Sync>(
     rt: &R,
     alloc: Global,
@@ -43,39 +25,41 @@ fn run_next<'n, G: Gate + Sync, R: Threads + Wait + Sync>(
     epoch: &BatchEpoch,
     crew: Crew,
     gate: &G,
-) -> Result<(EpochRecord, Runner<'n>), AllocError>
+    holders: &mut [u64],
+) -> Result<Runner<'n>, AllocError>
     requires come { MayCome runner.words.network.table.entries epoch.now.clients.items }
     requires few { client_count runner.words ≤ MOST_CARRIED }
     requires crew { IsCrew crew }
-    ensures served { IfOk result (λ r.
-        IsServed runner.entry.words.network.table.width (client_count runner.entry.words) epoch.now r.0) }
-    ensures network { IfOk result (λ r. r.1.words.network ≡ runner.entry.words.network) }
-    ensures carries { IfOk result (λ r. r.1.carries ≡ runner.entry.carries) }
-    ensures came { IfOk result (λ r. client_count r.1.words
+    requires places { length holders.old ≡ length epoch.now.clients.items }
+    ensures served { OnOk result (AreHoldersOfOne runner.entry.words.network.table.width (client_count runner.entry.words)
+        epoch.now holders.new) }
+    ensures network { IfOk result (λ r. r.words.network ≡ runner.entry.words.network) }
+    ensures carries { IfOk result (λ r. r.carries ≡ runner.entry.carries) }
+    ensures came { IfOk result (λ r. client_count r.words
         ≡ client_count runner.entry.words + when runner.entry.carries (length epoch.now.clients.items)) }
 {
+    runner.words().words_laws();
     let gate = CrewGate {
         gate,
         first: crew.first,
     };
-    let (runner, ended) = runner.run(rt, alloc, &epoch.clients, crew.workers, crew.hand, &gate);
+    let (runner, ended) = runner.run_into(
+        rt,
+        alloc,
+        &epoch.clients,
+        crew.workers,
+        crew.hand,
+        &gate,
+        holders,
+    );
     match ended {
-        Ok(outcome) => Ok((record_of(epoch, outcome), runner)),
+        Ok(()) => Ok(runner),
         Err(fault) => {
             // An epoch of a batch is refused only for want of memory.
             prove!(matches!(fault, RunFault::Memory));
             Err(AllocError)
         }
     }
-}
-
-/// Writes a list at a place.
-fn put(places: &mut [u64], at: usize, list: &[u64])
-    requires { at + length list.now ≤ length places.old }
-    ensures places { length places.new ≡ length places.old }
-    ensures written { take (at + length list.now) places.new ≡ take at places.old ++ list.now }
-{
-    places[at..at + list.len()].copy_from_slice(list);
 }
 
 /// Runs epochs one after another by a crew, and writes who has which name. Each epoch begins with counters of 0 or, if they
@@ -97,10 +81,11 @@ fn run_in_turn<G: Gate + Sync, R: Threads + Wait + Sync>(
     let mut runner = Runner::new(alloc, network, carries)?;
     let mut at = 0;
     for epoch in epochs {
-        let (record, next) = run_next(rt, alloc, runner, epoch, crew, gate)?;
-        put(holders, at, &record.holders);
-        at += epoch.clients.len();
+        let end = at + epoch.clients.len();
+        let own = &mut holders[at..end];
+        let next = run_next(rt, alloc, runner, epoch, crew, gate, own)?;
         runner = next;
+        at = end;
     }
     Ok(())
 }

@@ -1,8 +1,8 @@
 -- Epochs that are run one after another.
-use Rattle.std.specs.Prelude.{◌≡◌, Bool, true, false, List}
+use Rattle.std.specs.Prelude.{◌≡◌, ℕ, Bool, true, false, List}
 use Rattle.cn_ledger.specs.declared.client.Client.{Client}
 use Rattle.cn_floor.specs.Carried.{WordsValue}
-use Rattle.cn_floor.specs.Ends.{IsOutcomeOf, OutcomeValue, QuietValue, words_after}
+use Rattle.cn_floor.specs.Ends.{IsOutcomeOf, ListsHolders, OutcomeValue, QuietValue, words_after}
 use Rattle.cn_walk.specs.Runs.{IsRunAfter}
 
 -- a runner of epochs as contracts see it: the words with which the next begins, and whether later ones go on from its own
@@ -20,4 +20,11 @@ pub record RunsNext (old new : RunnerValue) (clients : List Client) (outcome : O
   pub quiet : QuietValue
   pub run : IsRunAfter old.words clients quiet
   pub came : IsOutcomeOf quiet outcome
+  pub next : new ≡ record { words = next_words old.carries old.words quiet; carries = old.carries }
+
+-- the same, with the clients by rising name in place of an outcome
+pub record RunsInto (old new : RunnerValue) (clients : List Client) (holders : List ℕ) : Type 0 where
+  pub quiet : QuietValue
+  pub run : IsRunAfter old.words clients quiet
+  pub listed : ListsHolders quiet.did.grants holders
   pub next : new ≡ record { words = next_words old.carries old.words quiet; carries = old.carries }

@@ -1,10 +1,10 @@
 //! Epochs over one network, one after another.
 
-ghost use Rattle.std.specs.Prelude.{◌≡◌, ◌≤◌, IfErr, IfOk, OnErr, OnOk};
+ghost use Rattle.std.specs.Prelude.{◌≡◌, ◌≤◌, IfErr, IfOk, OnErr, OnOk, length};
 ghost use Rattle.cn_spec.specs.declared.limits.TheConstants.{MOST_CARRIED};
 ghost use Rattle.cn_floor.specs.Carried.{client_count, words_before, zero_words};
 ghost use Rattle.cn_floor.specs.Ends.{IsOutcomeOf};
-ghost use Rattle.cn_walk.specs.Runner.{RunsNext, next_words};
+ghost use Rattle.cn_walk.specs.Runner.{RunsInto, RunsNext, next_words};
 ghost use Rattle.cn_walk.specs.Runs.{IsRefused, IsRunAfter, MayRun};
 
 use crate::running::{RunFault, may_run, run_on};
@@ -81,14 +81,19 @@ impl<'a> Runner<'a> {
         ensures refused { IfErr result.1 (IsRefused self.entry.words.network.table.entries clients.now workers hand) }
         ensures allowed { OnOk result.1 (MayRun self.entry.words.network.table.entries clients.now workers hand) }
     {
-        match may_run(self.words().network(), clients, workers, hand) {
-            Ok(()) => self.run_allowed(rt, alloc, clients, workers, hand, gate),
-            Err(fault) => (self, Err(fault)),
+        match self.run_closed(rt, alloc, clients, workers, hand, gate) {
+            Ok((closed, leftovers, carries)) => keep(closed, leftovers, carries),
+            Err((runner, fault)) => (runner, Err(fault)),
         }
     }
 
-    /// Runs an epoch that may be run.
-    fn run_allowed<G: Gate + Sync, R: Threads + Wait + Sync>(
+    /// Runs an epoch as [`Runner::run`] does, and writes who has which name over a list with a place for each client:
+    /// `holders[n]` is the client with name n. If the epoch is refused, list and words are as they were. The list of an
+    /// [`Outcome`], and its counts, are not made.
+    ///
+    /// # Errors
+    /// As those of [`crate::run_epoch`], in its order.
+    pub fn run_into<G: Gate + Sync, R: Threads + Wait + Sync>(
         self,
         rt: &R,
         alloc: Global,
@@ -96,17 +101,49 @@ impl<'a> Runner<'a> {
         workers: u32,
         hand: u32,
         gate: &G,
-    ) -> (Runner<'a>, Result<Outcome, RunFault>)
+        holders: &mut [u64],
+    ) -> (Runner<'a>, Result<(), RunFault>)
         requires few { client_count self.words ≤ MOST_CARRIED }
-        requires allowed { MayRun self.words.network.table.entries clients.now workers hand }
-        ensures run { IfOk result.1 (RunsNext self.entry result.0 clients.now) }
-        ensures back { OnErr result.1 (result.0 ≡ self.entry) }
-        ensures refused { IfErr result.1 (λ fault. fault ≡ RunFault.Memory) }
+        requires places { length holders.old ≡ length clients.now }
+        ensures run { OnOk result.1 (RunsInto self.entry result.0 clients.now holders.new) }
+        ensures back { OnErr result.1 ((result.0 ≡ self.entry) × (holders.new ≡ holders.old)) }
+        ensures refused { IfErr result.1 (IsRefused self.entry.words.network.table.entries clients.now workers hand) }
+        ensures allowed { OnOk result.1 (MayRun self.entry.words.network.table.entries clients.now workers hand) }
     {
+        match self.run_closed(rt, alloc, clients, workers, hand, gate) {
+            Ok((closed, leftovers, carries)) => {
+                closed.list_holders(holders);
+                (runner_after(closed, leftovers, carries), Ok(()))
+            }
+            Err((runner, fault)) => (runner, Err(fault)),
+        }
+    }
+
+    /// Runs an epoch: its closed floor, what is left for the next, and whether that goes on from it.
+    fn run_closed<G: Gate + Sync, R: Threads + Wait + Sync>(
+        self,
+        rt: &R,
+        alloc: Global,
+        clients: &[Client],
+        workers: u32,
+        hand: u32,
+        gate: &G,
+    ) -> Result<(ClosedFloor<'a>, Leftovers<'a>, bool), (Runner<'a>, RunFault)>
+        requires few { client_count self.words ≤ MOST_CARRIED }
+        ensures run { IfOk result (λ r. IsRunAfter self.entry.words clients.now r.0) }
+        ensures began { IfOk result (λ r. words_before r.0.start ≡ self.entry.words) }
+        ensures leftovers { IfOk result (λ r. (r.1 ≡ self.entry.words) × (r.2 ≡ self.entry.carries)) }
+        ensures back { IfErr result (λ r. r.0 ≡ self.entry) }
+        ensures refused { IfErr result (λ r. IsRefused self.entry.words.network.table.entries clients.now workers hand r.1) }
+        ensures allowed { OnOk result (MayRun self.entry.words.network.table.entries clients.now workers hand) }
+    {
+        if let Err(fault) = may_run(self.words().network(), clients, workers, hand) {
+            return Err((self, fault));
+        }
         let Runner { leftovers, carries } = self;
         match run_leftovers(rt, alloc, leftovers, clients, workers, hand, gate) {
-            Ok((closed, leftovers)) => keep(closed, leftovers, carries),
-            Err(leftovers) => (Runner { leftovers, carries }, Err(RunFault::Memory)),
+            Ok((closed, leftovers)) => Ok((closed, leftovers, carries)),
+            Err(leftovers) => Err((Runner { leftovers, carries }, RunFault::Memory)),
         }
     }
 }
@@ -133,6 +170,22 @@ fn run_leftovers<'a, G: Gate + Sync, R: Threads + Wait + Sync>(
     run_on(rt, alloc, floor, lane, clients, workers, hand, gate)
 }
 
+/// The runner after an epoch.
+fn runner_after<'a>(closed: ClosedFloor<'a>, leftovers: Leftovers<'a>, carries: bool) -> Runner<'a>
+    requires { leftovers ≡ words_before closed.start }
+    ensures { result ≡ record {
+      words = next_words carries leftovers.entry closed.entry;
+      carries = carries;
+    } }
+{
+    let leftovers = if carries {
+        leftovers.go_on_from(closed)
+    } else {
+        leftovers
+    };
+    Runner { leftovers, carries }
+}
+
 /// The runner after an epoch, and what came of that.
 fn keep<'a>(
     closed: ClosedFloor<'a>,
@@ -150,14 +203,7 @@ fn keep<'a>(
     ensures refused { IfErr result.1 (λ fault. fault ≡ RunFault.Memory) }
 {
     match closed.outcome_since(leftovers.words()) {
-        Ok(outcome) => {
-            let leftovers = if carries {
-                leftovers.go_on_from(closed)
-            } else {
-                leftovers
-            };
-            (Runner { leftovers, carries }, Ok(outcome))
-        }
+        Ok(outcome) => (runner_after(closed, leftovers, carries), Ok(outcome)),
         Err(_memory) => (Runner { leftovers, carries }, Err(RunFault::Memory)),
     }
 }

@@ -124,7 +124,10 @@ fn run_whole<'a, G: Gate + Sync, R: Threads + Wait + Sync>(
     ensures refused { IfErr result (λ fault. fault ≡ RunFault.Memory) }
 {
     match run_on(rt, alloc, floor, lane, clients, workers, hand, gate) {
-        Ok((closed, leftovers)) => Ok(closed.into_quiet(leftovers)),
+        Ok((closed, leftovers)) => match closed.into_quiet(leftovers) {
+            Ok(quiet) => Ok(quiet),
+            Err(_memory) => Err(RunFault::Memory),
+        },
         Err(_leftovers) => Err(RunFault::Memory),
     }
 }

@@ -1,14 +1,19 @@
 //! A closed floor, before anybody asks what has risen.
 
-ghost use Rattle.std.specs.Prelude.{◌≡◌, IfOk};
+ghost use Rattle.std.specs.Prelude.{◌≡◌, IfOk, length};
 ghost use Rattle.cn_floor.specs.Carried.{words_before};
 ghost use Rattle.cn_floor.specs.Ends.{IsClosedFloor, IsOutcomeOf, ListsHolders, counts_by_exit};
+ghost use Rattle.cn_floor.specs.Words.{word_count};
 
+use super::end_words::EndWords;
+use super::holders::put_holders;
 use super::lane::Lane;
 use super::leftovers::Leftovers;
+use super::network_ref::NetworkRef;
 use super::outcome::Outcome;
 use super::quiet::Quiet;
 use super::words::Words;
+use super::zeros;
 use crate::view::Grant;
 use std::alloc::{AllocError, Global};
 use std::marker::Model;
@@ -19,7 +24,10 @@ use std::snapshot::Snapshot;
 pub struct ClosedFloor<'a> {
     pub(super) alloc: Global,
     pub(super) lane: Snapshot<Lane>,
-    pub(super) words: Words<'a>,
+    pub(super) network: NetworkRef<'a>,
+    pub(super) words: EndWords,
+    /// How many clients the words count.
+    pub(super) clients: u64,
     pub(super) grants: Vec<Grant>,
 }
 
@@ -53,10 +61,15 @@ impl<'a> ClosedFloor<'a> {
         requires { before.now ≡ words_before self.now.start }
         ensures { IfOk result (λ counts. counts.items ≡ counts_by_exit self.now.start self.now.words) }
     {
-        let width = self.words.network().width();
+        let network = self.network.get();
+        let width = network.width();
+        let first = 1 + network.entries() as usize + network.balancers() as usize;
         let mut counts = Vec::with_capacity(self.alloc, width as usize)?;
         for exit in 0..width {
-            let (count, earlier) = (self.words.exit_count(exit), before.exit_count(exit));
+            let (count, earlier) = (
+                self.words.word(first + exit as usize),
+                before.exit_count(exit),
+            );
             counts.push_reserved(count.saturating_sub(earlier));
         }
         Ok(counts)
@@ -76,49 +89,63 @@ impl<'a> ClosedFloor<'a> {
         })
     }
 
-    /// The lane's grants, in its order.
-    pub(super) fn grants(&self) -> &[Grant]
-        ensures { result.now ≡ self.now.did.grants }
+    /// Writes the clients by rising name over a list of as many: `holders[n]` is the client with name n. It takes no
+    /// memory.
+    pub fn list_holders(&self, holders: &mut [u64])
+        requires { length holders.old ≡ length self.now.did.grants }
+        ensures { ListsHolders self.now.did.grants holders.new }
     {
-        self.grants.as_slice()
-    }
-
-    /// Its words.
-    pub(super) fn words(&self) -> &Words<'a>
-        ensures { result.now ≡ record { network = self.now.start.network; words = self.now.words } }
-    {
-        &self.words
-    }
-
-    /// The same words, without the grants.
-    pub fn into_words(self) -> Words<'a>
-        ensures { result ≡ record { network = self.entry.start.network; words = self.entry.words } }
-    {
-        self.words
+        self.closed_laws();
+        put_holders(self.grants.as_slice(), holders);
     }
 
     /// The clients by rising name.
     ///
     /// # Errors
     /// `AllocError` if the list gets no memory.
-    pub(super) fn holders(&self) -> Result<Vec<u64>, AllocError>
+    fn holders(&self) -> Result<Vec<u64>, AllocError>
         ensures { IfOk result (λ holders. ListsHolders self.now.did.grants holders.items) }
     {
         let mut holders = vec![in self.alloc; 0; self.grants.len()]?;
-        for grant in &self.grants {
-            holders[grant.name as usize] = grant.client;
-        }
+        self.list_holders(&mut holders);
         Ok(holders)
     }
 
-    /// The same closed floor, with how much each word has risen since it began: what is left of it has these words.
-    pub fn into_quiet(self, leftovers: Leftovers<'a>) -> Quiet<'a>
+    /// The same closed floor, with its words in a list, and with how much each has risen since it began: what is left of it
+    /// has these words.
+    ///
+    /// # Errors
+    /// `AllocError` if the list gets no memory.
+    pub fn into_quiet(self, leftovers: Leftovers<'a>) -> Result<Quiet<'a>, AllocError>
         requires { leftovers ≡ words_before self.start }
+        ensures { IfOk result (λ quiet. quiet ≡ self.entry) }
+    {
+        let room = zeros(self.alloc, self.network.get())?;
+        Ok(self.quiet_in(leftovers, room))
+    }
+
+    /// The same closed floor as [`ClosedFloor::into_quiet`] makes of it, in a list with a place for each word.
+    pub(super) fn quiet_in(self, leftovers: Leftovers<'a>, room: Vec<u64>) -> Quiet<'a>
+        requires before { leftovers ≡ words_before self.start }
+        requires room { length room.items ≡ word_count self.start.network.table }
         ensures { result ≡ self.entry }
     {
-        let risen = leftovers.words.risen_to(self.words.words.as_slice());
+        let ClosedFloor {
+            alloc,
+            lane,
+            network,
+            words,
+            clients,
+            grants,
+        } = self;
+        let mut list = room;
+        words.copy_to(&mut list);
+        let risen = leftovers.words.risen_to(&list);
         Quiet {
-            closed: self,
+            alloc,
+            lane,
+            words: Words::closed(network, list, clients),
+            grants,
             risen,
         }
     }

@@ -1,19 +1,17 @@
 //! How a floor ends.
 
-ghost use Rattle.std.specs.Prelude.{◌≡◌, ◌-◌, ◌≤◌, [], vec_capacity, IfErr, IfOk};
+ghost use Rattle.std.specs.Prelude.{◌≡◌, IfErr, IfOk};
 ghost use Rattle.cn_yard.specs.Lists.{tokens_in};
 ghost use Rattle.cn_floor.specs.Carried.{words_before};
 ghost use Rattle.cn_floor.specs.Closing.{IsCloseRefused};
-ghost use Rattle.cn_floor.specs.Words.{word_count};
 
-use super::Floor;
 use super::closed_floor::ClosedFloor;
 use super::lane::Lane;
 use super::leftovers::Leftovers;
 use super::network_ref::NetworkRef;
 use super::quiet::Quiet;
 use super::reading::clients_of;
-use super::words::Words;
+use super::{Floor, zeros};
 use crate::view::Grant;
 use std::snapshot::Snapshot;
 
@@ -47,8 +45,14 @@ impl<'a> Floor<'a> {
         ensures out { IfOk result (λ q. tokens_in lane.yard.lists ≡ 0) }
         ensures refused { IfErr result (λ f. IsCloseRefused self.entry lane f) }
     {
+        if lane.inside() > 0 {
+            return Err(CloseFault::StillWalking(self, lane));
+        }
+        let Ok(room) = zeros(self.alloc, self.network()) else {
+            return Err(CloseFault::Memory(self, lane));
+        };
         let (closed, leftovers) = self.close_for(lane)?;
-        Ok(closed.into_quiet(leftovers))
+        Ok(closed.quiet_in(leftovers, room))
     }
 
     /// Gives up the floor, for the words with which it began.
@@ -76,25 +80,20 @@ impl<'a> Floor<'a> {
         if !lane.yard.is_empty() {
             return Err(CloseFault::StillWalking(self, lane));
         }
-        let room = Vec::with_capacity(self.alloc, self.counters.len());
-        let network = self.before.share_network();
-        match (room, network) {
-            (Ok(room), Ok(network)) => self.end(lane, room, network),
-            _ => Err(CloseFault::Memory(self, lane)),
+        match self.before.share_network() {
+            Ok(network) => self.end(lane, network),
+            Err(_) => Err(CloseFault::Memory(self, lane)),
         }
     }
 
-    /// Ends the floor by a lane with no token, with room for its words and a holder of its network for them.
+    /// Ends the floor by a lane with no token, with a holder of its network for its words.
     fn end(
         self,
         lane: Lane,
-        room: Vec<u64>,
         network: NetworkRef<'a>,
     ) -> Result<(ClosedFloor<'a>, Leftovers<'a>), CloseFault<'a>>
         requires own { lane.home ≡ self }
         requires out { tokens_in lane.yard.lists ≡ 0 }
-        requires room { (room.items ≡ [])
-            × (word_count self.start.network.table ≤ vec_capacity room) }
         requires network { network ≡ self.start.network }
         ensures closed { IfOk result (λ r. (r.0.start ≡ self.entry.start) × (r.0.did ≡ lane.view)) }
         ensures leftovers { IfOk result (λ r. r.1 ≡ words_before self.entry.start) }
@@ -113,8 +112,8 @@ impl<'a> Floor<'a> {
             grants,
             ..
         } = lane;
-        let words = counters.close(seat, room);
-        let clients = clients_of(before.network(), words.as_slice());
+        let words = counters.close(seat);
+        let clients = clients_of(before.network(), &words);
         let entered = clients - base;
         let granted = grants.len() as u64;
         if entered != granted {
@@ -127,7 +126,9 @@ impl<'a> Floor<'a> {
         let closed = ClosedFloor {
             alloc,
             lane: told,
-            words: Words::closed(network, words, clients),
+            network,
+            words,
+            clients,
             grants,
         };
         let leftovers = Leftovers {

@@ -3,8 +3,7 @@
 
 mod looking;
 
-ghost use Rattle.std.specs.Prelude.{◌≡◌, ◌+◌, ◌<◌, ◌≤◌, ℕ, [], length, vec_capacity, IfOk};
-ghost use Rattle.std.specs.Mem.Slots.{slots_items, slots_len, IsFull};
+ghost use Rattle.std.specs.Prelude.{◌≡◌, ◌+◌, ◌<◌, ◌≤◌, ℕ, [], length, IfOk};
 ghost use Rattle.cn_wiring.specs.Table.{Stands, end_of};
 ghost use Rattle.cn_yard.specs.Lists.{IsThere, on, times_in};
 ghost use Rattle.cn_floor.specs.Closing.{IsEnding};
@@ -15,12 +14,13 @@ ghost use Rattle.cn_floor.specs.Sweeps.{AllGoOn};
 ghost use Rattle.cn_floor.specs.Views.{after_join, after_split, empty_view, on_in, split_off};
 ghost use Rattle.cn_floor.specs.Words.{end_word, word_count};
 
+use super::end_words::EndWords;
 use super::plays::{
     EnterAllOf, EnterAllPlay, EnterOf, EnterPlay, FloorRule, JoinSeats, Portion, SplitSeat, StepOf,
     StepPlay, SweepOf, SweepPlay,
 };
 use crate::view::{Opening, View};
-use atomic_table::{Closed, Seat, Table};
+use atomic_table::{Seat, Table};
 use cn_wiring::{Counting, End};
 use cn_yard::Token;
 use std::alloc::{AllocError, Global};
@@ -44,17 +44,6 @@ impl Model for Counters {
     ghost view = { floor_of };
 
     ghost invariant = { IsCounters };
-}
-
-/// Reads all words of a closed table.
-fn read(closed: &Closed<(), Global>, words: &mut Vec<u64>, count: usize)
-    requires full { IsFull closed.now.words × (slots_len closed.now.words ≡ count) }
-    requires room { (words.old.items ≡ []) × (count ≤ vec_capacity words.old) }
-    ensures { words.new.items ≡ slots_items closed.now.words }
-{
-    for i in 0..count {
-        words.push_reserved(closed.word(i));
-    }
 }
 
 impl Counters {
@@ -86,13 +75,6 @@ impl Counters {
             table,
         };
         Ok((counters, seat))
-    }
-
-    /// How many words there are.
-    pub(super) fn len(&self) -> usize
-        ensures { result ≡ word_count self.now.start.network.table }
-    {
-        self.table.word_count()
     }
 
     /// The word of an end.
@@ -238,18 +220,11 @@ impl Counters {
         self.table.shared.join_seat::<JoinSeats>(seat, other);
     }
 
-    /// The words at the end, as the view of the last seat records them. They are put into the list, which has room for
-    /// them.
-    pub(super) fn close(self, seat: Seat<(), View>, mut words: Vec<u64>) -> Vec<u64>
+    /// The words at the end, as the view of the last seat records them.
+    pub(super) fn close(self, seat: Seat<(), View>) -> EndWords
         requires own { seat.table_id ≡ self.table }
-        requires room { (words.items ≡ [])
-            × (word_count self.start.network.table ≤ vec_capacity words) }
-        ensures { IsEnding self.start seat.me.0 result.items }
+        ensures { IsEnding self.start seat.me.0 result }
     {
-        let count = self.table.word_count();
-        let closed = self.table.close_with(seat);
-        read(&closed, &mut words, count);
-        closed.free();
-        words
+        EndWords::of(self.table.close_with(seat))
     }
 }

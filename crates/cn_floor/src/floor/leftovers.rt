@@ -54,13 +54,13 @@ impl<'a> Leftovers<'a> {
         &self.words
     }
 
-    /// The same yard, with the words of a closed floor over the same network.
+    /// The same yard, with the words of a closed floor over the same network in place of its own. It takes no memory.
     pub fn go_on_from(self, closed: ClosedFloor<'a>) -> Leftovers<'a>
         requires { closed.start.network ≡ self.network }
         ensures { result ≡ words_after closed.entry }
     {
         Leftovers {
-            words: closed.into_words(),
+            words: self.words.overwritten(&closed.words, closed.clients),
             yard: self.yard,
         }
     }

@@ -3,28 +3,33 @@
 ghost use Rattle.std.specs.Prelude.{◌≡◌, IfOk};
 ghost use Rattle.cn_floor.specs.Ends.{HasRisen, IsClosedFloor, ListsHolders, counts_by_exit, passes_of};
 
-use super::closed_floor::ClosedFloor;
+use super::holders::put_holders;
+use super::lane::Lane;
 use super::words::Words;
 use crate::view::Grant;
-use std::alloc::AllocError;
+use std::alloc::{AllocError, Global};
 use std::marker::Model;
+use std::snapshot::Snapshot;
 
 /// What a closed floor leaves: its counts, and the grants of its one lane. Only the close of a floor
 /// makes it.
 #[derive(Drop)]
 pub struct Quiet<'a> {
-    pub(super) closed: ClosedFloor<'a>,
+    pub(super) alloc: Global,
+    pub(super) lane: Snapshot<Lane>,
+    pub(super) words: Words<'a>,
+    pub(super) grants: Vec<Grant>,
     /// How much each word has risen since the floor began; without one, as much as it counts.
     pub(super) risen: Option<Vec<u64>>,
 }
 
 impl<'a> Model for Quiet<'a> {
     ghost use Rattle.cn_floor.specs.Ends.{QuietValue};
-    ghost use Rattle.cn_floor.specs.InsideQuiet.{KeepsQuiet};
+    ghost use Rattle.cn_floor.specs.InsideQuiet.{KeepsQuiet, quiet_of};
 
     ghost Value = { QuietValue };
 
-    ghost view = { λ q. q.closed };
+    ghost view = { quiet_of };
 
     ghost invariant = { KeepsQuiet };
 }
@@ -37,24 +42,25 @@ impl<'a> Quiet<'a> {
     pub fn quiet_laws(&self)
         ensures { IsClosedFloor self.now.start self.now.did self.now.words }
     {
-        self.closed.closed_laws();
+        // Opens what each quiet floor keeps.
+        let _ = &self.grants;
     }
 
     /// The lane's grants, in its order.
     pub fn grants(&self) -> &[Grant]
         ensures { result.now ≡ self.now.did.grants }
     {
-        self.closed.grants()
+        self.grants.as_slice()
     }
 
     /// How much each word has risen since the floor began.
     fn risen(&self) -> &[u64]
         ensures { HasRisen self.now.start self.now.words result.now }
     {
-        self.closed.closed_laws();
+        self.quiet_laws();
         match &self.risen {
             Some(risen) => risen.as_slice(),
-            None => self.closed.words.words.as_slice(),
+            None => self.words.words.as_slice(),
         }
     }
 
@@ -62,7 +68,7 @@ impl<'a> Quiet<'a> {
     pub fn counts(&self) -> &[u64]
         ensures { result.now ≡ counts_by_exit self.now.start self.now.words }
     {
-        let network = self.closed.words().network();
+        let network = self.words.network();
         let first = 1 + network.entries() as usize + network.balancers() as usize;
         &self.risen()[first..first + network.width() as usize]
     }
@@ -71,7 +77,7 @@ impl<'a> Quiet<'a> {
     pub fn passes(&self) -> &[u64]
         ensures { result.now ≡ passes_of self.now.start self.now.words }
     {
-        let network = self.closed.words().network();
+        let network = self.words.network();
         let first = 1 + network.entries() as usize;
         &self.risen()[first..first + network.balancers() as usize]
     }
@@ -80,14 +86,14 @@ impl<'a> Quiet<'a> {
     pub fn words(&self) -> &Words<'a>
         ensures { result.now ≡ record { network = self.now.start.network; words = self.now.words } }
     {
-        self.closed.words()
+        &self.words
     }
 
     /// The same words, without the floor's grants.
     pub fn into_words(self) -> Words<'a>
         ensures { result ≡ record { network = self.entry.start.network; words = self.entry.words } }
     {
-        self.closed.into_words()
+        self.words
     }
 
     /// The clients by rising name: `holders[n]` is the client with name n.
@@ -97,6 +103,9 @@ impl<'a> Quiet<'a> {
     pub fn holders(&self) -> Result<Vec<u64>, AllocError>
         ensures { IfOk result (λ holders. ListsHolders self.now.did.grants holders.items) }
     {
-        self.closed.holders()
+        self.quiet_laws();
+        let mut holders = vec![in self.alloc; 0; self.grants.len()]?;
+        put_holders(self.grants.as_slice(), &mut holders);
+        Ok(holders)
     }
 }

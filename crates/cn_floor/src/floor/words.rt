@@ -6,6 +6,7 @@ ghost use Rattle.cn_wiring.specs.declared.end.End.TheVariants.{Balancer, Exit};
 ghost use Rattle.cn_floor.specs.Carried.{AreTight, IsClosed, client_count, zero_words};
 ghost use Rattle.cn_floor.specs.Words.{IsDifference, NoneWent, count_in, entered_in};
 
+use super::end_words::EndWords;
 use super::network_ref::NetworkRef;
 use super::reading::rise;
 use super::zeros;
@@ -90,6 +91,24 @@ impl<'a> Words<'a> {
             words,
             clients,
         }
+    }
+
+    /// These words, overwritten by those of a floor that is closed over the same network, with the number of all their
+    /// clients.
+    pub(super) fn overwritten(self, words: &EndWords, clients: u64) -> Words<'a>
+        requires closed { IsClosed (record { network = self.network; words = words.now }) }
+        requires clients { clients
+            ≡ client_count (record { network = self.network; words = words.now }) }
+        ensures { result ≡ record { network = self.entry.network; words = words.now } }
+    {
+        self.words_laws();
+        let Words {
+            network,
+            words: mut list,
+            clients: _clients,
+        } = self;
+        words.copy_to(&mut list);
+        Words::closed(network, list, clients)
     }
 
     /// The same words once more.

@@ -1,13 +1,15 @@
-use Rattle.std.proofs.Common.{◌≡◌, ◌+◌, ◌∷◌, ◌++◌, [], ℕ, Bool, List, ap, arith, length, rules, subst, sym, take, ◌∙◌}
+use Rattle.std.proofs.Common.{rules, ◌≡◌, ◌≤◌, ◌+◌, ◌-◌, ◌∷◌, ◌++◌, [], ℕ, Bool, List, ap, arith, drop, length, subst, sym, take, ◌∙◌}
 use Rattle.std.proofs.lemmas.Grind.{common_steps}
+use Rattle.std.proofs.lemmas.List.{length-drop, length-take-le}
 use Rattle.std.proofs.lemmas.List.Sums.{sum_by_push, sum_by-take-le}
+use Rattle.std.proofs.lemmas.Slice.{take-put_mid}
+use borrow.Rule.Slice.PartMut.{put_mid, same_len_mid}
 use Rattle.cn_spec.specs.Sums.{when}
 use Rattle.cn_wiring.specs.Network.{Network}
 use Rattle.cn_floor.specs.Carried.{client_count}
 use Rattle.cn_report.specs.Reading.Batch.{clients_of_epochs}
 use Rattle.cn_report.specs.declared.reading.gathering.BatchEpoch.{BatchEpoch}
-use Rattle.cn_renamer.specs.Headline.{IsServed}
-use Rattle.cn_renamer.specs.Running.{AreHoldersOf}
+use Rattle.cn_renamer.specs.Running.{AreHoldersOf, AreHoldersOfOne}
 use Rattle.cn_renamer.proofs.Headline.{as-many, when-more}
 use Rattle.cn_renamer.proofs.Running.{listed-next, none-listed}
 use Rattle.cn_renamer.proofs.epochs.run_in_turn.Goals as goal
@@ -22,27 +24,6 @@ loop-epoch-init g c = record {
   listed = none-listed c.args.carries c.args.network.now.table.width;
 }
 
-pub put-requires : goal.put-requires
-put-requires g c =
-    let before = c.loop-epoch.invariant in
-    let it = c.epoch-item.is in
-    let epochs = c.args.epochs.now in
-    let i = c.loop-epoch.epoch-index in
-    let front : take i epochs ++ c.epoch-item.result ∷ [] ≡ take (i + 1) epochs = grind (arith, common_steps) in
-    let more : clients_of_epochs (take i epochs) + length c.epoch-item.result.clients.items ≡ clients_of_epochs (take (i + 1) epochs) =
-    sym (sum_by_push (λ (e : BatchEpoch). length e.clients.items) (take i epochs) c.epoch-item.result) ∙ ap clients_of_epochs front in
-    let one = c.in_ok-record.ensures.served in
-    omega (
-      arith,
-      ap length c.deref.ensures.value,
-      as-many _ _ c.epoch-item.result c.in_ok-record.record one,
-      one.clients,
-      before.at,
-      before.places,
-      more,
-      sum_by-take-le (λ (e : BatchEpoch). length e.clients.items) epochs (i + 1),
-    )
-
 pub loop-epoch-preserved : goal.loop-epoch-preserved
 loop-epoch-preserved g c =
     let before = c.loop-epoch.invariant in
@@ -51,33 +32,37 @@ loop-epoch-preserved g c =
     let it = c.epoch-item.is in
     let epochs = c.args.epochs.now in
     let i = c.loop-epoch.epoch-index in
+    let at : ℕ = c.loop-epoch.at in
     let epoch : BatchEpoch = c.epoch-item.result in
+    let own : List ℕ = c.run_next.new.holders in
+    let old : List ℕ = c.loop-epoch.holders in
     let front : take i epochs ++ epoch ∷ [] ≡ take (i + 1) epochs = grind (arith, common_steps) in
     let more : clients_of_epochs (take i epochs) + length epoch.clients.items ≡ clients_of_epochs (take (i + 1) epochs) =
     sym (sum_by_push (λ (e : BatchEpoch). length e.clients.items) (take i epochs) epoch) ∙ ap clients_of_epochs front in
-    let one : IsServed width (when carry (clients_of_epochs (take i epochs))) epoch c.in_ok-record.record =
-    subst (λ (m : ℕ). IsServed width m epoch c.in_ok-record.record) before.came
-    (subst (λ (n : Network). IsServed n.table.width (client_count c.loop-epoch.runner.words) epoch c.in_ok-record.record) before.over c.in_ok-record.ensures.served) in
-    let own : List ℕ = c.in_ok-record.record.holders.items in
-    let many : c.len-at.result ≡ length c.deref.result.now =
-    omega (arith, c.len-at.ensures, one.clients, as-many _ _ epoch c.in_ok-record.record one, ap length c.deref.ensures.value) in
-    let before_own : List ℕ = take c.loop-epoch.at c.loop-epoch.holders in
-    let at : take (c.loop-epoch.at + c.len-at.result) c.put.new.places ≡ take (c.loop-epoch.at + length c.deref.result.now) c.put.new.places =
-    ap (λ (n : ℕ). take (c.loop-epoch.at + n) c.put.new.places) many in
-    let put : take (c.loop-epoch.at + length c.deref.result.now) c.put.new.places ≡ before_own ++ c.deref.result.now = c.put.ensures.written in
-    let read : before_own ++ c.deref.result.now ≡ before_own ++ own = ap (λ (xs : List ℕ). before_own ++ xs) c.deref.ensures.value in
-    let written : take (c.loop-epoch.at + c.len-at.result) c.put.new.places ≡ before_own ++ own = at ∙ put ∙ read in
-    let listed = listed-next carry width (take i epochs) epoch c.in_ok-record.record (take c.loop-epoch.at c.loop-epoch.holders) before.listed one in
+    let all = sum_by-take-le (λ (e : BatchEpoch). length e.clients.items) epochs (i + 1) in
+    let one : AreHoldersOfOne width (when carry (clients_of_epochs (take i epochs))) epoch own =
+    subst (λ (m : ℕ). AreHoldersOfOne width m epoch own) before.came
+    (subst (λ (n : Network). AreHoldersOfOne n.table.width (client_count c.loop-epoch.runner.words) epoch own) before.over c.in_ok-next.ensures.served) in
+    let many : length own ≡ length epoch.clients.items = ap (λ (xs : List ℕ). length xs) (sym one.listed) ∙ as-many _ _ epoch one.made one.served ∙ one.served.clients in
+    let fits : at + length own ≤ length old = omega (arith, before.at, before.places, more, many, all) in
+    let put : List ℕ = put_mid at (at + c.len.result - at) old own in
+    let written : take (at + c.len.result) put ≡ take at old ++ own =
+    take-put_mid at (at + c.len.result - at) old own (at + c.len.result) (omega (arith, c.len.ensures, many)) (omega (arith, fits)) in
+    let listed : AreHoldersOf carry width (take i epochs ++ epoch ∷ []) (take at old ++ own) =
+    subst (λ (xs : List ℕ). AreHoldersOf carry width (take i epochs ++ epoch ∷ []) (take at old ++ xs)) one.listed
+    (listed-next carry width (take i epochs) epoch one.made (take at old) before.listed one.served) in
     record {
-      over = c.in_ok-record.ensures.network ∙ before.over;
-      carries = c.in_ok-record.ensures.carries ∙ before.carries;
-      came = c.in_ok-record.ensures.came
+      over = c.in_ok-next.ensures.network ∙ before.over;
+      carries = c.in_ok-next.ensures.carries ∙ before.carries;
+      came = c.in_ok-next.ensures.came
           ∙ ap (λ (b : Bool). client_count c.loop-epoch.runner.words + when b (length epoch.clients.items)) before.carries
           ∙ ap (λ (m : ℕ). m + when carry (length epoch.clients.items)) before.came
           ∙ when-more carry (clients_of_epochs (take i epochs)) (length epoch.clients.items)
           ∙ ap (λ (m : ℕ). when carry m) more;
-      at = omega (arith, before.at, more, c.len-at.ensures);
-      places = c.put.ensures.places ∙ before.places;
-      listed = subst (λ (es : List BatchEpoch). AreHoldersOf carry width es (take (c.loop-epoch.at + c.len-at.result) c.put.new.places)) front
+      at = omega (arith, before.at, more, c.len.ensures);
+      places = same_len_mid at (at + c.len.result - at) old own
+          (omega (arith, c.len.ensures, many, fits, length-drop at old, length-take-le (at + c.len.result - at) (drop at old) (omega (arith, c.len.ensures, many, fits, length-drop at old))))
+          ∙ before.places;
+      listed = subst (λ (es : List BatchEpoch). AreHoldersOf carry width es (take (at + c.len.result) put)) front
           (subst (λ (xs : List ℕ). AreHoldersOf carry width (take i epochs ++ epoch ∷ []) xs) (sym written) listed);
     }

@@ -7,5 +7,5 @@ run_on-requires-clause-lane g c κs within = search rules
 pub run_on-requires-clause-quota : goal.run_on-requires-clause-quota
 run_on-requires-clause-quota g c κs within = search rules
 
-pub returns-in-Ok-clause-run : goal.returns-in-Ok-clause-run
-returns-in-Ok-clause-run g c = search rules
+pub returns-in-Ok-into_quiet-clause-run : goal.returns-in-Ok-into_quiet-clause-run
+returns-in-Ok-into_quiet-clause-run g c = search rules

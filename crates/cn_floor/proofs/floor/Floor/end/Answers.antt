@@ -18,36 +18,16 @@ pub invariant_of-closed : goal.invariant_of-closed
 invariant_of-closed c =
     let start : Start = c.self.inside.counters.start in
     let v : View = c.lane.inside.seat.me.0 in
-    let ws : List ℕ = c.close-words.result.items in
+    let ws : List ℕ = c.close-words.result in
     let e = c.close-words.ensures in
+    let began = c.self.invariant.began in
     let network : c.network.result.now ≡ start.network = c.network.ensures ∙ ap (λ (w : WordsValue). w.network) c.self.invariant.before in
     let lane : c.of-told.result.value ≡ c.args.lane = c.of-told.ensures in
     let view : v ≡ c.of-told.result.value.view = ap (λ (l : LaneValue). l.view) (c.lane.view_is ∙ sym lane) in
     let about : start ≡ c.of-told.result.value.home.start = ap (λ (h : FloorValue). h.start) (c.self.view_is ∙ sym c.requires.own ∙ ap (λ (l : LaneValue). l.home) (sym lane)) in
     let nobody : tokens_in c.lane.inside.yard.lists ≡ 0 = search rules in
     let out : tokens_in v.tokens ≡ 0 = inside-yard c.lane.inside.yard v c.lane.invariant.tokens ∙ nobody in
-    let clients : c.clients_of-clients.result ≡ clients_in start.network.table ws = c.clients_of-clients.ensures ∙ (λ i. clients_in (network i).table (c.as_slice.ensures.value i)) in
-    let granted : c.len-granted.result ≡ length v.grants = search rules in
-    let came : clients_in start.network.table ws ≡ base start + length v.grants = omega (arith, e.granted, c.self.invariant.base, c.if-entered-granted.false) in
-    let quiet : IsClosedFloor start v ws = e.quiet out came in
-    let after : c.closed.result.words ≡ ws = ap (λ (w : WordsValue). w.words) c.closed.ensures in
-    record {
-      quiet = subst (λ (z : Start × View × List ℕ). IsClosedFloor z.0 z.1 z.2) (λ i. (about i, view i, sym after i)) quiet;
-      network = ap (λ (w : WordsValue). w.network) c.closed.ensures ∙ c.requires.network ∙ ap (λ (h : FloorValue). h.start.network) (sym c.self.view_is) ∙ ap (λ (s : Start). s.network) about;
-      grants = c.lane.invariant.grants ∙ ap (λ (x : View). x.grants) view;
-    }
-
-pub closed-requires-clause-closed : goal.closed-requires-clause-closed
-closed-requires-clause-closed c =
-    let start : Start = c.self.inside.counters.start in
-    let v : View = c.lane.inside.seat.me.0 in
-    let ws : List ℕ = c.close-words.result.items in
-    let e = c.close-words.ensures in
-    let began = c.self.invariant.began in
-    let network : c.network.result.now ≡ start.network = c.network.ensures ∙ ap (λ (w : WordsValue). w.network) c.self.invariant.before in
-    let nobody : tokens_in c.lane.inside.yard.lists ≡ 0 = search rules in
-    let out : tokens_in v.tokens ≡ 0 = inside-yard c.lane.inside.yard v c.lane.invariant.tokens ∙ nobody in
-    let clients : c.clients_of-clients.result ≡ clients_in start.network.table ws = c.clients_of-clients.ensures ∙ (λ i. clients_in (network i).table (c.as_slice.ensures.value i)) in
+    let clients : c.clients_of-clients.result ≡ clients_in start.network.table ws = c.clients_of-clients.ensures ∙ ap (λ (n : Network). clients_in n.table ws) network in
     let granted : c.len-granted.result ≡ length v.grants = search rules in
     let came : clients_in start.network.table ws ≡ base start + length v.grants = omega (arith, e.granted, c.self.invariant.base, c.if-entered-granted.false) in
     let quiet : IsClosedFloor start v ws = e.quiet out came in
@@ -56,13 +36,13 @@ closed-requires-clause-closed c =
       carried = quiet.closed;
       few = omega (arith, e.few, began.few, began.quota);
     } in
-    let held : start.network ≡ c.args.network = ap (λ (h : FloorValue). h.start.network) c.self.view_is ∙ sym c.requires.network in
-    subst IsClosed (λ i. record { network = held i; words = ws }) closed
-
-pub closed-requires-clause-clients : goal.closed-requires-clause-clients
-closed-requires-clause-clients c =
-    let network : c.network.result.now ≡ c.args.network = c.network.ensures ∙ ap (λ (w : WordsValue). w.network) c.self.invariant.before ∙ ap (λ (h : FloorValue). h.start.network) c.self.view_is ∙ sym c.requires.network in
-    c.clients_of-clients.ensures ∙ (λ i. clients_in (network i).table (c.as_slice.ensures.value i))
+    record {
+      quiet = subst (λ (z : Start × View). IsClosedFloor z.0 z.1 ws) (λ i. (about i, view i)) quiet;
+      network = c.requires.network ∙ ap (λ (h : FloorValue). h.start.network) (sym c.self.view_is) ∙ ap (λ (s : Start). s.network) about;
+      closed = subst (λ (s : Start). IsClosed (record { network = s.network; words = ws })) about closed;
+      clients = clients ∙ ap (λ (s : Start). clients_in s.network.table ws) about;
+      grants = c.lane.invariant.grants ∙ ap (λ (x : View). x.grants) view;
+    }
 
 pub invariant_of-leftovers : goal.invariant_of-leftovers
 invariant_of-leftovers c =
@@ -80,11 +60,11 @@ pub returns-then-entered-granted-clause-refused : goal.returns-then-entered-gran
 returns-then-entered-granted-clause-refused c =
     let start : Start = c.self.inside.counters.start in
     let v : View = c.lane.inside.seat.me.0 in
-    let ws : List ℕ = c.close-words.result.items in
+    let ws : List ℕ = c.close-words.result in
     let e = c.close-words.ensures in
     let entered : ℕ = c.clients_of-clients.result - c.self.inside.base in
     let network : c.network.result.now ≡ start.network = c.network.ensures ∙ ap (λ (w : WordsValue). w.network) c.self.invariant.before in
-    let clients : c.clients_of-clients.result ≡ clients_in start.network.table ws = c.clients_of-clients.ensures ∙ (λ i. clients_in (network i).table (c.as_slice.ensures.value i)) in
+    let clients : c.clients_of-clients.result ≡ clients_in start.network.table ws = c.clients_of-clients.ensures ∙ ap (λ (n : Network). clients_in n.table ws) network in
     let granted : c.len-granted.result ≡ length v.grants = search rules in
     let nobody : tokens_in c.lane.inside.yard.lists ≡ 0 = search rules in
     let out : tokens_in v.tokens ≡ 0 = inside-yard c.lane.inside.yard v c.lane.invariant.tokens ∙ nobody in

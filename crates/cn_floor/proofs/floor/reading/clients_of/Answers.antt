@@ -7,8 +7,8 @@ use Rattle.cn_floor.proofs.floor.reading.clients_of.Goals as goal
 pub loop-entry-init : goal.loop-entry-init
 loop-entry-init c = sym (sum-below-none (entered_in c.args.network.now.table c.args.words.now))
 
-pub overflow_add-clients-in-loop-entry : goal.overflow_add-clients-in-loop-entry
-overflow_add-clients-in-loop-entry c =
+pub overflow_add-clients : goal.overflow_add-clients
+overflow_add-clients c =
     let t = c.args.network.now.table in
     let f : ℕ → ℕ = entered_in t c.args.words.now in
     let low = c.loop-entry-test.true in

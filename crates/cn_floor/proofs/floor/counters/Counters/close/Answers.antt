@@ -7,6 +7,6 @@ use Rattle.cn_floor.proofs.floor.counters.Counters.close.Goals as goal
 
 pub returns : goal.returns
 returns c =
-    rw c.read.ensures
-    (subst (λ (s : Start). IsEnding s c.args.seat.me.0 c.close_with-closed.result.words.items) (ap (λ (h : FloorValue). h.start) c.self.view_is)
-    (ending _ _ _ _ _ c.close_with-closed.ensures.values.2))
+    rw c.of.ensures
+    (subst (λ (s : Start). IsEnding s c.args.seat.me.0 c.close_with.result.words.items) (ap (λ (h : FloorValue). h.start) c.self.view_is)
+    (ending _ _ _ _ _ c.close_with.ensures.values.2))

@@ -1,0 +1,13 @@
+-- What the words of a closed table keep.
+use Rattle.std.specs.Prelude.{◌≡◌, ℕ, List}
+use Rattle.std.specs.Mem.Slots.{slots_items, slots_len, IsFull}
+use Rattle.cn_floor.specs.declared.floor.end_words.EndWords.TheInside.{Inside}
+
+-- the words as contracts see them
+abbrev pub list_of : Inside → List ℕ
+list_of e = slots_items e.closed.words
+
+-- each word is there, and the table has no slots
+pub record IsEndWords (e : Inside) : Type 0 where
+  pub full : IsFull e.closed.words
+  pub none : slots_len e.closed.slots ≡ 0

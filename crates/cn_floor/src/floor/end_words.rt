@@ -1,0 +1,61 @@
+//! The words of a closed floor, where its lanes left them.
+
+ghost use Rattle.std.specs.Prelude.{◌≡◌, ◌<◌, length, slice_index};
+ghost use Rattle.std.specs.Mem.Slots.{slots_items, slots_len, IsFull};
+
+use atomic_table::Closed;
+use std::alloc::Global;
+use std::marker::Model;
+
+/// The words of a table that no lane shares any more. They stay in the table, and are read there: most callers ask for
+/// few of them. To contracts they are the list of them.
+pub(super) struct EndWords {
+    closed: Closed<(), Global>,
+}
+
+impl Model for EndWords {
+    ghost use Rattle.std.specs.Prelude.{ℕ, List};
+    ghost use Rattle.cn_floor.specs.InsideEndWords.{IsEndWords, list_of};
+
+    ghost Value = { List ℕ };
+
+    ghost view = { list_of };
+
+    ghost invariant = { IsEndWords };
+}
+
+impl EndWords {
+    /// The words of a closed table, which has no slots.
+    pub(super) fn of(closed: Closed<(), Global>) -> EndWords
+        requires full { IsFull closed.words }
+        requires none { slots_len closed.slots ≡ 0 }
+        ensures { result ≡ slots_items closed.words }
+    {
+        EndWords { closed }
+    }
+
+    /// The word at a place.
+    pub(super) fn word(&self, place: usize) -> u64
+        requires { place < length self.now }
+        ensures { result ≡ slice_index self.now place }
+    {
+        self.closed.word(place)
+    }
+
+    /// Copies all of them over a list of as many.
+    pub(super) fn copy_to(&self, words: &mut [u64])
+        requires { length words.old ≡ length self.now }
+        ensures { words.new ≡ self.now }
+    {
+        for place in 0..words.len() {
+            words[place] = self.word(place);
+        }
+    }
+}
+
+impl Drop for EndWords {
+    fn drop(self) {
+        let EndWords { closed } = self;
+        closed.free();
+    }
+}
