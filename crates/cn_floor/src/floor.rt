@@ -30,6 +30,7 @@ pub use closed_floor::ClosedFloor;
 pub use closing::CloseFault;
 use cn_wiring::Counting;
 use counters::Counters;
+pub use holders::HoldersListed;
 pub use lane::Lane;
 pub use leftovers::Leftovers;
 pub use lone::pass_alone;

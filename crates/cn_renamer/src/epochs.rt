@@ -53,7 +53,7 @@ fn run_next<'n, G: Gate + Sync, R: Threads + Wait + Sync>(
         holders,
     );
     match ended {
-        Ok(()) => Ok(runner),
+        Ok(_listed) => Ok(runner),
         Err(fault) => {
             // An epoch of a batch is refused only for want of memory.
             prove!(matches!(fault, RunFault::Memory));

@@ -1,6 +1,7 @@
 -- Epochs that are run one after another.
 use Rattle.std.specs.Prelude.{◌≡◌, ℕ, Bool, true, false, List}
 use Rattle.cn_ledger.specs.declared.client.Client.{Client}
+use Rattle.cn_floor.specs.declared.view.Grant.{Grant}
 use Rattle.cn_floor.specs.Carried.{WordsValue}
 use Rattle.cn_floor.specs.Ends.{IsOutcomeOf, ListsHolders, OutcomeValue, QuietValue, words_after}
 use Rattle.cn_walk.specs.Runs.{IsRunAfter}
@@ -22,9 +23,10 @@ pub record RunsNext (old new : RunnerValue) (clients : List Client) (outcome : O
   pub came : IsOutcomeOf quiet outcome
   pub next : new ≡ record { words = next_words old.carries old.words quiet; carries = old.carries }
 
--- the same, with the clients by rising name in place of an outcome
-pub record RunsInto (old new : RunnerValue) (clients : List Client) (holders : List ℕ) : Type 0 where
+-- the same, with the grants of the floor and the clients by rising name in place of an outcome
+pub record RunsInto (old new : RunnerValue) (clients : List Client) (grants : List Grant) (holders : List ℕ) : Type 0 where
   pub quiet : QuietValue
   pub run : IsRunAfter old.words clients quiet
-  pub listed : ListsHolders quiet.did.grants holders
+  pub given : quiet.did.grants ≡ grants
+  pub listed : ListsHolders grants holders
   pub next : new ≡ record { words = next_words old.carries old.words quiet; carries = old.carries }

@@ -7,8 +7,9 @@ mod running;
 mod walking;
 
 pub use cn_floor::{
-    CloseFault, ClosedFloor, Floor, Gate, Grant, JoinFault, Lane, LaneFault, Leftovers, Moment,
-    OpenFault, OpenGate, Opening, Outcome, Passage, Quiet, SplitFault, Start, Sweep, View, Words,
+    CloseFault, ClosedFloor, Floor, Gate, Grant, HoldersListed, JoinFault, Lane, LaneFault,
+    Leftovers, Moment, OpenFault, OpenGate, Opening, Outcome, Passage, Quiet, SplitFault, Start,
+    Sweep, View, Words,
 };
 pub use runner::Runner;
 pub use running::{RunFault, run_epoch, run_epoch_after};

@@ -8,7 +8,7 @@ ghost use Rattle.cn_walk.specs.Runner.{RunsInto, RunsNext, next_words};
 ghost use Rattle.cn_walk.specs.Runs.{IsRefused, IsRunAfter, MayRun};
 
 use crate::running::{RunFault, may_run, run_on};
-use cn_floor::{ClosedFloor, Floor, Gate, Leftovers, Outcome, Words};
+use cn_floor::{ClosedFloor, Floor, Gate, HoldersListed, Leftovers, Outcome, Words};
 use cn_ledger::Client;
 use cn_wiring::Counting;
 use std::alloc::{AllocError, Global};
@@ -88,8 +88,8 @@ impl<'a> Runner<'a> {
     }
 
     /// Runs an epoch as [`Runner::run`] does, and writes who has which name over a list with a place for each client:
-    /// `holders[n]` is the client with name n. If the epoch is refused, list and words are as they were. The list of an
-    /// [`Outcome`], and its counts, are not made.
+    /// `holders[n]` is the client with name n. If the epoch is refused, list and words are as they were. The lists of an
+    /// [`Outcome`] are not made.
     ///
     /// # Errors
     /// As those of [`crate::run_epoch`], in its order.
@@ -102,18 +102,18 @@ impl<'a> Runner<'a> {
         hand: u32,
         gate: &G,
         holders: &mut [u64],
-    ) -> (Runner<'a>, Result<(), RunFault>)
+    ) -> (Runner<'a>, Result<HoldersListed, RunFault>)
         requires few { client_count self.words ≤ MOST_CARRIED }
         requires places { length holders.old ≡ length clients.now }
-        ensures run { OnOk result.1 (RunsInto self.entry result.0 clients.now holders.new) }
+        ensures run { IfOk result.1 (λ grants. RunsInto self.entry result.0 clients.now grants holders.new) }
         ensures back { OnErr result.1 ((result.0 ≡ self.entry) × (holders.new ≡ holders.old)) }
         ensures refused { IfErr result.1 (IsRefused self.entry.words.network.table.entries clients.now workers hand) }
         ensures allowed { OnOk result.1 (MayRun self.entry.words.network.table.entries clients.now workers hand) }
     {
         match self.run_closed(rt, alloc, clients, workers, hand, gate) {
             Ok((closed, leftovers, carries)) => {
-                closed.list_holders(holders);
-                (runner_after(closed, leftovers, carries), Ok(()))
+                let listed = closed.list_holders(holders);
+                (runner_after(closed, leftovers, carries), Ok(listed))
             }
             Err((runner, fault)) => (runner, Err(fault)),
         }

@@ -6,7 +6,7 @@ ghost use Rattle.cn_floor.specs.Ends.{IsClosedFloor, IsOutcomeOf, ListsHolders, 
 ghost use Rattle.cn_floor.specs.Words.{word_count};
 
 use super::end_words::EndWords;
-use super::holders::put_holders;
+use super::holders::{HoldersListed, put_holders};
 use super::lane::Lane;
 use super::leftovers::Leftovers;
 use super::network_ref::NetworkRef;
@@ -91,12 +91,14 @@ impl<'a> ClosedFloor<'a> {
 
     /// Writes the clients by rising name over a list of as many: `holders[n]` is the client with name n. It takes no
     /// memory.
-    pub fn list_holders(&self, holders: &mut [u64])
+    pub fn list_holders(&self, holders: &mut [u64]) -> HoldersListed
         requires { length holders.old ≡ length self.now.did.grants }
-        ensures { ListsHolders self.now.did.grants holders.new }
+        ensures listed { ListsHolders self.now.did.grants holders.new }
+        ensures grants { result ≡ self.now.did.grants }
     {
         self.closed_laws();
         put_holders(self.grants.as_slice(), holders);
+        HoldersListed::of(&self.grants)
     }
 
     /// The clients by rising name.
