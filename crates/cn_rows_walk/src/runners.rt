@@ -81,3 +81,22 @@ fn runners_keep_their_words(rt: HostRuntime) {
         Some((Some(RunFault::Workers), 1))
     );
 }
+
+/// Who has the names of an epoch of two clients, written over a list, and how many came by the words after it.
+fn listed<R: Threads + Wait + Sync>(rt: &R, alloc: Global) -> Option<([u64; 2], u64)> {
+    let network = bitonic(alloc, 2).ok()?;
+    let runner = Runner::new(alloc, &network, true).ok()?;
+    let clients = [Client { id: 7, entry: 0 }, Client { id: 9, entry: 1 }];
+    let mut holders = [0; 2];
+    let (runner, ended) = runner.run_into(rt, alloc, &clients, 1, 1, &OpenGate, &mut holders);
+    let _listed = ended.ok()?;
+    Some((holders, runner.words().clients()))
+}
+
+#[test]
+fn runners_list_holders(rt: HostRuntime) {
+    assert_eq!(rt;
+        listed(&rt, rt.alloc()),
+        Some(([7, 9], 2))
+    );
+}
