@@ -4,31 +4,26 @@ use crate::net::Widths;
 use cn_spec::limits::{MOST_CLIENTS, MOST_HAND, MOST_RECORDS, MOST_WORKERS};
 use std::alloc::{AllocError, Global};
 
-/// The texts of help that the command line borrows.
+/// The texts of help with the limits of the service, which the command line borrows.
 #[derive(Drop)]
 pub(crate) struct HelpTexts {
-    /// Of the whole program.
-    pub(crate) renamer: String,
-    /// Of the subcommands.
+    /// Of subcommands whose help has limits.
     pub(crate) run: String,
     pub(crate) replay: String,
     pub(crate) check: String,
-    pub(crate) show: String,
-    /// Of their options.
+    /// Of the options of subcommands.
     pub(crate) width: String,
     pub(crate) workers: String,
     pub(crate) hand: String,
 }
 
 impl HelpTexts {
-    /// All of them, with the limits of the service.
+    /// All of them.
     pub(crate) fn new(alloc: Global) -> Result<HelpTexts, AllocError> {
         Ok(HelpTexts {
-            renamer: String::from_str(alloc, RENAMER)?,
             run: run_help(alloc)?,
             replay: replay_help(alloc)?,
             check: check_help(alloc)?,
-            show: String::from_str(alloc, SHOW)?,
             width: format!(in alloc; "The width of the network: {}", Widths)?,
             workers: format!(in alloc;
                 "How many workers share out the clients: 1 to {MOST_WORKERS}"
@@ -38,7 +33,8 @@ impl HelpTexts {
     }
 }
 
-const RENAMER: &str = "\
+/// Of the whole program.
+pub(crate) const RENAMER: &str = "\
 Input is CSV on standard input, under one of these headers:
 
   epoch,client,entry  a batch: run reads it
@@ -70,7 +66,7 @@ Status:
 // ---- run
 
 fn run_help(alloc: Global) -> Result<String, AllocError> {
-    let mut text = format!(in alloc;
+    format!(in alloc;
         "\
 Input: a batch, as CSV on standard input. After the header, each record is a
 client: the epoch that it is in, its identity, and the entry that it comes to.
@@ -86,10 +82,8 @@ record has no entry: client C comes to entry C modulo the number of entries.
     1,99,3
     1,23,3
     1,42,3
-"
-    )?;
-    text.push_str(RUN_OUTPUT)?;
-    Ok(text)
+{RUN_OUTPUT}"
+    )
 }
 
 const RUN_OUTPUT: &str = "
@@ -144,7 +138,7 @@ Status:
 // ---- replay
 
 fn replay_help(alloc: Global) -> Result<String, AllocError> {
-    let mut text = format!(in alloc;
+    format!(in alloc;
         "\
 Input: a schedule, as CSV on standard input. After the header, each record is a
 command; client C and wire U are numbers below 2^64 in decimal digits.
@@ -162,10 +156,8 @@ records besides the header.
     step,7,
     step,7,
     turn,,
-"
-    )?;
-    text.push_str(REPLAY_OUTPUT)?;
-    Ok(text)
+{REPLAY_OUTPUT}"
+    )
 }
 
 const REPLAY_OUTPUT: &str = "
@@ -207,7 +199,7 @@ Status:
 // ---- check
 
 fn check_help(alloc: Global) -> Result<String, AllocError> {
-    let mut text = format!(in alloc;
+    format!(in alloc;
         "\
 Input: a grant list, as CSV on standard input. After the header, each record is
 a grant: an epoch, a client of it, and the name that this client has. All are
@@ -222,10 +214,8 @@ and the k grants have the names 0 to k-1.
     1,99,2
     1,23,3
     1,42,4
-"
-    )?;
-    text.push_str(CHECK_OUTPUT)?;
-    Ok(text)
+{CHECK_OUTPUT}"
+    )
 }
 
 const CHECK_OUTPUT: &str = "
@@ -257,7 +247,8 @@ Status:
 
 // ---- show
 
-const SHOW: &str = "\
+/// Of the subcommand `show`.
+pub(crate) const SHOW: &str = "\
 No input is read. Output of `renamer show --network tree --width 4`:
 
     network tree width 4 balancers 3 depth 2

@@ -91,11 +91,14 @@ fn chosen_job(alloc: Global, matches: &ArgMatches<'_>) -> Result<Job, ChoiceFaul
     ensures { let asked = subcommand_rows_of matches.now in
         MatchResult result (Asks asked) (λ fault. fault ≢ choice.Memory → AsksNone asked) }
 {
-    match matches.subcommand() {
-        Some(("run", options)) => Ok(Job::Run(chosen_options(alloc, options)?)),
-        Some(("replay", options)) => Ok(Job::Replay(chosen_net(alloc, options)?)),
-        Some(("check", options)) => Ok(Job::Check(chosen_width(alloc, options)?)),
-        Some(("show", options)) => Ok(Job::Show(chosen_net(alloc, options)?)),
+    let Some((name, options)) = matches.subcommand() else {
+        return Err(ChoiceFault::Subcommand);
+    };
+    match name {
+        "run" => chosen_options(alloc, options).map(Job::Run),
+        "replay" => chosen_net(alloc, options).map(Job::Replay),
+        "check" => chosen_width(alloc, options).map(Job::Check),
+        "show" => chosen_net(alloc, options).map(Job::Show),
         _ => Err(ChoiceFault::Subcommand),
     }
 }
