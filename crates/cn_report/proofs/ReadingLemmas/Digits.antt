@@ -1,23 +1,29 @@
 -- What digits are worth.
-use Rattle.std.proofs.Common.{◌≡◌, ◌+◌, ◌*◌, ◌&&◌, ◌∙◌, ◌<◌, ◌≤◌, ◌^◌, ℕ, List, Bool, true, false, get_or, length, refl, take, take_all, length-take, arith, rules, Some, None, if◌then◌else◌}
+use Rattle.std.proofs.Common.{◌≡◌, ◌+◌, ◌*◌, ◌-◌, ◌%◌, ◌&&◌, ◌∙◌, ◌<◌, ◌≤◌, ◌^◌, ℕ, suc, List, [], ◌∷◌, Bool, true, false, ap, drop, get_or, length, refl, arith, Some, None, if◌then◌else◌}
 use Rattle.std.specs.Prelude.{Option, nat_le, nat_lt}
 use Rattle.std.specs.Char.{digit_value, is_ascii_digit}
 use Rattle.std.specs.List.{list_all}
-use Rattle.std.specs.Str.Parse.{digits_value}
+use Rattle.std.specs.Str.Parse.{digits_value, digits_value_after}
+use Rattle.std.proofs.Math.Nat.{pow-le-pow_right, pow-suc, pow-succ', pow-zero}
 use Rattle.std.proofs.lemmas.Bool.Decides.{nat_tests}
 use Rattle.std.proofs.lemmas.Grind.{common_steps}
-use Rattle.std.proofs.lemmas.Int.Digits.{digits_value_more}
-use Rattle.std.proofs.lemmas.List.Folds.{list_all_more}
-use Rattle.std.proofs.lemmas.Str.Parse.{IsDigitsTest, digits_value_short, numerals_by_value}
 use Rattle.cn_report.specs.Reading.Number.{value_in}
 
--- the tests of the first digit and of the rest
-tells : IsDigitsTest (λ ds. list_all is_ascii_digit ds ≡ true)
-tells = search rules
+-- a byte that is a digit is worth what it is modulo 16
+pub worth_of : (byte : ℕ) → is_ascii_digit byte ≡ true → digit_value byte ≡ byte % 16
+worth_of byte digit = grind (arith, nat_tests)
 
--- up to 18 digits of a text
-pub few-are_small : (ds : List ℕ) (i : ℕ) → i ≤ 18 → list_all is_ascii_digit (take i ds) ≡ true → digits_value 10 (take i ds) < 10 ^ 18
-few-are_small ds i few digits = digits_value_short (numerals_by_value _ tells) (take i ds) 18 digits (omega (arith, length-take i ds))
+-- bytes that each count at most 15, of which no more are summed than a word has room for
+pub sum-more : (i sum byte : ℕ) → 3 * sum + 5 ≤ 5 * 10 ^ i → 3 * (10 * sum + byte % 16) + 5 ≤ 5 * 10 ^ (i + 1)
+sum-more i sum byte before = let next : i + 1 ≡ suc i = omega arith in omega (arith, pow-suc 10 i, ap (λ k. 10 ^ k) next)
+
+pub sum-fits : (i sum byte : ℕ) → i ≤ 18 → 3 * sum + 5 ≤ 5 * 10 ^ i → 10 * sum + byte % 16 < 2 ^ 64
+sum-fits i sum byte few before = let most : 10 ^ i ≤ 10 ^ 18 = pow-le-pow_right {n = 10} (omega arith) few in omega arith
+
+-- what both tests say
+pub both_are : (a b : Bool) → (a && b) ≡ true → (a ≡ true) × (b ≡ true)
+both_are true b e = (refl, e)
+both_are false b e = grind (arith, common_steps)
 
 -- the value of a text if each byte is a digit
 abbrev pub front_value : List ℕ → Option ℕ
@@ -27,42 +33,48 @@ front_value ds = if list_all is_ascii_digit ds then Some (digits_value 10 ds) el
 abbrev pub whole_value : List ℕ → Option ℕ
 whole_value ds = if list_all is_ascii_digit ds then value_in ds else None
 
--- 20 bytes are 19 of them and the last
-all_digits : (ds : List ℕ) → length ds ≡ 20 → list_all is_ascii_digit ds ≡ (list_all is_ascii_digit (take 19 ds) && is_ascii_digit (get_or ds 19 0))
-all_digits ds long = rw (take_all 20 ds (omega arith)) at (list_all_more is_ascii_digit ds 19 0 (omega arith))
+-- a field of 20 bytes is its first and the others; one of 19 is worth what it is with a zero before it
+pub record IsLed (ds : List ℕ) (lead : ℕ) (rest : List ℕ) : Type 0 where
+  pub all : list_all is_ascii_digit ds ≡ (is_ascii_digit lead && list_all is_ascii_digit rest)
+  pub worth : digits_value 10 ds ≡ digit_value lead * 10 ^ 19 + digits_value 10 rest
 
-value_of-all : (ds : List ℕ) → length ds ≡ 20 → digits_value 10 ds ≡ digits_value 10 (take 19 ds) * 10 + digit_value (get_or ds 19 0)
-value_of-all ds long = rw (take_all 20 ds (omega arith)) at (digits_value_more 10 ds 19 (omega arith))
+after_weighs : (n : ℕ) (ds : List ℕ) → digits_value_after 10 n ds ≡ n * 10 ^ length ds + digits_value 10 ds
+after_weighs n [] = omega (arith, ap (λ x. n * x) (pow-zero 10))
+after_weighs n (d ∷ ds) =
+    let alone : digits_value 10 (d ∷ ds) ≡ (0 * 10 + digit_value d) * 10 ^ length ds + digits_value 10 ds = after_weighs (0 * 10 + digit_value d) ds in
+    omega (arith, after_weighs (n * 10 + digit_value d) ds, alone, ap (λ x. n * x) (pow-succ' 10 (length ds)))
 
-none_is_false : (b : Bool) (x : ℕ) → None ≡ (if b then Some x else None) → b ≡ false
-none_is_false true x e = grind (arith, common_steps)
-none_is_false false x e = refl
+led_by_first : (ds : List ℕ) → length ds ≡ 20 → IsLed ds (get_or ds 0 0) (drop 1 ds)
+led_by_first [] long = absurd (omega arith)
+led_by_first (d ∷ ds) long =
+    let others : length ds ≡ 19 = omega arith in
+    let alone : digits_value 10 (d ∷ ds) ≡ (0 * 10 + digit_value d) * 10 ^ length ds + digits_value 10 ds = after_weighs (0 * 10 + digit_value d) ds in
+    let all : IsLed (d ∷ ds) d ds = record { all = refl; worth = omega (arith, alone, ap (λ x. digit_value d * 10 ^ x) others) } in
+    all
+
+led_by_zero : (ds : List ℕ) → IsLed ds 48 ds
+led_by_zero ds = record { all = refl; worth = omega arith }
+
+pub led_if_longer : (ds : List ℕ) (lead : ℕ) → length ds ≡ 20 → lead ≡ get_or ds 0 0 → IsLed ds lead (drop (length ds - 19) ds)
+led_if_longer ds lead long is = let after : length ds - 19 ≡ 1 = omega arith in rw (after, is) (led_by_first ds long)
+
+pub led_if_shorter : (ds : List ℕ) (lead : ℕ) → length ds ≡ 19 → lead ≡ 48 → IsLed ds lead (drop (length ds - 19) ds)
+led_if_shorter ds lead short is = let after : length ds - 19 ≡ 0 = omega arith in rw (after, is) (led_by_zero ds)
 
 some_is-true : (b : Bool) (x y : ℕ) → Some y ≡ (if b then Some x else None) → (b ≡ true) × (y ≡ x)
 some_is-true true x y e = (refl, grind (arith, common_steps))
 some_is-true false x y e = grind (arith, common_steps)
 
--- so they spell nothing if those spell nothing, or the last is no digit
-pub no_front : (ds : List ℕ) → length ds ≡ 20 → None ≡ front_value (take 19 ds) → None ≡ whole_value ds
-no_front ds long none =
-    let all : list_all is_ascii_digit ds ≡ false = all_digits ds long ∙ rw (none_is_false _ _ none) refl in
-    rw all refl
-
-pub no_last : (ds : List ℕ) → length ds ≡ 20 → is_ascii_digit (get_or ds 19 0) ≡ false → None ≡ whole_value ds
-no_last ds long none =
-    let all = all_digits ds long in
-    grind (arith, common_steps)
-
--- and else ten times the value of those, and the last, if that is below 2 ^ 64
+-- bytes that are digits, and what they are worth
 pub record IsWhole (ds : List ℕ) (value : ℕ) : Type 0 where
   pub digits : list_all is_ascii_digit ds ≡ true
   pub worth : digits_value 10 ds ≡ value
 
-pub with_last : (ds : List ℕ) (front last : ℕ) → length ds ≡ 20 → Some front ≡ front_value (take 19 ds) → is_ascii_digit (get_or ds 19 0) ≡ true
-    → digit_value (get_or ds 19 0) ≡ last → IsWhole ds (10 * front + last)
-with_last ds front last long some digit worth =
-    let before = some_is-true _ _ _ some in
-    record { digits = all_digits ds long ∙ rw (before.0, digit) refl; worth = omega (arith, value_of-all ds long, before.1, worth) }
+pub with_lead : (ds : List ℕ) (lead : ℕ) (rest : List ℕ) (digit value : ℕ) → IsLed ds lead rest → is_ascii_digit lead ≡ true → digit_value lead ≡ digit
+    → Some value ≡ front_value rest → IsWhole ds (10000000000000000000 * digit + value)
+with_lead ds lead rest digit value led is worth some =
+    let after = some_is-true _ _ _ some in
+    record { digits = led.all ∙ rw (is, after.0) refl; worth = omega (arith, led.worth, worth, after.1) }
 
 within : (n v : ℕ) → 0 < n → v < 2 ^ 64 → (nat_le 1 n && nat_lt v (2 ^ 64)) ≡ true
 within n v some small = grind (arith, nat_tests)
@@ -70,8 +82,8 @@ within n v some small = grind (arith, nat_tests)
 beyond : (n v : ℕ) → 2 ^ 64 ≤ v → (nat_le 1 n && nat_lt v (2 ^ 64)) ≡ false
 beyond n v large = grind (arith, nat_tests)
 
-pub small-whole : (ds : List ℕ) (v : ℕ) → length ds ≡ 20 → IsWhole ds v → v < 2 ^ 64 → Some v ≡ whole_value ds
-small-whole ds v long whole small = rw (whole.digits, whole.worth, within (length ds) v (omega arith) small) refl
+pub small-whole : (ds : List ℕ) (v : ℕ) → 0 < length ds → IsWhole ds v → v < 2 ^ 64 → Some v ≡ whole_value ds
+small-whole ds v some whole small = rw (whole.digits, whole.worth, within (length ds) v some small) refl
 
 pub large-whole : (ds : List ℕ) (v : ℕ) → IsWhole ds v → 2 ^ 64 ≤ v → None ≡ whole_value ds
 large-whole ds v whole large = rw (whole.digits, whole.worth, beyond (length ds) v large) refl
