@@ -55,8 +55,8 @@ served entries width m epoch before quiet outcome r come wide after run came num
     }
 
 -- a list as a vector has it; where that would lie does not matter
-abbrev vector_of : {X : Type 0} → Vec X Global → (ns : List ℕ) → length ns < 2 ^ 63 → Vec ℕ Global
-vector_of v ns few = record { ptr = v.ptr; len = length ns; cap = length ns; alloc = v.alloc; items = ns; ok = (refl, omega arith); small = few }
+abbrev vector-of : {X : Type 0} → Vec X Global → (ns : List ℕ) → length ns < 2 ^ 63 → Vec ℕ Global
+vector-of v ns few = record { ptr = v.ptr; len = length ns; cap = length ns; alloc = v.alloc; items = ns; ok = (refl, omega arith); small = few }
 
 -- the holders of a run of an epoch's clients are those of its names, and the record that has them, and the counts of the
 -- floor, is that of its epoch, served after so many clients
@@ -70,8 +70,8 @@ served-by entries width m epoch before quiet holders come wide after narrow run 
     let r : EpochRecord = record {
       number = epoch.number;
       clients = length epoch.clients.items;
-      counts = vector_of epoch.clients counts (omega (arith, exits, narrow));
-      holders = vector_of epoch.clients holders many;
+      counts = vector-of epoch.clients counts (omega (arith, exits, narrow));
+      holders = vector-of epoch.clients holders many;
     } in
     record {
       made = r;

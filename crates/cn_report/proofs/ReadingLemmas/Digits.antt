@@ -10,8 +10,8 @@ use Rattle.std.proofs.lemmas.Grind.{common_steps}
 use Rattle.cn_report.specs.Reading.Number.{value_in}
 
 -- a byte that is a digit is worth what it is modulo 16
-pub worth_of : (byte : ℕ) → is_ascii_digit byte ≡ true → digit_value byte ≡ byte % 16
-worth_of byte digit = grind (arith, nat_tests)
+pub worth-of : (byte : ℕ) → is_ascii_digit byte ≡ true → digit_value byte ≡ byte % 16
+worth-of byte digit = grind (arith, nat_tests)
 
 -- bytes that each count at most 15, of which no more are summed than a word has room for
 pub sum-more : (i sum byte : ℕ) → 3 * sum + 5 ≤ 5 * 10 ^ i → 3 * (10 * sum + byte % 16) + 5 ≤ 5 * 10 ^ (i + 1)
@@ -21,9 +21,9 @@ pub sum-fits : (i sum byte : ℕ) → i ≤ 18 → 3 * sum + 5 ≤ 5 * 10 ^ i �
 sum-fits i sum byte few before = let most : 10 ^ i ≤ 10 ^ 18 = pow-le-pow_right {n = 10} (omega arith) few in omega arith
 
 -- what both tests say
-pub both_are : (a b : Bool) → (a && b) ≡ true → (a ≡ true) × (b ≡ true)
-both_are true b e = (refl, e)
-both_are false b e = grind (arith, common_steps)
+pub both-are : (a b : Bool) → (a && b) ≡ true → (a ≡ true) × (b ≡ true)
+both-are true b e = (refl, e)
+both-are false b e = grind (arith, common_steps)
 
 -- the value of a text if each byte is a digit
 abbrev pub front_value : List ℕ → Option ℕ
@@ -38,28 +38,28 @@ pub record IsLed (ds : List ℕ) (lead : ℕ) (rest : List ℕ) : Type 0 where
   pub all : list_all is_ascii_digit ds ≡ (is_ascii_digit lead && list_all is_ascii_digit rest)
   pub worth : digits_value 10 ds ≡ digit_value lead * 10 ^ 19 + digits_value 10 rest
 
-after_weighs : (n : ℕ) (ds : List ℕ) → digits_value_after 10 n ds ≡ n * 10 ^ length ds + digits_value 10 ds
-after_weighs n [] = omega (arith, ap (λ x. n * x) (pow-zero 10))
-after_weighs n (d ∷ ds) =
-    let alone : digits_value 10 (d ∷ ds) ≡ (0 * 10 + digit_value d) * 10 ^ length ds + digits_value 10 ds = after_weighs (0 * 10 + digit_value d) ds in
-    omega (arith, after_weighs (n * 10 + digit_value d) ds, alone, ap (λ x. n * x) (pow-succ' 10 (length ds)))
+after-weighs : (n : ℕ) (ds : List ℕ) → digits_value_after 10 n ds ≡ n * 10 ^ length ds + digits_value 10 ds
+after-weighs n [] = omega (arith, ap (λ x. n * x) (pow-zero 10))
+after-weighs n (d ∷ ds) =
+    let alone : digits_value 10 (d ∷ ds) ≡ (0 * 10 + digit_value d) * 10 ^ length ds + digits_value 10 ds = after-weighs (0 * 10 + digit_value d) ds in
+    omega (arith, after-weighs (n * 10 + digit_value d) ds, alone, ap (λ x. n * x) (pow-succ' 10 (length ds)))
 
-led_by_first : (ds : List ℕ) → length ds ≡ 20 → IsLed ds (get_or ds 0 0) (drop 1 ds)
-led_by_first [] long = absurd (omega arith)
-led_by_first (d ∷ ds) long =
+led-by-first : (ds : List ℕ) → length ds ≡ 20 → IsLed ds (get_or ds 0 0) (drop 1 ds)
+led-by-first [] long = absurd (omega arith)
+led-by-first (d ∷ ds) long =
     let others : length ds ≡ 19 = omega arith in
-    let alone : digits_value 10 (d ∷ ds) ≡ (0 * 10 + digit_value d) * 10 ^ length ds + digits_value 10 ds = after_weighs (0 * 10 + digit_value d) ds in
+    let alone : digits_value 10 (d ∷ ds) ≡ (0 * 10 + digit_value d) * 10 ^ length ds + digits_value 10 ds = after-weighs (0 * 10 + digit_value d) ds in
     let all : IsLed (d ∷ ds) d ds = record { all = refl; worth = omega (arith, alone, ap (λ x. digit_value d * 10 ^ x) others) } in
     all
 
-led_by_zero : (ds : List ℕ) → IsLed ds 48 ds
-led_by_zero ds = record { all = refl; worth = omega arith }
+led-by-zero : (ds : List ℕ) → IsLed ds 48 ds
+led-by-zero ds = record { all = refl; worth = omega arith }
 
-pub led_if_longer : (ds : List ℕ) (lead : ℕ) → length ds ≡ 20 → lead ≡ get_or ds 0 0 → IsLed ds lead (drop (length ds - 19) ds)
-led_if_longer ds lead long is = let after : length ds - 19 ≡ 1 = omega arith in rw (after, is) (led_by_first ds long)
+pub led-if-longer : (ds : List ℕ) (lead : ℕ) → length ds ≡ 20 → lead ≡ get_or ds 0 0 → IsLed ds lead (drop (length ds - 19) ds)
+led-if-longer ds lead long is = let after : length ds - 19 ≡ 1 = omega arith in rw (after, is) (led-by-first ds long)
 
-pub led_if_shorter : (ds : List ℕ) (lead : ℕ) → length ds ≡ 19 → lead ≡ 48 → IsLed ds lead (drop (length ds - 19) ds)
-led_if_shorter ds lead short is = let after : length ds - 19 ≡ 0 = omega arith in rw (after, is) (led_by_zero ds)
+pub led-if-shorter : (ds : List ℕ) (lead : ℕ) → length ds ≡ 19 → lead ≡ 48 → IsLed ds lead (drop (length ds - 19) ds)
+led-if-shorter ds lead short is = let after : length ds - 19 ≡ 0 = omega arith in rw (after, is) (led-by-zero ds)
 
 some_is-true : (b : Bool) (x y : ℕ) → Some y ≡ (if b then Some x else None) → (b ≡ true) × (y ≡ x)
 some_is-true true x y e = (refl, grind (arith, common_steps))

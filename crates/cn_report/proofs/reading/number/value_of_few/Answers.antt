@@ -2,7 +2,7 @@ use Rattle.std.proofs.Common.{◌∙◌, get_or, sym, arith}
 use Rattle.std.specs.Char.{is_ascii_digit}
 use Rattle.std.proofs.lemmas.Int.Digits.{digits_value_more}
 use Rattle.std.proofs.lemmas.List.Folds.{list_all_more}
-use Rattle.cn_report.proofs.ReadingLemmas.Digits.{both_are, sum-fits, sum-more, worth_of}
+use Rattle.cn_report.proofs.ReadingLemmas.Digits.{both-are, sum-fits, sum-more, worth-of}
 use Rattle.cn_report.proofs.reading.number.value_of_few.Goals as goal
 
 pub overflow_mul-value : goal.overflow_mul-value
@@ -20,7 +20,7 @@ loop-digit-preserved c =
     let byte = get_or ds i 0 in
     let is = c.is_ascii_digit-are_digits.ensures.value in (
       rw (c.loop-digit.invariant.0, is) (sym (list_all_more is_ascii_digit ds i 0 c.loop-digit-test.true)),
-      (λ are. let two = both_are c.loop-digit.are_digits c.is_ascii_digit-are_digits.result are in
-          omega (arith, worth_of byte (sym is ∙ two.1), digits_value_more 10 ds i c.loop-digit-test.true, c.loop-digit.invariant.1 two.0)),
+      (λ are. let two = both-are c.loop-digit.are_digits c.is_ascii_digit-are_digits.result are in
+          omega (arith, worth-of byte (sym is ∙ two.1), digits_value_more 10 ds i c.loop-digit-test.true, c.loop-digit.invariant.1 two.0)),
       omega (arith, sum-more i c.loop-digit.value byte c.loop-digit.invariant.2),
     )

@@ -2,7 +2,7 @@ use Rattle.std.proofs.Common.{◌≡◌, ◌-◌, arith, drop, length, sym}
 use Rattle.std.specs.Char.{digit_value}
 use Rattle.std.proofs.lemmas.List.{take_rest}
 use Rattle.std.proofs.lemmas.Bool.Decides.{nat_tests}
-use Rattle.cn_report.proofs.ReadingLemmas.Digits.{IsLed, large-whole, led_if_longer, led_if_shorter, small-whole, with_lead}
+use Rattle.cn_report.proofs.ReadingLemmas.Digits.{IsLed, large-whole, led-if-longer, led-if-shorter, small-whole, with_lead}
 use Rattle.cn_report.proofs.reading.number.value_of_many.Goals as goal
 use Rattle.cn_report.proofs.reading.number.value_of_many.Goals.{else-field-eq-MOST_DIGITS, then-field-eq-MOST_DIGITS}
 
@@ -11,8 +11,8 @@ returns-then-value-from c =
     let ds = c.args.field.now in
     let lead = c.if-field-eq-MOST_DIGITS.lead in
     let led : IsLed ds lead (drop (length ds - 19) ds) = elim c.if-field-eq-MOST_DIGITS.branch [
-      | then-field-eq-MOST_DIGITS w ↦ led_if_longer ds lead w.if-field-eq-MOST_DIGITS.true w.lead-is
-      | else-field-eq-MOST_DIGITS w ↦ led_if_shorter ds lead (omega arith) w.lead-is
+      | then-field-eq-MOST_DIGITS w ↦ led-if-longer ds lead w.if-field-eq-MOST_DIGITS.true w.lead-is
+      | else-field-eq-MOST_DIGITS w ↦ led-if-shorter ds lead (omega arith) w.lead-is
     ] in
     let digit : digit_value lead ≡ c.from.result = grind (arith, nat_tests) in
     let some = rw (take_rest ds (length ds - 19)) at c.in-Some.ensures in
@@ -24,8 +24,8 @@ returns c =
     let ds = c.args.field.now in
     let lead = c.if-field-eq-MOST_DIGITS.lead in
     let led : IsLed ds lead (drop (length ds - 19) ds) = elim c.if-field-eq-MOST_DIGITS.branch [
-      | then-field-eq-MOST_DIGITS w ↦ led_if_longer ds lead w.if-field-eq-MOST_DIGITS.true w.lead-is
-      | else-field-eq-MOST_DIGITS w ↦ led_if_shorter ds lead (omega arith) w.lead-is
+      | then-field-eq-MOST_DIGITS w ↦ led-if-longer ds lead w.if-field-eq-MOST_DIGITS.true w.lead-is
+      | else-field-eq-MOST_DIGITS w ↦ led-if-shorter ds lead (omega arith) w.lead-is
     ] in
     let digit : digit_value lead ≡ c.from.result = grind (arith, nat_tests) in
     let some = rw (take_rest ds (length ds - 19)) at c.in-Some.ensures in
