@@ -95,8 +95,5 @@ fn listed<R: Threads + Wait + Sync>(rt: &R, alloc: Global) -> Option<([u64; 2], 
 
 #[test]
 fn runners_list_holders(rt: HostRuntime) {
-    assert_eq!(rt;
-        listed(&rt, rt.alloc()),
-        Some(([7, 9], 2))
-    );
+    assert_eq!(rt; listed(&rt, rt.alloc()), Some(([7, 9], 2)));
 }
