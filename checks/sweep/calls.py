@@ -79,8 +79,8 @@ def shared(kind, width, count):
 
 def runs(kind, width, count):
     made = {kind: 1, "run_epoch": 1, "run_epoch_after": 2, "Quiet::holders": 3, "closed floors are tight": 3}
-    made |= {"Runner::run_into": 7, "holders that runners list are all": 7}
-    return made | {"Words::zero": 1, "Runner::new": 2, "Runner::run": 7, "epochs of runners are tight": 7}
+    made |= {"Runner::run_into": 5, "holders that runners list are all": 5}
+    return made | {"Words::zero": 1, "Runner::new": 3, "Runner::run": 7, "epochs of runners are tight": 7}
 
 
 def carries(kind, width, count):
