@@ -11,6 +11,7 @@ pub mod Grants
 pub mod Marks
 pub mod Number
 pub mod Numbers
+pub mod Parts
 pub mod Records
 pub mod Scatter
 pub mod Schedule

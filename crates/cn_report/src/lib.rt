@@ -7,8 +7,8 @@ mod reading;
 mod writing;
 
 pub use reading::{
-    Batch, BatchCause, BatchEpoch, BatchFault, Flaw, ScheduleCause, ScheduleFault, Tight,
-    TightEpoch, check_grants, read_batch, read_schedule,
+    Batch, BatchCause, BatchEpoch, BatchFault, BatchPart, BatchReader, Flaw, ScheduleCause,
+    ScheduleFault, Tight, TightEpoch, check_grants, read_batch, read_schedule,
 };
 pub use writing::{
     EmitFault, Pieces, emit, render_grants, render_replay, render_report, render_tight,

@@ -3,6 +3,7 @@
 mod arrival;
 mod batch;
 mod batch_fault;
+mod batch_reader;
 mod command;
 mod gathering;
 mod grant;
@@ -19,6 +20,7 @@ mod tight;
 
 pub use batch::{Batch, read_batch};
 pub use batch_fault::{BatchCause, BatchFault};
+pub use batch_reader::{BatchPart, BatchReader};
 pub use gathering::BatchEpoch;
 pub use grant::Flaw;
 pub use granting::{Tight, TightEpoch};

@@ -1,29 +1,33 @@
 -- The records of a batch that were taken so far.
-use Rattle.std.proofs.Common.{◌≡◌, ◌+◌, ℕ, List, ◌∷◌, [], ◌++◌, Some, None, length, drop, refl, arith, ap, ◌∙◌, length-append}
+use Rattle.std.proofs.Common.{◌≡◌, ◌+◌, ℕ, List, ◌∷◌, [], ◌++◌, Option, Some, None, length, drop, refl, arith, ap, ◌∙◌, length-append}
 use Rattle.std.specs.Prelude.{Ok}
 use Rattle.std.proofs.lemmas.List.Elements.{filter_map-append}
 use Rattle.std.specs.Result.{result_ok}
 use Rattle.cn_report.specs.Reading.Arrival.{arrival_cause, arrival_in, arrivals_in, spelled_cause}
 use Rattle.cn_report.specs.Reading.Batch.{IsBatch, AreEpochsOf, cause_of_heading, header_cause, record_cause}
 use Rattle.cn_report.specs.Reading.Heading.{heading_in, heading_of, heading_or}
-use Rattle.cn_report.specs.Reading.Records.{Record}
+use Rattle.cn_report.specs.Reading.Gathered.{IsGathered, ended}
+use Rattle.cn_report.specs.Reading.Parts.{AreTaken, HasTaken, StaysWithin}
+use Rattle.cn_report.specs.Reading.Records.{HasRead, Record}
 use Rattle.cn_report.specs.declared.reading.arrival.Arrival.{Arrival}
 use Rattle.cn_report.specs.declared.reading.batch_fault.BatchCause.{BatchCause}
 use Rattle.cn_report.specs.declared.reading.gathering.BatchEpoch.{BatchEpoch}
+use Rattle.cn_report.specs.declared.reading.gathering.Gathering.{Gathering}
 use Rattle.cn_report.specs.declared.reading.heading.Heading.{Heading}
+use Rattle.csv.specs.declared.reader.Reader.{Reader}
 use Rattle.cn_report.proofs.ReadingLemmas.FirstFaults.{AreClean, clean-all, clean-header, clean-more}
+use Rattle.cn_report.proofs.ReadingLemmas.GatheredEpochs.{given-out, same-ended}
+use Rattle.cn_report.proofs.ReadingLemmas.ServableEpochs.{keeps-given}
 
--- the records so far: a header, and a record for each arrival
-pub record AreTaken (heading : Heading) (entries : ℕ) (rows : List Record) (arrivals : List Arrival) : Type 0 where
-  pub headed : heading_in rows ≡ heading
-  pub clean : AreClean header_cause (record_cause entries) rows
-  pub spells : arrivals_in heading entries (drop 1 rows) ≡ arrivals
-  pub counted : length arrivals + 1 ≡ length rows
+-- such records as lemmas on first faults take them
+pub clean-of : (heading : Heading) (entries : ℕ) (rows : List Record) (arrivals : List Arrival) → AreTaken heading entries rows arrivals → AreClean header_cause (record_cause entries) rows
+clean-of heading entries rows arrivals t = record { some = t.some; clean = t.clean }
 
 pub taken-header : (heading : Heading) (entries : ℕ) (fields : Record) → heading_of fields ≡ Some heading → AreTaken heading entries (fields ∷ []) []
 taken-header heading entries fields e = record {
   headed = ap heading_or e;
-  clean = clean-header header_cause (record_cause entries) fields (ap cause_of_heading e);
+  some = omega arith;
+  clean = (clean-header header_cause (record_cause entries) fields (ap cause_of_heading e)).clean;
   spells = refl;
   counted = refl;
 }
@@ -47,19 +51,58 @@ spelled-same heading entries rows arrivals fields t =
 
 pub taken-next : (heading : Heading) (entries : ℕ) (rows : List Record) (arrivals : List Arrival) (fields : Record) (arrival : Arrival) → AreTaken heading entries rows arrivals
     → arrival_in heading entries fields ≡ Ok arrival → arrival_cause entries arrivals arrival ≡ None → AreTaken heading entries (rows ++ fields ∷ []) (arrivals ++ arrival ∷ [])
-taken-next heading entries [] arrivals fields arrival t is none = absurd (omega (arith, t.clean.some))
+taken-next heading entries [] arrivals fields arrival t is none = absurd (omega (arith, t.some))
 taken-next heading entries (r ∷ rows) arrivals fields arrival t is none = record {
   headed = t.headed;
-  clean = clean-more header_cause (record_cause entries) (r ∷ rows) fields t.clean (spelled-same heading entries (r ∷ rows) arrivals fields t ∙ ap (spelled_cause entries arrivals) is ∙ none);
+  some = omega (arith, length-append (r ∷ rows) (fields ∷ []));
+  clean = (clean-more header_cause (record_cause entries) (r ∷ rows) fields (clean-of heading entries (r ∷ rows) arrivals t) (spelled-same heading entries (r ∷ rows) arrivals fields t ∙ ap (spelled_cause entries arrivals) is ∙ none)).clean;
   spells = arrivals-next heading entries rows fields arrival is ∙ ap (λ (l : List Arrival). l ++ arrival ∷ []) t.spells;
   counted = omega (arith, t.counted, length-append arrivals (arrival ∷ []), length-append (r ∷ rows) (fields ∷ []));
 }
+
+-- a record more was read, and its arrival was gathered
+pub taken-more : {R : Type 0} (remaining : R → Option (List ℕ)) (old new : Reader R) (heading : Heading) (entries at : ℕ) (g h : Gathering) (text : List ℕ) (given : List BatchEpoch)
+    → HasTaken remaining old heading entries at g text given
+    → ((before : List Record) (arrivals : List Arrival) → HasRead remaining old text before → IsGathered given g arrivals → length arrivals + 1 ≡ at
+    → (fields : Record) × (arrival : Arrival) × HasRead remaining new text (before ++ fields ∷ []) × (arrival_in heading entries fields ≡ Ok arrival)
+    × (arrival_cause entries arrivals arrival ≡ None) × IsGathered given h (arrivals ++ arrival ∷ []))
+    → HasTaken remaining new heading entries (at + 1) h text given
+taken-more remaining old new heading entries at g h text given t found =
+    let (fields, arrival, next, is, none, more) = found t.rows t.arrivals t.read t.gathered (omega (arith, t.taken.counted, t.many)) in
+    record {
+      rows = t.rows ++ fields ∷ [];
+      arrivals = t.arrivals ++ arrival ∷ [];
+      read = next;
+      many = omega (arith, t.many, length-append t.rows (fields ∷ []));
+      taken = taken-next heading entries t.rows t.arrivals fields arrival t.taken is none;
+      gathered = more;
+    }
+
+-- and the epochs that are over were given out
+module _ (given : List BatchEpoch) (g h : Gathering) (none : h.over.items ≡ []) (latest : h.latest ≡ g.latest) (standing : h.standing ≡ g.standing) where
+  pub taken-given : {R : Type 0} (remaining : R → Option (List ℕ)) (reader : Reader R) (heading : Heading) (entries at : ℕ) (text : List ℕ) → HasTaken remaining reader heading entries at g text given
+      → HasTaken remaining reader heading entries at h text (ended given g)
+  taken-given remaining reader heading entries at text t = record {
+    rows = t.rows;
+    arrivals = t.arrivals;
+    read = t.read;
+    many = t.many;
+    taken = t.taken;
+    gathered = given-out given g h none latest standing t.arrivals t.gathered;
+  }
+
+  pub within-given : (entries at : ℕ) → StaysWithin entries at g given → StaysWithin entries at h (ended given g)
+  within-given entries at within = record {
+    few = within.few;
+    keeps = keeps-given given g h entries none latest standing within.keeps;
+    count = rw (same-ended given g h none latest standing, latest) within.count;
+  }
 
 pub taken_all : (heading : Heading) (entries : ℕ) (all rows : List Record) (arrivals : List Arrival) (epochs : List BatchEpoch) → AreTaken heading entries rows arrivals → all ≡ rows
     → AreEpochsOf epochs arrivals → IsBatch entries all epochs
 taken_all heading entries all rows arrivals epochs t e are =
     let spells : arrivals_in (heading_in rows) entries (drop 1 rows) ≡ arrivals = ap (λ (h : Heading). arrivals_in h entries (drop 1 rows)) t.headed ∙ t.spells in
-    rw e (record { clean = clean-all header_cause (record_cause entries) rows t.clean; holds = rw spells are })
+    rw e (record { clean = clean-all header_cause (record_cause entries) rows (clean-of heading entries rows arrivals t); holds = rw spells are })
 
 -- the cause of the next record, by the arrivals before it
 pub at-arrivals : (heading : Heading) (entries : ℕ) (rows : List Record) (arrivals : List Arrival) (fields : Record) → AreTaken heading entries rows arrivals → (cause : BatchCause)

@@ -15,15 +15,15 @@ use Rattle.cn_spec.proofs.CallerLemmas.{times-append, times-cons, times-nil}
 use Rattle.cn_report.specs.declared.reading.gathering.BatchEpoch.{BatchEpoch}
 use Rattle.cn_report.specs.declared.reading.gathering.Gathering.{Gathering}
 use Rattle.cn_report.specs.Reading.Batch.{AreRising, AreServable, MayCome, clients_of_epochs}
-use Rattle.cn_report.specs.Reading.Gathered.{StaysServable, gathered, joining_cause, over_after}
-use Rattle.cn_report.proofs.ReadingLemmas.GatheredEpochs.{over_below, rising_more}
+use Rattle.cn_report.specs.Reading.Gathered.{StaysServable, ended, gathered, joining_cause, over_after}
+use Rattle.cn_report.proofs.ReadingLemmas.GatheredEpochs.{over_below, rising_more, same-ended}
 
 -- no client is few
 none-come : (entries : ℕ) → MayCome entries []
 none-come entries = record { few = omega arith; within = All-nil (λ (c : Client). c.entry < entries); once = λ client. omega (arith, times-nil client) }
 
 -- at the start
-pub none_kept : (g : Gathering) (entries : ℕ) → g.over.items ≡ [] → g.latest.clients.items ≡ [] → g.standing.keys ≡ [] → StaysServable entries g
+pub none_kept : (g : Gathering) (entries : ℕ) → g.over.items ≡ [] → g.latest.clients.items ≡ [] → g.standing.keys ≡ [] → StaysServable entries [] g
 unfolding AreRising
 none_kept g entries over clients keys = record {
   over = rw over (record { rising = tt; some = All-nil (λ (e : BatchEpoch). 0 < length e.clients.items); come = All-nil (λ (e : BatchEpoch). MayCome entries e.clients.items) });
@@ -33,32 +33,32 @@ none_kept g entries over clients keys = record {
 }
 
 -- once the latest epoch is over
-pub over-servable : (g : Gathering) (entries : ℕ) → StaysServable entries g → AreServable entries (over_after g)
-over-servable g entries keeps = by g.latest.clients.items refl
+pub over-servable : (given : List BatchEpoch) (g : Gathering) (entries : ℕ) → StaysServable entries given g → AreServable entries (over_after given g)
+over-servable given g entries keeps = by g.latest.clients.items refl
   where
-    by : (cs : List Client) → g.latest.clients.items ≡ cs → AreServable entries (over_after g)
+    by : (cs : List Client) → g.latest.clients.items ≡ cs → AreServable entries (over_after given g)
     by [] e = rw (le-ltb 0 (length g.latest.clients.items) (omega (arith, ap length e))) keeps.over
     by (c ∷ cs) e = rw (lt-ltb 0 (length g.latest.clients.items) (omega (arith, ap length e))) (record {
-      rising = rising_more g.over.items g.latest keeps.over.rising keeps.below;
-      some = All-push (λ (x : BatchEpoch). 0 < length x.clients.items) g.over.items g.latest keeps.over.some (omega (arith, ap length e));
-      come = All-push (λ (x : BatchEpoch). MayCome entries x.clients.items) g.over.items g.latest keeps.over.come keeps.latest;
+      rising = rising_more (ended given g) g.latest keeps.over.rising keeps.below;
+      some = All-push (λ (x : BatchEpoch). 0 < length x.clients.items) (ended given g) g.latest keeps.over.some (omega (arith, ap length e));
+      come = All-push (λ (x : BatchEpoch). MayCome entries x.clients.items) (ended given g) g.latest keeps.over.come keeps.latest;
     })
 
 -- and has the clients of all
-pub all-over : (g : Gathering) → clients_of_epochs (over_after g) ≡ gathered g
-all-over g = by g.latest.clients.items refl
+pub all-over : (given : List BatchEpoch) (g : Gathering) → clients_of_epochs (over_after given g) ≡ gathered given g
+all-over given g = by g.latest.clients.items refl
   where
-    by : (cs : List Client) → g.latest.clients.items ≡ cs → clients_of_epochs (over_after g) ≡ gathered g
+    by : (cs : List Client) → g.latest.clients.items ≡ cs → clients_of_epochs (over_after given g) ≡ gathered given g
     by [] e = rw (le-ltb 0 (length g.latest.clients.items) (omega (arith, ap length e))) (omega (arith, ap length e))
     by (c ∷ cs) e =
-        rw (lt-ltb 0 (length g.latest.clients.items) (omega (arith, ap length e))) (sum_by_push (λ (x : BatchEpoch). length x.clients.items) g.over.items g.latest)
+        rw (lt-ltb 0 (length g.latest.clients.items) (omega (arith, ap length e))) (sum_by_push (λ (x : BatchEpoch). length x.clients.items) (ended given g) g.latest)
 
 -- once it has come to a later epoch
-pub turned-keeps : (old new : Gathering) (n entries : ℕ) → old.latest.number < n → new.over.items ≡ over_after old → new.latest.number ≡ n
-    → new.latest.clients.items ≡ [] → new.standing.keys ≡ [] → StaysServable entries old → StaysServable entries new
-turned-keeps old new n entries h over number clients keys keeps = record {
-  over = rw over (over-servable old entries keeps);
-  below = rw (over, number) (over_below old n h keeps.below);
+pub turned-keeps : (given : List BatchEpoch) (old new : Gathering) (n entries : ℕ) → old.latest.number < n → ended given new ≡ over_after given old → new.latest.number ≡ n
+    → new.latest.clients.items ≡ [] → new.standing.keys ≡ [] → StaysServable entries given old → StaysServable entries given new
+turned-keeps given old new n entries h over number clients keys keeps = record {
+  over = rw over (over-servable given old entries keeps);
+  below = rw (over, number) (over_below given old n h keeps.below);
   latest = rw clients (none-come entries);
   standing = rw (keys, clients) refl;
 }
@@ -85,10 +85,10 @@ new-and-few at g c none = by (list_any (nat_eq c.id) g.standing.keys) refl (nat_
     by false is false e none = (is, grind (arith, nat_tests, e))
 
 -- a client more of the latest epoch
-pub joined-keeps : (old new : Gathering) (at entries : ℕ) (c : Client) → joining_cause at old c ≡ None → c.entry < entries → new.over ≡ old.over
+pub joined-keeps : (given : List BatchEpoch) (old new : Gathering) (at entries : ℕ) (c : Client) → joining_cause at old c ≡ None → c.entry < entries → new.over ≡ old.over
     → new.latest.number ≡ old.latest.number → new.latest.clients.items ≡ old.latest.clients.items ++ c ∷ []
-    → new.standing.keys ≡ old.standing.keys ++ c.id ∷ [] → StaysServable entries old → StaysServable entries new
-joined-keeps old new at entries c none entry over number clients keys keeps =
+    → new.standing.keys ≡ old.standing.keys ++ c.id ∷ [] → StaysServable entries given old → StaysServable entries given new
+joined-keeps given old new at entries c none entry over number clients keys keeps =
     let (fresh, room) = new-and-few at old c none in
     let ids : map (λ (x : Client). x.id) new.latest.clients.items ≡ map (λ (x : Client). x.id) old.latest.clients.items ++ c.id ∷ [] =
     ap (map (λ (x : Client). x.id)) clients ∙ map-append (λ (x : Client). x.id) old.latest.clients.items (c ∷ []) in
@@ -109,3 +109,14 @@ joined-keeps old new at entries c none entry over number clients keys keeps =
         let all = map (λ (y : Client). y.id) old.latest.clients.items in
         let none = absent c.id all fresh in
         grind (arith, nat_tests, none, keeps.latest.once x, times-append x all (c.id ∷ []), times-cons x c.id [], times-nil x)
+
+-- once the epochs that are over were given out
+pub keeps-given : (given : List BatchEpoch) (old new : Gathering) (entries : ℕ) → new.over.items ≡ [] → new.latest ≡ old.latest → new.standing ≡ old.standing
+    → StaysServable entries given old → StaysServable entries (ended given old) new
+keeps-given given old new entries none latest standing keeps =
+    let same = same-ended given old new none latest standing in record {
+      over = rw same keeps.over;
+      below = rw (same, latest) keeps.below;
+      latest = rw latest keeps.latest;
+      standing = rw (standing, latest) keeps.standing;
+    }

@@ -2,9 +2,10 @@
 
 ghost use Rattle.std.specs.Prelude.{◌≡◌, ℕ, ◌≤◌, ◌+◌, ◌⊎◌, ◌∷◌, ◌++◌, [], List, None, Some, OnOk, IfErr, IfOk, length};
 ghost use Rattle.cn_report.specs.declared.reading.arrival.Arrival.{Arrival};
+ghost use Rattle.cn_report.specs.declared.reading.gathering.BatchEpoch.{BatchEpoch};
 ghost use Rattle.cn_report.specs.Reading.Arrival.{arrival_cause};
 ghost use Rattle.cn_report.specs.Reading.Batch.{AreEpochsOf, AreServable, clients_of_epochs};
-ghost use Rattle.cn_report.specs.Reading.Gathered.{HoldsArrivals, IsGathered, StaysServable, gathered, joining_cause, over_after};
+ghost use Rattle.cn_report.specs.Reading.Gathered.{HoldsArrivals, IsGathered, StaysServable, ended, gathered, joining_cause, over_after};
 
 use crate::reading::arrival::Arrival;
 use crate::reading::batch_fault::BatchCause;
@@ -35,9 +36,9 @@ pub(crate) struct Gathering {
 
 impl Gathering {
     pub(crate) fn new(alloc: Global, state: RandomState) -> Self
-        ensures none { IsGathered result [] }
-        ensures keeps { (entries : ℕ) → StaysServable entries result }
-        ensures nobody { gathered result ≡ 0 }
+        ensures none { IsGathered [] result [] }
+        ensures keeps { (entries : ℕ) → StaysServable entries [] result }
+        ensures nobody { gathered [] result ≡ 0 }
     {
         Gathering {
             over: Vec::new(alloc),
@@ -51,7 +52,7 @@ impl Gathering {
 
     /// Ends the latest epoch, if it has clients, and opens another.
     fn turn(&mut self, alloc: Global, number: u64) -> Result<(), AllocError>
-        ensures { OnOk result ((self.new.over.items ≡ over_after self.old)
+        ensures { OnOk result (((given : List BatchEpoch) → ended given self.new ≡ over_after given self.old)
             × (self.new.latest.number ≡ number)
             × (self.new.latest.clients.items ≡ []) × (self.new.standing.keys ≡ [])) }
     {
@@ -73,11 +74,11 @@ impl Gathering {
     fn reach(&mut self, alloc: Global, epoch: u64) -> Result<(), AllocError>
         requires { self.old.latest.number ≤ epoch }
         ensures holds { OnOk result ((self.new.latest.number ≡ epoch)
-            × ((before : List Arrival) → HoldsArrivals self.old before
-            → HoldsArrivals self.new before)) }
-        ensures keeps { OnOk result ((entries : ℕ) → StaysServable entries self.old
-            → StaysServable entries self.new) }
-        ensures same { OnOk result (gathered self.new ≡ gathered self.old) }
+            × ((before : List Arrival) (given : List BatchEpoch) → HoldsArrivals given self.old before
+            → HoldsArrivals given self.new before)) }
+        ensures keeps { OnOk result ((entries : ℕ) (given : List BatchEpoch) → StaysServable entries given self.old
+            → StaysServable entries given self.new) }
+        ensures same { OnOk result ((given : List BatchEpoch) → gathered given self.new ≡ gathered given self.old) }
     {
         if self.latest.number == epoch {
             return Ok(());
@@ -122,16 +123,16 @@ impl Gathering {
         at: u64,
         arrival: Arrival,
     ) -> Result<(), BatchCause>
-        ensures ok { OnOk result ((before : List Arrival) → IsGathered self.old before
-            → length before + 1 ≡ at
+        ensures ok { OnOk result ((before : List Arrival) (given : List BatchEpoch)
+            → IsGathered given self.old before → length before + 1 ≡ at
             → (arrival_cause entries before arrival ≡ None)
-            × IsGathered self.new (before ++ arrival ∷ [])) }
+            × IsGathered given self.new (before ++ arrival ∷ [])) }
         ensures few { OnOk result (at ≤ MOST_RECORDS) }
-        ensures keeps { OnOk result (StaysServable entries self.old
-            → StaysServable entries self.new) }
-        ensures more { OnOk result (gathered self.new ≡ gathered self.old + 1) }
-        ensures err { IfErr result (λ cause. (before : List Arrival) → IsGathered self.old before
-            → length before + 1 ≡ at
+        ensures keeps { OnOk result ((given : List BatchEpoch) → StaysServable entries given self.old
+            → StaysServable entries given self.new) }
+        ensures more { OnOk result ((given : List BatchEpoch) → gathered given self.new ≡ gathered given self.old + 1) }
+        ensures err { IfErr result (λ cause. (before : List Arrival) (given : List BatchEpoch)
+            → IsGathered given self.old before → length before + 1 ≡ at
             → (arrival_cause entries before arrival ≡ Some cause) ⊎ (cause ≡ BatchCause.Memory)) }
     {
         if arrival.epoch < self.latest.number {
@@ -150,16 +151,30 @@ impl Gathering {
         self.join(at, client)
     }
 
-    /// The epochs.
-    pub(crate) fn finish(self, alloc: Global) -> Result<Vec<BatchEpoch>, AllocError>
-        ensures epochs { IfOk result (λ epochs. (arrivals : List Arrival) → IsGathered self arrivals
-            → AreEpochsOf epochs.items arrivals) }
-        ensures fits { IfOk result (λ epochs. (entries : ℕ) → StaysServable entries self
-            → AreServable entries epochs.items) }
-        ensures all { IfOk result (λ epochs. clients_of_epochs epochs.items ≡ gathered self) }
+    /// Whether it has an epoch that is over.
+    pub(crate) fn has_ended(&self) -> bool {
+        !self.over.is_empty()
+    }
+
+    /// Ends the latest epoch.
+    pub(crate) fn end(&mut self, alloc: Global) -> Result<(), AllocError>
+        ensures epochs { OnOk result ((arrivals : List Arrival) (given : List BatchEpoch)
+            → IsGathered given self.old arrivals → AreEpochsOf (ended given self.new) arrivals) }
+        ensures fits { OnOk result ((entries : ℕ) (given : List BatchEpoch)
+            → StaysServable entries given self.old → AreServable entries (ended given self.new)) }
+        ensures all { OnOk result ((given : List BatchEpoch)
+            → clients_of_epochs (ended given self.new) ≡ gathered given self.old) }
     {
-        let mut gathering = self;
-        gathering.turn(alloc, 0)?;
-        Ok(gathering.over)
+        self.turn(alloc, 0)
+    }
+
+    /// Gives out the epochs that are over.
+    pub(crate) fn give(&mut self, alloc: Global) -> Vec<BatchEpoch>
+        ensures given { result ≡ self.old.over }
+        ensures none { self.new.over.items ≡ [] }
+        ensures latest { self.new.latest ≡ self.old.latest }
+        ensures standing { self.new.standing ≡ self.old.standing }
+    {
+        mem::replace(&mut self.over, Vec::new(alloc))
     }
 }

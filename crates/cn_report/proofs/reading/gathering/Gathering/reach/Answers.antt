@@ -7,14 +7,14 @@ use Rattle.cn_report.proofs.reading.gathering.Gathering.reach.Goals as goal
 pub returns-clause-holds : goal.returns-clause-holds
 returns-clause-holds c =
     let (over, number, clients, keys) = c.in_ok-turn.ensures in
-    (number, λ before held. turned c.args.self.now c.turn.new.self c.args.epoch before (omega (arith, c.requires, c.if-self-epoch.false)) over number clients keys held)
+    (number, λ before given held. turned given c.args.self.now c.turn.new.self c.args.epoch before (omega (arith, c.requires, c.if-self-epoch.false)) (over given) number clients keys held)
 
 pub returns-clause-keeps : goal.returns-clause-keeps
-returns-clause-keeps c = λ entries keeps.
+returns-clause-keeps c = λ entries given keeps.
     let (over, number, clients, keys) = c.in_ok-turn.ensures in
-    turned-keeps c.args.self.now c.turn.new.self c.args.epoch entries (omega (arith, c.requires, c.if-self-epoch.false)) over number clients keys keeps
+    turned-keeps given c.args.self.now c.turn.new.self c.args.epoch entries (omega (arith, c.requires, c.if-self-epoch.false)) (over given) number clients keys keeps
 
 pub returns-clause-same : goal.returns-clause-same
-returns-clause-same c =
+returns-clause-same c = λ given.
     let (over, number, clients, keys) = c.in_ok-turn.ensures in
-    omega (arith, ap clients_of_epochs over, ap length clients, all-over c.args.self.now)
+    omega (arith, ap clients_of_epochs (over given), ap length clients, all-over given c.args.self.now)

@@ -3,7 +3,7 @@ use Rattle.csv.specs.Records.{fields_of}
 use Rattle.cn_report.specs.Reading.Batch.{IsOfReading, cause_of_heading, header_cause, record_cause}
 use Rattle.cn_report.specs.declared.reading.batch_fault.BatchCause.TheVariants.{Header}
 use Rattle.cn_report.proofs.ReadingLemmas.FirstFaults.{no_header, nothing}
-use Rattle.cn_report.proofs.reading.batch.take_header.Goals as goal
+use Rattle.cn_report.proofs.reading.batch_reader.take_header.Goals as goal
 
 pub returns-then-not-branch-clause-err : goal.returns-then-not-branch-clause-err
 returns-then-not-branch-clause-err g c = λ entries text read.
