@@ -5,7 +5,7 @@ use Rattle.std.proofs.lemmas.List.FromFn.{length-map-range_with_len}
 use Rattle.std.proofs.lemmas.List.Sorted.{IsPermutation-trans}
 use Rattle.cn_spec.specs.Step.{shares_after}
 use Rattle.cn_spec.specs.Sums.{times}
-use Rattle.cn_spec.specs.declared.limits.TheConstants.{MOST_CLIENTS, MOST_ENDS}
+use Rattle.cn_spec.specs.declared.limits.TheConstants.{MOST_ENDS}
 use Rattle.cn_spec.proofs.CallerLemmas.{order-times, times-map, times-order}
 use Rattle.cn_ledger.specs.declared.client.Client.{Client}
 use Rattle.cn_wiring.specs.Network.{Network}

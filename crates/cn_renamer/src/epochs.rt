@@ -4,7 +4,7 @@ ghost use Rattle.std.specs.Prelude.{◌≡◌, ◌+◌, ◌++◌, ◌<◌, ◌�
 ghost use Rattle.cn_spec.specs.declared.limits.TheConstants.{MOST_CARRIED, MOST_RECORDS};
 ghost use Rattle.cn_spec.specs.Sums.{when};
 ghost use Rattle.cn_floor.specs.Carried.{client_count};
-ghost use Rattle.cn_report.specs.Reading.Batch.{AreServable, MayCome, clients_of_epochs};
+ghost use Rattle.cn_report.specs.Reading.Batch.{MayCome, clients_of_epochs};
 ghost use Rattle.cn_renamer.specs.Running.{AreHoldersOf, AreHoldersOfOne, IsCrew, MayRunAll};
 ghost use denote.Param.Send.{IsSync};
 
@@ -169,8 +169,7 @@ pub(crate) fn run_all<G: Gate + Sync, R: Threads + Wait + Sync>(
     epochs: &[BatchEpoch],
     gate: &G,
 ) -> Result<Vec<u64>, AllocError>
-    requires servable { AreServable network.now.table.entries epochs.now }
-    requires few { clients_of_epochs epochs.now ≤ MOST_RECORDS }
+    requires may { MayRunAll network.now.table.entries epochs.now (clients_of_epochs epochs.now) }
     ensures listed { IfOk result (λ holders.
         AreHoldersOf options.now.carry network.now.table.width epochs.now holders.items) }
     ensures many { IfOk result (λ holders. clients_of_epochs epochs.now ≡ length holders.items) }

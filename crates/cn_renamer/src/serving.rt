@@ -10,10 +10,10 @@ ghost use Rattle.cn_report.specs.Writing.Written.{First, HasWritten, written_by}
 ghost use Rattle.cn_renamer.specs.Headline.{IsRunOfKnown, text_in};
 ghost use Rattle.cn_renamer.specs.Serve.{IsServeFault, until_serve};
 
-use crate::epochs::run_all;
+use crate::in_parts::run_batch;
 use crate::serve_fault::ServeFault;
 use cn_cli::{Form, Options};
-use cn_report::{BatchEpoch, EmitFault, Pieces, read_batch, write_grants, write_report};
+use cn_report::{BatchEpoch, EmitFault, Pieces, write_grants, write_report};
 use cn_walk::Gate;
 use cn_wiring::Counting;
 use std::alloc::Global;
@@ -91,9 +91,8 @@ pub fn serve<I: Read + Drop, W: Write, G: Gate + Sync, R: Threads + Wait + Sync>
     ensures refused { IfErr result (IsServeFault options.now.net (I.remaining reader)) }
 {
     let network = options.net().build(alloc)?;
-    let batch = read_batch(alloc, reader, network.entries(), state)?;
-    let holders = run_all(rt, alloc, &network, options, &batch.epochs, gate)?;
+    let ran = run_batch(rt, alloc, &network, reader, options, state, gate)?;
     let pieces = Pieces::new(alloc)?;
-    write_epochs(writer, pieces, &network, options, &batch.epochs, &holders)?;
+    write_epochs(writer, pieces, &network, options, &ran.epochs, &ran.holders)?;
     Ok(())
 }

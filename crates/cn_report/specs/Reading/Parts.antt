@@ -1,5 +1,5 @@
 -- A batch that is read in parts: which epochs were given out so far, and how far its reader has come.
-use Rattle.std.specs.Prelude.{ℕ, ◌≡◌, ◌+◌, ◌<◌, ◌≤◌, ◌++◌, List, Option, Result, MatchResult, drop, length}
+use Rattle.std.specs.Prelude.{ℕ, ◌≡◌, ◌+◌, ◌<◌, ◌≤◌, ◌++◌, List, Option, Result, MatchResult, IfOk, true, ⊤, drop, length}
 use Rattle.std.specs.Bool.{MatchBool}
 use Rattle.cn_spec.specs.declared.limits.TheConstants.{MOST_RECORDS}
 use Rattle.cn_report.specs.Reading.Arrival.{arrivals_in}
@@ -67,3 +67,12 @@ abbrev pub AnswersPart : {R : Type 0} → (R → Option (List ℕ)) → BatchRea
 AnswersPart remaining b text given result =
     MatchResult result (λ part. MatchBool part.more (HasGiven remaining b text (given ++ part.epochs.items)) (IsBatch b.entries (records_of text) (given ++ part.epochs.items)))
     (IsBatchFault b.entries (records_of text))
+
+-- what one reading of a part does, from one state of the reader to the next
+pub record ReadsPart {R : Type 0} (remaining : R → Option (List ℕ)) (enough : ℕ) (old new : BatchReader R) (result : Result BatchPart BatchFault) : Type 0 where
+  pub ready : IfOk result (λ part. IsOpen new)
+  pub answer : (text : List ℕ) (given : List BatchEpoch) → HasGiven remaining old text given → AnswersPart remaining new text given result
+  pub within : (given : List BatchEpoch) → MayGive old given
+      → IfOk result (λ part. AreWithin old.entries (given ++ part.epochs.items) × MatchBool part.more (MayGive new (given ++ part.epochs.items)) ⊤)
+  pub late : IfOk result (λ part. part.more ≡ true → old.at + enough < new.at)
+  pub entries : new.entries ≡ old.entries

@@ -9,7 +9,7 @@ ghost use Rattle.cn_report.specs.Reading.Arrival.{arrival_cause, arrival_in, spe
 ghost use Rattle.cn_report.specs.Reading.Batch.{IsBatch, IsBatchFault};
 ghost use Rattle.cn_report.specs.Reading.Gathered.{IsGathered, StaysServable, ended, gathered};
 ghost use Rattle.cn_report.specs.Reading.Heading.{heading_of};
-ghost use Rattle.cn_report.specs.Reading.Parts.{AnswersPart, AreWithin, HasGiven, HasTaken, IsOpen, MayGive, StaysWithin};
+ghost use Rattle.cn_report.specs.Reading.Parts.{AreWithin, HasGiven, HasTaken, IsOpen, MayGive, ReadsPart, StaysWithin};
 ghost use Rattle.cn_report.specs.Reading.Records.{HasRead, IsPlain, Record, records_of};
 
 use crate::reading::arrival::arrival_of;
@@ -171,7 +171,7 @@ impl<R: Read + Drop> BatchReader<R> {
         state: RandomState,
     ) -> Result<Self, BatchFault>
         requires { 0 < entries }
-        ensures open { IfOk result IsOpen }
+        ensures ready { IfOk result IsOpen }
         ensures none { IfSome (R.remaining reader) (λ text. MatchResult result
             (λ batch. HasGiven R.remaining batch text []) (IsBatchFault entries (records_of text))) }
         ensures may { IfOk result (λ batch. MayGive batch []) }
@@ -201,15 +201,7 @@ impl<R: Read + Drop> BatchReader<R> {
     /// that was being read.
     pub fn read(&mut self, alloc: Global, enough: u64) -> Result<BatchPart, BatchFault>
         requires { IsOpen self.old }
-        ensures open { OnOk result (IsOpen self.new) }
-        ensures answer { (text : List ℕ) (given : List BatchEpoch)
-            → HasGiven R.remaining self.old text given
-            → AnswersPart R.remaining self.new text given result }
-        ensures within { (given : List BatchEpoch) → MayGive self.old given
-            → IfOk result (λ part. AreWithin self.old.entries (given ++ part.epochs.items)
-            × MatchBool part.more (MayGive self.new (given ++ part.epochs.items)) Unit) }
-        ensures enough { IfOk result (λ part. part.more ≡ true → self.old.at + enough < self.new.at) }
-        ensures entries { self.new.entries ≡ self.old.entries }
+        ensures { ReadsPart R.remaining enough self.old self.new result }
     {
         let next = take_arrivals(
             alloc,
