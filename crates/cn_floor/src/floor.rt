@@ -48,7 +48,6 @@ pub use words::Words;
 /// [`Floor::open`] and its like, [`Floor::split`], [`Floor::split_off`], [`Floor::join`], [`Floor::close`],
 /// [`Floor::close_for`], and a [`Floor::enter`], a [`Floor::name`] or a [`Floor::name_all`] without room take memory. Lanes
 /// can be sent to threads, and a floor can be shared by them.
-#[derive(Drop)]
 pub struct Floor<'a> {
     alloc: Global,
     /// How many clients came before it began.
@@ -76,5 +75,17 @@ impl<'a> Floor<'a> {
         ensures network { IsNetwork self.now.start.network }
     {
         self.before.network()
+    }
+}
+
+// By hand, as that of the network that it holds: it is one call where a value is dropped.
+impl Drop for Floor<'_> {
+    fn drop(self) {
+        let Floor {
+            alloc: _alloc,
+            base: _base,
+            before: _before,
+            counters: _counters,
+        } = self;
     }
 }

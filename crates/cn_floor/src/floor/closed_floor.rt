@@ -6,7 +6,7 @@ ghost use Rattle.cn_floor.specs.Ends.{IsClosedFloor, IsOutcomeOf, ListsHolders, 
 ghost use Rattle.cn_floor.specs.Words.{word_count};
 
 use super::end_words::EndWords;
-use super::holders::{HoldersListed, put_holders};
+use super::holders::{HoldersListed, holders_of, put_holders};
 use super::lane::Lane;
 use super::leftovers::Leftovers;
 use super::network_ref::NetworkRef;
@@ -20,7 +20,6 @@ use std::marker::Model;
 use std::snapshot::Snapshot;
 
 /// A closed floor: its words, and the grants of its one lane. Only [`super::Floor::close_for`] makes it.
-#[derive(Drop)]
 pub struct ClosedFloor<'a> {
     pub(super) alloc: Global,
     pub(super) lane: Snapshot<Lane>,
@@ -108,9 +107,18 @@ impl<'a> ClosedFloor<'a> {
     fn holders(&self) -> Result<Vec<u64>, AllocError>
         ensures { IfOk result (λ holders. ListsHolders self.now.did.grants holders.items) }
     {
-        let mut holders = vec![in self.alloc; 0; self.grants.len()]?;
-        self.list_holders(&mut holders);
-        Ok(holders)
+        self.closed_laws();
+        holders_of(self.alloc, self.grants.as_slice())
+    }
+
+    /// A list with a place for each word.
+    ///
+    /// # Errors
+    /// `AllocError` if the list gets no memory.
+    fn room_for_words(&self) -> Result<Vec<u64>, AllocError>
+        ensures { IfOk result (λ room. length room.items ≡ word_count self.now.start.network.table) }
+    {
+        zeros(self.alloc, self.network.get())
     }
 
     /// The same closed floor, with its words in a list, and with how much each has risen since it began: what is left of it
@@ -122,13 +130,14 @@ impl<'a> ClosedFloor<'a> {
         requires { leftovers ≡ words_before self.start }
         ensures { IfOk result (λ quiet. quiet ≡ self.entry) }
     {
-        let room = zeros(self.alloc, self.network.get())?;
-        Ok(self.quiet_in(leftovers, room))
+        let room = self.room_for_words()?;
+        Ok(self.quiet_in(leftovers.into_words(), room))
     }
 
-    /// The same closed floor as [`ClosedFloor::into_quiet`] makes of it, in a list with a place for each word.
-    pub(super) fn quiet_in(self, leftovers: Leftovers<'a>, room: Vec<u64>) -> Quiet<'a>
-        requires before { leftovers ≡ words_before self.start }
+    /// The same closed floor as [`ClosedFloor::into_quiet`] makes of it, in a list with a place for each word, by the words
+    /// with which it began.
+    pub(super) fn quiet_in(self, before: Words<'a>, room: Vec<u64>) -> Quiet<'a>
+        requires before { before ≡ words_before self.start }
         requires room { length room.items ≡ word_count self.start.network.table }
         ensures { result ≡ self.entry }
     {
@@ -141,8 +150,8 @@ impl<'a> ClosedFloor<'a> {
             grants,
         } = self;
         let mut list = room;
-        words.copy_to(&mut list);
-        let risen = leftovers.words.risen_to(&list);
+        words.copy_over(&mut list);
+        let risen = before.risen_to(&list);
         Quiet {
             alloc,
             lane,
@@ -150,5 +159,19 @@ impl<'a> ClosedFloor<'a> {
             grants,
             risen,
         }
+    }
+}
+
+// By hand, as that of the network that it holds: it is one call where a value is dropped.
+impl Drop for ClosedFloor<'_> {
+    fn drop(self) {
+        let ClosedFloor {
+            alloc: _alloc,
+            lane: _lane,
+            network: _network,
+            words: _words,
+            clients: _clients,
+            grants: _grants,
+        } = self;
     }
 }

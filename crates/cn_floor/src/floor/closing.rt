@@ -1,9 +1,10 @@
 //! How a floor ends.
 
-ghost use Rattle.std.specs.Prelude.{◌≡◌, IfErr, IfOk};
+ghost use Rattle.std.specs.Prelude.{◌≡◌, length, IfErr, IfOk};
 ghost use Rattle.cn_yard.specs.Lists.{tokens_in};
 ghost use Rattle.cn_floor.specs.Carried.{words_before};
 ghost use Rattle.cn_floor.specs.Closing.{IsCloseRefused};
+ghost use Rattle.cn_floor.specs.Words.{word_count};
 
 use super::closed_floor::ClosedFloor;
 use super::lane::Lane;
@@ -13,6 +14,7 @@ use super::quiet::Quiet;
 use super::reading::clients_of;
 use super::{Floor, zeros};
 use crate::view::Grant;
+use std::alloc::AllocError;
 use std::snapshot::Snapshot;
 
 /// Why a floor is not closed.
@@ -48,19 +50,45 @@ impl<'a> Floor<'a> {
         if lane.inside() > 0 {
             return Err(CloseFault::StillWalking(self, lane));
         }
-        let Ok(room) = zeros(self.alloc, self.network()) else {
+        let Ok(room) = self.room_for_words() else {
             return Err(CloseFault::Memory(self, lane));
         };
         let (closed, leftovers) = self.close_for(lane)?;
-        Ok(closed.quiet_in(leftovers, room))
+        Ok(closed.quiet_in(leftovers.into_words(), room))
+    }
+
+    /// A list with a place for each word.
+    ///
+    /// # Errors
+    /// `AllocError` if the list gets no memory.
+    fn room_for_words(&self) -> Result<Vec<u64>, AllocError>
+        ensures { IfOk result (λ room. length room.items ≡ word_count self.now.start.network.table) }
+    {
+        zeros(self.alloc, self.network())
+    }
+
+    /// One more holder of its network.
+    ///
+    /// # Errors
+    /// `AllocError` if its holders cannot be counted.
+    fn share_network(&self) -> Result<NetworkRef<'a>, AllocError>
+        ensures { IfOk result (λ network. network ≡ self.now.start.network) }
+    {
+        self.before.share_network()
     }
 
     /// Gives up the floor, for the words with which it began.
     pub fn give_up(self) -> Leftovers<'a>
         ensures { result ≡ words_before self.entry.start }
     {
+        let Floor {
+            alloc: _alloc,
+            base: _base,
+            before,
+            counters: _counters,
+        } = self;
         Leftovers {
-            words: self.before,
+            words: before,
             yard: None,
         }
     }
@@ -77,10 +105,10 @@ impl<'a> Floor<'a> {
         ensures out { IfOk result (λ r. tokens_in lane.yard.lists ≡ 0) }
         ensures refused { IfErr result (λ f. IsCloseRefused self.entry lane f) }
     {
-        if !lane.yard.is_empty() {
+        if lane.inside() != 0 {
             return Err(CloseFault::StillWalking(self, lane));
         }
-        match self.before.share_network() {
+        match self.share_network() {
             Ok(network) => self.end(lane, network),
             Err(_) => Err(CloseFault::Memory(self, lane)),
         }

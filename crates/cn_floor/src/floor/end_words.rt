@@ -43,7 +43,16 @@ impl EndWords {
     }
 
     /// Copies all of them over a list of as many.
-    pub(super) fn copy_to(&self, words: &mut [u64])
+    #[inline]
+    pub(super) fn copy_over(&self, list: &mut Vec<u64>)
+        requires { length list.old.items ≡ length self.now }
+        ensures { list.new.items ≡ self.now }
+    {
+        self.copy_to(list);
+    }
+
+    /// Copies all of them over a slice of as many.
+    fn copy_to(&self, words: &mut [u64])
         requires { length words.old ≡ length self.now }
         ensures { words.new ≡ self.now }
     {

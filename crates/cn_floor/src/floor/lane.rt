@@ -1,6 +1,6 @@
 //! A lane: a worker's own part of a floor.
 
-ghost use Rattle.std.specs.Prelude.{◌≡◌, ℕ, ◌+◌, ◌<◌, ◌≤◌, ◌↔◌, None, Some, [], max, length, IfSome, IsSome, IsTrue, OnErr, OnOk};
+ghost use Rattle.std.specs.Prelude.{◌≡◌, ℕ, ◌+◌, ◌<◌, ◌≤◌, ◌^◌, ◌↔◌, None, Some, [], max, length, vec_capacity, IfSome, IsSome, IsTrue, OnErr, OnOk};
 ghost use Rattle.cn_spec.specs.declared.limits.TheConstants.{MOST_CLIENTS, MOST_ROOM};
 ghost use Rattle.cn_yard.specs.Lists.{IsLowest, IsThere, next_after, first_of, on, standing, times_in, tokens_in};
 
@@ -35,8 +35,50 @@ impl Model for Lane {
     ghost invariant = { IsLane };
 }
 
+/// Makes way for so many grants more, beside one for each token inside, unless the room is enough for them.
+///
+/// # Errors
+/// `AllocError` if the room is less, and the list gets no memory.
+#[inline]
+pub(super) fn make_way(
+    grants: &mut Vec<Grant>,
+    more: u64,
+    yard: &Yard,
+    room: u64,
+) -> Result<(), AllocError>
+    requires room { length grants.old.items + tokens_in yard.now.lists + room ≤ vec_capacity grants.old }
+    requires more { more < 2 ^ 62 }
+    ensures items { grants.new.items ≡ grants.old.items }
+    ensures room { length grants.new.items + tokens_in yard.now.lists + room ≤ vec_capacity grants.new }
+    ensures ok { OnOk result (length grants.new.items + tokens_in yard.now.lists + more
+        ≤ vec_capacity grants.new) }
+    ensures err { OnErr result (room < more) }
+{
+    if room < more {
+        let inside = yard.len() as usize;
+        grants.reserve(inside + more as usize)?;
+    }
+    Ok(())
+}
+
 impl Lane {
     ghost use Rattle.cn_floor.specs.Lane.{with_room};
+
+    /// Its seat, its grants and its quota.
+    pub(super) fn into_parts(self) -> (Seat<(), View>, Vec<Grant>, u64)
+        ensures seat { (result.0.table_id ≡ self.home.table) × (result.0.me ≡ (self.view, [])) }
+        ensures idle { self.view.loads ≡ [] }
+        ensures grants { result.1.items ≡ self.view.grants }
+        ensures quota { result.2 ≡ self.view.quota }
+    {
+        let Lane {
+            seat,
+            grants,
+            quota,
+            ..
+        } = self;
+        (seat, grants, quota)
+    }
 
     /// What holds of each lane: its yard has the tokens of its view, wire by wire, and it has a wire for each of the
     /// network; those inside and its quota are at most [`MOST_CLIENTS`] together; no token stands there twice, and one that

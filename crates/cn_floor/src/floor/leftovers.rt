@@ -1,8 +1,9 @@
 //! What one floor leaves for the next.
 
-ghost use Rattle.std.specs.Prelude.{◌≡◌, IfOk};
+ghost use Rattle.std.specs.Prelude.{◌≡◌, IfOk, IfSome};
 ghost use Rattle.cn_floor.specs.Carried.{client_count, zero_words};
 ghost use Rattle.cn_floor.specs.Ends.{words_after};
+ghost use Rattle.cn_floor.specs.Lane.{IsIdle};
 
 use super::closed_floor::ClosedFloor;
 use super::words::Words;
@@ -14,7 +15,6 @@ use std::marker::Model;
 
 /// What a floor leaves for the next one over its network ([`super::Floor::open_on`]): the words with which that begins, and
 /// the yard of a lane, in which nobody is.
-#[derive(Drop)]
 pub struct Leftovers<'a> {
     pub(super) words: Words<'a>,
     /// None if it was lost with a floor that was not closed.
@@ -54,14 +54,42 @@ impl<'a> Leftovers<'a> {
         &self.words
     }
 
+    /// The words with which the next floor would begin.
+    pub(super) fn into_words(self) -> Words<'a>
+        ensures { result ≡ self.entry }
+    {
+        let Leftovers { words, yard: _yard } = self;
+        words
+    }
+
+    /// The words with which the next floor begins, and the yard for its lane, if there is one.
+    pub(super) fn into_parts(self) -> (Words<'a>, Option<Yard>)
+        ensures words { result.0 ≡ self.entry }
+        ensures yard { IfSome result.1 (λ yard. IsIdle self.entry.network yard.lists) }
+    {
+        let Leftovers { words, yard } = self;
+        (words, yard)
+    }
+
     /// The same yard, with the words of a closed floor over the same network in place of its own. It takes no memory.
     pub fn go_on_from(self, closed: ClosedFloor<'a>) -> Leftovers<'a>
         requires { closed.start.network ≡ self.network }
         ensures { result ≡ words_after closed.entry }
     {
+        let Leftovers { words, yard } = self;
         Leftovers {
-            words: self.words.overwritten(&closed.words, closed.clients),
-            yard: self.yard,
+            words: words.overwritten(&closed.words, closed.clients),
+            yard,
         }
+    }
+}
+
+// By hand, as that of the network that it holds: it is one call where a value is dropped.
+impl Drop for Leftovers<'_> {
+    fn drop(self) {
+        let Leftovers {
+            words: _words,
+            yard: _yard,
+        } = self;
     }
 }

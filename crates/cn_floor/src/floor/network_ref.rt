@@ -18,7 +18,6 @@ pub(super) enum Holding<'a> {
 }
 
 /// A network that is borrowed, or shared by count.
-#[derive(Drop)]
 pub(super) struct NetworkRef<'a> {
     holding: Holding<'a>,
 }
@@ -75,5 +74,13 @@ impl<'a> NetworkRef<'a> {
             Holding::Borrowed(network) => Ok(NetworkRef::borrowed(network)),
             Holding::Shared(network) => NetworkRef::shared(network),
         }
+    }
+}
+
+// By hand: a derived drop of a type with a lifetime is walked field by field wherever a value is dropped, and this one is a
+// call there.
+impl Drop for NetworkRef<'_> {
+    fn drop(self) {
+        let NetworkRef { holding: _holding } = self;
     }
 }

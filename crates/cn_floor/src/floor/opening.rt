@@ -164,7 +164,7 @@ impl<'a> Floor<'a> {
         ensures idle { IfOk result (λ r. IsIdle leftovers.entry.network r.1.yard.lists) }
         ensures back { IfErr result (λ back. back ≡ leftovers.entry) }
     {
-        let Leftovers { words, yard } = leftovers;
+        let (words, yard) = leftovers.into_parts();
         let Ok(yard) = spare_yard(alloc, words.network(), yard) else {
             return Err(Leftovers { words, yard: None });
         };

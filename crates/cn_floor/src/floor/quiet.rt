@@ -3,7 +3,7 @@
 ghost use Rattle.std.specs.Prelude.{◌≡◌, IfOk};
 ghost use Rattle.cn_floor.specs.Ends.{HasRisen, IsClosedFloor, ListsHolders, counts_by_exit, passes_of};
 
-use super::holders::put_holders;
+use super::holders::holders_of;
 use super::lane::Lane;
 use super::words::Words;
 use crate::view::Grant;
@@ -13,7 +13,6 @@ use std::snapshot::Snapshot;
 
 /// What a closed floor leaves: its counts, and the grants of its one lane. Only the close of a floor
 /// makes it.
-#[derive(Drop)]
 pub struct Quiet<'a> {
     pub(super) alloc: Global,
     pub(super) lane: Snapshot<Lane>,
@@ -93,7 +92,14 @@ impl<'a> Quiet<'a> {
     pub fn into_words(self) -> Words<'a>
         ensures { result ≡ record { network = self.entry.start.network; words = self.entry.words } }
     {
-        self.words
+        let Quiet {
+            alloc: _alloc,
+            lane: _lane,
+            words,
+            grants: _grants,
+            risen: _risen,
+        } = self;
+        words
     }
 
     /// The clients by rising name: `holders[n]` is the client with name n.
@@ -104,8 +110,13 @@ impl<'a> Quiet<'a> {
         ensures { IfOk result (λ holders. ListsHolders self.now.did.grants holders.items) }
     {
         self.quiet_laws();
-        let mut holders = vec![in self.alloc; 0; self.grants.len()]?;
-        put_holders(self.grants.as_slice(), &mut holders);
-        Ok(holders)
+        holders_of(self.alloc, self.grants.as_slice())
+    }
+}
+
+// By hand, as that of the network that it holds: it is one call where a value is dropped.
+impl Drop for Quiet<'_> {
+    fn drop(self) {
+        drop(self.into_words());
     }
 }

@@ -6,7 +6,7 @@ ghost use Rattle.cn_floor.specs.Lane.{empty_lane};
 ghost use Rattle.cn_floor.specs.Steps.{HasMoment};
 ghost use Rattle.cn_floor.specs.Views.{after_join, after_look, after_split, split_off};
 
-use super::lane::Lane;
+use super::lane::{Lane, make_way};
 use super::{Floor, yard_for};
 use crate::fault::{JoinFault, SplitFault};
 use crate::view::Grant;
@@ -104,28 +104,42 @@ impl<'a> Floor<'a> {
         ensures room { IfErr result (λ r. (r.0 ≡ JoinFault.Memory)
             → lane.room < length other.view.grants) }
     {
-        if !other.yard.is_empty() {
+        if other.inside() > 0 {
             return Err((JoinFault::StillWalking, lane, other));
         }
-        let more = other.grants.len();
-        let inside = lane.yard.len();
-        if lane.room < more as u64 {
-            if lane.grants.reserve(more + inside as usize).is_err() {
-                return Err((JoinFault::Memory, lane, other));
-            }
+        match self.take_in(&mut lane, other) {
+            Ok(()) => Ok(lane),
+            Err(other) => Err((JoinFault::Memory, lane, other)),
         }
-        let Lane {
-            seat,
-            yard: _yard,
-            grants,
-            quota,
-            room: _room,
-        } = other;
+    }
+
+    /// Takes a lane with no token into another.
+    ///
+    /// # Errors
+    /// The lane, if the other has no room for its grants, and gets no memory.
+    fn take_in(&self, lane: &mut Lane, other: Lane) -> Result<(), Lane>
+        requires own { (lane.old.home ≡ self.now) × (other.home ≡ self.now) }
+        requires out { tokens_in other.yard.lists ≡ 0 }
+        ensures ok { OnOk result (lane.new ≡ record lane.old {
+          view = after_look (after_join lane.old.view other.view);
+          room = lane.old.room - length other.view.grants;
+        }) }
+        ensures moment { OnOk result (HasMoment self.now.start lane.new.view) }
+        ensures err { OnErr result (lane.new ≡ lane.old) }
+        ensures back { IfErr result (λ back. back ≡ other) }
+        ensures room { OnErr result (lane.old.room < length other.view.grants) }
+    {
+        other.lane_laws();
+        let more = other.grants().len() as u64;
+        let Ok(()) = make_way(&mut lane.grants, more, &lane.yard, lane.room) else {
+            return Err(other);
+        };
+        let (seat, grants, quota) = other.into_parts();
         self.counters.join(&mut lane.seat, seat);
         self.counters.look::<Brand>(&mut lane.seat);
         lane.quota += quota;
-        lane.room = lane.room.saturating_sub(more as u64);
+        lane.room = lane.room.saturating_sub(more);
         append(&mut lane.grants, grants.as_slice());
-        Ok(lane)
+        Ok(())
     }
 }

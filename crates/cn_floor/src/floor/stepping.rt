@@ -7,7 +7,7 @@ ghost use Rattle.cn_floor.specs.Steps.{HasMoment, IsAnswer};
 ghost use Rattle.cn_floor.specs.Views.{after_entered};
 
 use super::Floor;
-use super::lane::Lane;
+use super::lane::{Lane, make_way};
 use crate::fault::LaneFault;
 use crate::view::Grant;
 use cn_balancer::output_of;
@@ -41,12 +41,9 @@ impl<'a> Floor<'a> {
             return Err(LaneFault::QuotaSpent);
         }
         let entry = entry as u32;
-        if lane.room == 0 {
-            let inside = lane.yard.len() as usize;
-            if lane.grants.reserve(inside + 1).is_err() {
-                return Err(LaneFault::Memory);
-            }
-        }
+        let Ok(()) = make_way(&mut lane.grants, 1, &lane.yard, lane.room) else {
+            return Err(LaneFault::Memory);
+        };
         let Ok(token) = lane.yard.admit(client, entry) else {
             return Err(LaneFault::Memory);
         };

@@ -19,7 +19,6 @@ use std::sync::Arc;
 /// exit since each word was 0. Another floor may go on from them ([`super::Floor::open_after`]).
 ///
 /// Only [`Words::zero`], [`Words::zero_shared`] and the close of a floor make them. No reader takes memory.
-#[derive(Drop)]
 pub struct Words<'a> {
     pub(super) network: NetworkRef<'a>,
     pub(super) words: Vec<u64>,
@@ -107,7 +106,7 @@ impl<'a> Words<'a> {
             words: mut list,
             clients: _clients,
         } = self;
-        words.copy_to(&mut list);
+        words.copy_over(&mut list);
         Words::closed(network, list, clients)
     }
 
@@ -127,16 +126,20 @@ impl<'a> Words<'a> {
 
     /// How much each word has risen from these to later ones. `None` if these count nobody: nobody went by an end then,
     /// and an end's later word is what it has risen.
-    pub(super) fn risen_to(self, later: &[u64]) -> Option<Vec<u64>>
-        requires { length self.words ≡ length later.now }
+    pub(super) fn risen_to(self, later: &Vec<u64>) -> Option<Vec<u64>>
+        requires { length self.words ≡ length later.now.items }
         ensures some { IfSome result (λ risen.
-            IsDifference self.entry.words later.now risen.items) }
+            IsDifference self.entry.words later.now.items risen.items) }
         ensures none { result ≡ None → NoneWent self.entry.network.table self.entry.words }
     {
         if self.clients == 0 {
             return None;
         }
-        let mut list = self.words;
+        let Words {
+            network: _network,
+            words: mut list,
+            clients: _clients,
+        } = self;
         rise(&mut list, later);
         Some(list)
     }
@@ -201,5 +204,16 @@ impl<'a> Words<'a> {
         let network = self.network();
         let first = 1 + network.entries() as usize + network.balancers() as usize;
         self.words[first + exit as usize]
+    }
+}
+
+// By hand, as that of the network that it holds: it is one call where a value is dropped.
+impl Drop for Words<'_> {
+    fn drop(self) {
+        let Words {
+            network: _network,
+            words: _words,
+            clients: _clients,
+        } = self;
     }
 }

@@ -3,7 +3,7 @@ use Rattle.cn_spec.specs.Step as step
 use Rattle.cn_wiring.specs.declared.end.End.{End}
 use Rattle.cn_wiring.specs.declared.end.End.TheVariants.{Balancer, Exit}
 use Rattle.cn_wiring.specs.Network.{Network}
-use Rattle.cn_wiring.specs.Table.{output_wire}
+use Rattle.cn_wiring.specs.Table.{Stands, output_wire}
 use Rattle.cn_yard.specs.Deals.{every_second}
 use Rattle.cn_yard.specs.Lists.{on}
 use Rattle.cn_floor.specs.declared.view.Start.{Start}
@@ -288,3 +288,103 @@ returns-in-Exit-clause-grants t c =
     c.grant_all.ensures.granted
     ∙ (λ x. c.requires.grants x ++ grants_out (width x) (begun x) i n (sym c.requires.group.are x))
     ∙ sym (grants-by start c.args.wire i n c.args.seat.now.me.0 c.let_by-end.new.seat.me.0 (left t c))
+
+pub let_by-end-requires-clause-network : goal.let_by-end-requires-clause-network
+let_by-end-requires-clause-network t c = c.requires.network
+
+pub overflow_mul-out : goal.overflow_mul-out
+overflow_mul-out t c =
+    let stands : Stands c.args.self.now.start.network.table (Balancer c.in-Balancer.balancer) =
+    subst (λ (e : End). Stands c.args.self.now.start.network.table e) c.in-Balancer.is c.let_by-end.ensures.stands in
+    omega (arith, stands, c.start_laws.ensures.network.formed.balancers)
+
+pub overflow_add-out : goal.overflow_add-out
+overflow_add-out t c =
+    let stands : Stands c.args.self.now.start.network.table (Balancer c.in-Balancer.balancer) =
+    subst (λ (e : End). Stands c.args.self.now.start.network.table e) c.in-Balancer.is c.let_by-end.ensures.stands in
+    omega (arith, stands, c.start_laws.ensures.network.formed.balancers, c.entries.ensures.value, c.entries.ensures.network.formed.entries)
+
+pub overflow_add-out-then-group-eq1 : goal.overflow_add-out-then-group-eq1
+overflow_add-out-then-group-eq1 t c =
+    let stands : Stands c.args.self.now.start.network.table (Balancer c.in-Balancer.balancer) =
+    subst (λ (e : End). Stands c.args.self.now.start.network.table e) c.in-Balancer.is c.let_by-end.ensures.stands in
+    omega (arith, stands, c.start_laws.ensures.network.formed.balancers, c.entries.ensures.value, c.entries.ensures.network.formed.entries, c.output_of-output.ensures)
+
+pub overflow_add-out-in-Balancer : goal.overflow_add-out-in-Balancer
+overflow_add-out-in-Balancer t c =
+    let stands : Stands c.args.self.now.start.network.table (Balancer c.in-Balancer.balancer) =
+    subst (λ (e : End). Stands c.args.self.now.start.network.table e) c.in-Balancer.is c.let_by-end.ensures.stands in
+    omega (arith, stands, c.start_laws.ensures.network.formed.balancers, c.entries.ensures.value, c.entries.ensures.network.formed.entries)
+
+pub deal-requires-clause-output : goal.deal-requires-clause-output
+deal-requires-clause-output t c = omega (arith, c.output_of-output.ensures)
+
+pub deal-requires-clause-group : goal.deal-requires-clause-group
+deal-requires-clause-group t c = (_, c.requires.group)
+
+pub grant_all-requires-clause-group : goal.grant_all-requires-clause-group
+grant_all-requires-clause-group t c = (_, c.requires.group)
+
+pub grant_all-requires-clause-room : goal.grant_all-requires-clause-room
+grant_all-requires-clause-room t c = c.requires.room
+
+pub grant_all-requires-clause-exits : goal.grant_all-requires-clause-exits
+grant_all-requires-clause-exits t c =
+    let stands : Stands c.args.self.now.start.network.table (Exit c.in-Exit.exit) =
+    subst (λ (e : End). Stands c.args.self.now.start.network.table e) c.in-Exit.is c.let_by-end.ensures.stands in
+    (omega (arith, c.width-width.ensures.value, c.width-width.ensures.network.formed.width), omega (arith, stands, width t c))
+
+pub returns-then-group-eq1-clause-seat : goal.returns-then-group-eq1-clause-seat
+returns-then-group-eq1-clause-seat t c = (c.pass_all.ensures.seat.0 ∙ c.let_by-end.ensures.seat.0, c.pass_all.ensures.seat.1)
+
+pub returns-else-group-eq1-clause-seat : goal.returns-else-group-eq1-clause-seat
+returns-else-group-eq1-clause-seat t c =
+    (c.pass_all-in-Balancer-2.ensures.seat.0 ∙ c.pass_all-in-Balancer.ensures.seat.0 ∙ c.let_by-end.ensures.seat.0, c.pass_all-in-Balancer-2.ensures.seat.1)
+
+pub returns-else-group-eq1-clause-capacity : goal.returns-else-group-eq1-clause-capacity
+returns-else-group-eq1-clause-capacity t c = c.pass_all-in-Balancer-2.ensures.capacity ∙ c.pass_all-in-Balancer.ensures.capacity
+
+pub let_by-end-requires-clause-own : goal.let_by-end-requires-clause-own
+let_by-end-requires-clause-own t c = c.requires.own
+
+pub let_by-end-requires-clause-slots : goal.let_by-end-requires-clause-slots
+let_by-end-requires-clause-slots t c = c.requires.slots
+
+pub let_by-end-requires-clause-wires : goal.let_by-end-requires-clause-wires
+let_by-end-requires-clause-wires t c = c.requires.wires
+
+pub let_by-end-requires-clause-wire : goal.let_by-end-requires-clause-wire
+let_by-end-requires-clause-wire t c = c.requires.wire
+
+pub let_by-end-requires-clause-once : goal.let_by-end-requires-clause-once
+let_by-end-requires-clause-once t c = c.requires.once
+
+pub returns-then-group-eq0-clause-seat : goal.returns-then-group-eq0-clause-seat
+returns-then-group-eq0-clause-seat t c = (refl, c.requires.slots.0)
+
+pub returns-then-group-eq0-clause-once : goal.returns-then-group-eq0-clause-once
+returns-then-group-eq0-clause-once t c = c.requires.once
+
+pub returns-then-group-eq0-clause-grants : goal.returns-then-group-eq0-clause-grants
+returns-then-group-eq0-clause-grants t c = c.requires.grants
+
+pub returns-then-group-eq1-clause-once : goal.returns-then-group-eq1-clause-once
+returns-then-group-eq1-clause-once t c = c.pass_all.ensures.once
+
+pub returns-then-group-eq1-clause-grants : goal.returns-then-group-eq1-clause-grants
+returns-then-group-eq1-clause-grants t c = c.pass_all.ensures.grants
+
+pub returns-then-group-eq1-clause-capacity : goal.returns-then-group-eq1-clause-capacity
+returns-then-group-eq1-clause-capacity t c = c.pass_all.ensures.capacity
+
+pub returns-else-group-eq1-clause-once : goal.returns-else-group-eq1-clause-once
+returns-else-group-eq1-clause-once t c = c.pass_all-in-Balancer-2.ensures.once
+
+pub returns-else-group-eq1-clause-grants : goal.returns-else-group-eq1-clause-grants
+returns-else-group-eq1-clause-grants t c = c.pass_all-in-Balancer-2.ensures.grants
+
+pub returns-in-Exit-clause-seat : goal.returns-in-Exit-clause-seat
+returns-in-Exit-clause-seat t c = c.let_by-end.ensures.seat
+
+pub returns-in-Exit-clause-capacity : goal.returns-in-Exit-clause-capacity
+returns-in-Exit-clause-capacity t c = c.grant_all.ensures.capacity

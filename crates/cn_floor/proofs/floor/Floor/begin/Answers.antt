@@ -1,26 +1,71 @@
-use Rattle.std.proofs.Common.{rules, ◌≡◌, length, [], replicate, sym, ap, ◌∙◌, arith}
+use Rattle.std.proofs.Common.{◌≡◌, ℕ, ◌≤◌, length, [], replicate, sym, ap, ◌∙◌, subst, arith}
 use Rattle.std.proofs.lemmas.List.{length-replicate}
+use Rattle.cn_spec.specs.declared.limits.TheConstants.{MOST_CARRIED, MOST_CLIENTS}
 use Rattle.cn_yard.specs.Lists.{tokens_in}
-use Rattle.cn_floor.specs.declared.view.Start.{Start}
-use Rattle.cn_floor.specs.Views.{empty_view}
+use Rattle.cn_floor.specs.declared.view.View.{View}
+use Rattle.cn_floor.specs.Carried.{IsClosed, WordsValue, client_count, start_after, words_before}
+use Rattle.cn_floor.specs.Rule.{IsStart}
+use Rattle.cn_floor.specs.Views.{base, empty_view}
 use Rattle.cn_floor.proofs.InLane.Yards.{nobody-in}
 use Rattle.cn_floor.proofs.floor.Floor.begin.Goals as goal
 
+begun : (w : WordsValue) (quota : ℕ) → IsClosed w → client_count w ≤ MOST_CARRIED → quota ≤ MOST_CLIENTS → IsStart (start_after w quota)
+begun w quota closed few low = record { network = closed.network; quota = low; carried = closed.carried; few = few }
+
+pub new-made-requires : goal.new-made-requires
+new-made-requires c =
+    let network : c.network.result.now ≡ c.words.inside.network = c.network.ensures ∙ ap (λ (w : WordsValue). w.network) (sym c.words.view_is) in
+    let same : c.args.words ≡ record { network = c.network.result.now; words = c.words.inside.words.items } =
+    sym c.words.view_is ∙ (λ i. record { network = (sym network) i; words = c.words.inside.words.items }) in
+    subst (λ (w : WordsValue). IsStart (start_after w c.args.quota)) same
+    (begun c.args.words c.args.quota (subst IsClosed c.words.view_is c.words.invariant.closed) c.requires.few.0 c.requires.few.1)
+
+module _ (c : goal.After-new) where
+  floor : c.in-Ok.counters.start ≡ start_after c.args.words c.args.quota
+  floor =
+      let network : c.network.result.now ≡ c.words.inside.network = c.network.ensures ∙ ap (λ (w : WordsValue). w.network) (sym c.words.view_is) in
+      c.in-Ok.ensures.start ∙ (λ i. record { network = network i; quota = c.args.quota; words = c.words.inside.words.items }) ∙ ap (λ (w : WordsValue). start_after w c.args.quota) c.words.view_is
+
+  view : c.in-Ok.seat.me.0 ≡ empty_view c.in-Ok.counters.start c.args.quota
+  view = ap (λ me. me.0) c.in-Ok.ensures.seat.1
+
+pub returns-clause-floor : goal.returns-clause-floor
+returns-clause-floor c = floor c
+
+pub returns-clause-lane : goal.returns-clause-lane
+returns-clause-lane c =
+    let is = view c in
+    (λ i. record {
+      home = record { table = c.in-Ok.ensures.seat.0 i; start = (is i).start };
+      view = is i;
+      yard = c.args.yard;
+      room = 0;
+    })
+
+pub invariant_of-floor : goal.invariant_of-floor
+invariant_of-floor c =
+    let is = floor c in
+    record {
+      base = c.words.invariant.clients ∙ ap client_count c.words.view_is ∙ ap base (sym is);
+      before = ap words_before (sym is);
+      began = subst IsStart (sym is) (begun c.args.words c.args.quota (subst IsClosed c.words.view_is c.words.invariant.closed) c.requires.few.0 c.requires.few.1);
+    }
+
 pub invariant_of-lane : goal.invariant_of-lane
 invariant_of-lane c =
-    let start : Start = c.in-Ok.counters.start in
-    let view : c.in-Ok.seat.me.0 ≡ empty_view start c.args.quota = search rules in
-    let network : c.args.words.network ≡ start.network = sym c.network.ensures ∙ ap (λ (s : Start). s.network) (sym c.in-Ok.ensures.start) in
-    let tokens : c.args.yard.lists ≡ (empty_view start c.args.quota).tokens = c.requires.idle ∙ (λ x. replicate (length (network x).table.ends) []) in
+    let is = view c in
+    let tokens : c.args.yard.lists ≡ c.in-Ok.seat.me.0.tokens =
+    c.requires.idle ∙ (λ i. replicate (length ((sym (floor c)) i).network.table.ends) []) ∙ sym (ap (λ (x : View). x.tokens) is) in
     let nobody : tokens_in c.args.yard.lists ≡ 0 = ap tokens_in c.requires.idle ∙ nobody-in (length c.args.words.network.table.ends) in
-    rw view (record {
-      no_slot = search rules;
-      idle = search rules;
+    record {
+      no_slot = ap (λ me. me.1) c.in-Ok.ensures.seat.1;
+      idle = ap (λ (x : View). x.loads) is;
       tokens = tokens;
-      wires = ap length tokens ∙ length-replicate (length start.network.table.ends) [];
-      grants = search rules;
-      quota = search rules;
+      wires = ap length c.requires.idle ∙ length-replicate (length c.args.words.network.table.ends) []
+          ∙ (λ i. length ((sym (floor c)) i).network.table.ends) ∙ sym (ap (λ (x : View). length x.start.network.table.ends) is);
+      grants = c.new.ensures.items ∙ sym (ap (λ (x : View). x.grants) is);
+      quota = sym (ap (λ (x : View). x.quota) is);
       few = omega (arith, nobody, c.requires.few);
-      room = omega (arith, nobody, c.new.ensures.capacity);
+      room = omega (arith, nobody, ap length c.new.ensures.items);
       spare = omega arith;
-    })
+    }

@@ -1,49 +1,136 @@
-use Rattle.std.proofs.Common.{◌≡◌, ℕ, ◌+◌, ◌-◌, ◌≤◌, length, refl, rules, arith, ap, ◌∙◌, sym, subst}
-use Rattle.std.specs.Prelude.{vec_capacity}
+use Rattle.std.proofs.Common.{◌≡◌, length, refl, arith, ap, ◌∙◌, sym, subst}
+use Rattle.cn_wiring.specs.Network.{Network}
 use Rattle.cn_ledger.specs.Events.{Enters}
-use Rattle.cn_yard.specs.Lists.{Admits, Yard, tokens_in}
+use Rattle.cn_yard.specs.Lists.{Yard, tokens_in}
+use Rattle.cn_floor.specs.declared.floor.lane.Lane.TheInside.{Inside}
 use Rattle.cn_floor.specs.declared.view.Start.{Start}
 use Rattle.cn_floor.specs.declared.view.View.{View}
+use Rattle.cn_floor.specs.InsideLane.{IsLane, lane_of}
 use Rattle.cn_floor.specs.Lane.{FloorValue, LaneValue}
 use Rattle.cn_floor.specs.Steps.{IsAtomicStep}
 use Rattle.cn_floor.specs.Views.{after_enter}
-use Rattle.cn_floor.specs.declared.floor.lane.Lane.TheInside.{Inside}
-use Rattle.cn_floor.specs.InsideLane.{IsLane}
 use Rattle.cn_floor.proofs.InLane.Lanes.{lane-in}
-use Rattle.cn_floor.proofs.floor.Floor.enter.Goals.{then-lane-eq0-2+else-is_err, else-lane-eq0-2}
 use Rattle.cn_floor.proofs.floor.Floor.enter.Goals as goal
+
+pub make_way-requires-clause-room : goal.make_way-requires-clause-room
+make_way-requires-clause-room c = c.lane.invariant.room
+
+pub make_way-requires-clause-more : goal.make_way-requires-clause-more
+make_way-requires-clause-more c = omega arith
+
+pub admit-requires : goal.admit-requires
+admit-requires c =
+    let network : c.lane.inside.seat.me.0.start.network ≡ c.network.result.now =
+    ap (λ (l : LaneValue). l.home.start.network) c.lane.view_is ∙ ap (λ (h : FloorValue). h.start.network) c.requires.own ∙ sym c.network.ensures.value in
+    record {
+      wire = omega (
+        arith,
+        c.lane.invariant.wires,
+        ap (λ (n : Network). length n.table.ends) network,
+        c.entries.ensures.network.formed.wires,
+        c.entries.ensures.value,
+        c.if-entry-from.false,
+        c.from.ensures,
+      );
+      room = omega (arith, c.lane.invariant.few);
+    }
+
+pub enter-requires-clause-own : goal.enter-requires-clause-own
+enter-requires-clause-own c =
+    let home : (lane_of c.lane.inside).home ≡ c.self.inside.counters = ap (λ (l : LaneValue). l.home) c.lane.view_is ∙ c.requires.own ∙ sym c.self.view_is in
+    (ap (λ (h : FloorValue). h.table) home, ap (λ (h : FloorValue). h.start) home)
+
+pub enter-requires-clause-slots : goal.enter-requires-clause-slots
+enter-requires-clause-slots c = (c.lane.invariant.no_slot, c.lane.invariant.idle)
+
+pub enter-requires-clause-entry : goal.enter-requires-clause-entry
+enter-requires-clause-entry c =
+    let network : c.lane.inside.seat.me.0.start.network ≡ c.network.result.now =
+    ap (λ (l : LaneValue). l.home.start.network) c.lane.view_is ∙ ap (λ (h : FloorValue). h.start.network) c.requires.own ∙ sym c.network.ensures.value in
+    let same : c.self.inside.counters.start.network ≡ c.network.result.now = ap (λ (h : FloorValue). h.start.network) c.self.view_is ∙ sym c.network.ensures.value in (
+      omega (arith, ap (λ (n : Network). n.table.entries) same, c.entries.ensures.value, c.if-entry-from.false, c.from.ensures),
+      omega (
+        arith,
+        ap length c.lane.invariant.tokens,
+        c.lane.invariant.wires,
+        ap (λ (n : Network). length n.table.ends) network,
+        c.entries.ensures.network.formed.wires,
+        c.entries.ensures.value,
+        c.if-entry-from.false,
+        c.from.ensures,
+      ),
+    )
+
+pub enter-requires-clause-quota : goal.enter-requires-clause-quota
+enter-requires-clause-quota c = omega (arith, c.lane.invariant.quota, c.if-lane-eq0)
+
+pub overflow_sub-lane : goal.overflow_sub-lane
+overflow_sub-lane c = omega (arith, c.if-lane-eq0)
+
+pub invariant_of-lane : goal.invariant_of-lane
+invariant_of-lane c =
+    let was = c.lane.invariant in
+    record {
+      no_slot = was.no_slot;
+      idle = was.idle;
+      tokens = was.tokens;
+      wires = was.wires;
+      grants = c.make_way.ensures.items ∙ was.grants;
+      quota = was.quota;
+      few = was.few;
+      room = c.make_way.ensures.room;
+      spare = was.spare;
+    }
+
+pub invariant_of-lane-in_default-admit : goal.invariant_of-lane-in_default-admit
+invariant_of-lane-in_default-admit c =
+    let was = c.lane.invariant in
+    let same : c.admit.new.self ≡ c.lane.inside.yard = c.in_default-admit.ensures.err in
+    record {
+      no_slot = was.no_slot;
+      idle = was.idle;
+      tokens = ap (λ (y : Yard). y.lists) same ∙ was.tokens;
+      wires = ap (λ (y : Yard). length y.lists) same ∙ was.wires;
+      grants = c.make_way.ensures.items ∙ was.grants;
+      quota = was.quota;
+      few = omega (arith, was.few, ap (λ (y : Yard). tokens_in y.lists) same);
+      room = omega (arith, c.make_way.ensures.room, ap (λ (y : Yard). tokens_in y.lists) same);
+      spare = omega (arith, was.spare, ap (λ (y : Yard). y.spare) same);
+    }
 
 pub invariant_of-lane-2 : goal.invariant_of-lane-2
 invariant_of-lane-2 c =
-    let mid : Inside = c.if-lane-eq0-2.lane-inside in
     let was = c.lane.invariant in
-    let Fits : Inside → Type 0 = λ l. IsLane l × (length l.grants.items + tokens_in l.yard.lists + 1 ≤ vec_capacity l.grants) × (l.quota ≡ c.lane.inside.quota) in
-    let kept : Fits mid = elim c.if-lane-eq0-2.branch [
-      | then-lane-eq0-2+else-is_err w ↦ subst Fits (sym w.lane-inside-is) (search rules, search rules, refl)
-      | else-lane-eq0-2 w ↦ subst Fits (sym w.lane-inside-is) (was, omega (arith, was.room, w.if-lane-eq0-2), refl)
-    ] in
-    lane-in mid _ c.in-Ok.token c.args.client kept.0 c.enter.ensures.seat.1 c.args.entry c.enter.ensures.came.0 c.in-Ok.ensures.ok refl refl (omega (arith, kept.2, c.if-lane-eq0)) c.saturating_sub-lane-inside.ensures kept.1
+    let mid : Inside = record {
+      seat = c.lane.inside.seat;
+      yard = c.lane.inside.yard;
+      grants = c.make_way.new.grants;
+      quota = c.lane.inside.quota;
+      room = c.lane.inside.room;
+    } in
+    let kept : IsLane mid = record {
+      no_slot = was.no_slot;
+      idle = was.idle;
+      tokens = was.tokens;
+      wires = was.wires;
+      grants = c.make_way.ensures.items ∙ was.grants;
+      quota = was.quota;
+      few = was.few;
+      room = c.make_way.ensures.room;
+      spare = was.spare;
+    } in
+    lane-in mid _ c.in-Ok-admit.token c.args.client kept c.enter.ensures.seat.1 c.args.entry c.enter.ensures.came.0 c.in-Ok-admit.ensures.ok refl refl (omega (arith, c.if-lane-eq0)) c.saturating_sub-lane-inside.ensures c.in-Ok.ensures.ok
 
 pub returns-clause-ok : goal.returns-clause-ok
 returns-clause-ok c =
-    let mid : Inside = c.if-lane-eq0-2.lane-inside in
-    let was : Inside = c.lane.inside in
-    let new : Yard = c.admit.new.self in
-    let token : ℕ = c.in-Ok.token in
+    let v : View = c.lane.inside.seat.me.0 in
     let w : View = c.enter.new.seat.me.0 in
-    let Same : Inside → Type 0 = λ l. (l.seat.table_id ≡ was.seat.table_id) × (l.seat.me.0 ≡ was.seat.me.0) × (l.yard ≡ was.yard) × (l.room ≡ was.room) in
-    let same : Same mid = elim c.if-lane-eq0-2.branch [
-      | then-lane-eq0-2+else-is_err b ↦ subst Same (sym b.lane-inside-is) (refl, refl, refl, refl)
-      | else-lane-eq0-2 b ↦ subst Same (sym b.lane-inside-is) (refl, refl, refl, refl)
-    ] in
-    let v : View = was.seat.me.0 in
-    let begun : v.start ≡ c.self.inside.counters.start = ap (λ (l : LaneValue). l.home.start) c.lane.view_is ∙ ap (λ (h : FloorValue). h.start) (c.requires.own ∙ sym c.self.view_is) in
-    let view : w ≡ after_enter token c.args.client c.args.entry v = c.enter.ensures.came.0 ∙ ap (after_enter token c.args.client c.args.entry) same.1 in
-    let old = subst (λ (x : View). IsAtomicStep c.self.inside.counters.start x w (λ l m. Enters c.self.inside.counters.start.network.table l m c.args.client c.args.entry)) same.1 c.enter.ensures.came.1 in
+    let begun : c.self.inside.counters.start ≡ v.start = sym (ap (λ (l : LaneValue). l.home.start) c.lane.view_is ∙ ap (λ (h : FloorValue). h.start) (c.requires.own ∙ sym c.self.view_is)) in
+    let view : w ≡ after_enter c.in-Ok-admit.token c.args.client c.args.entry v = c.enter.ensures.came.0 in
     rw (← c.lane.view_is) record {
-      home = λ x. record { table = (c.enter.ensures.seat.0 ∙ same.0) x; start = (view x).start };
+      home = λ x. record { table = c.enter.ensures.seat.0 x; start = (view x).start };
       view = view;
-      yard = subst (λ (y : Yard). Admits y new token c.args.client c.args.entry) same.2 c.in-Ok.ensures.ok;
-      room = c.saturating_sub-lane-inside.ensures ∙ ap (λ (n : ℕ). n - 1) same.3;
-      step = subst (λ (z : Start). IsAtomicStep z v w (λ l m. Enters z.network.table l m c.args.client c.args.entry)) (sym begun) old;
+      yard = c.in-Ok-admit.ensures.ok;
+      room = c.saturating_sub-lane-inside.ensures;
+      step = subst (λ (z : Start). IsAtomicStep z v w (λ l m. Enters z.network.table l m c.args.client c.args.entry)) begun c.enter.ensures.came.1;
     }

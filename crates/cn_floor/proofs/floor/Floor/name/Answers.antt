@@ -2,6 +2,7 @@ use Rattle.std.proofs.Common.{◌≡◌, ℕ, ◌-◌, ◌<◌, ◌++◌, ◌∷
 use Rattle.std.proofs.Math.Seq.{get_or-append_seam}
 use Rattle.std.proofs.lemmas.List.{length_push, nil_from_length}
 use Rattle.cn_spec.specs.Step as step
+use Rattle.cn_wiring.specs.Network.{Network}
 use Rattle.cn_yard.specs.Lists.{Lists, on, tokens_in}
 use Rattle.cn_yard.proofs.CallerLemmas.{nobody-on}
 use Rattle.cn_floor.specs.declared.view.Grant.{Grant}
@@ -106,3 +107,41 @@ returns-clause-ok c =
       spare = ap (λ (l : LaneValue). l.yard.spare) held;
       room = omega (arith, ap (λ (l : LaneValue). l.room) held);
     }
+
+pub make_room-requires : goal.make_room-requires
+make_room-requires c = omega arith
+
+pub walk_through-exit-requires-clause-own : goal.walk_through-exit-requires-clause-own
+walk_through-exit-requires-clause-own c =
+    let home : (lane_of c.lane.inside).home ≡ c.args.self.now = ap (λ (l : LaneValue). l.home) (c.lane.view_is ∙ c.in-Ok.ensures.ok) ∙ c.requires.own in
+    (ap (λ (h : FloorValue). h.table) home, ap (λ (h : FloorValue). h.start) home)
+
+pub walk_through-exit-requires-clause-slots : goal.walk_through-exit-requires-clause-slots
+walk_through-exit-requires-clause-slots c = (c.lane.invariant.no_slot, c.lane.invariant.idle)
+
+pub walk_through-exit-requires-clause-wires : goal.walk_through-exit-requires-clause-wires
+walk_through-exit-requires-clause-wires c =
+    let home : (lane_of c.lane.inside).home ≡ c.args.self.now = ap (λ (l : LaneValue). l.home) (c.lane.view_is ∙ c.in-Ok.ensures.ok) ∙ c.requires.own in
+    sym (ap length c.lane.invariant.tokens) ∙ c.lane.invariant.wires ∙ ap (λ (h : FloorValue). length h.start.network.table.ends) home
+
+pub walk_through-exit-requires-clause-entry : goal.walk_through-exit-requires-clause-entry
+walk_through-exit-requires-clause-entry c =
+    omega (arith, c.if-entry-from.false, c.from.ensures, c.entries.ensures.value, ap (λ (n : Network). n.table.entries) c.network-network.ensures.value)
+
+pub walk_through-exit-requires-clause-quota : goal.walk_through-exit-requires-clause-quota
+walk_through-exit-requires-clause-quota c =
+    omega (arith, c.if-quota-eq0, c.quota.ensures, ap (λ (l : LaneValue). l.view.quota) (c.lane.view_is ∙ c.in-Ok.ensures.ok))
+
+pub name_of-requires-clause-width : goal.name_of-requires-clause-width
+name_of-requires-clause-width c = omega (arith, c.width.ensures.value, c.width.ensures.network.formed.width)
+
+pub name_of-requires-clause-exit : goal.name_of-requires-clause-exit
+name_of-requires-clause-exit c =
+    omega (arith, c.walk_through-exit.ensures.exit, c.width.ensures.value, ap (λ (n : Network). n.table.width) c.network-network.ensures.value)
+
+pub push_reserved-requires : goal.push_reserved-requires
+push_reserved-requires c = omega (arith, c.lane.invariant.room, ap (λ (l : LaneValue). l.room) (c.lane.view_is ∙ c.in-Ok.ensures.ok))
+
+pub overflow_sub-lane : goal.overflow_sub-lane
+overflow_sub-lane c =
+    omega (arith, c.if-quota-eq0, c.quota.ensures, c.lane.invariant.quota, ap (λ (l : LaneValue). l.view.quota) (c.lane.view_is ∙ c.in-Ok.ensures.ok))

@@ -100,3 +100,53 @@ returns-clause-ok c =
       spare = ap (λ (l : LaneValue). l.yard.spare) held;
       room = omega (arith, ap (λ (l : LaneValue). l.room) held);
     }
+
+pub make_room-requires : goal.make_room-requires
+make_room-requires c = omega (arith, c.if-quota-count.false, c.quota.ensures, c.lane_laws.ensures.few)
+
+pub come_in-requires-clause-own : goal.come_in-requires-clause-own
+come_in-requires-clause-own c =
+    let home : (lane_of c.lane.inside).home ≡ c.args.self.now = ap (λ (l : LaneValue). l.home) (c.lane.view_is ∙ c.in-Ok.ensures.ok) ∙ c.requires.own in
+    (ap (λ (h : FloorValue). h.table) home, ap (λ (h : FloorValue). h.start) home)
+
+pub come_in-requires-clause-wires : goal.come_in-requires-clause-wires
+come_in-requires-clause-wires c =
+    let home : (lane_of c.lane.inside).home ≡ c.args.self.now = ap (λ (l : LaneValue). l.home) (c.lane.view_is ∙ c.in-Ok.ensures.ok) ∙ c.requires.own in
+    sym (ap length c.lane.invariant.tokens) ∙ c.lane.invariant.wires ∙ ap (λ (h : FloorValue). length h.start.network.table.ends) home
+
+pub pass_all-requires-clause-own : goal.pass_all-requires-clause-own
+pass_all-requires-clause-own c =
+    let home : (lane_of c.lane.inside).home ≡ c.args.self.now = ap (λ (l : LaneValue). l.home) (c.lane.view_is ∙ c.in-Ok.ensures.ok) ∙ c.requires.own in
+    (c.come_in.ensures.seat.0 ∙ ap (λ (h : FloorValue). h.table) home, c.come_in.ensures.came.start ∙ ap (λ (h : FloorValue). h.start) home)
+
+pub pass_all-requires-clause-wires : goal.pass_all-requires-clause-wires
+pass_all-requires-clause-wires c =
+    let home : (lane_of c.lane.inside).home ≡ c.args.self.now = ap (λ (l : LaneValue). l.home) (c.lane.view_is ∙ c.in-Ok.ensures.ok) ∙ c.requires.own in
+    c.come_in.ensures.came.wires ∙ sym (ap length c.lane.invariant.tokens) ∙ c.lane.invariant.wires ∙ ap (λ (h : FloorValue). length h.start.network.table.ends) home
+
+pub pass_all-requires-clause-wire : goal.pass_all-requires-clause-wire
+pass_all-requires-clause-wire c =
+    omega (
+      arith,
+      c.start_laws.ensures.network.formed.wires,
+      c.if-entry-from.false,
+      c.from.ensures,
+      c.entries.ensures.value,
+      ap (λ (n : Network). n.table.entries) c.network.ensures.value,
+    )
+
+pub pass_all-requires-clause-group : goal.pass_all-requires-clause-group
+pass_all-requires-clause-group c = record { are = c.come_in.ensures.came.there; within = λ some. omega (arith, some) }
+
+pub pass_all-requires-clause-above : goal.pass_all-requires-clause-above
+pass_all-requires-clause-above c u more = c.come_in.ensures.came.others u (λ e. omega (arith, e, more))
+
+pub pass_all-requires-clause-room : goal.pass_all-requires-clause-room
+pass_all-requires-clause-room c = omega (arith, c.lane.invariant.room, ap (λ (l : LaneValue). l.room) (c.lane.view_is ∙ c.in-Ok.ensures.ok))
+
+pub pass_all-requires-clause-grants : goal.pass_all-requires-clause-grants
+pass_all-requires-clause-grants c = c.lane.invariant.grants ∙ sym c.come_in.ensures.came.grants
+
+pub overflow_sub-lane : goal.overflow_sub-lane
+overflow_sub-lane c =
+    omega (arith, c.if-quota-count.false, c.quota.ensures, c.lane.invariant.quota, ap (λ (l : LaneValue). l.view.quota) (c.lane.view_is ∙ c.in-Ok.ensures.ok))

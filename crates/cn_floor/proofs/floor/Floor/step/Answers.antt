@@ -1,9 +1,10 @@
-use Rattle.std.proofs.Common.{◌≡◌, ℕ, ◌+◌, ◌*◌, ◌-◌, ◌%◌, List, Some, refl, arith, sym, ap, ◌∙◌, subst}
+use Rattle.std.proofs.Common.{◌≡◌, ℕ, ◌+◌, ◌*◌, ◌-◌, ◌%◌, List, Some, length, refl, arith, sym, ap, ◌∙◌, subst}
+use Rattle.std.specs.Option.{IsSome}
 use Rattle.cn_spec.specs.Step.{name_of}
 use Rattle.cn_wiring.specs.declared.end.End.{End}
 use Rattle.cn_wiring.specs.Network.{Network}
 use Rattle.cn_wiring.specs.declared.end.End.TheVariants.{Balancer, Exit}
-use Rattle.cn_wiring.specs.Table.{end_of, output_wire}
+use Rattle.cn_wiring.specs.Table.{Stands, end_of, output_wire}
 use Rattle.cn_ledger.specs.declared.moved.Moved.TheVariants.{On, Out}
 use Rattle.cn_floor.specs.declared.view.View.{View}
 use Rattle.cn_floor.specs.Plays.{IsLetBy}
@@ -107,3 +108,43 @@ returns-in-Balancer c =
           (ap (λ (u : ℕ). On b n u) to)
           (subst (λ (e : End). IsLetBy v.start v w client e n) c.in-Balancer.is (subst (λ (s : Start). IsLetBy s v w client c.end-end.result n) (sym begun) c.step-number.ensures.went.1)),
     )
+
+pub step-number-requires-clause-own : goal.step-number-requires-clause-own
+step-number-requires-clause-own c =
+    let home : (lane_of c.lane.inside).home ≡ c.self.inside.counters = ap (λ (l : LaneValue). l.home) c.lane.view_is ∙ c.requires.own ∙ sym c.self.view_is in
+    (ap (λ (h : FloorValue). h.table) home, ap (λ (h : FloorValue). h.start) home)
+
+pub step-number-requires-clause-wires : goal.step-number-requires-clause-wires
+step-number-requires-clause-wires c =
+    let home : (lane_of c.lane.inside).home ≡ c.self.inside.counters = ap (λ (l : LaneValue). l.home) c.lane.view_is ∙ c.requires.own ∙ sym c.self.view_is in
+    sym (ap length c.lane.invariant.tokens) ∙ c.lane.invariant.wires ∙ ap (λ (h : FloorValue). length h.start.network.table.ends) home
+
+pub step-number-requires-clause-ends : goal.step-number-requires-clause-ends
+step-number-requires-clause-ends c =
+    ap (λ (n : Network). end_of n.table c.wire_of-wire.result) (ap (λ (h : FloorValue). h.start.network) c.self.view_is ∙ sym c.network-network.ensures.value) ∙ c.end-end.ensures.at
+
+pub step-number-requires-clause-stands : goal.step-number-requires-clause-stands
+step-number-requires-clause-stands c =
+    subst (λ (n : Network). Stands n.table c.end-end.result) (c.network-network.ensures.value ∙ ap (λ (h : FloorValue). h.start.network) (sym c.self.view_is)) c.end-end.ensures.there
+
+pub name_of-requires-clause-visit : goal.name_of-requires-clause-visit
+name_of-requires-clause-visit c = omega (arith, c.step-number.ensures.went.1.few, c.self.invariant.began.quota, c.self.invariant.began.few)
+
+pub move_to-requires : goal.move_to-requires
+move_to-requires c =
+    let network : c.lane.inside.seat.me.0.start.network ≡ c.network-network.result.now =
+    ap (λ (l : LaneValue). l.home.start.network) c.lane.view_is ∙ ap (λ (h : FloorValue). h.start.network) c.requires.own ∙ sym c.network-network.ensures.value in
+    let stands : Stands c.network-network.result.now.table (Balancer c.in-Balancer.balancer) =
+    subst (λ (e : End). Stands c.network-network.result.now.table e) c.in-Balancer.is c.end-end.ensures.there in
+    record {
+      live = subst (λ (l : LaneValue). IsSome (standing l.yard.lists c.args.token)) (sym c.lane.view_is) c.requires.live;
+      wire = omega (
+        arith,
+        c.lane.invariant.wires,
+        ap (λ (n : Network). length n.table.ends) network,
+        stands,
+        c.entries.ensures.value,
+        c.entries.ensures.network.formed.wires,
+        c.output_of.ensures,
+      );
+    }

@@ -1,7 +1,10 @@
-use Rattle.std.proofs.Common.{◌≡◌, ℕ, ◌<◌, ◌++◌, [], length, replicate, rules, sym, ap, ◌∙◌, subst}
+use Rattle.std.proofs.Common.{◌≡◌, ℕ, ◌<◌, ◌++◌, [], length, replicate, rules, sym, ap, ◌∙◌, subst, arith}
 use Rattle.std.proofs.lemmas.List.FromFn.{length-map-range_with_len}
 use Rattle.cn_yard.specs.Lists.{last_on, on}
+use Rattle.cn_wiring.specs.declared.end.End.{End}
 use Rattle.cn_wiring.specs.declared.end.End.TheVariants.{Exit}
+use Rattle.cn_wiring.specs.Network.{Network}
+use Rattle.cn_wiring.specs.Table.{Stands, end_of}
 use Rattle.cn_ledger.specs.Events.{Enters}
 use Rattle.cn_floor.specs.declared.view.Start.{Start}
 use Rattle.cn_floor.specs.declared.view.View.{View}
@@ -64,3 +67,64 @@ returns-clause-walked c =
       leaves = subst (λ (s : Start). IsLetBy s c.pass_on-wire.new.seat.me.0 c.step-visit.new.seat.me.0 c.args.client (Exit c.in-Exit.exit) c.step-visit.result) same c.step-visit.ensures.went.1;
       after = c.step-visit.ensures.went.0;
     }
+
+pub enter-requires-clause-own : goal.enter-requires-clause-own
+enter-requires-clause-own c =
+    (c.requires.own.0 ∙ ap (λ (h : FloorValue). h.table) (sym c.self.view_is), c.requires.own.1 ∙ ap (λ (h : FloorValue). h.start) (sym c.self.view_is))
+
+pub enter-requires-clause-entry : goal.enter-requires-clause-entry
+enter-requires-clause-entry c = (
+  subst (λ (h : FloorValue). c.args.entry < h.start.network.table.entries) (sym c.self.view_is) c.requires.entry,
+  omega (arith, c.requires.entry, c.requires.wires, c.network-network.ensures.network.formed.wires),
+)
+
+pub pass_on-wire-requires-clause-own : goal.pass_on-wire-requires-clause-own
+pass_on-wire-requires-clause-own c = (c.enter.ensures.seat.0 ∙ c.requires.own.0, ap (λ (x : View). x.start) c.enter.ensures.came.0 ∙ c.requires.own.1)
+
+pub pass_on-wire-requires-clause-slots : goal.pass_on-wire-requires-clause-slots
+pass_on-wire-requires-clause-slots c = (c.enter.ensures.seat.1, ap (λ (x : View). x.loads) c.enter.ensures.came.0 ∙ c.requires.slots.1)
+
+pub step-visit-requires-clause-own : goal.step-visit-requires-clause-own
+step-visit-requires-clause-own c = (
+  c.pass_on-wire.ensures.seat.0 ∙ c.enter.ensures.seat.0 ∙ c.requires.own.0 ∙ ap (λ (h : FloorValue). h.table) (sym c.self.view_is),
+  c.pass_on-wire.ensures.passed.start ∙ ap (λ (x : View). x.start) c.enter.ensures.came.0 ∙ c.requires.own.1 ∙ ap (λ (h : FloorValue). h.start) (sym c.self.view_is),
+)
+
+pub step-visit-requires-clause-slots : goal.step-visit-requires-clause-slots
+step-visit-requires-clause-slots c =
+    (c.pass_on-wire.ensures.seat.1, c.pass_on-wire.ensures.passed.loads ∙ ap (λ (x : View). x.loads) c.enter.ensures.came.0 ∙ c.requires.slots.1)
+
+pub step-visit-requires-clause-ends : goal.step-visit-requires-clause-ends
+step-visit-requires-clause-ends c =
+    ap (λ (n : Network). end_of n.table c.pass_on-wire.result) (ap (λ (h : FloorValue). h.start.network) c.self.view_is ∙ sym c.network-network.ensures.value) ∙ c.end.ensures.at ∙ c.in-Exit.is
+
+pub step-visit-requires-clause-stands : goal.step-visit-requires-clause-stands
+step-visit-requires-clause-stands c =
+    subst (λ (n : Network). Stands n.table (Exit c.in-Exit.exit)) (c.network-network.ensures.value ∙ ap (λ (h : FloorValue). h.start.network) (sym c.self.view_is))
+    (subst (λ (e : End). Stands c.network-network.result.now.table e) c.in-Exit.is c.end.ensures.there)
+
+pub returns-clause-exit : goal.returns-clause-exit
+returns-clause-exit c =
+    subst (λ (n : Network). Stands n.table (Exit c.in-Exit.exit)) c.network-network.ensures.value
+    (subst (λ (e : End). Stands c.network-network.result.now.table e) c.in-Exit.is c.end.ensures.there)
+
+pub end-requires : goal.end-requires
+end-requires c =
+    let v : View = c.args.seat.now.me.0 in
+    let wires : length c.pass_on-wire.new.seat.me.0.tokens ≡ length v.tokens =
+    c.pass_on-wire.ensures.passed.wires ∙ ap (λ (x : View). length x.tokens) c.enter.ensures.came.0
+    ∙ length-map-range_with_len (λ u. on v.tokens u ++ last_on c.first-token.result c.args.client c.args.entry u) 0 (length v.tokens) in
+    omega (
+      arith,
+      c.pass_on-wire.ensures.alone.inside,
+      wires,
+      c.requires.wires,
+      c.network-network.ensures.network.formed.wires,
+      ap (λ (n : Network). n.table.entries) c.network-network.ensures.value,
+      ap (λ (n : Network). n.table.balancers) c.network-network.ensures.value,
+    )
+
+pub unreachable-requires : goal.unreachable-requires
+unreachable-requires c =
+    let (i, ends) = c.pass_on-wire.ensures.exit in
+    cc (ends, c.network-network.ensures.value, c.end.ensures.at, c.in-Balancer.is)

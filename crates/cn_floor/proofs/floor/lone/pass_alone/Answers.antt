@@ -4,6 +4,7 @@ use Rattle.cn_wiring.specs.declared.end.End.TheVariants.{Exit}
 use Rattle.cn_wiring.specs.Table.{end_of}
 use Rattle.cn_yard.specs.Lists.{Lists, Yard, on}
 use Rattle.cn_floor.specs.declared.view.View.{View}
+use Rattle.cn_floor.specs.InsideLane.{lane_of}
 use Rattle.cn_floor.specs.Lane.{FloorValue, LaneValue}
 use Rattle.cn_floor.specs.Lone.{IsAlone, PassesOn}
 use Rattle.cn_floor.proofs.InLane.Lone.{alone-alike, alone-in, alone-moved, there-alone}
@@ -75,3 +76,16 @@ returns g c =
         exit = (exit, subst (λ (s : Start). end_of s.network.table to ≡ Exit exit) (sym begun) ends);
       },
     )
+
+pub pass_on-to-requires-clause-own : goal.pass_on-to-requires-clause-own
+pass_on-to-requires-clause-own g c =
+    let home : (lane_of c.lane.inside).home ≡ c.args.floor.now = ap (λ (l : LaneValue). l.home) c.lane.view_is ∙ c.requires.own in
+    (ap (λ (h : FloorValue). h.table) home, ap (λ (h : FloorValue). h.start) home)
+
+pub pass_on-to-requires-clause-slots : goal.pass_on-to-requires-clause-slots
+pass_on-to-requires-clause-slots g c = (c.lane.invariant.no_slot, c.lane.invariant.idle)
+
+pub pass_on-to-requires-clause-wires : goal.pass_on-to-requires-clause-wires
+pass_on-to-requires-clause-wires g c =
+    let home : (lane_of c.lane.inside).home ≡ c.args.floor.now = ap (λ (l : LaneValue). l.home) c.lane.view_is ∙ c.requires.own in
+    sym (ap length c.lane.invariant.tokens) ∙ c.lane.invariant.wires ∙ ap (λ (h : FloorValue). length h.start.network.table.ends) home

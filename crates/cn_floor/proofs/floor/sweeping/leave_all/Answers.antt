@@ -61,3 +61,12 @@ pub returns-clause-granted : goal.returns-clause-granted
 returns-clause-granted c =
     let none : on c.loop-token.yard.lists c.args.wire ≡ [] = none-first (on c.loop-token.yard.lists c.args.wire) (λ token is. c.in_default.not-Some token (c.first.ensures ∙ is)) in
     (left-all c.args.width c.args.base c.args.exit c.args.first c.args.wire c.args.yard.now c.loop-token.yard c.args.grants.now.items c.loop-token.grants.items c.loop-token.visit c.loop-token.invariant.so_far none).1
+
+pub name_of-requires-clause-width : goal.name_of-requires-clause-width
+name_of-requires-clause-width c = c.requires.exits.0
+
+pub name_of-requires-clause-exit : goal.name_of-requires-clause-exit
+name_of-requires-clause-exit c = c.requires.exits.1
+
+pub returns-clause-capacity : goal.returns-clause-capacity
+returns-clause-capacity c = c.loop-token.invariant.capacity

@@ -1,9 +1,10 @@
-use Rattle.std.proofs.Common.{◌≡◌, ◌++◌, [], length, rules, sym, ap, ◌∙◌, subst, arith}
+use Rattle.std.proofs.Common.{◌≡◌, ℕ, ◌+◌, ◌++◌, [], length, rules, sym, ap, ◌∙◌, subst, arith}
+use Rattle.cn_floor.specs.declared.view.Start.{Start}
 use Rattle.cn_floor.specs.declared.view.View.{View}
 use Rattle.cn_floor.specs.Rule.{start_of}
-use Rattle.cn_floor.specs.Steps.{IsAnswer}
-use Rattle.cn_floor.specs.Together.{both_of}
-use Rattle.cn_floor.specs.Views.{after_look}
+use Rattle.cn_floor.specs.Steps.{HasMoment, IsAnswer}
+use Rattle.cn_floor.specs.Together.{Pair, both_of, cut_first, first_after}
+use Rattle.cn_floor.specs.Views.{after_entered, after_look}
 use Rattle.cn_floor.proofs.AtMoments.Together.{answers-both, names-apart, takes-together}
 use Rattle.cn_floor.proofs.floor.counters.Counters.look_at_both.Goals as goal
 
@@ -33,4 +34,55 @@ returns-clause-answer g c =
     let both = answers-both c.args.self.now.start (after_look v) (after_look w) c.load_all-entered.result (subst (λ (x : View). IsAnswer c.args.self.now.start x c.load_all-entered.result) joined c.load_all-entered.ensures.answer) in (
       record { own = both.0.own; seen = both.0.seen; names = both.0.names; quota = both.0.quota },
       record { own = both.1.own; seen = both.1.seen; names = both.1.names; quota = both.1.quota },
+    )
+
+cut-first : (start : Start) (entered : ℕ) (p : Pair) (v l : View) → p.first ≡ after_look v → l ≡ after_entered start entered (both_of p.first p.second) → cut_first p l ≡ first_after start entered v
+cut-first start entered p v l one is =
+    let steps : v.steps + 1 + 1 + start.network.table.entries + 1 ≡ v.steps + start.network.table.entries + 3 = omega arith in
+    ap (cut_first p) is
+    ∙ (λ i. record (one i) { seen = entered; steps = (one i).steps + 1 + start.network.table.entries + 1 })
+    ∙ ap (λ (n : ℕ). record v { seen = entered; steps = n }) steps
+
+pub cut_apart-other-requires-clause-pair : goal.cut_apart-other-requires-clause-pair
+cut_apart-other-requires-clause-pair g c =
+    let start : Start = c.args.self.now.start in
+    let entered : ℕ = c.load_all-entered.result in
+    c.load_all-entered.ensures.told ∙ ap (λ me. after_entered start entered me.0) c.join_seat.ensures.2
+    ∙ (λ i. after_entered start entered (both_of ((c.look.ensures.looks.0 ∙ sym c.requires.pair.0) i) ((c.look-2.ensures.looks.0 ∙ sym c.requires.pair.1) i)))
+
+pub cut_apart-other-requires-clause-wires : goal.cut_apart-other-requires-clause-wires
+cut_apart-other-requires-clause-wires g c =
+    ap (λ (x : View). length x.tokens) c.requires.pair.1 ∙ c.requires.wires ∙ sym (ap (λ (x : View). length x.tokens) c.requires.pair.0)
+
+pub cut_apart-other-requires-clause-idle : goal.cut_apart-other-requires-clause-idle
+cut_apart-other-requires-clause-idle g c =
+    (ap (λ (x : View). x.loads) c.requires.pair.0 ∙ c.requires.slots.1, ap (λ (x : View). x.loads) c.requires.pair.1 ∙ c.requires.slots.3)
+
+pub cut_apart-other-requires-clause-first : goal.cut_apart-other-requires-clause-first
+cut_apart-other-requires-clause-first g c =
+    subst (λ (x : View). HasMoment c.args.self.now.start x) (c.look.ensures.looks.0 ∙ sym c.requires.pair.0) c.look.ensures.looks.1
+
+pub cut_apart-other-requires-clause-second : goal.cut_apart-other-requires-clause-second
+cut_apart-other-requires-clause-second g c =
+    subst (λ (x : View). HasMoment c.args.self.now.start x) (c.look-2.ensures.looks.0 ∙ sym c.requires.pair.1) c.look-2.ensures.looks.1
+
+pub returns-clause-first : goal.returns-clause-first
+returns-clause-first g c =
+    let start : Start = c.args.self.now.start in
+    let entered : ℕ = c.load_all-entered.result in
+    let p : Pair = g.T.PairOf.pair in
+    let is : c.load_all-entered.new.seat.me.0 ≡ after_entered start entered (both_of p.first p.second) =
+    c.load_all-entered.ensures.told ∙ ap (λ me. after_entered start entered me.0) c.join_seat.ensures.2
+    ∙ (λ i. after_entered start entered (both_of ((c.look.ensures.looks.0 ∙ sym c.requires.pair.0) i) ((c.look-2.ensures.looks.0 ∙ sym c.requires.pair.1) i))) in
+    let view : cut_first p c.load_all-entered.new.seat.me.0 ≡ first_after start entered c.args.seat.now.me.0 = cut-first start entered p c.args.seat.now.me.0 _ c.requires.pair.0 is in (
+      c.cut_apart-other.ensures.first.0 ∙ c.load_all-entered.ensures.seat.0 ∙ c.join_seat.ensures.0 ∙ c.look.ensures.seat.0,
+      c.cut_apart-other.ensures.first.1 ∙ (λ i. (view i, [])),
+    )
+
+pub returns-clause-second : goal.returns-clause-second
+returns-clause-second g c =
+    let entered : ℕ = c.load_all-entered.result in
+    let seen : c.load_all-entered.new.seat.me.0.seen ≡ entered = ap (λ (x : View). x.seen) c.load_all-entered.ensures.told in (
+      c.cut_apart-other.ensures.second.0 ∙ c.load_all-entered.ensures.seat.0 ∙ c.join_seat.ensures.0 ∙ c.look.ensures.seat.0,
+      c.cut_apart-other.ensures.second.1 ∙ (λ i. (record (c.requires.pair.1 i) { seen = seen i }, [])),
     )

@@ -1,0 +1,111 @@
+use Rattle.std.proofs.Common.{◌≡◌, ◌+◌, ◌-◌, ◌++◌, List, [], length, get_or, length-append, sym, ap, ◌∙◌, subst, arith}
+use Rattle.cn_yard.specs.Lists.{Lists, tokens_in}
+use Rattle.cn_yard.proofs.CallerLemmas.{nobody-on}
+use Rattle.cn_floor.specs.declared.view.Grant.{Grant}
+use Rattle.cn_floor.specs.declared.view.View.{View}
+use Rattle.cn_floor.specs.InsideLane.{lane_of}
+use Rattle.cn_floor.specs.Lane.{FloorValue, LaneValue}
+use Rattle.cn_floor.specs.Steps.{HasMoment}
+use Rattle.cn_floor.specs.Views.{after_join, after_look, on_in}
+use Rattle.cn_floor.proofs.floor.Floor.take_in.Goals as goal
+
+pub make_way-requires-clause-room : goal.make_way-requires-clause-room
+make_way-requires-clause-room c = c.lane.invariant.room
+
+pub invariant_of-lane : goal.invariant_of-lane
+invariant_of-lane c =
+    let was = c.lane.invariant in
+    record {
+      no_slot = was.no_slot;
+      idle = was.idle;
+      tokens = was.tokens;
+      wires = was.wires;
+      grants = c.make_way.ensures.items ∙ was.grants;
+      quota = was.quota;
+      few = was.few;
+      room = c.make_way.ensures.room;
+      spare = was.spare;
+    }
+
+pub returns-in_default-clause-err : goal.returns-in_default-clause-err
+returns-in_default-clause-err c = c.lane.view_is
+
+pub returns-in_default-clause-room : goal.returns-in_default-clause-room
+returns-in_default-clause-room c = omega (arith, c.in_default.ensures.err, ap length c.grants.ensures, ap (λ (l : LaneValue). l.room) c.lane.view_is)
+
+pub join-requires-clause-own : goal.join-requires-clause-own
+join-requires-clause-own c =
+    let home : (lane_of c.lane.inside).home ≡ c.self.inside.counters = ap (λ (l : LaneValue). l.home) c.lane.view_is ∙ c.requires.own.0 ∙ sym c.self.view_is in
+    (ap (λ (h : FloorValue). h.table) home, c.into_parts-seat.ensures.seat.0 ∙ ap (λ (h : FloorValue). h.table) (c.requires.own.1 ∙ sym c.self.view_is))
+
+pub join-requires-clause-slots : goal.join-requires-clause-slots
+join-requires-clause-slots c =
+    let theirs = c.into_parts-seat.ensures.seat.1 in
+    (c.lane.invariant.no_slot, c.lane.invariant.idle, ap (λ me. me.1) theirs, ap (λ me. me.0.loads) theirs ∙ c.into_parts-seat.ensures.idle)
+
+pub join-requires-clause-out : goal.join-requires-clause-out
+join-requires-clause-out c u =
+    ap (λ me. on_in u me.0) c.into_parts-seat.ensures.seat.1 ∙ ap (λ (ls : Lists). length (get_or ls u [])) (sym c.lane_laws.ensures.tokens)
+    ∙ nobody-on c.args.other.yard.lists c.requires.out u
+
+pub overflow_add-lane : goal.overflow_add-lane
+overflow_add-lane c = omega (arith, c.lane.invariant.few, c.into_parts-seat.ensures.quota, c.lane_laws.ensures.few)
+
+pub append-requires : goal.append-requires
+append-requires c = omega (arith, c.in-Ok.ensures.ok, ap length (c.as_slice.ensures.value ∙ c.into_parts-seat.ensures.grants ∙ sym c.grants.ensures))
+
+-- what the lane's view is in the end
+module _ (c : goal.After-drop-grants) where
+  view : c.look.new.seat.me.0 ≡ after_look (after_join c.lane.inside.seat.me.0 c.args.other.view)
+  view = c.look.ensures.looks.0 ∙ ap (λ me. after_look me.0) c.join.ensures.1
+      ∙ ap (λ me. after_look (after_join c.lane.inside.seat.me.0 me.0)) c.into_parts-seat.ensures.seat.1
+
+pub invariant_of-lane-2 : goal.invariant_of-lane-2
+invariant_of-lane-2 c =
+    let was = c.lane.invariant in
+    let is = view c in
+    let theirs : c.as_slice.result.now ≡ c.args.other.view.grants = c.as_slice.ensures.value ∙ c.into_parts-seat.ensures.grants in
+    record {
+      no_slot = c.look.ensures.seat.1;
+      idle = ap (λ (x : View). x.loads) is ∙ was.idle;
+      tokens = was.tokens ∙ sym (ap (λ (x : View). x.tokens) is);
+      wires = was.wires ∙ sym (ap (λ (x : View). length x.start.network.table.ends) is);
+      grants = c.append.ensures.items ∙ (λ i. (c.make_way.ensures.items ∙ was.grants) i ++ theirs i) ∙ sym (ap (λ (x : View). x.grants) is);
+      quota = (λ i. was.quota i + c.into_parts-seat.ensures.quota i) ∙ sym (ap (λ (x : View). x.quota) is);
+      few = omega (
+        arith,
+        c.look.ensures.looks.2,
+        ap (λ me. me.0.quota) c.join.ensures.1,
+        ap (λ me. tokens_in me.0.tokens) c.join.ensures.1,
+        ap tokens_in was.tokens,
+        was.quota,
+        ap (λ me. me.0.quota) c.into_parts-seat.ensures.seat.1,
+        c.into_parts-seat.ensures.quota,
+      );
+      room = omega (
+        arith,
+        c.append.ensures.capacity,
+        ap (λ (gs : List Grant). length gs) c.append.ensures.items,
+        length-append c.make_way.new.grants.items c.as_slice.result.now,
+        ap length (theirs ∙ sym c.grants.ensures),
+        c.in-Ok.ensures.ok,
+        c.make_way.ensures.room,
+        c.saturating_sub-lane-inside.ensures,
+      );
+      spare = omega (arith, was.spare, c.saturating_sub-lane-inside.ensures);
+    }
+
+pub returns-clause-ok : goal.returns-clause-ok
+returns-clause-ok c =
+    let is = view c in
+    let room : c.saturating_sub-lane-inside.result ≡ c.lane.inside.room - length c.args.other.view.grants =
+    c.saturating_sub-lane-inside.ensures ∙ ap (λ (gs : List Grant). c.lane.inside.room - length gs) c.grants.ensures in
+    rw (← c.lane.view_is) (λ i. record {
+      home = record { table = (c.look.ensures.seat.0 ∙ c.join.ensures.0) i; start = (is i).start };
+      view = is i;
+      yard = c.lane.inside.yard;
+      room = room i;
+    })
+
+pub returns-clause-moment : goal.returns-clause-moment
+returns-clause-moment c = subst (λ (h : FloorValue). HasMoment h.start c.look.new.seat.me.0) c.self.view_is c.look.ensures.looks.1
