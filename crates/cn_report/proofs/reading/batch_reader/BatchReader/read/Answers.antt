@@ -25,8 +25,11 @@ returns g c =
           let (all, next) = c.in_ok-next.ensures.within given may in
           elim c.match-next.branch [
             | in-Some w ↦
-                rw (w.self-is, w.more-is, give.given) (all, within-given given c.take_arrivals.new.gathering c.give-epochs.new.self give.none give.latest give.standing
-                c.args.self.now.entries w.in-Some.at (rw w.in-Some.is at next))
+                rw (w.self-is, w.more-is, give.given) (
+                  all,
+                  within-given given c.take_arrivals.new.gathering c.give-epochs.new.self give.none give.latest give.standing
+                      c.args.self.now.entries w.in-Some.at (rw w.in-Some.is at next),
+                )
             | in-None w ↦ rw (w.self-is, w.more-is, give.given) (all, tt)
           ];
       late = search rules;
