@@ -23,8 +23,8 @@ use std::io::Read;
 use std::sync::Wait;
 use std::thread::{Threads, join_mut};
 
-/// More records than this are read before their epochs are run, while others are to come. So a part has work for several
-/// workers, and most batches are one part.
+/// More records than this, and an epoch for each worker, are read before they are run, while others are to come. So workers
+/// share no epoch of a part if it can be helped, and most batches are one part.
 const PART: u64 = 262_144;
 
 /// Runs epochs while the next part of their batch is read: who has which name, and the part.
@@ -56,7 +56,7 @@ fn run_beside_reading<I: Read + Drop, G: Gate + Sync, R: Threads + Wait + Sync>(
         &mut ||
             requires { IsOpen reading.now }
             ensures { ReadsPart I.remaining PART reading.entry.now reading.exit.now result }
-        { reading.read(alloc, PART) },
+        { reading.read(alloc, PART, options.workers() as usize) },
     )
 }
 
@@ -116,7 +116,7 @@ fn run_while_reading<I: Read + Drop, G: Gate + Sync, R: Threads + Wait + Sync>(
         → AnswersRun network.now.table.entries known result }
 {
     let mut ran = Ran::new(alloc);
-    let mut part = reading.read(alloc, PART)?;
+    let mut part = reading.read(alloc, PART, options.workers() as usize)?;
     while part.more {
         part = run_part(rt, alloc, network, options, part, gate, &mut ran, reading)?;
     }
@@ -143,7 +143,7 @@ fn run_after_reading<I: Read + Drop, G: Gate + Sync, R: Threads + Wait + Sync>(
         → IfSome known (λ bytes. HasGiven I.remaining reading.old bytes [])
         → AnswersRun network.now.table.entries known result }
 {
-    let part = reading.read(alloc, MOST_RECORDS + 1)?;
+    let part = reading.read(alloc, MOST_RECORDS + 1, 1)?;
     // So many records come in no batch.
     prove!(!part.more);
     let holders = run_all(rt, alloc, network, options, &part.epochs, gate)?;

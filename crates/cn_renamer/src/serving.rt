@@ -60,9 +60,9 @@ fn write_epochs<W: Write>(
 /// clients of each, and so on in each part, so that a worker has epochs that it runs one after another, or an epoch several
 /// workers.
 ///
-/// One worker runs the epochs once the batch is read, and so do workers who carry counters. Otherwise the epochs that are
-/// over after more than 262,144 records are run while more is read, and so on, so workers may have walked when a later
-/// record is refused.
+/// One worker runs the epochs once the batch is read, and so do workers who carry counters. Otherwise, when more than 262,144
+/// records were read and an epoch for each worker is over, those that are over are run while more is read, and so on. So
+/// workers may have walked when a later record is refused.
 ///
 /// **The headline.** Of each epoch of k clients exit i of w has the count ceiling((k - i) / w), and the clients have the
 /// names 0 to k-1, each once (Aspnes, Herlihy, Shavit, *Counting Networks*, JACM 1994, section 2; renaming by Attiya,

@@ -245,7 +245,7 @@ fn next_part(alloc: Global, reading: &mut BatchReader<&[u8]>) -> Option<(u64, bo
     requires { IsOpen reading.old }
     ensures { IfSome result (λ part. IsOpen reading.new) }
 {
-    let part = reading.read(alloc, 1).ok()?;
+    let part = reading.read(alloc, 1, 1).ok()?;
     match part.epochs.as_slice() {
         [epoch] => Some((epoch.number, part.more)),
         _ => None,

@@ -43,7 +43,7 @@ pub fn read_batch<R: Read + Drop>(
     ensures few { IfOk result (λ batch. clients_of_epochs batch.epochs.items ≤ MOST_RECORDS) }
 {
     let mut batch = BatchReader::open(alloc, reader, entries, state)?;
-    let part = batch.read(alloc, MOST_RECORDS + 1)?;
+    let part = batch.read(alloc, MOST_RECORDS + 1, 1)?;
     // So many records come in no batch.
     prove!(!part.more);
     Ok(Batch {

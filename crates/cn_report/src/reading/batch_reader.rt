@@ -109,8 +109,8 @@ fn take_arrival<R: Read>(
     Ok(true)
 }
 
-/// Takes arrivals, the first of them record `from`: to the end, or until more than `enough` were taken and an epoch is over.
-/// Returns the number of the record after them, if the end did not come.
+/// Takes arrivals, the first of them record `from`: to the end, or until more than `enough` were taken and so many epochs are
+/// over. Returns the number of the record after them, if the end did not come.
 fn take_arrivals<R: Read>(
     alloc: Global,
     rows: &mut Reader<R>,
@@ -119,6 +119,7 @@ fn take_arrivals<R: Read>(
     entries: u32,
     from: u64,
     enough: u64,
+    epochs: usize,
     gathering: &mut Gathering,
 ) -> Result<Option<u64>, BatchFault>
     requires plain { IsPlain rows.old }
@@ -139,7 +140,7 @@ fn take_arrivals<R: Read>(
     for at in from..MOST_RECORDS + 2 {
         match take_arrival(alloc, rows, row, heading, entries, at, gathering) {
             Ok(true) => {
-                if at - from >= enough && gathering.has_ended() {
+                if at - from >= enough && gathering.over() >= epochs {
                     return Ok(Some(at + 1));
                 }
             }
@@ -192,14 +193,19 @@ impl<R: Read + Drop> BatchReader<R> {
         }
     }
 
-    /// Reads on, to the end of the batch, or until more than `enough` records were read and some epoch is over that was
-    /// not given out: the epochs that are over, which are those after the ones given out before. With them the batch is
+    /// Reads on, to the end of the batch, or until more than `enough` records were read and `epochs` epochs are over that
+    /// were not given out: all that are over, which are those after the ones given out before. With them the batch is
     /// whole if it was read to its end. It can be read from until then.
     ///
     /// # Errors
     /// The first record that has a cause, with its first cause. A failed read and want of memory are reported at the record
     /// that was being read.
-    pub fn read(&mut self, alloc: Global, enough: u64) -> Result<BatchPart, BatchFault>
+    pub fn read(
+        &mut self,
+        alloc: Global,
+        enough: u64,
+        epochs: usize,
+    ) -> Result<BatchPart, BatchFault>
         requires { IsOpen self.old }
         ensures { ReadsPart R.remaining enough self.old self.new result }
     {
@@ -211,6 +217,7 @@ impl<R: Read + Drop> BatchReader<R> {
             self.entries,
             self.at,
             enough,
+            epochs,
             &mut self.gathering,
         )?;
         let epochs = self.gathering.give(alloc);

@@ -151,9 +151,9 @@ impl Gathering {
         self.join(at, client)
     }
 
-    /// Whether it has an epoch that is over.
-    pub(crate) fn has_ended(&self) -> bool {
-        !self.over.is_empty()
+    /// How many epochs it has that are over.
+    pub(crate) fn over(&self) -> usize {
+        self.over.len()
     }
 
     /// Ends the latest epoch.

@@ -7,8 +7,8 @@ use Rattle.cn_report.proofs.ReadingLemmas.BatchRecords.{at-arrivals, clean-of, t
 use Rattle.cn_report.proofs.ReadingLemmas.FirstFaults.{stop_at, stop-before}
 use Rattle.cn_report.proofs.reading.batch_reader.take_arrivals.Goals as goal
 
-pub returns-then-has_ended-clause-answer : goal.returns-then-has_ended-clause-answer
-returns-then-has_ended-clause-answer g c = λ text given taken.
+pub returns-then-over-epochs-clause-answer : goal.returns-then-over-epochs-clause-answer
+returns-then-over-epochs-clause-answer g c = λ text given taken.
     taken-more g.R.Read.remaining _ _ c.args.heading c.args.entries c.loop-at.at _ _ text given (c.loop-at.invariant.taken text given taken)
     (λ before arrivals read gathered size. rw c.in-Ok-true.field-0-test at (c.in-Ok-true.ensures.found text before arrivals given read gathered size))
 
