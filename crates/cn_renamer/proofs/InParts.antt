@@ -76,9 +76,9 @@ open-next P Q true p q = (p, q)
 open-next P Q false p q = tt
 
 -- a part more was read, after epochs that were given out before it
-module _ {R : Type 0} (remaining : R → Option (List ℕ)) (entries enough : ℕ) (old new : BatchReader R) (before : List BatchEpoch) (same : old.entries ≡ entries) where
+module _ {R : Type 0} (remaining : R → Option (List ℕ)) (entries enough epochs : ℕ) (old new : BatchReader R) (before : List BatchEpoch) (same : old.entries ≡ entries) where
   -- and those were run
-  module _ (w : ℕ) (now : Ran) (next : BatchPart) (may : MayGive old before) (all : now.epochs.items ≡ before) (reads : ReadsPart remaining enough old new (Ok next)) where
+  module _ (w : ℕ) (now : Ran) (next : BatchPart) (may : MayGive old before) (all : now.epochs.items ≡ before) (reads : ReadsPart remaining enough epochs old new (Ok next)) where
     pub between-next : WereRun false w now → IsBetween w entries new now next
     between-next run =
         let (within, gives) = reads.within before may in
@@ -92,7 +92,7 @@ module _ {R : Type 0} (remaining : R → Option (List ℕ)) (entries enough : �
     pub front-next : (known : Option (List ℕ)) → IfSome known (λ bytes. HasGiven remaining old bytes before) → IsFrontOf remaining entries known new now next
     front-next known front = known-map known _ _ front (λ bytes given. rw (all, ← (reads.entries ∙ same)) (reads.answer bytes before given))
 
-  pub fault-next : (fault : BatchFault) → ReadsPart remaining enough old new (Err fault) → (known : Option (List ℕ)) → IfSome known (λ bytes. HasGiven remaining old bytes before)
+  pub fault-next : (fault : BatchFault) → ReadsPart remaining enough epochs old new (Err fault) → (known : Option (List ℕ)) → IfSome known (λ bytes. HasGiven remaining old bytes before)
       → IsRunFault entries known (fault_of_batch fault)
   fault-next fault reads known front =
       fault-of entries known fault (known-map known _ _ front (λ bytes given. rw (← (reads.entries ∙ same)) (reads.answer bytes before given)))

@@ -42,7 +42,7 @@ fn run_beside_reading<I: Read + Drop, G: Gate + Sync, R: Threads + Wait + Sync>(
     ensures listed { IfOk result.0 (λ holders.
         AreHoldersOf options.now.carry network.now.table.width epochs.now holders.items) }
     ensures many { IfOk result.0 (λ holders. clients_of_epochs epochs.now ≡ length holders.items) }
-    ensures reads { ReadsPart I.remaining PART reading.old reading.new result.1 }
+    ensures reads { ReadsPart I.remaining PART options.now.workers reading.old reading.new result.1 }
 {
     join_mut(
         rt,
@@ -54,9 +54,9 @@ fn run_beside_reading<I: Read + Drop, G: Gate + Sync, R: Threads + Wait + Sync>(
                 × (clients_of_epochs epochs.entry.now ≡ length holders.items)) }
         { run_all(rt, alloc, network, options, epochs, gate) },
         &mut ||
-            requires { IsOpen reading.now }
-            ensures { ReadsPart I.remaining PART reading.entry.now reading.exit.now result }
-        { reading.read(alloc, PART, options.workers() as usize) },
+            requires { IsSync R.row × IsOpen reading.now }
+            ensures { ReadsPart I.remaining PART options.entry.now.workers reading.entry.now reading.exit.now result }
+        { reading.read_by_two(rt, alloc, PART, options.workers() as usize) },
     )
 }
 
@@ -116,7 +116,7 @@ fn run_while_reading<I: Read + Drop, G: Gate + Sync, R: Threads + Wait + Sync>(
         → AnswersRun network.now.table.entries known result }
 {
     let mut ran = Ran::new(alloc);
-    let mut part = reading.read(alloc, PART, options.workers() as usize)?;
+    let mut part = reading.read_by_two(rt, alloc, PART, options.workers() as usize)?;
     while part.more {
         part = run_part(rt, alloc, network, options, part, gate, &mut ran, reading)?;
     }

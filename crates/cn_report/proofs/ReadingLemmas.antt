@@ -1,4 +1,5 @@
 -- Lemmas on what is read.
+pub mod Ahead
 pub mod ArrivalFields
 pub mod BatchRecords
 pub mod CheckedGrants
@@ -8,10 +9,12 @@ pub mod GatheredEpochs
 pub mod GrantFields
 pub mod GrantRecords
 pub mod OneSchedule
+pub mod PartsRead
 pub mod RecordFields
 pub mod RecordLists
 pub mod Results
 pub mod ScheduleRecords
 pub mod ServableEpochs
+pub mod Stretches
 pub mod TightFacts
 pub mod UniqueBatch

@@ -15,4 +15,6 @@ pub mod Parts
 pub mod Records
 pub mod Scatter
 pub mod Schedule
+pub mod Stretch
+pub mod Taking
 pub mod Told

@@ -4,6 +4,7 @@ mod arrival;
 mod batch;
 mod batch_fault;
 mod batch_reader;
+mod by_two;
 mod command;
 mod gathering;
 mod grant;
@@ -16,6 +17,8 @@ mod rows;
 mod scatter;
 mod schedule;
 mod schedule_fault;
+mod stretch;
+mod taking;
 mod tight;
 
 pub use batch::{Batch, read_batch};

@@ -9,7 +9,9 @@ use cn_report::{Batch, BatchCause, BatchEpoch, BatchFault, BatchReader, read_bat
 use std::alloc::Global;
 use std::hash::RandomState;
 use std::io;
+use std::sync::Wait;
 use std::test::Fail;
+use std::thread::Threads;
 
 /// A client that comes: its epoch's number, its own and its entry's.
 type Arrival = (u64, u64, u64);
@@ -259,6 +261,24 @@ fn three_parts(alloc: Global, state: RandomState) -> Option<[(u64, bool); 3]> {
     let second = next_part(alloc, &mut reading)?;
     let third = next_part(alloc, &mut reading)?;
     Some([first, second, third])
+}
+
+/// How many epochs the batch has by two threads, who read it in one part, and whether others may come.
+fn parts_by_two<R: Threads + Wait + Sync>(
+    rt: &R,
+    alloc: Global,
+    state: RandomState,
+) -> Option<(usize, bool)> {
+    let mut reading = BatchReader::open(alloc, THREE_EPOCHS, 4, state).ok()?;
+    let part = reading.read_by_two(rt, alloc, 1, 1).ok()?;
+    Some((part.epochs.len(), part.more))
+}
+
+#[test]
+fn a_batch_by_two_threads(rt: HostRuntime) -> Result<(), Fail> {
+    let part = parts_by_two(&rt, rt.alloc(), RandomState::new(&rt)?);
+    assert_eq!(rt; part, Some((3, false)));
+    Ok(())
 }
 
 #[test]

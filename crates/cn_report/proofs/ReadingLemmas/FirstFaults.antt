@@ -87,6 +87,22 @@ module _ {C : Type 0} (header : Record → Option C) (later : List Record → Re
     pub stop-first : (rows : List Record) (why : C) → IsOther why → IsFirstFault (cause_by header later) IsOther rows 0 why
     stop-first rows why other = record { within = omega arith; clean = λ at h. absurd (omega arith); told = inr other }
 
+    -- after records without one a record has a cause, whatever comes after it
+    pub stop-in : (all rows more : List Record) (fields : Record) (why : C) → AreClean rows → all ≡ (rows ++ fields ∷ []) ++ more → later rows fields ≡ Some why
+        → IsFirstFault (cause_by header later) IsOther all (length rows) why
+    stop-in all rows more fields why t is e =
+        let size = length-append rows (fields ∷ []) in
+        rw is (record {
+          within = omega (arith, size, length-append (rows ++ fields ∷ []) more);
+          clean = λ n h. cause-same (rows ++ fields ∷ []) more n (omega (arith, h, size)) ∙ cause-same rows (fields ∷ []) n h ∙ t.clean n h;
+          told = inl (cause-same (rows ++ fields ∷ []) more (length rows) (omega (arith, size)) ∙ cause-new rows fields t.some ∙ e);
+        })
+
+    -- after records without one there is what is no record's fault
+    pub stop-other : (all rows more : List Record) (why : C) → AreClean rows → all ≡ rows ++ more → IsOther why → IsFirstFault (cause_by header later) IsOther all (length rows) why
+    stop-other all rows more why t is other =
+        rw is (record { within = omega (arith, length-append rows more); clean = λ n h. cause-same rows more n h ∙ t.clean n h; told = inr other })
+
     module _ {R : Type 0} (rem : R → Option (List ℕ)) (reader : Reader R) (text : List ℕ) where
       -- the first record is no header
       pub no_header : (fields : Record) (why : C) → HasRead rem reader text (fields ∷ []) → header fields ≡ Some why
@@ -101,19 +117,14 @@ module _ {C : Type 0} (header : Record → Option C) (later : List Record → Re
           → IsFirstFault (cause_by header later) IsOther (records_of text) (length rows) why
       stop_at rows fields why t read e =
           let (more, is) = read-first rem reader text (rows ++ fields ∷ []) read in
-          let size = length-append rows (fields ∷ []) in
-          rw is (record {
-            within = omega (arith, size, length-append (rows ++ fields ∷ []) more);
-            clean = λ n h. cause-same (rows ++ fields ∷ []) more n (omega (arith, h, size)) ∙ cause-same rows (fields ∷ []) n h ∙ t.clean n h;
-            told = inl (cause-same (rows ++ fields ∷ []) more (length rows) (omega (arith, size)) ∙ cause-new rows fields t.some ∙ e);
-          })
+          stop-in (records_of text) rows more fields why t is e
 
       -- the next record did not come
       pub stop-before : (rows : List Record) (why : C) → AreClean rows → HasRead rem reader text rows → IsOther why
           → IsFirstFault (cause_by header later) IsOther (records_of text) (length rows) why
       stop-before rows why t read other =
           let (more, is) = read-first rem reader text rows read in
-          rw is (record { within = omega (arith, length-append rows more); clean = λ n h. cause-same rows more n h ∙ t.clean n h; told = inr other })
+          stop-other (records_of text) rows more why t is other
 
 -- what follows of bytes that are known
 pub known-map : (known : Option (List ℕ)) (P Q : List ℕ → Type 0) → IfSome known P → ((text : List ℕ) → P text → Q text) → IfSome known Q

@@ -68,11 +68,13 @@ AnswersPart remaining b text given result =
     MatchResult result (λ part. MatchBool part.more (HasGiven remaining b text (given ++ part.epochs.items)) (IsBatch b.entries (records_of text) (given ++ part.epochs.items)))
     (IsBatchFault b.entries (records_of text))
 
--- what one reading of a part does, from one state of the reader to the next
-pub record ReadsPart {R : Type 0} (remaining : R → Option (List ℕ)) (enough : ℕ) (old new : BatchReader R) (result : Result BatchPart BatchFault) : Type 0 where
+-- what one reading of a part does, from one state of the reader to the next: a part that is not the last ends after more
+-- than `enough` records, with `epochs` epochs at least
+pub record ReadsPart {R : Type 0} (remaining : R → Option (List ℕ)) (enough epochs : ℕ) (old new : BatchReader R) (result : Result BatchPart BatchFault) : Type 0 where
   pub ready : IfOk result (λ part. IsOpen new)
   pub answer : (text : List ℕ) (given : List BatchEpoch) → HasGiven remaining old text given → AnswersPart remaining new text given result
   pub within : (given : List BatchEpoch) → MayGive old given
       → IfOk result (λ part. AreWithin old.entries (given ++ part.epochs.items) × MatchBool part.more (MayGive new (given ++ part.epochs.items)) ⊤)
   pub late : IfOk result (λ part. part.more ≡ true → old.at + enough < new.at)
+  pub many : IfOk result (λ part. part.more ≡ true → epochs ≤ length part.epochs.items)
   pub entries : new.entries ≡ old.entries

@@ -152,7 +152,9 @@ impl Gathering {
     }
 
     /// How many epochs it has that are over.
-    pub(crate) fn over(&self) -> usize {
+    pub(crate) fn over(&self) -> usize
+        ensures { result ≡ length self.now.over.items }
+    {
         self.over.len()
     }
 

@@ -15,7 +15,11 @@ use std::sync::Wait;
 use std::test::Fail;
 use std::thread::Threads;
 
-const TREE_TWO: Asked = (Kind::Tree, 2, 1, 1);
+/// One worker, whose batch one thread reads.
+const ONE_WORKER: Asked = (Kind::Tree, 2, 1, 1);
+
+/// Two workers, whose batch two threads read.
+const TWO_WORKERS: Asked = (Kind::Tree, 2, 2, 1);
 
 /// Full epochs from 1 on, of which each client comes once in all, and this end.
 fn full_epochs(records: u64, last: &'static [u8]) -> Computed {
@@ -57,11 +61,12 @@ fn wrong_batch<R: Threads + Wait + Sync>(
     rt: &R,
     alloc: Global,
     state: RandomState,
+    asked: Asked,
 ) -> Option<usize> {
     for (place, (records, last, at, cause)) in BATCHES.iter().enumerate() {
         let reader = full_epochs(*records, *last);
         let wanted = Answer::Refused(*at, *cause);
-        if !is_answered(rt, alloc, state, TREE_TWO, reader, &OpenGate, wanted) {
+        if !is_answered(rt, alloc, state, asked, reader, &OpenGate, wanted) {
             return Some(place);
         }
     }
@@ -90,8 +95,9 @@ fn largest_batch(alloc: Global, state: RandomState) -> Option<(usize, usize)> {
 fn batch_limits(rt: HostRuntime) -> Result<(), Fail> {
     let (alloc, state) = (rt.alloc(), RandomState::new(&rt)?);
     let largest = largest_batch(alloc, state);
-    let wrong = wrong_batch(&rt, alloc, state);
-    assert_eq!(rt; (largest, wrong), (Some((4, 4)), None));
+    let by_one = wrong_batch(&rt, alloc, state, ONE_WORKER);
+    let by_two = wrong_batch(&rt, alloc, state, TWO_WORKERS);
+    assert_eq!(rt; (largest, by_one, by_two), (Some((4, 4)), None, None));
     Ok(())
 }
 

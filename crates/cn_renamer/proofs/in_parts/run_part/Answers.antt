@@ -15,7 +15,7 @@ returns-clause-between g c =
     let listed = rw (c.in_ok-ended.was, c.deref.ensures.value, c.requires.carry) at c.run_beside_reading-ended.ensures.listed in
     let many = rw (c.in_ok-ended.was, c.deref.ensures.value) at c.run_beside_reading-ended.ensures.many in
     let run = run-more table.width c.args.ran.now c.add.new.self c.args.part.epochs.items c.in_ok-ended.field-0.items between.run listed many c.in_ok-add.ensures.epochs c.in_ok-add.ensures.holders in
-    between-next g.I.Read.remaining table.entries _ c.args.reading.now c.run_beside_reading-ended.new.reading (with_part c.args.ran.now c.args.part) between.same table.width
+    between-next g.I.Read.remaining table.entries _ _ c.args.reading.now c.run_beside_reading-ended.new.reading (with_part c.args.ran.now c.args.part) between.same table.width
     c.add.new.self c.in_ok-next.next (rw c.requires.more at between.more).1 c.in_ok-add.ensures.epochs reads run
 
 pub returns-clause-answer : goal.returns-clause-answer
@@ -23,7 +23,7 @@ returns-clause-answer g c = λ known front.
     let table = c.args.network.now.table in
     let between = c.requires.between in
     let reads = rw c.in_ok-next.was at c.run_beside_reading-ended.ensures.reads in
-    front-next g.I.Read.remaining table.entries _ c.args.reading.now c.run_beside_reading-ended.new.reading (with_part c.args.ran.now c.args.part) between.same table.width
+    front-next g.I.Read.remaining table.entries _ _ c.args.reading.now c.run_beside_reading-ended.new.reading (with_part c.args.ran.now c.args.part) between.same table.width
     c.add.new.self c.in_ok-next.next (rw c.requires.more at between.more).1 c.in_ok-add.ensures.epochs reads known
     (goes-on g.I.Read.remaining table.entries known c.args.reading.now c.args.ran.now c.args.part c.requires.more front)
 
@@ -32,5 +32,5 @@ returns-in_err-next-clause-answer g c = λ known front.
     let table = c.args.network.now.table in
     let told = err_from_is_err_and c.from_residual.result c.from_residual.ensures.1 in
     let reads = rw c.in_err-next.was at c.run_beside_reading-ended.ensures.reads in
-    rw (told.1, told.2) (fault-next g.I.Read.remaining table.entries _ c.args.reading.now c.run_beside_reading-ended.new.reading (with_part c.args.ran.now c.args.part) c.requires.between.same
+    rw (told.1, told.2) (fault-next g.I.Read.remaining table.entries _ _ c.args.reading.now c.run_beside_reading-ended.new.reading (with_part c.args.ran.now c.args.part) c.requires.between.same
     c.in_err-next.field-0.0 reads known (goes-on g.I.Read.remaining table.entries known c.args.reading.now c.args.ran.now c.args.part c.requires.more front))

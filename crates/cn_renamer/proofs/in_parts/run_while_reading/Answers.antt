@@ -7,9 +7,9 @@ pub loop-part-init : goal.loop-part-init
 loop-part-init g c =
     let table = c.args.network.now.table in
     let ran = c.new-ran.ensures in record {
-      between = between-next g.I.Read.remaining table.entries _ c.args.reading.now c.read.new.self [] c.requires.entries table.width c.new-ran.result c.in_ok-part.part
+      between = between-next g.I.Read.remaining table.entries _ _ c.args.reading.now c.read_by_two.new.self [] c.requires.entries table.width c.new-ran.result c.in_ok-part.part
           c.requires.may ran.epochs c.in_ok-part.ensures (none-run table.width c.new-ran.result ran.epochs ran.holders);
-      front = front-next g.I.Read.remaining table.entries _ c.args.reading.now c.read.new.self [] c.requires.entries table.width c.new-ran.result c.in_ok-part.part
+      front = front-next g.I.Read.remaining table.entries _ _ c.args.reading.now c.read_by_two.new.self [] c.requires.entries table.width c.new-ran.result c.in_ok-part.part
           c.requires.may ran.epochs c.in_ok-part.ensures;
     }
 

@@ -3,7 +3,7 @@ use Rattle.cn_report.specs.Reading.Parts.{HasTaken, StaysWithin}
 use Rattle.cn_report.specs.Reading.Records.{IsPlain}
 use Rattle.cn_report.specs.declared.reading.gathering.BatchEpoch.{BatchEpoch}
 use Rattle.cn_spec.specs.declared.limits.TheConstants.{MOST_RECORDS}
-use Rattle.cn_report.proofs.reading.batch_reader.take_arrivals.Given as goal
+use Rattle.cn_report.proofs.reading.taking.take_arrivals.Given as goal
 
 abbrev pub invariant-loop-at : goal.invariant-loop-at
 invariant-loop-at g l = record {

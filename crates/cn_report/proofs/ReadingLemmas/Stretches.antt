@@ -1,0 +1,116 @@
+-- Arrivals that were read together, and how far they were gathered.
+use Rattle.std.proofs.Common.{◌≡◌, ◌<◌, ◌≤◌, ◌+◌, ◌⊎◌, ℕ, List, [], ◌∷◌, ◌++◌, Bool, Option, Some, None, drop, get_or, length, map, take, refl, arith, sym, ap, subst, inl, inr, ◌∙◌, append_assoc, append-nil, length-append, true, false}
+use Rattle.std.specs.Prelude.{Result, Ok}
+use Rattle.std.proofs.lemmas.List.{get_or-map, length-map, length-take-le, map-append, take-append-drop, take_all, take_more}
+use Rattle.cn_report.specs.Reading.Arrival.{arrival_cause, arrival_in, spelled_cause}
+use Rattle.cn_report.specs.Reading.Batch.{IsBatchFault, IsOfReading, header_cause, record_cause}
+use Rattle.cn_report.specs.Reading.Gathered.{IsGathered}
+use Rattle.cn_report.specs.Reading.Parts.{AreTaken}
+use Rattle.cn_report.specs.Reading.Records.{Record}
+use Rattle.cn_report.specs.Reading.Stretch.{AreSpelled}
+use Rattle.cn_report.specs.declared.reading.arrival.Arrival.{Arrival}
+use Rattle.cn_report.specs.declared.reading.batch_fault.BatchCause.{BatchCause}
+use Rattle.cn_report.specs.declared.reading.batch_fault.BatchCause.TheVariants.{Memory}
+use Rattle.cn_report.specs.declared.reading.batch_fault.BatchFault.{BatchFault}
+use Rattle.cn_report.specs.declared.reading.gathering.BatchEpoch.{BatchEpoch}
+use Rattle.cn_report.specs.declared.reading.gathering.Gathering.{Gathering}
+use Rattle.cn_report.specs.declared.reading.heading.Heading.{Heading}
+use Rattle.cn_report.proofs.ReadingLemmas.BatchRecords.{at-arrivals, clean-of, taken-next}
+use Rattle.cn_report.proofs.ReadingLemmas.FirstFaults.{stop-other, stop-in}
+
+-- a record more spells an arrival more
+pub spelled-more : (heading : Heading) (entries : ℕ) (rows : List Record) (arrivals : List Arrival) (fields : Record) (arrival : Arrival) → AreSpelled heading entries rows arrivals
+    → arrival_in heading entries fields ≡ Ok arrival → AreSpelled heading entries (rows ++ fields ∷ []) (arrivals ++ arrival ∷ [])
+spelled-more heading entries rows arrivals fields arrival spelled is =
+    map-append (arrival_in heading entries) rows (fields ∷ []) ∙ (λ i. spelled i ++ is i ∷ []) ∙ sym (map-append Ok arrivals (arrival ∷ []))
+
+module _ (heading : Heading) (entries : ℕ) (rows : List Record) (arrivals : List Arrival) (spelled : AreSpelled heading entries rows arrivals) where
+  pub same-length : length rows ≡ length arrivals
+  same-length = sym (length-map rows (arrival_in heading entries)) ∙ ap length spelled ∙ length-map arrivals Ok
+
+  -- the record at a place spells the arrival there
+  pub spelled-at : (i : ℕ) (arrival : Arrival) → i < length arrivals → arrival_in heading entries (get_or rows i []) ≡ Ok (get_or arrivals i arrival)
+  spelled-at i arrival h =
+      sym (get_or-map (arrival_in heading entries) rows i [] (Ok arrival) (omega (arith, h, same-length)))
+      ∙ ap (λ (l : List (Result Arrival BatchCause)). get_or l i (Ok arrival)) spelled
+      ∙ get_or-map Ok arrivals i arrival (Ok arrival) h
+
+-- so many of the arrivals were gathered after those that came before
+pub record GatheredTo (heading : Heading) (entries : ℕ) (before rows : List Record) (came arrivals : List Arrival) (given : List BatchEpoch) (g : Gathering) (i : ℕ) : Type 0 where
+  pub taken : AreTaken heading entries (before ++ take i rows) (came ++ take i arrivals)
+  pub gathered : IsGathered given g (came ++ take i arrivals)
+
+-- where nothing is gathered yet
+pub none-gathered-of : (heading : Heading) (entries : ℕ) (before rows : List Record) (came arrivals : List Arrival) (given : List BatchEpoch) (g : Gathering) → AreTaken heading entries before came
+    → IsGathered given g came → GatheredTo heading entries before rows came arrivals given g 0
+none-gathered-of heading entries before rows came arrivals given g taken gathered =
+    record { taken = rw (append-nil before, append-nil came) taken; gathered = rw (append-nil came) gathered }
+
+module _ (heading : Heading) (entries : ℕ) (before rows : List Record) (came arrivals : List Arrival) (given : List BatchEpoch) (spelled : AreSpelled heading entries rows arrivals) where
+  -- all were gathered
+  pub all-gathered : (g : Gathering) (i : ℕ) → length arrivals ≤ i → GatheredTo heading entries before rows came arrivals given g i
+      → AreTaken heading entries (before ++ rows) (came ++ arrivals) × IsGathered given g (came ++ arrivals)
+  all-gathered g i all to =
+      let r : take i rows ≡ rows = take_all i rows (omega (arith, all, same-length heading entries rows arrivals spelled)) in
+      let a : take i arrivals ≡ arrivals = take_all i arrivals all in
+      (rw (r, a) at to.taken, rw a at to.gathered)
+
+  module _ (i : ℕ) (within : i < length arrivals) where
+    -- so many records had come, and so many arrivals
+    pub so-many : (g : Gathering) → GatheredTo heading entries before rows came arrivals given g i → (length (before ++ take i rows) ≡ length before + i) × (length (came ++ take i arrivals) + 1 ≡ length before + i)
+    so-many g to =
+        let size : length (before ++ take i rows) ≡ length before + i =
+        omega (arith, length-append before (take i rows), length-take-le i rows (omega (arith, within, same-length heading entries rows arrivals spelled))) in
+        (size, omega (arith, size, to.taken.counted))
+
+    module _ (d : Arrival) where
+      abbrev pub arrival : Arrival
+      arrival = get_or arrivals i d
+
+      rows-next : (before ++ take i rows) ++ get_or rows i [] ∷ [] ≡ before ++ take (i + 1) rows
+      rows-next =
+          append_assoc before (take i rows) (get_or rows i [] ∷ [])
+          ∙ ap (λ (l : List Record). before ++ l) (sym (take_more rows i [] (omega (arith, within, same-length heading entries rows arrivals spelled))))
+
+      came-next : (came ++ take i arrivals) ++ arrival ∷ [] ≡ came ++ take (i + 1) arrivals
+      came-next =
+          append_assoc came (take i arrivals) (arrival ∷ [])
+          ∙ ap (λ (l : List Arrival). came ++ l) (sym (take_more arrivals i d within))
+
+      spells-it : arrival_in heading entries (get_or rows i []) ≡ Ok arrival
+      spells-it = spelled-at heading entries rows arrivals spelled i d within
+
+      -- one more was
+      pub gathered-next : (g h : Gathering) → GatheredTo heading entries before rows came arrivals given g i → arrival_cause entries (came ++ take i arrivals) arrival ≡ None
+          → IsGathered given h ((came ++ take i arrivals) ++ arrival ∷ []) → GatheredTo heading entries before rows came arrivals given h (i + 1)
+      gathered-next g h to none more = record {
+        taken = rw (rows-next, came-next) at (taken-next heading entries (before ++ take i rows) (came ++ take i arrivals) (get_or rows i []) arrival to.taken spells-it none);
+        gathered = rw came-next at more;
+      }
+
+      -- the record after those that were has a cause, or there was no memory for it
+      pub gathering-fault : (from : ℕ) (g : Gathering) (later : List Record) (cause : BatchCause) → length before ≡ from → GatheredTo heading entries before rows came arrivals given g i
+          → (arrival_cause entries (came ++ take i arrivals) arrival ≡ Some cause) ⊎ (cause ≡ Memory)
+          → IsBatchFault entries ((before ++ rows) ++ later) (record { at = from + i; cause = cause })
+      gathering-fault from g later cause size to told =
+          let clean = clean-of heading entries (before ++ take i rows) (came ++ take i arrivals) to.taken in
+          rw (← size, ← (so-many g to).0) (elim told [
+            | inl e ↦
+                stop-in header_cause (record_cause entries) IsOfReading ((before ++ rows) ++ later) (before ++ take i rows) (drop (i + 1) rows ++ later) (get_or rows i []) cause clean split
+                (at-arrivals heading entries (before ++ take i rows) (came ++ take i arrivals) (get_or rows i []) to.taken cause (ap (spelled_cause entries (came ++ take i arrivals)) spells-it ∙ e))
+            | inr e ↦
+                stop-other header_cause (record_cause entries) IsOfReading ((before ++ rows) ++ later) (before ++ take i rows) (drop i rows ++ later) cause clean cut (inr e)
+          ])
+        where
+          cut : (before ++ rows) ++ later ≡ (before ++ take i rows) ++ (drop i rows ++ later)
+          cut =
+              ap (λ (l : List Record). (before ++ l) ++ later) (sym (take-append-drop i rows))
+              ∙ ap (λ (l : List Record). l ++ later) (sym (append_assoc before (take i rows) (drop i rows)))
+              ∙ append_assoc (before ++ take i rows) (drop i rows) later
+
+          split : (before ++ rows) ++ later ≡ ((before ++ take i rows) ++ get_or rows i [] ∷ []) ++ (drop (i + 1) rows ++ later)
+          split =
+              ap (λ (l : List Record). (before ++ l) ++ later) (sym (take-append-drop (i + 1) rows))
+              ∙ ap (λ (l : List Record). l ++ later) (sym (append_assoc before (take (i + 1) rows) (drop (i + 1) rows)))
+              ∙ append_assoc (before ++ take (i + 1) rows) (drop (i + 1) rows) later
+              ∙ ap (λ (l : List Record). l ++ (drop (i + 1) rows ++ later)) (sym rows-next)

@@ -1,0 +1,23 @@
+use Rattle.std.proofs.Common.{◌≡◌, ◌≤◌, ◌+◌, ◌-◌, ℕ, List, length, true}
+use Rattle.std.specs.Prelude.{IfOk, OnOk}
+use Rattle.cn_spec.specs.declared.limits.TheConstants.{MOST_RECORDS}
+use Rattle.cn_report.specs.Reading.Parts.{HasTaken, StaysWithin}
+use Rattle.cn_report.specs.Reading.Records.{IsPlain}
+use Rattle.cn_report.specs.declared.reading.gathering.BatchEpoch.{BatchEpoch}
+use Rattle.cn_report.specs.declared.reading.stretch.TheConstants.{STRETCH}
+use Rattle.cn_report.proofs.ReadingLemmas.Ahead.{IsAhead}
+use Rattle.cn_report.proofs.reading.by_two.take_stretches.Given as goal
+
+abbrev pub invariant-loop-end : goal.invariant-loop-end
+invariant-loop-end g l = record {
+  from : l.fn.from ≤ l.at;
+  few : l.at ≤ MOST_RECORDS + 1;
+  plain : OnOk l.end (IsPlain l.rows);
+  full : IfOk l.end (λ more. more ≡ true → length l.stretch.items ≡ STRETCH);
+  within : (given : List BatchEpoch) → StaysWithin l.fn.entries l.fn.from l.fn.gathering given → StaysWithin l.fn.entries l.at l.gathering given;
+  ahead : (text : List ℕ) (given : List BatchEpoch) → HasTaken g.I.Read.remaining l.fn.rows l.heading l.fn.entries l.fn.from l.fn.gathering text given
+      → IsAhead g.I.Read.remaining l.heading l.fn.entries text given l.rows l.at l.gathering l.stretch.items l.end;
+}
+
+abbrev pub decreases-loop-end : goal.decreases-loop-end
+decreases-loop-end g l = MOST_RECORDS + 2 - l.at
