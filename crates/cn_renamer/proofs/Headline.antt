@@ -1,12 +1,10 @@
 -- What a run has written of the epochs of its batch.
-use Rattle.std.proofs.Common.{◌≡◌, ℕ, ◌+◌, ◌-◌, Bool, true, false, List, [], ◌∷◌, ◌++◌, Option, length, arith, refl, subst, ap, ◌∙◌, sym}
+use Rattle.std.proofs.Common.{◌≡◌, ℕ, ◌+◌, ◌-◌, Bool, true, false, List, [], ◌∷◌, ◌++◌, Option, length, arith, refl, subst, ◌∙◌, sym}
 use Rattle.std.specs.Prelude.{IfSome}
 use Rattle.std.specs.List.{AllZip}
 use Rattle.std.proofs.lemmas.List.{length-map}
-use Rattle.std.proofs.lemmas.List.FromFn.{length-map-range_with_len}
 use Rattle.std.proofs.lemmas.List.Sorted.{length_permutation}
 use Rattle.std.proofs.lemmas.List.Sums.{sum_by-cons}
-use Rattle.cn_spec.specs.Step.{share}
 use Rattle.cn_spec.specs.Sums.{when}
 use Rattle.cn_wiring.specs.Network.{Network}
 use Rattle.cn_ledger.specs.declared.client.Client.{Client}
@@ -15,7 +13,6 @@ use Rattle.cn_report.specs.Reading.Batch.{IsBatch, clients_of_epochs}
 use Rattle.cn_report.specs.Reading.Records.{records_of}
 use Rattle.cn_report.specs.declared.reading.gathering.BatchEpoch.{BatchEpoch}
 use Rattle.cn_report.proofs.CallerLemmas.{known-map}
-use Rattle.cn_report.specs.Writing.Outcome.{IsWholeRecord}
 use Rattle.cn_report.specs.Writing.Written.{HasWritten, First, Nothing, Whole, Written}
 use Rattle.cn_cli.specs.Net.{Description, IsNetworkOf}
 use Rattle.cn_cli.specs.declared.options.Form.{Form}
@@ -37,11 +34,6 @@ each-served carry width m [] [] served = tt
 each-served carry width m [] (r ∷ records) served = absurd served
 each-served carry width m (e ∷ epochs) [] served = absurd served
 each-served carry width m (e ∷ epochs) (r ∷ records) (one, rest) = ((m, one), each-served carry width (after carry m (length e.clients.items)) epochs records rest)
-
--- the record of an epoch that was served is whole
-pub is-whole : (width m : ℕ) (epoch : BatchEpoch) (r : EpochRecord) → IsServed width m epoch r → IsWholeRecord width r
-is-whole width m epoch r served =
-    (ap length served.counts ∙ length-map-range_with_len (λ i. share (m + r.clients) width i - share m width i) 0 width, as-many width m epoch r served)
 
 -- how many clients come before the epoch after these
 came : Bool → ℕ → List BatchEpoch → ℕ

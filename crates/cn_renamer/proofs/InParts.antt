@@ -6,7 +6,7 @@ use Rattle.cn_spec.specs.declared.limits.TheConstants.{MOST_RECORDS}
 use Rattle.std.proofs.lemmas.List.{drop_at}
 use Rattle.std.proofs.lemmas.List.Elements.{All-drop}
 use Rattle.std.proofs.lemmas.List.Sums.{sum_by-append}
-use Rattle.cn_report.specs.Reading.Batch.{IsBatch, IsBatchFault, MayCome, clients_of_epochs}
+use Rattle.cn_report.specs.Reading.Batch.{IsBatchFault, MayCome, clients_of_epochs}
 use Rattle.cn_report.specs.Reading.Parts.{AreWithin, HasGiven, MayGive, ReadsPart}
 use Rattle.cn_report.specs.Reading.Records.{records_of}
 use Rattle.cn_report.specs.declared.reading.batch_fault.BatchCause.{BatchCause}
@@ -101,11 +101,6 @@ module _ {R : Type 0} (remaining : R → Option (List ℕ)) (entries enough epoc
 pub goes-on : {R : Type 0} (remaining : R → Option (List ℕ)) (entries : ℕ) (known : Option (List ℕ)) (reading : BatchReader R) (ran : Ran) (part : BatchPart) → part.more ≡ true
     → IsFrontOf remaining entries known reading ran part → IfSome known (λ bytes. HasGiven remaining reading bytes (with_part ran part))
 goes-on remaining entries known reading ran part more front = known-map known _ _ front (λ bytes given. rw more at given)
-
--- and one that was read to its end has these epochs
-pub is-whole-batch : {R : Type 0} (remaining : R → Option (List ℕ)) (entries : ℕ) (known : Option (List ℕ)) (reading : BatchReader R) (ran : Ran) (part : BatchPart) → part.more ≡ false
-    → IsFrontOf remaining entries known reading ran part → IfSome known (λ bytes. IsBatch entries (records_of bytes) (with_part ran part))
-is-whole-batch remaining entries known reading ran part more front = known-map known _ _ front (λ bytes given. rw more at given)
 
 -- so many records may still be read before a part that is not the last
 abbrev pub left_of : Bool → ℕ → ℕ

@@ -1,17 +1,12 @@
 //! Batches, read.
 
-ghost use Rattle.std.specs.Prelude.{IfSome};
-ghost use Rattle.cn_report.specs.Reading.Parts.{IsOpen};
-
 use crate::serving::FIVE_ON_ONE_ENTRY;
 use crate::writers::Broken;
-use cn_report::{Batch, BatchCause, BatchEpoch, BatchFault, BatchReader, read_batch};
+use cn_report::{Batch, BatchCause, BatchEpoch, BatchFault, read_batch};
 use std::alloc::Global;
 use std::hash::RandomState;
 use std::io;
-use std::sync::Wait;
 use std::test::Fail;
-use std::thread::Threads;
 
 /// A client that comes: its epoch's number, its own and its entry's.
 type Arrival = (u64, u64, u64);
@@ -235,55 +230,5 @@ fn wrong_read(alloc: Global, state: RandomState) -> (Option<usize>, u64) {
 fn read_cut_anywhere(rt: HostRuntime) -> Result<(), Fail> {
     let wrong = wrong_read(rt.alloc(), RandomState::new(&rt)?);
     assert_eq!(rt; wrong, (None, 6));
-    Ok(())
-}
-
-/// Three epochs of two clients, one and two.
-const THREE_EPOCHS: &[u8] = b"epoch,client\n1,9\n1,10\n2,7\n3,8\n3,9\n";
-
-/// The epochs' numbers in the next part, if it has one epoch, and whether others may come after it: the part ends if more
-/// than one record was read and an epoch is over.
-fn next_part(alloc: Global, reading: &mut BatchReader<&[u8]>) -> Option<(u64, bool)>
-    requires { IsOpen reading.old }
-    ensures { IfSome result (λ part. IsOpen reading.new) }
-{
-    let part = reading.read(alloc, 1, 1).ok()?;
-    match part.epochs.as_slice() {
-        [epoch] => Some((epoch.number, part.more)),
-        _ => None,
-    }
-}
-
-/// The three parts of the batch.
-fn three_parts(alloc: Global, state: RandomState) -> Option<[(u64, bool); 3]> {
-    let mut reading = BatchReader::open(alloc, THREE_EPOCHS, 4, state).ok()?;
-    let first = next_part(alloc, &mut reading)?;
-    let second = next_part(alloc, &mut reading)?;
-    let third = next_part(alloc, &mut reading)?;
-    Some([first, second, third])
-}
-
-/// How many epochs the batch has by two threads, who read it in one part, and whether others may come.
-fn parts_by_two<R: Threads + Wait + Sync>(
-    rt: &R,
-    alloc: Global,
-    state: RandomState,
-) -> Option<(usize, bool)> {
-    let mut reading = BatchReader::open(alloc, THREE_EPOCHS, 4, state).ok()?;
-    let part = reading.read_by_two(rt, alloc, 1, 1).ok()?;
-    Some((part.epochs.len(), part.more))
-}
-
-#[test]
-fn a_batch_by_two_threads(rt: HostRuntime) -> Result<(), Fail> {
-    let part = parts_by_two(&rt, rt.alloc(), RandomState::new(&rt)?);
-    assert_eq!(rt; part, Some((3, false)));
-    Ok(())
-}
-
-#[test]
-fn a_batch_in_three_parts(rt: HostRuntime) -> Result<(), Fail> {
-    let parts = three_parts(rt.alloc(), RandomState::new(&rt)?);
-    assert_eq!(rt; parts, Some([(1, true), (2, true), (3, false)]));
     Ok(())
 }

@@ -159,10 +159,7 @@ added-kept records lines mid records' lines' x t to m kept = record {
   count = kept.count;
 }
 
--- nothing is added, or one more than before
-pub more-none : (records : List Record) (lines : List Line) (to : ℕ) → IsMore records lines records lines to
-more-none records lines to = record { more = omega arith; len = refl; rows = refl; client = λ n h. refl }
-
+-- one more is added than before
 pub more-add : (a : List Record) (l : List Line) (b : List Record) (m : List Line) (c : List Record) (n : List Line) (to : ℕ)
     → IsMore a l b m to → IsAdded b m c n to → IsMore a l c n to
 more-add a l b m c n to is added =

@@ -91,28 +91,6 @@ pub count-pair-set : {X : Type 0} (p : X → Bool) (q : ℕ) (es : List (ℕ × 
     ≡ count_by (λ e. nat_eq q e.0 && p e.1) es + cond (nat_eq q k && p x) 1 0
 count-pair-set p q es k x y here = sum_by-set (λ e. cond (nat_eq q e.0 && p e.1) 1 0) es k x y here
 
--- no more entries have a key and a value that passes than have such a value
-pub count-pair-le : {X : Type 0} (p : X → Bool) (q : ℕ) (es : List (ℕ × X)) → count_by (λ e. nat_eq q e.0 && p e.1) es ≤ count_by p (values_of es)
-count-pair-le p q [] = omega arith
-count-pair-le p q (e ∷ es) =
-    let first = less (nat_eq q e.0) (p e.1) in
-    omega (arith, count-pair-le p q es, sum_by-cons (λ y. cond (nat_eq q y.0 && p y.1) 1 0) e es, sum_by-cons (λ y. cond (p y) 1 0) e.1 (values_of es))
-  where
-    less : (a b : Bool) → cond (a && b) 1 0 ≤ cond b 1 0
-    less true b = omega arith
-    less false b = omega arith
-
--- nor do the entries of two keys together
-pub count-pair-apart : {X : Type 0} (p : X → Bool) (q r : ℕ) (es : List (ℕ × X)) → q ≢ r
-    → count_by (λ e. nat_eq q e.0 && p e.1) es + count_by (λ e. nat_eq r e.0 && p e.1) es ≤ count_by p (values_of es)
-count-pair-apart p q r [] differ = omega arith
-count-pair-apart p q r (e ∷ es) differ =
-    let first = less e.0 (p e.1) in
-    omega (arith, count-pair-apart p q r es differ, sum_by-cons (λ y. cond (nat_eq q y.0 && p y.1) 1 0) e es, sum_by-cons (λ y. cond (nat_eq r y.0 && p y.1) 1 0) e es, sum_by-cons (λ y. cond (p y) 1 0) e.1 (values_of es))
-  where
-    less : (k : ℕ) (b : Bool) → cond (nat_eq q k && b) 1 0 + cond (nat_eq r k && b) 1 0 ≤ cond b 1 0
-    less k b = grind (arith, nat_tests)
-
 -- no more entries have a key and a value that passes than have the key
 pub count-pair-le-times : {X : Type 0} (p : X → Bool) (q : ℕ) (es : List (ℕ × X)) → count_by (λ e. nat_eq q e.0 && p e.1) es ≤ count_by (λ e. nat_eq q e.0) es
 count-pair-le-times p q [] = omega arith

@@ -1,6 +1,6 @@
 -- Where a token stands: on only one wire, once.
 use Rattle.std.proofs.Common.{◌≡◌, ◌≢◌, ℕ, zero, suc, ◌<◌, ◌≤◌, inl, inr, eqb, List, [], length, refl, sym, ap, ◌∙◌, arith, Option, Some, None}
-use Rattle.std.specs.Prelude.{IsSome, count_by}
+use Rattle.std.specs.Prelude.{count_by}
 use Rattle.std.specs.Map.{lookup}
 use Rattle.std.proofs.lemmas.Bool.{cases_eq, cases_lt, ne_eqb, eq-eqb}
 use Rattle.std.proofs.lemmas.List.{get_or_past}
@@ -58,10 +58,6 @@ there y token client wire once stands =
 -- a token stands on one wire, for one client
 pub there-alike : (y : Lists) (token client other wire to : ℕ) → IsThere y token client wire → IsThere y token other to → (client ≡ other) × (wire ≡ to)
 there-alike y token client other wire to a b = let same = sym a.found ∙ b.found in (second same, first same)
-
--- a token that is there stands
-pub there-stands : (y : Lists) (token client wire : ℕ) → IsThere y token client wire → IsSome (standing y token)
-there-stands y token client wire is = rw is.found refl
 
 -- where no token stands none stands on any wire
 pub nobody-on : (y : Lists) → tokens_in y ≡ 0 → (u : ℕ) → length (on y u) ≡ 0

@@ -122,11 +122,6 @@ pub record Unlinks (records : List Record) (lines : List Line) (records' : List 
       → IsLink records records' (prev_of records t) (next_of records t)
   pub lines_are : lines' ≡ set lines (wire_of records t) (line_without (line_of lines (wire_of records t)) t (prev_of records t) (next_of records t))
 
--- records that are the same have the same length and name the same lines
-same-records : (records records' : List Record) (t : ℕ) → records' ≡ records
-    → (length records' ≡ length records) × ((z : ℕ) → wire_of records' z ≡ wire_of records z)
-same-records records records' t e = rw e (refl, λ z. refl)
-
 -- a test holds or does not
 cases-bool : (b : Bool) → (b ≡ true) ⊎ (b ≡ false)
 cases-bool true = inl refl

@@ -1,5 +1,5 @@
 -- Clients of a list, of whom those who follow one another by one entry are named together.
-use Rattle.std.proofs.Common.{◌≡◌, ℕ, zero, suc, ◌+◌, ◌≤◌, ◌==◌, cond, count_by, drop, max, replicate, List, [], ◌∷◌, ◌++◌, length, map, take, refl, sym, ap, ◌∙◌, arith, append_assoc, append-nil}
+use Rattle.std.proofs.Common.{◌≡◌, ℕ, zero, suc, ◌+◌, ◌≤◌, ◌==◌, cond, count_by, drop, max, replicate, List, [], ◌∷◌, ◌++◌, length, map, take, refl, sym, ap, ◌∙◌, arith, append_assoc}
 use Rattle.std.proofs.lemmas.List.{length-append, length-map, map-append}
 use Rattle.std.proofs.lemmas.List.Sums.{sum_by-append, sum_by-cons}
 use Rattle.cn_spec.specs.Sums.{times}
@@ -11,17 +11,6 @@ use Rattle.cn_floor.specs.Lane.{LaneValue}
 use Rattle.cn_floor.specs.Listed.{AreNamed}
 use Rattle.cn_walk.specs.Walks.{WalksAll}
 use Rattle.renamer_c.specs.Many.{by_entry}
-
-pub none_yet : (a : LaneValue) → tokens_in a.yard.lists ≡ 0 → WalksAll a a []
-none_yet a out = record {
-  home = refl;
-  out = out;
-  quota = omega arith;
-  room = omega arith;
-  entries = sym (append-nil a.view.entries);
-  seen = refl;
-  grants = ([], sym (append-nil a.view.grants), record { as_many = refl; as_often = λ id. refl });
-}
 
 entries_by : (entry : ℕ) (ids : List ℕ) → map (λ (c : Client). c.entry) (by_entry entry ids) ≡ replicate (length ids) entry
 entries_by entry [] = refl

@@ -45,11 +45,6 @@ none-on v none u = elim (cases_lt u (length v.tokens)) [
   | inr l ↦ ap (λ (es : List (ℕ × ℕ)). length es) (get_or_past v.tokens u [] l)
 ]
 
-at_all : {X : Type 0} (xs : List X) (i : ℕ) (x : X) → get_elem? xs i ≡ some x → (i < length xs) × (get_or xs i x ≡ x)
-at_all [] i x e = absurd (some-ne-none x (sym e))
-at_all (y ∷ ys) zero x e = (omega arith, some-injective y x e)
-at_all (y ∷ ys) (suc i) x e = let r = at_all ys i x e in (omega (arith, r.0), r.1)
-
 -- lists of the same numbers
 pub map-same : (f g : ℕ → ℕ) (a n : ℕ) → ((i : ℕ) → a ≤ i → i < a + n → f i ≡ g i) → map f (range_with_len a n) ≡ map g (range_with_len a n)
 map-same f g a zero same = refl

@@ -1,11 +1,10 @@
 -- What has risen since a floor began.
-use Rattle.std.proofs.Common.{◌≡◌, ℕ, zero, suc, ◌+◌, ◌-◌, ◌<◌, ◌≤◌, ◌++◌, ◌∷◌, [], List, length, get_or, map, take, drop, replicate, sym, refl, ◌∙◌, arith, subst}
+use Rattle.std.proofs.Common.{◌≡◌, ℕ, zero, suc, ◌+◌, ◌<◌, ◌≤◌, ◌++◌, ◌∷◌, [], List, length, get_or, map, take, drop, replicate, sym, refl, ◌∙◌, arith, subst}
 use Rattle.std.specs.List.{range_with_len}
 use Rattle.std.proofs.lemmas.List.{get_or-drop, length-drop, take_more}
 use Rattle.std.proofs.lemmas.List.FromFn.{map-range_with_len_more}
-use Rattle.cn_wiring.specs.declared.end.End.{End}
 use Rattle.cn_wiring.specs.declared.end.End.TheVariants.{Balancer, Exit}
-use Rattle.cn_wiring.specs.Table.{Stands, Table}
+use Rattle.cn_wiring.specs.Table.{Table}
 use Rattle.cn_yard.specs.Lists.{Lists, on, tokens_in}
 use Rattle.cn_yard.proofs.CallerLemmas.{nobody-on}
 use Rattle.cn_ledger.proofs.CallerLemmas.{counts-few}
@@ -13,9 +12,7 @@ use Rattle.cn_floor.specs.declared.view.Start.{Start}
 use Rattle.cn_floor.specs.Carried.{IsClosed, WordsValue, client_count}
 use Rattle.cn_floor.specs.Ends.{HasRisen, counts_by_exit, passes_of}
 use Rattle.cn_floor.specs.Rule.{ledger_of}
-use Rattle.cn_floor.specs.Words.{IsDifference, NoneWent, count_in, end_word, word_count}
-use Rattle.cn_floor.proofs.AtClose.Closings.{map-same}
-use Rattle.cn_floor.proofs.AtMoments.Raised.{count-word}
+use Rattle.cn_floor.specs.Words.{NoneWent}
 
 -- a part of a list, place by place
 part : (xs : List ℕ) (f : ℕ → ℕ) (a n : ℕ) → a + n ≤ length xs → ((i : ℕ) → i < n → get_or xs (a + i) 0 ≡ f i) → take n (drop a xs) ≡ map f (range_with_len 0 n)
@@ -39,32 +36,6 @@ module _ (start : Start) (words risen : List ℕ) (is : HasRisen start words ris
 
   pub passes-part : take t.balancers (drop (1 + t.entries) risen) ≡ passes_of start words
   passes-part = part risen _ (1 + t.entries) t.balancers (omega (arith, is.count)) (λ b l. is.each (Balancer b) l)
-
--- exit by exit, by the words of each
-pub exits-list : (start : Start) (words : List ℕ)
-    → map (λ i. count_in start.network.table words (Exit i) - count_in start.network.table start.words (Exit i)) (range_with_len 0 start.network.table.width) ≡ counts_by_exit start words
-exits-list start words =
-    let t : Table = start.network.table in
-    map-same (λ i. count_in t words (Exit i) - count_in t start.words (Exit i)) (λ i. get_or words (1 + t.entries + t.balancers + i) 0 - get_or start.words (1 + t.entries + t.balancers + i) 0) 0 t.width
-    (λ i l h. λ x. count-word t words (Exit i) (omega (arith, h)) x - count-word t start.words (Exit i) (omega (arith, h)) x)
-
--- an end's word stands among the words
-end-low : (t : Table) (end : End) → Stands t end → end_word t end < word_count t
-end-low t (Balancer b) h = omega arith
-end-low t (Exit i) h = omega arith
-
--- it follows from how far the words have risen, and from the words themselves if nobody went before
-pub risen-all : (start : Start) (words risen : List ℕ) → length words ≡ word_count start.network.table → IsDifference start.words words risen → HasRisen start words risen
-risen-all start words risen long is = record {
-  count = is.count ∙ long;
-  each = λ end h. is.each (end_word start.network.table end) (omega (arith, long, end-low start.network.table end h));
-}
-
-pub risen-none : (start : Start) (words : List ℕ) → length words ≡ word_count start.network.table → NoneWent start.network.table start.words → HasRisen start words words
-risen-none start words long none = record {
-  count = long;
-  each = λ end h. let was : get_or start.words (end_word start.network.table end) 0 ≡ 0 = sym (count-word start.network.table start.words end h) ∙ none end h in omega arith;
-}
 
 -- where nobody came, nobody went
 pub none-went : (w : WordsValue) → IsClosed w → client_count w ≡ 0 → NoneWent w.network.table w.words

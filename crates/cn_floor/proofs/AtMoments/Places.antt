@@ -1,5 +1,5 @@
 -- One place of a list.
-use Rattle.std.proofs.Common.{◌≡◌, ◌≢◌, ℕ, zero, suc, List, [], ◌∷◌, set, sym, refl, ap}
+use Rattle.std.proofs.Common.{◌≡◌, ℕ, zero, suc, List, [], ◌∷◌, set, sym, refl, ap}
 use mathlib.Core.Option.{some, some-injective, some-ne-none}
 use lib.ListN.{get_elem?}
 
@@ -12,10 +12,3 @@ pub get-here : {X : Type 0} (xs : List X) (i : ℕ) (x y : X) → get_elem? xs i
 get-here [] i x y e = absurd (some-ne-none x (sym e))
 get-here (z ∷ xs) zero x y e = refl
 get-here (z ∷ xs) (suc i) x y e = get-here xs i x y e
-
-pub get-there : {X : Type 0} (xs : List X) (i j : ℕ) (x y : X) → j ≢ i → get_elem? xs j ≡ some x → get_elem? (set xs i y) j ≡ some x
-get-there [] i j x y other e = e
-get-there (z ∷ xs) zero zero x y other e = absurd (other refl)
-get-there (z ∷ xs) zero (suc j) x y other e = e
-get-there (z ∷ xs) (suc i) zero x y other e = e
-get-there (z ∷ xs) (suc i) (suc j) x y other e = get-there xs i j x y (λ same. other (ap suc same)) e

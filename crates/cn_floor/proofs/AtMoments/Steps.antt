@@ -198,9 +198,6 @@ module _ (start : Start) (id token client wire : ℕ) (end : End) (v : View) (s 
   quota-same (Balancer b) m = (refl, refl)
   quota-same (Exit i) m = (refl, refl)
 
-  same-came : clients_in t next.words ≡ clients_in t s.words
-  same-came = sum-below-same t.entries (entered_in t next.words) (entered_in t s.words) (λ u l. entered-kept t s.words kept.rule.words end stands u)
-
   risen-not : (u : ℕ) → entered_in t s.words u ≤ entered_in t next.words u
   risen-not u = omega (arith, entered-kept t s.words kept.rule.words end stands u)
 

@@ -27,11 +27,6 @@ module _ {X : Type 0} where
   total_same f g [] h = refl
   total_same f g (x ∷ xs) h = let first : f x ≡ g x = h 0 x refl in omega (arith, total_same f g xs (λ i v e. h (suc i) v e), sum_by-cons f x xs, sum_by-cons g x xs)
 
-  -- a total of two parts
-  pub total-add : (f g : X → ℕ) (xs : List X) → sum_by (λ x. f x + g x) xs ≡ sum_by f xs + sum_by g xs
-  total-add f g [] = refl
-  total-add f g (x ∷ xs) = omega (arith, total-add f g xs, sum_by-cons f x xs, sum_by-cons g x xs, sum_by-cons (λ y. f y + g y) x xs)
-
   -- where one part is the whole of one total, and no other total has a part where this has none, it is the whole of the other
   pub mine-only : (f g : X → ℕ) (xs : List X) (i : ℕ) (v : X) → get_elem? xs i ≡ some v → ((j : ℕ) (x : X) → get_elem? xs j ≡ some x → g x ≡ 0 → f x ≡ 0) → sum_by g xs ≡ g v → sum_by f xs ≡ f v
   mine-only f g [] i v at h e = absurd (some-ne-none v (sym at))

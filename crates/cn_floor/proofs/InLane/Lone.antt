@@ -9,7 +9,7 @@ use Rattle.cn_spec.specs.Sums.{when}
 use Rattle.cn_spec.proofs.CallerLemmas.{sum-below-one, sum-below-part, sum-below-parts, sum-below-same}
 use Rattle.cn_wiring.specs.declared.end.End.TheVariants.{Balancer}
 use Rattle.cn_wiring.specs.Table.{IsWellFormed, LeadsOn, Stands, Table, end_of, output_wire}
-use Rattle.cn_yard.specs.Lists.{IsLowest, IsThere, Lists, Moves, Yard, first_of, last_on, on, times_in, tokens_in, without}
+use Rattle.cn_yard.specs.Lists.{IsThere, Lists, Moves, Yard, first_of, last_on, on, times_in, tokens_in, without}
 use Rattle.cn_yard.proofs.CallerLemmas.{IsFirst, first-is, first-there, last_on-sum, there-alike}
 use Rattle.cn_floor.specs.declared.view.Start.{Start}
 use Rattle.cn_floor.specs.declared.view.View.{View}
@@ -176,15 +176,6 @@ alone-moved old new token client wire to is lands moves = record {
   inside = omega (arith, moves.wires, lands);
   only = λ u. moves.lists u ∙ ap (λ (es : List (ℕ × ℕ)). es ++ last_on token client to u) (nobody-else old.lists token client wire is u);
 }
-
--- its wire is the lowest
-pub lowest-alone : (lists : Lists) (token client wire : ℕ) → IsAlone lists token client wire → IsLowest lists wire
-lowest-alone lists token client wire is =
-    let same : length (on lists wire) ≡ length {A = ℕ × ℕ} ((token, client) ∷ []) = ap length (is.only wire ∙ on-own token client wire) in
-    record {
-      some = omega (arith, same);
-      below = λ u l. is.only u ∙ off-own token client wire u (λ e. omega (arith, e, l));
-    }
 
 -- where a lane has one token, it is the first on its wire
 pub alone-in : (l : Inside) (lane : LaneValue) (wire token client at : ℕ) → lane_of l ≡ lane → Some token ≡ first_of (on l.yard.lists wire) → 0 < length (on lane.yard.lists wire)

@@ -72,9 +72,6 @@ module _ (width less i first wire : ℕ) (old y : Yard) (had has : List Grant) (
   pub some-left : length is.done + 1 ≤ length (on old.lists wire)
   some-left = omega (arith, ap length is.whole, length-append is.done is.rest, ap length (sym is.left ∙ next.begins))
 
-  pub visit-low : visit < first + length (on old.lists wire)
-  visit-low = omega (arith, is.visit_is, some-left)
-
   pub has-many : length has ≡ length had + length is.done
   has-many = ap length is.granted ∙ length-append had (grants_out width less i first is.done) ∙ ap (λ (k : ℕ). length had + k) (grants-many width less i first is.done)
 

@@ -1,5 +1,5 @@
 -- A reader that has read a stretch ahead of what was gathered.
-use Rattle.std.proofs.Common.{◌≡◌, ◌+◌, ℕ, List, [], ◌++◌, Bool, Option, length, refl, arith, ap, subst, inl, inr, ◌∙◌, length-append, true, false}
+use Rattle.std.proofs.Common.{◌≡◌, ◌+◌, ℕ, List, [], ◌++◌, Bool, Option, length, refl, arith, inl, inr, length-append, true, false}
 use Rattle.std.specs.Prelude.{Result, Ok, Err}
 use Rattle.csv.specs.declared.reader.Reader.{Reader}
 use Rattle.cn_report.specs.Reading.Batch.{IsBatchFault, IsOfReading, header_cause, record_cause}

@@ -1,15 +1,14 @@
 -- The records of a batch that were taken so far.
-use Rattle.std.proofs.Common.{◌≡◌, ◌≤◌, ◌+◌, ℕ, List, ◌∷◌, [], ◌++◌, Option, Some, None, length, drop, refl, arith, ap, ◌∙◌, length-append}
+use Rattle.std.proofs.Common.{◌≡◌, ℕ, List, ◌∷◌, [], ◌++◌, Option, Some, None, drop, refl, arith, ap, ◌∙◌, length-append}
 use Rattle.std.specs.Prelude.{Ok}
 use Rattle.std.proofs.lemmas.List.Elements.{filter_map-append}
 use Rattle.std.specs.Result.{result_ok}
-use Rattle.cn_spec.specs.declared.limits.TheConstants.{MOST_RECORDS}
 use Rattle.cn_report.specs.Reading.Arrival.{arrival_cause, arrival_in, arrivals_in, spelled_cause}
 use Rattle.cn_report.specs.Reading.Batch.{IsBatch, AreEpochsOf, cause_of_heading, header_cause, record_cause}
 use Rattle.cn_report.specs.Reading.Heading.{heading_in, heading_of, heading_or}
-use Rattle.cn_report.specs.Reading.Gathered.{IsGathered, StaysServable, ended, gathered}
+use Rattle.cn_report.specs.Reading.Gathered.{ended}
 use Rattle.cn_report.specs.Reading.Parts.{AreTaken, AreWithin, HasTaken, StaysWithin}
-use Rattle.cn_report.specs.Reading.Records.{HasRead, Record}
+use Rattle.cn_report.specs.Reading.Records.{Record}
 use Rattle.cn_report.specs.declared.reading.arrival.Arrival.{Arrival}
 use Rattle.cn_report.specs.declared.reading.batch_fault.BatchCause.{BatchCause}
 use Rattle.cn_report.specs.declared.reading.gathering.BatchEpoch.{BatchEpoch}
@@ -61,34 +60,9 @@ taken-next heading entries (r ∷ rows) arrivals fields arrival t is none = reco
   counted = omega (arith, t.counted, length-append arrivals (arrival ∷ []), length-append (r ∷ rows) (fields ∷ []));
 }
 
--- a record more was read, and its arrival was gathered
-pub taken-more : {R : Type 0} (remaining : R → Option (List ℕ)) (old new : Reader R) (heading : Heading) (entries at : ℕ) (g h : Gathering) (text : List ℕ) (given : List BatchEpoch)
-    → HasTaken remaining old heading entries at g text given
-    → ((before : List Record) (arrivals : List Arrival) → HasRead remaining old text before → IsGathered given g arrivals → length arrivals + 1 ≡ at
-    → (fields : Record) × (arrival : Arrival) × HasRead remaining new text (before ++ fields ∷ []) × (arrival_in heading entries fields ≡ Ok arrival)
-    × (arrival_cause entries arrivals arrival ≡ None) × IsGathered given h (arrivals ++ arrival ∷ []))
-    → HasTaken remaining new heading entries (at + 1) h text given
-taken-more remaining old new heading entries at g h text given t found =
-    let (fields, arrival, next, is, none, more) = found t.rows t.arrivals t.read t.gathered (omega (arith, t.taken.counted, t.many)) in
-    record {
-      rows = t.rows ++ fields ∷ [];
-      arrivals = t.arrivals ++ arrival ∷ [];
-      read = next;
-      many = omega (arith, t.many, length-append t.rows (fields ∷ []));
-      taken = taken-next heading entries t.rows t.arrivals fields arrival t.taken is none;
-      gathered = more;
-    }
-
 -- what holds whatever was read, of a gathering with so many clients
 pub within-all : (entries at : ℕ) (g : Gathering) (given : List BatchEpoch) → StaysWithin entries at g given → AreWithin entries (ended given g)
 within-all entries at g given within = record { fits = within.keeps.over; few = omega (arith, within.few, within.count) }
-
--- and once one came more
-pub within-more : (entries at : ℕ) (g h : Gathering) (given : List BatchEpoch) → StaysWithin entries at g given → at ≤ MOST_RECORDS → StaysServable entries given h
-    → gathered given h ≡ gathered given g + 1 → AreWithin entries (ended given h) × StaysWithin entries (at + 1) h given
-within-more entries at g h given within few keeps more =
-    let next : StaysWithin entries (at + 1) h given = record { few = omega (arith, few); keeps = keeps; count = omega (arith, within.count, more) } in
-    (within-all entries (at + 1) h given next, next)
 
 -- and the epochs that are over were given out
 module _ (given : List BatchEpoch) (g h : Gathering) (none : h.over.items ≡ []) (latest : h.latest ≡ g.latest) (standing : h.standing ≡ g.standing) where

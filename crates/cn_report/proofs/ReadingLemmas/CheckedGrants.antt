@@ -13,7 +13,7 @@ use Rattle.cn_spec.specs.declared.limits.TheConstants.{MOST_RECORDS}
 use Rattle.cn_report.specs.Reading.Checked.{AreTold, HoldsGrants, IsChecked, IsGapBelow, Tells, joining_cause, latest_number, latest_told}
 use Rattle.cn_report.specs.Reading.Told.{epoch_numbers, plain_tight, shared_epoch, with_number}
 use Rattle.cn_report.specs.Reading.Granted.{form_cause, first_cause, has_client, has_name, last_epoch, of_epoch, twice_cause}
-use Rattle.cn_report.specs.Reading.Grants.{IsGap, Lacks}
+use Rattle.cn_report.specs.Reading.Grants.{Lacks}
 use Rattle.cn_report.specs.Reading.Numbers.{has}
 use Rattle.cn_report.specs.declared.reading.grant.Granted.{Granted}
 use Rattle.cn_report.specs.declared.reading.grant.GrantCause.TheVariants.{Form}
@@ -216,18 +216,6 @@ joined width old new before grant held tells here over gap latest count clients 
       last = fold-append (λ (epoch : ℕ) (g : Granted). g.epoch) 0 before (grant ∷ []) ∙ sym (latest ∙ here);
       tells = λ none. told-joined width old new before grant here over latest count (tells (sym gap ∙ none));
     }
-
--- the first gap of those up to the greatest is the first of all
-pub gap-of-all : (g : Granting) (grants : List Granted) (gap : Gap) → HoldsGrants g grants → IsGapBelow (g.latest + 1) grants (Some gap) → IsGap grants gap.epoch gap.name
-gap-of-all g grants gap held least = record {
-  lacks = least.lacks;
-  first = λ e n lack. each e n lack (leb_tells e g.latest);
-  least = least.least;
-}
-  where
-    each : (e n : ℕ) → Lacks grants e n → ((leb e g.latest ≡ true) × (e ≤ g.latest)) ⊎ ((leb e g.latest ≡ false) × (g.latest < e)) → gap.epoch ≤ e
-    each e n lack (inl w) = least.first e n (omega (arith, w.1)) lack
-    each e n lack (inr w) = absurd (no-lack-above g.latest e n grants w.1 held.below lack)
 
 pub no_gap : (g : Granting) (grants : List Granted) → HoldsGrants g grants → IsGapBelow (g.latest + 1) grants None → (e n : ℕ) → Lacks grants e n → ⊥
 no_gap g grants held none e n lack = gap-further g.latest (e + g.latest + 1) grants None (omega arith) held.below none e n (omega arith) lack

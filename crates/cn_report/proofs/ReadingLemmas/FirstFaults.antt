@@ -83,10 +83,6 @@ module _ {C : Type 0} (header : Record → Option C) (later : List Record → Re
     unfolding cause_by
     nothing rows why none e = rw e (record { within = omega arith; clean = λ at h. absurd (omega arith); told = inl none })
 
-    -- no record came at all
-    pub stop-first : (rows : List Record) (why : C) → IsOther why → IsFirstFault (cause_by header later) IsOther rows 0 why
-    stop-first rows why other = record { within = omega arith; clean = λ at h. absurd (omega arith); told = inr other }
-
     -- after records without one a record has a cause, whatever comes after it
     pub stop-in : (all rows more : List Record) (fields : Record) (why : C) → AreClean rows → all ≡ (rows ++ fields ∷ []) ++ more → later rows fields ≡ Some why
         → IsFirstFault (cause_by header later) IsOther all (length rows) why

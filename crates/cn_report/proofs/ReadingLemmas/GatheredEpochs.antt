@@ -1,5 +1,5 @@
 -- The epochs that were gathered, as arrivals.
-use Rattle.std.proofs.Common.{◌≡◌, ◌<◌, ◌≤◌, ◌+◌, ℕ, List, [], ◌∷◌, ◌++◌, true, false, Some, length, map, refl, arith, sym, ap, ◌∙◌, inl, inr, append_assoc, subst}
+use Rattle.std.proofs.Common.{length-append, ◌≡◌, ◌<◌, ◌≤◌, ◌+◌, ℕ, List, [], ◌∷◌, ◌++◌, true, false, Some, length, map, refl, arith, sym, ap, ◌∙◌, inl, inr, append_assoc, subst}
 use Rattle.std.specs.Prelude.{◌==◌, nat_eq, nat_le, nat_lt, ◌⊎◌}
 use Rattle.std.specs.List.{AllByRecursion, flat_map, list_any}
 use Rattle.std.proofs.lemmas.List.{map-append, length-map, append-nil}
@@ -99,6 +99,14 @@ rising_more (x ∷ es) e rising below = (all_more (λ y. x.number < y.number) es
 below_more : (k n : ℕ) (es : List BatchEpoch) → k < n → AllByRecursion (λ x. x.number < k) es → AllByRecursion (λ x. x.number < n) es
 below_more k n [] h all = tt
 below_more k n (x ∷ es) h all = (omega (arith, h, all.0), below_more k n es h all.1)
+
+-- no epoch that is over is lost when the latest is too
+pub over-grows : (g h : Gathering) → ended [] h ≡ over_after [] g → length g.over.items ≤ length h.over.items
+over-grows g h over = by g.latest.clients.items refl
+  where
+    by : (cs : List Client) → g.latest.clients.items ≡ cs → length g.over.items ≤ length h.over.items
+    by [] e = omega (arith, ap length (rw (le-ltb 0 (length g.latest.clients.items) (omega (arith, ap length e))) at over))
+    by (c ∷ cs) e = omega (arith, ap length (rw (lt-ltb 0 (length g.latest.clients.items) (omega (arith, ap length e))) at over), length-append g.over.items (g.latest ∷ []))
 
 -- the epochs are those of the arrivals once the latest is over
 pub over-epochs : (given : List BatchEpoch) (g : Gathering) (arrivals : List Arrival) → HoldsArrivals given g arrivals → AreEpochsOf (over_after given g) arrivals

@@ -1,12 +1,10 @@
 -- A part of a batch, from what was taken to what is given out.
-use Rattle.std.proofs.Common.{◌≡◌, ◌<◌, ◌≤◌, ◌+◌, ℕ, List, ◌++◌, Option, Some, None, length, refl, arith, ap, sym, ◌∙◌}
-use Rattle.std.specs.Prelude.{IfSome, MatchResult, Ok, Result}
-use Rattle.cn_report.specs.Reading.Gathered.{ended}
-use Rattle.cn_report.specs.Reading.Parts.{AnswersPart, HasGiven, IsOpen, MayGive, ReadsPart}
+use Rattle.std.proofs.Common.{◌≡◌, ◌<◌, ◌≤◌, ◌+◌, ℕ, List, Option, Some, None, length, sym, ◌∙◌}
+use Rattle.std.specs.Prelude.{IfSome, Ok}
+use Rattle.cn_report.specs.Reading.Parts.{IsOpen, ReadsPart}
 use Rattle.cn_report.specs.Reading.Taking.{Gives, Takes}
 use Rattle.cn_report.specs.declared.reading.batch_reader.BatchPart.{BatchPart}
 use Rattle.cn_report.specs.declared.reading.batch_reader.BatchReader.{BatchReader}
-use Rattle.cn_report.specs.declared.reading.gathering.BatchEpoch.{BatchEpoch}
 use Rattle.cn_report.proofs.ReadingLemmas.BatchRecords.{taken-given, within-given}
 
 -- a part: arrivals are taken, and then the epochs that are over are given out

@@ -1,5 +1,5 @@
 -- Arrivals that were read together, and how far they were gathered.
-use Rattle.std.proofs.Common.{◌≡◌, ◌<◌, ◌≤◌, ◌+◌, ◌⊎◌, ℕ, List, [], ◌∷◌, ◌++◌, Bool, Option, Some, None, drop, get_or, length, map, take, refl, arith, sym, ap, subst, inl, inr, ◌∙◌, append_assoc, append-nil, length-append, true, false}
+use Rattle.std.proofs.Common.{◌≡◌, ◌<◌, ◌≤◌, ◌+◌, ◌⊎◌, ℕ, List, [], ◌∷◌, ◌++◌, Some, None, drop, get_or, length, take, arith, sym, ap, inl, inr, ◌∙◌, append_assoc, append-nil, length-append}
 use Rattle.std.specs.Prelude.{Result, Ok}
 use Rattle.std.proofs.lemmas.List.{get_or-map, length-map, length-take-le, map-append, take-append-drop, take_all, take_more}
 use Rattle.cn_report.specs.Reading.Arrival.{arrival_cause, arrival_in, spelled_cause}
@@ -11,7 +11,6 @@ use Rattle.cn_report.specs.Reading.Stretch.{AreSpelled}
 use Rattle.cn_report.specs.declared.reading.arrival.Arrival.{Arrival}
 use Rattle.cn_report.specs.declared.reading.batch_fault.BatchCause.{BatchCause}
 use Rattle.cn_report.specs.declared.reading.batch_fault.BatchCause.TheVariants.{Memory}
-use Rattle.cn_report.specs.declared.reading.batch_fault.BatchFault.{BatchFault}
 use Rattle.cn_report.specs.declared.reading.gathering.BatchEpoch.{BatchEpoch}
 use Rattle.cn_report.specs.declared.reading.gathering.Gathering.{Gathering}
 use Rattle.cn_report.specs.declared.reading.heading.Heading.{Heading}

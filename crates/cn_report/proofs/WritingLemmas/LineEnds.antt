@@ -10,10 +10,6 @@ pub length-stays : (old new word : List ℕ) (start end : ℕ) → end < length 
 length-stays old new word start end within is written =
     omega (arith, ap length written, length-drop start new, length-append word (drop end old), length-drop end old)
 
--- the same of a buffer of line feeds, of which the last stays
-pub line-stays : (new word : List ℕ) (start : ℕ) → start + length word ≡ 63 → drop start new ≡ word ++ 10 ∷ [] → length new ≡ 64
-line-stays new word start is written = omega (arith, ap length written, length-drop start new, length-append word (10 ∷ []))
-
 pub number_is-short : (n : ℕ) → n < 2 ^ 64 → length (decimal n) ≤ 20
 number_is-short n fits = length-decimal-le 20 n (omega arith) (omega arith) fits
 

@@ -1,5 +1,5 @@
 -- A stretch of a batch: arrivals that were read together, before they are gathered.
-use Rattle.std.specs.Prelude.{ℕ, ◌≡◌, ◌≤◌, ◌+◌, ◌⊎◌, ◌++◌, ◌∷◌, [], Bool, List, Option, Result, MatchResult, IfOk, OnOk, Ok, Err, true, length, map}
+use Rattle.std.specs.Prelude.{ℕ, ◌≡◌, ◌<◌, ◌≤◌, ◌+◌, ◌⊎◌, ◌++◌, ◌∷◌, [], Bool, List, Option, Result, MatchResult, IfOk, OnOk, Ok, Err, true, length, map}
 use Rattle.std.specs.Bool.{MatchBool}
 use Rattle.cn_spec.specs.declared.limits.TheConstants.{MOST_RECORDS}
 use Rattle.cn_report.specs.Reading.Arrival.{arrival_in}
@@ -13,7 +13,6 @@ use Rattle.cn_report.specs.declared.reading.batch_fault.BatchFault.{BatchFault}
 use Rattle.cn_report.specs.declared.reading.gathering.BatchEpoch.{BatchEpoch}
 use Rattle.cn_report.specs.declared.reading.gathering.Gathering.{Gathering}
 use Rattle.cn_report.specs.declared.reading.heading.Heading.{Heading}
-use Rattle.cn_report.specs.declared.reading.stretch.TheConstants.{STRETCH}
 use Rattle.csv.specs.declared.reader.Reader.{Reader}
 
 -- these records spell these arrivals, one each
@@ -33,16 +32,17 @@ pub record HasStretch {R : Type 0} (remaining : R → Option (List ℕ)) (reader
   pub first : (later : List Record) × (records_of text ≡ (before ++ rows) ++ later)
   pub ends : EndsAfter remaining reader heading entries text (before ++ rows) end
 
--- what the reading of a stretch does, from one state of the reader to the next
+-- what the reading of a stretch does, from one state of the reader to the next; it has an arrival if others may come
 pub record ReadsStretch {R : Type 0} (remaining : R → Option (List ℕ)) (heading : Heading) (entries : ℕ) (old new : Reader R) (arrivals : List Arrival) (end : Result Bool BatchCause) : Type 0 where
   pub plain : OnOk end (IsPlain new)
-  pub full : IfOk end (λ more. more ≡ true → length arrivals ≡ STRETCH)
+  pub some : IfOk end (λ more. more ≡ true → 0 < length arrivals)
   pub reads : (text : List ℕ) (before : List Record) → HasRead remaining old text before → HasStretch remaining new heading entries text before arrivals end
 
 -- what becomes of arrivals that are gathered, the first of them record `from`: none has a cause, and they are gathered; or
 -- there is the fault of any batch that goes on with the records that spell them
 pub record Gathers (entries from : ℕ) (arrivals : List Arrival) (old new : Gathering) (result : Result (Unit {0}) BatchFault) : Type 0 where
   pub few : OnOk result (from + length arrivals ≤ MOST_RECORDS + 1)
+  pub over : OnOk result (length old.over.items ≤ length new.over.items)
   pub keeps : OnOk result ((given : List BatchEpoch) → StaysServable entries given old → StaysServable entries given new)
   pub count : OnOk result ((given : List BatchEpoch) → gathered given new ≡ gathered given old + length arrivals)
   pub answer : (heading : Heading) (before rows later : List Record) (came : List Arrival) (given : List BatchEpoch) → AreTaken heading entries before came → IsGathered given old came

@@ -8,11 +8,13 @@ ghost use Rattle.cn_report.specs.Reading.Records.{HasRead, IsPlain, Record, reco
 ghost use Rattle.cn_report.specs.Reading.Taking.{Gives};
 
 use crate::reading::batch_fault::{BatchCause, BatchFault};
-use crate::reading::by_two::take_by_two;
 use crate::reading::gathering::{BatchEpoch, Gathering};
 use crate::reading::heading::{Heading, heading_of};
+use crate::reading::one_thread::OneThread;
+use crate::reading::pace::Pace;
 use crate::reading::rows::{next_row, open_rows};
 use crate::reading::taking::take_arrivals;
+use crate::reading::two_threads::TwoThreads;
 use csv::{ByteRecord, Reader};
 use std::alloc::Global;
 use std::hash::RandomState;
@@ -110,18 +112,7 @@ impl<R: Read + Drop> BatchReader<R> {
         requires { IsOpen self.old }
         ensures { ReadsPart R.remaining enough epochs self.old self.new result }
     {
-        let next = take_arrivals(
-            alloc,
-            &mut self.rows,
-            &mut self.row,
-            self.heading,
-            self.entries,
-            self.at,
-            enough,
-            epochs,
-            &mut self.gathering,
-        )?;
-        Ok(self.give(alloc, next))
+        self.read_by(&OneThread, alloc, enough, epochs)
     }
 
     /// Reads on as [`BatchReader::read`] does, with a thread that gathers the records while this one reads others.
@@ -138,8 +129,22 @@ impl<R: Read + Drop> BatchReader<R> {
         requires { IsOpen self.old }
         ensures { ReadsPart R.remaining enough epochs self.old self.new result }
     {
-        let next = take_by_two(
-            rt,
+        self.read_by(&TwoThreads(rt), alloc, enough, epochs)
+    }
+
+    /// Reads on, by one thread or by two.
+    fn read_by<P: Pace>(
+        &mut self,
+        pace: &P,
+        alloc: Global,
+        enough: u64,
+        epochs: usize,
+    ) -> Result<BatchPart, BatchFault>
+        requires { IsOpen self.old }
+        ensures { ReadsPart R.remaining enough epochs self.old self.new result }
+    {
+        let next = take_arrivals(
+            pace,
             alloc,
             &mut self.rows,
             &mut self.row,

@@ -79,6 +79,7 @@ impl Gathering {
         ensures keeps { OnOk result ((entries : ℕ) (given : List BatchEpoch) → StaysServable entries given self.old
             → StaysServable entries given self.new) }
         ensures same { OnOk result ((given : List BatchEpoch) → gathered given self.new ≡ gathered given self.old) }
+        ensures over { OnOk result (length self.old.over.items ≤ length self.new.over.items) }
     {
         if self.latest.number == epoch {
             return Ok(());
@@ -128,6 +129,7 @@ impl Gathering {
             → (arrival_cause entries before arrival ≡ None)
             × IsGathered given self.new (before ++ arrival ∷ [])) }
         ensures few { OnOk result (at ≤ MOST_RECORDS) }
+        ensures over { OnOk result (length self.old.over.items ≤ length self.new.over.items) }
         ensures keeps { OnOk result ((given : List BatchEpoch) → StaysServable entries given self.old
             → StaysServable entries given self.new) }
         ensures more { OnOk result ((given : List BatchEpoch) → gathered given self.new ≡ gathered given self.old + 1) }

@@ -16,11 +16,8 @@ use csv::{ByteRecord, Reader};
 use std::alloc::Global;
 use std::io::Read;
 
-/// So many arrivals make a stretch: enough to pay for a thread that gathers them.
-pub(crate) const STRETCH: usize = 16_384;
-
 /// The arrival of the next record, if there is one.
-pub(crate) fn next_arrival<R: Read>(
+fn next_arrival<R: Read>(
     rows: &mut Reader<R>,
     row: &mut ByteRecord,
     heading: Heading,
@@ -45,8 +42,8 @@ pub(crate) fn next_arrival<R: Read>(
     Ok(Some(arrival_of(row, heading, entries)?))
 }
 
-/// Reads a stretch in place of the arrivals that were there: as many as make one, or to the end of the text. Returns whether
-/// others may come.
+/// Reads a stretch in place of the arrivals that were there: so many at most, one at least, or to the end of the text. Returns
+/// whether others may come.
 ///
 /// # Errors
 /// The cause for which the record after them has no arrival.
@@ -55,14 +52,16 @@ pub(crate) fn read_stretch<R: Read>(
     row: &mut ByteRecord,
     heading: Heading,
     entries: u32,
+    most: usize,
     arrivals: &mut Vec<Arrival>,
 ) -> Result<bool, BatchCause>
     requires plain { IsPlain rows.old }
     requires entries { 0 < entries }
+    requires most { 0 < most }
     ensures { ReadsStretch R.remaining heading entries rows.old rows.new arrivals.new.items result }
 {
     arrivals.clear();
-    for _taken in 0..STRETCH {
+    for _taken in 0..most {
         let Some(arrival) = next_arrival(rows, row, heading, entries)? else {
             return Ok(false);
         };

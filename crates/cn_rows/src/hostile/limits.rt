@@ -22,7 +22,7 @@ const ONE_WORKER: Asked = (Kind::Tree, 2, 1, 1);
 const TWO_WORKERS: Asked = (Kind::Tree, 2, 2, 1);
 
 /// Full epochs from 1 on, of which each client comes once in all, and this end.
-fn full_epochs(records: u64, last: &'static [u8]) -> Computed {
+pub(super) fn full_epochs(records: u64, last: &'static [u8]) -> Computed {
     Computed::new(b"epoch,client,entry\n", b"YZ,GFEDCBA,0\n", records, last)
 }
 

@@ -5,6 +5,7 @@ use Rattle.cn_report.proofs.reading.stretch.gather.Goals as goal
 pub loop-position-init : goal.loop-position-init
 loop-position-init c = record {
   few = omega (arith, c.requires);
+  over = omega arith;
   keeps = λ given keeps. keeps;
   count = λ given. omega arith;
   taken = λ heading before rows came given taken gathered size spelled. none-gathered-of heading c.args.entries before rows came c.args.arrivals.now given c.args.gathering.now taken gathered;
@@ -13,6 +14,7 @@ loop-position-init c = record {
 pub returns-in-Err : goal.returns-in-Err
 returns-in-Err c = record {
   few = tt;
+  over = tt;
   keeps = tt;
   count = tt;
   answer = λ heading before rows later came given taken gathered size spelled.
@@ -27,6 +29,7 @@ returns-in-Err c = record {
 pub loop-position-preserved : goal.loop-position-preserved
 loop-position-preserved c = record {
   few = omega (arith, c.in_default.ensures.few);
+  over = omega (arith, c.in_default.ensures.over, c.loop-position.invariant.over);
   keeps = λ given keeps. c.in_default.ensures.keeps given (c.loop-position.invariant.keeps given keeps);
   count = λ given. omega (arith, c.loop-position.invariant.count given, c.in_default.ensures.more given);
   taken = λ heading before rows came given taken gathered size spelled.
@@ -41,6 +44,7 @@ loop-position-preserved c = record {
 pub returns : goal.returns
 returns c = record {
   few = omega (arith, c.loop-position.invariant.few, c.loop-position-test.false);
+  over = c.loop-position.invariant.over;
   keeps = c.loop-position.invariant.keeps;
   count = λ given. omega (arith, c.loop-position.invariant.count given, c.loop-position-test.false);
   answer = λ heading before rows later came given taken gathered size spelled.

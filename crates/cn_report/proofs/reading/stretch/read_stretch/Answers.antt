@@ -36,7 +36,7 @@ returns-in_err-arrival g c =
     let told = err_from_is_err_and c.from_residual.result c.from_residual.ensures.1 in
     rw (told.1, told.2) (record {
       plain = tt;
-      full = tt;
+      some = tt;
       reads = λ text before read.
           let (rows, spelled, now) = c.loop-taken.invariant.reads text before read in
           stretch-read g.R.Read.remaining c.loop-taken.rows c.next_arrival.new.rows c.args.heading c.args.entries text before rows c.loop-taken.arrivals.items _ spelled now (c.in_err-arrival.ensures.refused text (before ++ rows) now);
@@ -45,7 +45,7 @@ returns-in_err-arrival g c =
 pub returns-in_default : goal.returns-in_default
 returns-in_default g c = record {
   plain = c.in_ok-arrival.ensures.plain;
-  full = λ more. cc more;
+  some = λ more. cc more;
   reads = λ text before read.
       let (rows, spelled, now) = c.loop-taken.invariant.reads text before read in
       stretch-read g.R.Read.remaining c.loop-taken.rows c.next_arrival.new.rows c.args.heading c.args.entries text before rows c.loop-taken.arrivals.items (Ok false) spelled now (rw c.in_default.is at (c.in_ok-arrival.ensures.next text (before ++ rows) now));
@@ -57,7 +57,7 @@ returns-then-is_err g c =
     let items = rw bad at c.push.ensures.items in
     record {
       plain = tt;
-      full = tt;
+      some = tt;
       reads = λ text before read.
           let (rows, spelled, now) = c.loop-taken.invariant.reads text before read in
           stretch-read g.R.Read.remaining c.loop-taken.rows c.next_arrival.new.rows c.args.heading c.args.entries text before rows c.push.new.self.items (Err Memory) (rw items spelled) now (inr (inr refl));
@@ -66,7 +66,7 @@ returns-then-is_err g c =
 pub returns : goal.returns
 returns g c = record {
   plain = c.loop-taken.invariant.plain;
-  full = λ more. omega (arith, c.loop-taken.invariant.many, c.loop-taken.auto._taken-end, c.loop-taken-test.false);
+  some = λ more. omega (arith, c.loop-taken.invariant.many, c.requires.most, c.loop-taken.auto._taken-end, c.loop-taken-test.false);
   reads = λ text before read.
       let (rows, spelled, now) = c.loop-taken.invariant.reads text before read in
       stretch-read g.R.Read.remaining c.loop-taken.rows c.loop-taken.rows c.args.heading c.args.entries text before rows c.loop-taken.arrivals.items (Ok true) spelled now now;

@@ -1,6 +1,6 @@
-use Rattle.std.proofs.Common.{arith, length, ap}
+use Rattle.std.proofs.Common.{[], arith, length, ap}
 use Rattle.cn_report.specs.Reading.Batch.{clients_of_epochs}
-use Rattle.cn_report.proofs.ReadingLemmas.GatheredEpochs.{turned}
+use Rattle.cn_report.proofs.ReadingLemmas.GatheredEpochs.{over-grows, turned}
 use Rattle.cn_report.proofs.ReadingLemmas.ServableEpochs.{all-over, turned-keeps}
 use Rattle.cn_report.proofs.reading.gathering.Gathering.reach.Goals as goal
 
@@ -18,3 +18,8 @@ pub returns-clause-same : goal.returns-clause-same
 returns-clause-same c = λ given.
     let (over, number, clients, keys) = c.in_ok-turn.ensures in
     omega (arith, ap clients_of_epochs (over given), ap length clients, all-over given c.args.self.now)
+
+pub returns-clause-over : goal.returns-clause-over
+returns-clause-over c =
+    let (over, number, clients, keys) = c.in_ok-turn.ensures in
+    over-grows c.args.self.now c.turn.new.self (over [])

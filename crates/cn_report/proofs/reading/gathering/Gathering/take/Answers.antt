@@ -36,6 +36,14 @@ returns-clause-err c =
       | inr e ↦ inr e
     ])
 
+pub returns-clause-over : goal.returns-clause-over
+returns-clause-over c =
+    let good : is_ok c.reach.result ≡ true = search rules in
+    let reached = on_ok c.reach.result good c.reach.ensures.over in
+    on_ok-map c.join.result c.join.ensures.ok (λ j.
+    let (none, over, number, clients, keys) = j in
+    omega (arith, reached, ap (λ es. length es.items) over))
+
 pub returns-clause-keeps : goal.returns-clause-keeps
 returns-clause-keeps c =
     let good : is_ok c.reach.result ≡ true = search rules in

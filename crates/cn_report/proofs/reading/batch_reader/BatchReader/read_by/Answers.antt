@@ -1,7 +1,7 @@
 use Rattle.std.proofs.Common.{refl}
 use Rattle.std.proofs.lemmas.Result.{err_from_is_err_and}
 use Rattle.cn_report.proofs.ReadingLemmas.PartsRead.{part-read}
-use Rattle.cn_report.proofs.reading.batch_reader.BatchReader.read_by_two.Goals as goal
+use Rattle.cn_report.proofs.reading.batch_reader.BatchReader.read_by.Goals as goal
 
 pub returns-in_err-next : goal.returns-in_err-next
 returns-in_err-next g c =
