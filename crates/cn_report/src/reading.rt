@@ -13,7 +13,7 @@ mod marks;
 mod number;
 mod numbers;
 mod one_thread;
-mod pace;
+mod readers;
 mod rows;
 mod scatter;
 mod schedule;

@@ -1,5 +1,5 @@
 -- The epochs that were gathered, as arrivals.
-use Rattle.std.proofs.Common.{length-append, ◌≡◌, ◌<◌, ◌≤◌, ◌+◌, ℕ, List, [], ◌∷◌, ◌++◌, true, false, Some, length, map, refl, arith, sym, ap, ◌∙◌, inl, inr, append_assoc, subst}
+use Rattle.std.proofs.Common.{◌≡◌, ◌<◌, ◌≤◌, ◌+◌, ℕ, List, [], ◌∷◌, ◌++◌, true, false, Some, length, map, refl, arith, sym, ap, ◌∙◌, inl, inr, append_assoc, subst, length-append}
 use Rattle.std.specs.Prelude.{◌==◌, nat_eq, nat_le, nat_lt, ◌⊎◌}
 use Rattle.std.specs.List.{AllByRecursion, flat_map, list_any}
 use Rattle.std.proofs.lemmas.List.{map-append, length-map, append-nil}
@@ -100,7 +100,7 @@ below_more : (k n : ℕ) (es : List BatchEpoch) → k < n → AllByRecursion (λ
 below_more k n [] h all = tt
 below_more k n (x ∷ es) h all = (omega (arith, h, all.0), below_more k n es h all.1)
 
--- no epoch that is over is lost when the latest is too
+-- to end the latest epoch loses none that is over
 pub over-grows : (g h : Gathering) → ended [] h ≡ over_after [] g → length g.over.items ≤ length h.over.items
 over-grows g h over = by g.latest.clients.items refl
   where

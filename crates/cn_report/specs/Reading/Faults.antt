@@ -19,7 +19,7 @@ abbrev pub IsClean : {C : Type 0} → (List Record → ℕ → Option C) → Lis
 IsClean cause rows = (at : ℕ) → cause rows at ≡ None
 
 -- the first record with a cause, and its first cause; or what is no record's fault, at a record before which none has a
--- cause: that it is the record that was being read is tested
+-- cause: that it is the record that was being read, or of a batch gathered, is tested
 pub record IsFirstFault {C : Type 0} (cause : List Record → ℕ → Option C) (IsOther : C → Type 0) (rows : List Record) (at : ℕ) (why : C) : Type 0 where
   pub within : at ≤ length rows
   pub clean : IsCleanBefore cause rows at

@@ -38,7 +38,7 @@ pub record ReadsStretch {R : Type 0} (remaining : R → Option (List ℕ)) (head
   pub some : IfOk end (λ more. more ≡ true → 0 < length arrivals)
   pub reads : (text : List ℕ) (before : List Record) → HasRead remaining old text before → HasStretch remaining new heading entries text before arrivals end
 
--- what becomes of arrivals that are gathered, the first of them record `from`: none has a cause, and they are gathered; or
+-- what becomes of arrivals that are gathered, the first of them record `from`: none has a cause, they are gathered, and no epoch that was over is lost; or
 -- there is the fault of any batch that goes on with the records that spell them
 pub record Gathers (entries from : ℕ) (arrivals : List Arrival) (old new : Gathering) (result : Result (Unit {0}) BatchFault) : Type 0 where
   pub few : OnOk result (from + length arrivals ≤ MOST_RECORDS + 1)

@@ -28,8 +28,8 @@ pub struct Batch {
 ///
 /// # Errors
 ///
-/// The first record that has a cause, with its first cause. A failed read and want of memory are reported at the record
-/// that was being read.
+/// The first record that has a cause, with its first cause. A failed read is reported at the record that was being
+/// read, want of memory at the one that was being read or gathered.
 pub fn read_batch<R: Read + Drop>(
     alloc: Global,
     reader: R,

@@ -11,7 +11,7 @@ use crate::reading::batch_fault::{BatchCause, BatchFault};
 use crate::reading::gathering::{BatchEpoch, Gathering};
 use crate::reading::heading::{Heading, heading_of};
 use crate::reading::one_thread::OneThread;
-use crate::reading::pace::Pace;
+use crate::reading::readers::Readers;
 use crate::reading::rows::{next_row, open_rows};
 use crate::reading::taking::take_arrivals;
 use crate::reading::two_threads::TwoThreads;
@@ -96,13 +96,13 @@ impl<R: Read + Drop> BatchReader<R> {
         }
     }
 
-    /// Reads on, to the end of the batch, or until more than `enough` records were read and `epochs` epochs are over that
-    /// were not given out: all that are over, which are those after the ones given out before. With them the batch is
-    /// whole if it was read to its end. It can be read from until then.
+    /// Reads on, to the end of the batch, or to the end of a stretch by which more than `enough` records were read and
+    /// `epochs` epochs are over that were not given out. Gives out all that are over, which are those after the ones given
+    /// out before. With them the batch is whole if it was read to its end. It can be read from until then.
     ///
     /// # Errors
-    /// The first record that has a cause, with its first cause. A failed read and want of memory are reported at the record
-    /// that was being read.
+    /// The first record that has a cause, with its first cause. A failed read is reported at the record that was
+    /// being read, want of memory at the one that was being read or gathered.
     pub fn read(
         &mut self,
         alloc: Global,
@@ -133,9 +133,9 @@ impl<R: Read + Drop> BatchReader<R> {
     }
 
     /// Reads on, by one thread or by two.
-    fn read_by<P: Pace>(
+    fn read_by<T: Readers>(
         &mut self,
-        pace: &P,
+        readers: &T,
         alloc: Global,
         enough: u64,
         epochs: usize,
@@ -144,7 +144,7 @@ impl<R: Read + Drop> BatchReader<R> {
         ensures { ReadsPart R.remaining enough epochs self.old self.new result }
     {
         let next = take_arrivals(
-            pace,
+            readers,
             alloc,
             &mut self.rows,
             &mut self.row,

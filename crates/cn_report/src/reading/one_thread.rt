@@ -4,22 +4,22 @@ use crate::reading::arrival::Arrival;
 use crate::reading::batch_fault::{BatchCause, BatchFault};
 use crate::reading::gathering::Gathering;
 use crate::reading::heading::Heading;
-use crate::reading::pace::Pace;
+use crate::reading::readers::Readers;
 use crate::reading::stretch::{gather, read_stretch};
 use csv::{ByteRecord, Reader};
 use std::alloc::Global;
 use std::io::Read;
 
-/// So many arrivals stay in a processor's nearest memory until they are gathered.
-const STRETCH: usize = 1024;
+/// Of 64 to 16,384 arrivals so many took the least time (bench/README.md).
+const STRETCH: usize = 1_024;
 
-/// One thread gathers and then reads. To look clients up one right after the other takes less time than with the reading of a
-/// record in between.
+/// One thread gathers and then reads: look-ups right after one another take less time than with the reading of a record between
+/// them.
 #[derive(Drop)]
 pub(crate) struct OneThread;
 
-impl Pace for OneThread {
-    fn stretch(&self) -> usize {
+impl Readers for OneThread {
+    fn stretch_len(&self) -> usize {
         STRETCH
     }
 

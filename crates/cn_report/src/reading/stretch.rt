@@ -42,8 +42,8 @@ fn next_arrival<R: Read>(
     Ok(Some(arrival_of(row, heading, entries)?))
 }
 
-/// Reads a stretch in place of the arrivals that were there: so many at most, one at least, or to the end of the text. Returns
-/// whether others may come.
+/// Reads a stretch in place of the arrivals that were there: `most` arrivals, or fewer if the text ends or a record has none.
+/// Returns whether others may come.
 ///
 /// # Errors
 /// The cause for which the record after them has no arrival.

@@ -8,7 +8,7 @@ ghost use Rattle.cn_report.specs.Reading.Taking.{Ends, Takes};
 use crate::reading::batch_fault::{BatchCause, BatchFault};
 use crate::reading::gathering::Gathering;
 use crate::reading::heading::Heading;
-use crate::reading::pace::Pace;
+use crate::reading::readers::Readers;
 use crate::reading::stretch::{gather, read_stretch};
 use csv::{ByteRecord, Reader};
 use std::alloc::Global;
@@ -35,10 +35,10 @@ fn goes_on(end: Result<bool, BatchCause>) -> bool
     matches!(end, Ok(true))
 }
 
-/// Takes arrivals, the first of them record `from`: to the end, or until more than `enough` were taken and so many epochs are
-/// over, and some more to a stretch. Returns the number of the record after them, if the end did not come.
-pub(crate) fn take_arrivals<I: Read, P: Pace>(
-    pace: &P,
+/// Takes arrivals, the first of them record `from`: to the end, or to the end of a stretch by which more than `enough` were
+/// taken and `epochs` epochs are over. Returns the number of the record after them, if the end did not come.
+pub(crate) fn take_arrivals<I: Read, T: Readers>(
+    readers: &T,
     alloc: Global,
     rows: &mut Reader<I>,
     row: &mut ByteRecord,
@@ -57,11 +57,18 @@ pub(crate) fn take_arrivals<I: Read, P: Pace>(
     ensures many { IfOk result (λ next. IfSome next (λ at. epochs ≤ length gathering.new.over.items)) }
 {
     let (mut at, mut stretch, mut next) = (from, Vec::new(alloc), Vec::new(alloc));
-    let mut end = read_stretch(rows, row, heading, entries, pace.stretch(), &mut stretch);
+    let mut end = read_stretch(
+        rows,
+        row,
+        heading,
+        entries,
+        readers.stretch_len(),
+        &mut stretch,
+    );
     while goes_on(end)
         && (at - from + stretch.len() as u64 <= enough || gathering.over() < epochs)
     {
-        let (gathered, next_end) = pace.gather_and_read(
+        let (gathered, next_end) = readers.gather_and_read(
             alloc, rows, row, heading, entries, at, &stretch, &mut next, gathering,
         );
         gathered?;

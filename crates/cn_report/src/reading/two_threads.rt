@@ -9,7 +9,7 @@ use crate::reading::arrival::Arrival;
 use crate::reading::batch_fault::{BatchCause, BatchFault};
 use crate::reading::gathering::Gathering;
 use crate::reading::heading::Heading;
-use crate::reading::pace::Pace;
+use crate::reading::readers::Readers;
 use crate::reading::stretch::{gather, read_stretch};
 use csv::{ByteRecord, Reader};
 use std::alloc::Global;
@@ -24,8 +24,8 @@ const STRETCH: usize = 16_384;
 #[derive(Drop)]
 pub(crate) struct TwoThreads<'r, R>(pub(crate) &'r R);
 
-impl<'r, R: Threads + Wait + Sync> Pace for TwoThreads<'r, R> {
-    fn stretch(&self) -> usize {
+impl<'r, R: Threads + Wait + Sync> Readers for TwoThreads<'r, R> {
+    fn stretch_len(&self) -> usize {
         STRETCH
     }
 

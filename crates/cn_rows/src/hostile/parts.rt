@@ -14,25 +14,25 @@ use std::thread::Threads;
 
 /// How many threads read.
 #[derive(Clone, Copy)]
-enum By {
+enum ReadBy {
     One,
     Two,
 }
 
-/// The epoch's number in the next part, if it has one epoch, and whether others may come after it: the part ends if an epoch
-/// is over and more than one record was read.
+/// The epoch's number in the next part, if it has one epoch, and whether others may come after it. The part ends two stretches
+/// at most after an epoch is over and more than one record was read, so it has one epoch.
 fn next_part<R: Threads + Wait + Sync>(
     rt: &R,
     alloc: Global,
-    by: By,
+    by: ReadBy,
     reading: &mut BatchReader<Computed>,
 ) -> Option<(u64, bool)>
     requires { IsOpen reading.old }
     ensures { IfSome result (λ part. IsOpen reading.new) }
 {
     let part = match by {
-        By::One => reading.read(alloc, 1, 1).ok()?,
-        By::Two => reading.read_by_two(rt, alloc, 1, 1).ok()?,
+        ReadBy::One => reading.read(alloc, 1, 1).ok()?,
+        ReadBy::Two => reading.read_by_two(rt, alloc, 1, 1).ok()?,
     };
     match part.epochs.as_slice() {
         [epoch] => Some((epoch.number, part.more)),
@@ -45,7 +45,7 @@ fn three_parts<R: Threads + Wait + Sync>(
     rt: &R,
     alloc: Global,
     state: RandomState,
-    by: By,
+    by: ReadBy,
 ) -> Option<[(u64, bool); 3]> {
     let mut reading = BatchReader::open(alloc, full_epochs(786_432, b""), 4, state).ok()?;
     let first = next_part(rt, alloc, by, &mut reading)?;
@@ -58,7 +58,7 @@ fn three_parts<R: Threads + Wait + Sync>(
 fn a_batch_in_three_parts(rt: HostRuntime) -> Result<(), Fail> {
     let (alloc, state) = (rt.alloc(), RandomState::new(&rt)?);
     let wanted = Some([(1, true), (2, true), (3, false)]);
-    assert_eq!(rt; three_parts(&rt, alloc, state, By::One), wanted);
-    assert_eq!(rt; three_parts(&rt, alloc, state, By::Two), wanted);
+    assert_eq!(rt; three_parts(&rt, alloc, state, ReadBy::One), wanted);
+    assert_eq!(rt; three_parts(&rt, alloc, state, ReadBy::Two), wanted);
     Ok(())
 }

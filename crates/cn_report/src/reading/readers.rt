@@ -1,4 +1,4 @@
-//! How a batch is read: by one thread, or by two.
+//! Who reads a batch: one thread, or two.
 
 ghost use Rattle.std.specs.Prelude.{◌<◌, ◌≤◌, ◌+◌};
 ghost use Rattle.cn_spec.specs.declared.limits.TheConstants.{MOST_RECORDS};
@@ -13,10 +13,10 @@ use csv::{ByteRecord, Reader};
 use std::alloc::Global;
 use std::io::Read;
 
-/// How arrivals that were read are gathered, and those after them read.
-pub(crate) trait Pace {
+/// How a stretch is gathered and the next one read.
+pub(crate) trait Readers {
     /// How many arrivals make a stretch.
-    fn stretch(&self) -> usize
+    fn stretch_len(&self) -> usize
         ensures { 0 < result };
 
     /// Gathers a stretch, the first of its arrivals record `from`, and reads the next.
