@@ -1,10 +1,11 @@
 -- Two lanes of one floor, looked at together.
-use Rattle.std.specs.Prelude.{ℕ, ◌+◌, ◌≤◌, ◌++◌, length, map, max}
+use Rattle.std.specs.Prelude.{ℕ, ◌+◌, ◌-◌, ◌≤◌, ◌++◌, length, map, max}
 use Rattle.std.specs.List.{range_with_len}
 use Rattle.cn_spec.specs.Sums.{times}
 use Rattle.cn_yard.specs.Lists.{on}
 use Rattle.cn_floor.specs.declared.view.Start.{Start}
 use Rattle.cn_floor.specs.declared.view.View.{View}
+use Rattle.cn_floor.specs.Steps.{HasMoment}
 use Rattle.cn_floor.specs.Views.{after_entered, nobody}
 
 -- two views as one, in one step: on each wire the tokens of the first, and then those of the second
@@ -16,7 +17,7 @@ both_of v w = record v {
   passages = v.passages ++ w.passages;
   grants = v.grants ++ w.grants;
   seen = max v.seen w.seen;
-  steps = v.steps + 1;
+  steps = v.steps + w.steps + 1;
 }
 
 -- the two views of which one was made
@@ -28,9 +29,10 @@ pub record Pair : Type 0 where
 abbrev pub no_pair : Pair
 no_pair = record { first = nobody; second = nobody }
 
--- one view cut in these two again, in one step; both have its answer of how many came in
+-- one view cut in these two again, in one step; both have its answer of how many came in, and the first its steps but for
+-- those of the second
 abbrev pub cut_first : Pair → View → View
-cut_first pair both = record pair.first { seen = both.seen; steps = both.steps + 1 }
+cut_first pair both = record pair.first { seen = both.seen; steps = both.steps - pair.second.steps + 1 }
 
 -- and the second of the two
 abbrev pub cut_second : Pair → View → View
@@ -40,6 +42,10 @@ cut_second pair both = record pair.second { seen = both.seen }
 abbrev pub NamesApart : View → View → Type 0
 NamesApart v w =
     (name : ℕ) → times name (map (λ g. g.name) v.grants) + times name (map (λ g. g.name) w.grants) ≤ 1
+
+-- at some moment of the floor a lane has both views as one, with this answer of how many came in
+abbrev pub StoodAsOne : Start → View → View → ℕ → Type 0
+StoodAsOne start v w answer = (steps : ℕ) × HasMoment start (record (both_of v w) { seen = answer; steps = steps })
 
 -- a lane looked so many times
 abbrev pub after_looks : ℕ → View → View

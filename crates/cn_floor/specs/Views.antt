@@ -105,9 +105,10 @@ after_look v = record v { steps = v.steps + 1 }
 abbrev pub after_split : ℕ → View → View
 after_split q v = record v { quota = v.quota - q; steps = v.steps + 1 }
 
--- what the new lane has, with this quota
+-- what the new lane has, with this quota; the step of the split is counted in both lanes, so each counts all steps that led
+-- to it
 abbrev pub split_off : ℕ → View → View
-split_off q v = record (empty_view v.start q) { seen = v.seen }
+split_off q v = record (empty_view v.start q) { seen = v.seen; steps = v.steps + 1 }
 
 -- two views made one, in one step; the second has no tokens
 abbrev pub after_join : View → View → View

@@ -2,7 +2,7 @@
 
 ghost use Rattle.std.specs.Prelude.{◌≡◌};
 ghost use Rattle.cn_floor.specs.Steps.{IsAnswer};
-ghost use Rattle.cn_floor.specs.Together.{NamesApart, first_after, second_after};
+ghost use Rattle.cn_floor.specs.Together.{NamesApart, StoodAsOne, first_after, second_after};
 
 use super::Floor;
 use super::lane::Lane;
@@ -23,6 +23,7 @@ impl<'a> Floor<'a> {
         ensures apart { NamesApart result.0.view result.1.view }
         ensures answer { IsAnswer self.now.start lane.view result.2
             × IsAnswer self.now.start other.view result.2 }
+        ensures moment { StoodAsOne self.now.start result.0.view result.1.view result.2 }
     {
         lane.lane_laws();
         other.lane_laws();

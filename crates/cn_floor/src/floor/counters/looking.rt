@@ -3,7 +3,7 @@
 ghost use Rattle.std.specs.Prelude.{◌≡◌, ◌<◌, [], length};
 ghost use Rattle.cn_floor.specs.Plays.{Loads, Looks};
 ghost use Rattle.cn_floor.specs.Steps.{HasMoment, IsAnswer};
-ghost use Rattle.cn_floor.specs.Together.{NamesApart, both_of, cut_first, cut_second, first_after, second_after};
+ghost use Rattle.cn_floor.specs.Together.{NamesApart, StoodAsOne, both_of, cut_first, cut_second, first_after, second_after};
 ghost use Rattle.cn_floor.specs.Views.{after_entered, after_look, base};
 
 use super::super::plays::{CutApart, LoadOf, LoadPlay, LookPlay, PairOf, TakeTogether};
@@ -80,6 +80,7 @@ impl Counters {
         ensures apart { NamesApart seat.old.me.0 other.me.0 }
         ensures answer { IsAnswer self.now.start seat.old.me.0 result.1
             × IsAnswer self.now.start other.me.0 result.1 }
+        ensures moment { StoodAsOne self.now.start seat.old.me.0 other.me.0 result.1 }
     {
         self.look::<Brand>(seat);
         self.look::<Brand>(&mut other);

@@ -4,7 +4,7 @@ use Rattle.cn_floor.specs.declared.view.View.{View}
 use Rattle.cn_floor.specs.InsideLane.{lane_of}
 use Rattle.cn_floor.specs.Lane.{FloorValue, LaneValue}
 use Rattle.cn_floor.specs.Steps.{IsAnswer}
-use Rattle.cn_floor.specs.Together.{NamesApart, first_after, second_after}
+use Rattle.cn_floor.specs.Together.{NamesApart, StoodAsOne, first_after, second_after}
 use Rattle.cn_floor.proofs.floor.Floor.look_at_both.Goals as goal
 
 pub look_at_both-other_seat-requires-clause-own : goal.look_at_both-other_seat-requires-clause-own
@@ -104,6 +104,12 @@ returns-clause-apart c =
     let one = first c in
     let two = second c in
     subst (λ (z : View × View). NamesApart z.0 z.1) (λ i. ((sym one) i, (sym two) i)) c.look_at_both-other_seat.ensures.apart
+
+pub returns-clause-moment : goal.returns-clause-moment
+returns-clause-moment c =
+    let entered = c.look_at_both-other_seat.result.1 in
+    let start : c.self.inside.counters.start ≡ c.args.self.now.start = ap (λ (h : FloorValue). h.start) c.self.view_is in
+    subst (λ (z : Start × View × View). StoodAsOne z.0 z.1 z.2 entered) (λ i. (start i, (sym (first c)) i, (sym (second c)) i)) c.look_at_both-other_seat.ensures.moment
 
 pub returns-clause-answer : goal.returns-clause-answer
 returns-clause-answer c =

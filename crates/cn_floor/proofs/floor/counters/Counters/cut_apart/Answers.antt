@@ -1,4 +1,4 @@
-use Rattle.std.proofs.Common.{◌≡◌, ◌+◌, rules, sym, ap, subst, arith}
+use Rattle.std.proofs.Common.{◌≡◌, ◌+◌, ◌-◌, rules, sym, ap, subst, arith}
 use Rattle.atomic_table.specs.Table.{Splits}
 use Rattle.cn_floor.specs.declared.view.Start.{Start}
 use Rattle.cn_floor.specs.declared.view.View.{View}
@@ -17,11 +17,12 @@ split_seat-requires g c =
     let p : Pair = g.T.PairOf.pair in
     let both : View = c.args.seat.now.me.0 in
     let e = c.args._entered in
-    let k = p.first.steps + 1 + c.args.self.now.start.network.table.entries in
-    let cut-sum : IsSum (base start) start.network (record p.first { seen = e; steps = k + 1 }) (record p.second { seen = e; steps = p.second.steps }) (record (both_of p.first p.second) { seen = e; steps = k }) =
-    sum-answered (base start) start.network p.first p.second (both_of p.first p.second) e (k + 1) p.second.steps k (sum-both p.first p.second c.requires.idle.0 c.requires.wires (base start) start.network) in
-    let first : IsAccounted start.network (record p.first { seen = e; steps = k + 1 }) =
-    subst (λ (s : Start). IsAccounted s.network (record p.first { seen = e; steps = k + 1 })) about (accounted-answered c.args.self.now.start.network p.first e (k + 1) (accounted-seen c.args.self.now.start _ c.requires.first)) in
+    let k = p.first.steps + p.second.steps + 1 + c.args.self.now.start.network.table.entries in
+    let j = k - p.second.steps + 1 in
+    let cut-sum : IsSum (base start) start.network (record p.first { seen = e; steps = j }) (record p.second { seen = e; steps = p.second.steps }) (record (both_of p.first p.second) { seen = e; steps = k }) =
+    sum-answered (base start) start.network p.first p.second (both_of p.first p.second) e j p.second.steps k (sum-both p.first p.second c.requires.idle.0 c.requires.wires (base start) start.network) in
+    let first : IsAccounted start.network (record p.first { seen = e; steps = j }) =
+    subst (λ (s : Start). IsAccounted s.network (record p.first { seen = e; steps = j })) about (accounted-answered c.args.self.now.start.network p.first e j (accounted-seen c.args.self.now.start _ c.requires.first)) in
     let second : IsAccounted start.network (record p.second { seen = e; steps = p.second.steps }) =
     subst (λ (s : Start). IsAccounted s.network (record p.second { seen = e; steps = p.second.steps })) about (accounted-answered c.args.self.now.start.network p.second e p.second.steps (accounted-seen c.args.self.now.start _ c.requires.second)) in
     let cuts = cuts-apart start c.args.seat.now.id _ _ _ cut-sum c.requires.idle.0 c.requires.idle.1 first second in (

@@ -1,4 +1,4 @@
-use Rattle.std.proofs.Common.{◌≡◌, ℕ, ◌+◌, ◌++◌, [], length, rules, sym, ap, ◌∙◌, subst, arith}
+use Rattle.std.proofs.Common.{◌≡◌, ℕ, ◌+◌, ◌-◌, ◌++◌, [], length, rules, sym, ap, ◌∙◌, subst, arith}
 use Rattle.cn_floor.specs.declared.view.Start.{Start}
 use Rattle.cn_floor.specs.declared.view.View.{View}
 use Rattle.cn_floor.specs.Rule.{start_of}
@@ -26,6 +26,12 @@ returns-clause-apart g c =
     ∙ (λ i. (c.look.ensures.looks.0 i).grants ++ (c.look-2.ensures.looks.0 i).grants) in
     names-apart c.args.self.now.start c.args.seat.now.me.0 c.args.other.me.0 c.load_all-entered.new.seat.me.0 grants c.load_all-entered.ensures.moment
 
+pub returns-clause-moment : goal.returns-clause-moment
+returns-clause-moment g c =
+    let joined = ap (λ me. me.0) c.join_seat.ensures.2 ∙ (λ i. both_of (c.look.ensures.looks.0 i) (c.look-2.ensures.looks.0 i)) in
+    let is = c.load_all-entered.ensures.told ∙ ap (after_entered c.args.self.now.start c.load_all-entered.result) joined in
+    (_, subst (HasMoment c.args.self.now.start) is c.load_all-entered.ensures.moment)
+
 pub returns-clause-answer : goal.returns-clause-answer
 returns-clause-answer g c =
     let v : View = c.args.seat.now.me.0 in
@@ -38,9 +44,9 @@ returns-clause-answer g c =
 
 cut-first : (start : Start) (entered : ℕ) (p : Pair) (v l : View) → p.first ≡ after_look v → l ≡ after_entered start entered (both_of p.first p.second) → cut_first p l ≡ first_after start entered v
 cut-first start entered p v l one is =
-    let steps : v.steps + 1 + 1 + start.network.table.entries + 1 ≡ v.steps + start.network.table.entries + 3 = omega arith in
+    let steps : v.steps + 1 + p.second.steps + 1 + start.network.table.entries - p.second.steps + 1 ≡ v.steps + start.network.table.entries + 3 = omega arith in
     ap (cut_first p) is
-    ∙ (λ i. record (one i) { seen = entered; steps = (one i).steps + 1 + start.network.table.entries + 1 })
+    ∙ (λ i. record (one i) { seen = entered; steps = (one i).steps + p.second.steps + 1 + start.network.table.entries - p.second.steps + 1 })
     ∙ ap (λ (n : ℕ). record v { seen = entered; steps = n }) steps
 
 pub cut_apart-other-requires-clause-pair : goal.cut_apart-other-requires-clause-pair
