@@ -6,3 +6,4 @@ pub mod Lanes
 pub mod Lone
 pub mod Named
 pub mod Listed
+pub mod InTurn

@@ -5,9 +5,12 @@ use Rattle.cn_yard.specs.Deals.{every_second}
 use Rattle.cn_yard.specs.Lists.{on}
 use Rattle.cn_floor.specs.declared.floor.listed.Group.{Group}
 use Rattle.cn_floor.specs.declared.view.Grant.{Grant}
+use Rattle.cn_floor.specs.declared.view.Start.{Start}
 use Rattle.cn_floor.specs.declared.view.View.{View}
 use Rattle.cn_floor.specs.Lane.{LaneValue}
-use Rattle.cn_floor.specs.Steps.{HasMoment}
+use Rattle.cn_floor.specs.EntersAll.{EnterInRow, after_enter_all}
+use Rattle.cn_floor.specs.Steps.{HasMoment, IsAtomicStep}
+use Rattle.cn_floor.specs.Sweeps.{SweptBy}
 
 -- of a list's clients those at the places first, first + stride and so on, so many; each is a token with the number of its
 -- place
@@ -57,9 +60,19 @@ pub record HaveLeft (v w : View) (wire : ℕ) (tokens : List (ℕ × ℕ)) : Typ
   pub moment : 0 < length tokens → HasMoment v.start w
   pub nobody : length tokens ≡ 0 → w ≡ v
 
+-- the clients of a list come in by an entry, in one step, and leave by sweeps of these wires
+pub record WalkTogether (start : Start) (clients : List ℕ) (entry : ℕ) (v w : View) : Type 0 where
+  -- it is as many events in a row as clients
+  pub came : IsAtomicStep start v (after_enter_all clients entry v)
+      (EnterInRow start.network.table clients entry 0 (length clients))
+  pub wires : List ℕ
+  pub swept : SweptBy start wires (after_enter_all clients entry v) w
+  pub steps : w.steps ≡ v.steps + 1 + length wires
+
 -- the clients of a list came in by an entry and left: a grant more for each of them, and nobody is inside
 pub record AreNamed (old new : LaneValue) (clients : List ℕ) (entry : ℕ) : Type 0 where
   pub home : new.home ≡ old.home
+  pub walked : WalkTogether old.home.start clients entry old.view new.view
   pub quota : new.view.quota + length clients ≡ old.view.quota
   pub entries : new.view.entries ≡ old.view.entries ++ replicate (length clients) entry
   pub seen : new.view.seen ≡ old.view.seen

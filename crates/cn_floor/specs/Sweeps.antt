@@ -1,5 +1,5 @@
 -- A sweep: all tokens of a wire go by its end in one atomic step, which is as many events in a row.
-use Rattle.std.specs.Prelude.{◌≡◌, ℕ, ◌+◌, ◌-◌, ◌%◌, ◌≤◌, List, [], ◌∷◌, length}
+use Rattle.std.specs.Prelude.{◌≡◌, ℕ, ◌+◌, ◌-◌, ◌%◌, ◌<◌, ◌≤◌, List, [], ◌∷◌, length}
 use Rattle.cn_spec.specs.Step.{name_of}
 use Rattle.cn_wiring.specs.declared.end.End.{End}
 use Rattle.cn_wiring.specs.declared.end.End.TheVariants.{Balancer, Exit}
@@ -62,6 +62,15 @@ pub record AreLetBy (start : Start) (v w : View) (wire : ℕ) (end : End) (n : �
 -- all tokens of the wire go on with the numbers from n on, by one step
 abbrev pub AllGoOn : Sweeping → View → ℕ → View → Type 0
 AllGoOn s v n w = (w ≡ after_sweep s.wire s.end n v) × AreLetBy s.start v w s.wire s.end n
+
+-- the tokens of one wire go by its end, and then those of the next of these wires, by one step each; each time some
+-- stand there
+unfoldable pub SweptBy : Start → List ℕ → View → View → Type 0
+SweptBy start [] v w = w ≡ v
+SweptBy start (wire ∷ rest) v w =
+    let end = end_of start.network.table wire in
+    (n : ℕ) × (0 < length (on v.tokens wire)) × AreLetBy start v (after_sweep wire end n v) wire end n
+    × SweptBy start rest (after_sweep wire end n v) w
 
 -- the grants of tokens that leave by exit i, with the visits from n on; `less` is taken from each name
 unfoldable pub grants_out : ℕ → ℕ → ℕ → ℕ → List (ℕ × ℕ) → List Grant

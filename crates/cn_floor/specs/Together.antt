@@ -29,8 +29,8 @@ pub record Pair : Type 0 where
 abbrev pub no_pair : Pair
 no_pair = record { first = nobody; second = nobody }
 
--- one view cut in these two again, in one step; both have its answer of how many came in, and the first its steps but for
--- those of the second
+-- one view cut in these two again, in one step; both have its answer of how many came in, and the first has its steps
+-- but for those of the second
 abbrev pub cut_first : Pair → View → View
 cut_first pair both = record pair.first { seen = both.seen; steps = both.steps - pair.second.steps + 1 }
 

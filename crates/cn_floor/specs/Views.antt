@@ -105,8 +105,7 @@ after_look v = record v { steps = v.steps + 1 }
 abbrev pub after_split : ℕ → View → View
 after_split q v = record v { quota = v.quota - q; steps = v.steps + 1 }
 
--- what the new lane has, with this quota; the step of the split is counted in both lanes, so each counts all steps that led
--- to it
+-- what the new lane has, with this quota; its steps are those of the other lane, and the split's is counted in both
 abbrev pub split_off : ℕ → View → View
 split_off q v = record (empty_view v.start q) { seen = v.seen; steps = v.steps + 1 }
 

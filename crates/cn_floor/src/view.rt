@@ -77,7 +77,7 @@ pub struct View {
     pub seen: u64,
     /// What it has loaded so far.
     pub loads: LinkedList<u64>,
-    /// How many atomic steps it has made on the words of entries, balancers and exits.
+    /// How many atomic steps led to it: adds, loads, looks, splits and joins, also of the lanes that it came of.
     pub steps: u64,
 }
 

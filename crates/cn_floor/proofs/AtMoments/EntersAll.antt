@@ -10,19 +10,22 @@ use Rattle.cn_wiring.specs.Table.{Table}
 use Rattle.cn_yard.specs.Lists.{last_on, on}
 use Rattle.cn_floor.specs.declared.view.Start.{Start}
 use Rattle.cn_floor.specs.declared.view.View.{View}
-use Rattle.cn_floor.specs.EntersAll.{EnteringAll, after_enter_all, after_enters}
-use Rattle.cn_floor.specs.Rule.{HoldsAt}
+use Rattle.cn_floor.specs.EntersAll.{AllComeIn, EnterInRow, EnteringAll, after_enter_all, after_enters}
+use Rattle.cn_floor.specs.Rule.{HoldsAt, ledger_of}
 use Rattle.cn_floor.specs.Views.{after_enter, base}
-use Rattle.cn_floor.specs.Words.{entered_in}
+use Rattle.cn_floor.specs.Words.{clients_in, entered_in}
 use Rattle.cn_floor.proofs.AtMoments.Bounds.{few-came}
-use Rattle.cn_floor.proofs.AtMoments.Kept.{kept-recounted}
+use Rattle.cn_floor.proofs.AtMoments.Kept.{counted-alike, kept-recounted, ledger-alike}
 use Rattle.cn_floor.proofs.AtMoments.Places.{get-here, set-here}
 use Rattle.cn_floor.proofs.AtMoments.Raised.{entered-word, raised}
-use Rattle.cn_floor.proofs.AtMoments.Steps.{kept-after-enter}
+use Rattle.cn_floor.proofs.AtMoments.Steps.{came_in, kept-after-enter}
 use Rattle.cn_spec.proofs.CallerLemmas.{sum-below-part}
 
 -- one after the other
 module _ (start : Start) (id entry : ℕ) (clients : List ℕ) (low : entry < start.network.table.entries) where
+  abbrev t : Table
+  t = start.network.table
+
   abbrev word : ℕ
   word = 1 + entry
 
@@ -31,16 +34,18 @@ module _ (start : Start) (id entry : ℕ) (clients : List ℕ) (low : entry < st
     pub words : List ℕ
     pub words_are : words ≡ set s.words word (get_or s.words word 0 + n)
     pub kept : HoldsAt start (record { words = words; homes = s.homes; views = set s.views id (after_enters clients entry place n v) })
+    pub row : EnterInRow t clients entry place n (ledger_of t start.words s.words s.views) (ledger_of t start.words words (set s.views id (after_enters clients entry place n v)))
 
   pub all-enter : (n place : ℕ) (s : State (Unit {0}) View) (v : View) → HoldsAt start s → get_elem? s.views id ≡ some v → v.start ≡ start
       → entry < length v.tokens → n ≤ v.quota → v.loads ≡ [] → HaveCome s v place n
-  unfolding after_enters
+  unfolding after_enters EnterInRow
   all-enter zero place s v kept here of inside enough idle =
       let same : set s.views id v ≡ s.views = set-here s.views id v here in
       record {
         words = s.words;
         words_are = sym (ap (set s.words word) (plus-zero (get_or s.words word 0)) ∙ set-get_or s.words word 0);
         kept = subst (λ (vs : List View). HoldsAt start (record { words = s.words; homes = s.homes; views = vs })) (sym same) kept;
+        row = ap (ledger_of t start.words s.words) (sym same);
       }
     where
       plus-zero : (k : ℕ) → k + 0 ≡ k
@@ -62,6 +67,11 @@ module _ (start : Start) (id entry : ℕ) (clients : List ℕ) (low : entry < st
         words_are = later.words_are ∙ set-set s.words word (get_or s.words word 0 + 1) (get_or raise word 0 + n)
             ∙ ap (set s.words word) (one-more (get_or raise word 0) (get_or s.words word 0) n raise-at);
         kept = subst (λ (vs : List View). HoldsAt start (record { words = later.words; homes = s.homes; views = vs })) views later.kept;
+        row = (
+          ledger_of t start.words raise (set s.views id then),
+          came_in start id place client entry v s kept here of low inside (omega (arith, enough)),
+          subst (λ (vs : List View). EnterInRow t clients entry (suc place) n (ledger_of t start.words raise (set s.views id then)) (ledger_of t start.words later.words vs)) views later.row,
+        );
       }
     where
       one-more : (x y k : ℕ) → x ≡ y + 1 → x + k ≡ y + suc k
@@ -70,7 +80,7 @@ module _ (start : Start) (id entry : ℕ) (clients : List ℕ) (low : entry < st
 -- all may come in, by one add
 may-enter-all : (start : Start) (slots id : ℕ) (me : Me (Unit {0}) View) (clients : List ℕ) (entry : ℕ) → me.1 ≡ [] → me.0.loads ≡ [] → me.0.start ≡ start
     → entry < start.network.table.entries → entry < length me.0.tokens → length clients ≤ me.0.quota
-    → Allows (HoldsAt start) slots id me (1 + entry) (λ n. (n + length clients) % 2 ^ 64) (λ n new. (new.1 ≡ []) × (new.0 ≡ after_enter_all clients entry me.0))
+    → Allows (HoldsAt start) slots id me (1 + entry) (λ n. (n + length clients) % 2 ^ 64) (λ n new. (new.1 ≡ []) × AllComeIn (record { start = start; clients = clients; entry = entry }) me.0 new.0)
 may-enter-all start slots id me clients entry no_slot idle of low inside enough s kept homes here fits =
     let t : Table = start.network.table in
     let v : View = me.0 in
@@ -92,19 +102,36 @@ may-enter-all start slots id me clients entry no_slot idle of low inside enough 
     let bound = kept.began.quota in
     let carried = kept.began.few in
     let no-wrap : n + length clients ≡ (n + length clients) % 18446744073709551616 = omega arith in
-    let words-now : words ≡ set s.words at ((n + length clients) % 18446744073709551616) = all.words_are ∙ ap (set s.words at) no-wrap in (
+    let words-now : words ≡ set s.words at ((n + length clients) % 18446744073709551616) = all.words_are ∙ ap (set s.words at) no-wrap in
+    let same = ledger-alike t start.words words come.views (set come.views id w) (counted-alike start come id g (v.steps + 1) g-here (clients_in t start.words)) ∙ ap (ledger_of t start.words words) again in (
       w,
       keeps,
       tt,
       subst (λ (ws : List ℕ). HoldsAt start (record { words = ws; homes = s.homes; views = set s.views id w })) words-now kept-w,
-      (no_slot, refl),
+      (
+        no_slot,
+        (
+          refl,
+          record {
+            old = s;
+            new = after;
+            id = id;
+            here = here;
+            there = get-here s.views id v w here;
+            views = refl;
+            kept_before = kept.rule;
+            kept_after = kept-w.rule;
+            happened = subst (EnterInRow t clients entry 0 (length clients) (ledger_of t start.words s.words s.views)) same all.row;
+          },
+        ),
+      ),
     )
 
 -- the same, with the number of clients as it is added
-pub enter-all-by : (start : Start) (slots id : ℕ) (me : Me (Unit {0}) View) (is : EnteringAll) (clients : List ℕ) (entry count : ℕ) → is ≡ record { clients = clients; entry = entry }
+pub enter-all-by : (start : Start) (slots id : ℕ) (me : Me (Unit {0}) View) (is : EnteringAll) (clients : List ℕ) (entry count : ℕ) → is ≡ record { start = start; clients = clients; entry = entry }
     → me.1 ≡ [] → me.0.loads ≡ [] → me.0.start ≡ start → entry < start.network.table.entries → entry < length me.0.tokens → count ≤ me.0.quota → length clients ≡ count
-    → Allows (HoldsAt start) slots id me (1 + entry) (λ n. (n + count) % 2 ^ 64) (λ n new. (new.1 ≡ []) × (new.0 ≡ after_enter_all is.clients is.entry me.0))
+    → Allows (HoldsAt start) slots id me (1 + entry) (λ n. (n + count) % 2 ^ 64) (λ n new. (new.1 ≡ []) × AllComeIn is me.0 new.0)
 enter-all-by start slots id me is clients entry count same no_slot idle of low inside enough many =
-    subst (λ (x : EnteringAll). Allows (HoldsAt start) slots id me (1 + entry) (λ n. (n + count) % 2 ^ 64) (λ n new. (new.1 ≡ []) × (new.0 ≡ after_enter_all x.clients x.entry me.0))) (sym same)
-    (subst (λ (k : ℕ). Allows (HoldsAt start) slots id me (1 + entry) (λ n. (n + k) % 2 ^ 64) (λ n new. (new.1 ≡ []) × (new.0 ≡ after_enter_all clients entry me.0))) many
+    subst (λ (x : EnteringAll). Allows (HoldsAt start) slots id me (1 + entry) (λ n. (n + count) % 2 ^ 64) (λ n new. (new.1 ≡ []) × AllComeIn x me.0 new.0)) (sym same)
+    (subst (λ (k : ℕ). Allows (HoldsAt start) slots id me (1 + entry) (λ n. (n + k) % 2 ^ 64) (λ n new. (new.1 ≡ []) × AllComeIn (record { start = start; clients = clients; entry = entry }) me.0 new.0)) many
     (may-enter-all start slots id me clients entry no_slot idle of low inside (omega (arith, enough, many))))

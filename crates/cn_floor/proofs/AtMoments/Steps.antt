@@ -55,7 +55,7 @@ module _ (start : Start) (id token client entry : ℕ) (v : View) (s : State (Un
   abbrev after : State (Unit {0}) View
   after = record { words = raised s.words (1 + entry); homes = s.homes; views = set s.views id w }
 
-  came_in : Enters start.network.table (ledger_of start.network.table start.words s.words s.views) (ledger_of start.network.table start.words after.words after.views) client entry
+  pub came_in : Enters start.network.table (ledger_of start.network.table start.words s.words s.views) (ledger_of start.network.table start.words after.words after.views) client entry
   came_in = enters start s.words s.views id v kept.rule.words here of token client entry low inside
 
   risen : (u : ℕ) → entered_in start.network.table s.words u ≤ entered_in start.network.table after.words u

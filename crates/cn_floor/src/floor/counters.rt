@@ -7,7 +7,7 @@ ghost use Rattle.std.specs.Prelude.{◌≡◌, ◌+◌, ◌<◌, ◌≤◌, ℕ,
 ghost use Rattle.cn_wiring.specs.Table.{Stands, end_of};
 ghost use Rattle.cn_yard.specs.Lists.{IsThere, on, times_in};
 ghost use Rattle.cn_floor.specs.Closing.{IsEnding};
-ghost use Rattle.cn_floor.specs.EntersAll.{after_enter_all};
+ghost use Rattle.cn_floor.specs.EntersAll.{AllComeIn};
 ghost use Rattle.cn_floor.specs.Plays.{ComesIn, GoesOn};
 ghost use Rattle.cn_floor.specs.Rule.{IsStart};
 ghost use Rattle.cn_floor.specs.Sweeps.{AllGoOn};
@@ -125,14 +125,15 @@ impl Counters {
     )
         requires own { (seat.old.table_id ≡ self.now.table)
             × (seat.old.me.0.start ≡ self.now.start) }
-        requires entering { T.entering ≡ record { clients = _clients.now; entry = entry } }
+        requires entering { T.entering
+            ≡ record { start = self.now.start; clients = _clients.now; entry = entry } }
         requires count { length _clients.now ≡ count }
         requires slots { (seat.old.me.1 ≡ []) × (seat.old.me.0.loads ≡ []) }
         requires entry { (entry < self.now.start.network.table.entries)
             × (entry < length seat.old.me.0.tokens) }
         requires quota { count ≤ seat.old.me.0.quota }
         ensures seat { (seat.new.table_id ≡ seat.old.table_id) × (seat.new.me.1 ≡ []) }
-        ensures came { seat.new.me.0 ≡ after_enter_all _clients.now entry seat.old.me.0 }
+        ensures came { AllComeIn T.entering seat.old.me.0 seat.new.me.0 }
     {
         self.table
             .shared

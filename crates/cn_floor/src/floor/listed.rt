@@ -6,8 +6,9 @@ ghost use Rattle.cn_spec.specs.Step as step;
 ghost use Rattle.cn_spec.specs.declared.limits.TheConstants.{MOST_ARRIVALS, MOST_ENDS, MOST_ROOM};
 ghost use Rattle.cn_wiring.specs.Table.{Stands, end_of};
 ghost use Rattle.cn_yard.specs.Lists.{on, times_in, tokens_in};
+ghost use Rattle.cn_floor.specs.EntersAll.{ComeTogether};
 ghost use Rattle.cn_floor.specs.Listed.{AreDealt, AreNamed, CameIn, HaveLeft, Stand, placed};
-ghost use Rattle.cn_floor.specs.Sweeps.{AreLetBy, after_sweep, grants_out};
+ghost use Rattle.cn_floor.specs.Sweeps.{AreLetBy, SweptBy, after_sweep, grants_out};
 
 use super::Floor;
 use super::lane::Lane;
@@ -112,6 +113,7 @@ impl<'a> Floor<'a> {
         requires quota { length clients.now ≤ seat.old.me.0.quota }
         ensures seat { (seat.new.table_id ≡ seat.old.table_id) × (seat.new.me.1 ≡ []) }
         ensures came { CameIn seat.old.me.0 seat.new.me.0 clients.now entry (length clients.now) }
+        ensures step { ComeTogether self.now.start clients.now entry seat.old.me.0 seat.new.me.0 }
     {
         self.start_laws();
         self.counters
@@ -169,6 +171,7 @@ impl<'a> Floor<'a> {
         requires room { length grants.old.items + group.now.count ≤ vec_capacity grants.old }
         requires grants { grants.old.items ≡ seat.old.me.0.grants }
         ensures seat { (seat.new.table_id ≡ seat.old.table_id) × (seat.new.me.1 ≡ []) }
+        ensures swept { (wires : List ℕ) × SweptBy self.now.start wires seat.old.me.0 seat.new.me.0 }
         ensures left { HaveLeft seat.old.me.0 seat.new.me.0 wire (on seat.old.me.0.tokens wire) }
         ensures once { (token : ℕ) → times_in seat.new.me.0.tokens token ≤ 1 }
         ensures grants { grants.new.items ≡ seat.new.me.0.grants }
@@ -197,9 +200,10 @@ impl<'a> Floor<'a> {
         }
     }
 
-    /// Lets the clients of a list in by one entry and walks them out, all who stand on a wire by one atomic step: a step by
-    /// which they come in, and one for each end that any of them come to. Nobody of the lane is inside. Where they
-    /// stand is in locals, and not in the lane's yard. It waits for nobody, and takes memory only if the lane lacks room.
+    /// Lets the clients of a list in by one entry and walks them out, all who stand on a wire by one atomic step: a step
+    /// by which they come in, and one for each sweep of a wire, on which some of them stand. Nobody of the lane is
+    /// inside. Where they stand is in locals, and not in the lane's yard. It waits for nobody, and takes memory only if
+    /// the lane lacks room.
     ///
     /// # Errors
     /// The first that stands: `NoSuchEntry`, `QuotaSpent` (there are more clients than quota), `Memory` (the lane has less

@@ -61,9 +61,9 @@ pub struct EnterAllPlay<T> {
 
 impl<T: EnterAllOf> Play<(), View> for EnterAllPlay<T> {
     ghost use Rattle.std.specs.Prelude.{◌≡◌, []};
-    ghost use Rattle.cn_floor.specs.EntersAll.{after_enter_all};
+    ghost use Rattle.cn_floor.specs.EntersAll.{AllComeIn};
 
-    ghost then = { λ _ me n new. (new.1 ≡ []) × (new.0 ≡ after_enter_all T.entering.clients T.entering.entry me.0) };
+    ghost then = { λ _ me n new. (new.1 ≡ []) × AllComeIn T.entering me.0 new.0 };
 }
 
 /// Who goes on.

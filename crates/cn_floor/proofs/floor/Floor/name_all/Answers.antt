@@ -7,9 +7,11 @@ use Rattle.cn_floor.specs.declared.view.Start.{Start}
 use Rattle.cn_floor.specs.declared.view.View.{View}
 use Rattle.cn_floor.specs.InsideLane.{lane_of}
 use Rattle.cn_floor.specs.Lane.{FloorValue, LaneValue, with_room}
+use Rattle.cn_floor.specs.Listed.{WalkTogether}
 use Rattle.cn_floor.specs.Steps.{HasMoment}
 use Rattle.cn_floor.proofs.AtClose.Rises.{all-empty}
 use Rattle.cn_floor.proofs.InLane.Listed.{all-clients, came-once, nobody-stands, placed-many}
+use Rattle.cn_floor.proofs.InLane.InTurn.{walk-together}
 use Rattle.cn_floor.proofs.floor.Floor.name_all.Goals as goal
 
 pub come_in-requires-clause-out : goal.come_in-requires-clause-out
@@ -78,6 +80,7 @@ returns-clause-ok c =
     let left = c.pass_all.ensures.left in
     let held : lane_of c.lane.inside ≡ with_room k old = c.lane.view_is ∙ c.in-Ok.ensures.ok in
     let view : v ≡ old.view = ap (λ (l : LaneValue). l.view) held in
+    let began : c.args.self.now.start ≡ old.home.start = sym (ap (λ (h : FloorValue). h.start) c.requires.own) in
     let own : v.start ≡ old.home.start = ap (λ (l : LaneValue). l.home.start) held in
     let stood : length (on w.tokens c.args.entry) ≡ k = ap length came.there ∙ placed-many clients 0 1 k in
     let (more, grew, theirs) = left.grants in
@@ -86,6 +89,8 @@ returns-clause-ok c =
         table = (c.pass_all.ensures.seat.0 ∙ c.come_in.ensures.seat.0) i;
         start = (left.start ∙ came.start) i;
       }) ∙ ap (λ (l : LaneValue). l.home) held;
+      walked = subst (λ (z : Start × View). WalkTogether z.0 clients c.args.entry z.1 x) (λ i. (began i, view i))
+          (walk-together c.args.self.now.start clients c.args.entry v w x c.come_in.ensures.step c.pass_all.ensures.swept);
       quota = omega (arith, came.quota, left.quota, ap (λ (y : View). y.quota) view);
       entries = left.entries ∙ came.entries ∙ (λ i. (view i).entries ++ replicate k c.args.entry);
       seen = left.seen ∙ came.seen ∙ ap (λ (y : View). y.seen) view;

@@ -14,6 +14,7 @@ fetch_add-requires g c =
     let entry : c.args.entry < key.network.value.table.entries = subst (λ (s : Start). c.args.entry < s.network.table.entries) about c.requires.entry.0 in (
       search rules,
       omega arith,
-      enter-all-by (start_of key) _ _ c.args.seat.now.me g.T.EnterAllOf.entering c.args._clients.now c.args.entry c.args.count c.requires.entering
+      enter-all-by (start_of key) _ _ c.args.seat.now.me g.T.EnterAllOf.entering c.args._clients.now c.args.entry c.args.count
+          (c.requires.entering ∙ ap (λ (s : Start). record { start = s; clients = c.args._clients.now; entry = c.args.entry }) about)
           c.requires.slots.0 c.requires.slots.1 (c.requires.own.1 ∙ about) entry c.requires.entry.1 c.requires.quota c.requires.count,
     )
