@@ -3,6 +3,7 @@ sanitizers."""
 import dataclasses
 import os
 import pathlib
+import shutil
 import subprocess
 
 ROOT = pathlib.Path(__file__).resolve().parent.parent
@@ -17,8 +18,12 @@ SANITIZERS = {
     "address and leak": (["-fsanitize=address"], {"ASAN_OPTIONS": "detect_leaks=1"}),
     "undefined": (["-fsanitize=undefined", "-fno-sanitize-recover=all"], {}),
 }
-ROUNDS = {None: "100000", "undefined": "10000"}
-FEWER_ROUNDS = "2000"
+# The words of programs that take some: as they are, under a sanitizer that is named, and under the others.
+WORDS = {
+    "rounds.c": {None: ["100000"], "undefined": ["10000"], "others": ["2000"]},
+    "fuzz.c": {None: ["1", "2000000"], "others": ["2", "200000"]},
+}
+VALGRIND = ["valgrind", "-q", "--leak-check=full", "--error-exitcode=9"]
 SECONDS = 120
 # How much is shown of what a command printed that failed.
 MOST_SAID = 600
@@ -46,10 +51,12 @@ class Program:
         return "c++" if self.source.suffix == ".cpp" else "cc"
 
     def words(self, sanitizer):
-        return [ROUNDS.get(sanitizer, FEWER_ROUNDS)] if self.source.name == "rounds.c" else []
+        words = WORDS.get(self.source.name, {})
+        return words.get(sanitizer, words.get("others", []))
 
 
 GROWTHS = (C / "tests" / "growths.c", WRAPPED)
+FUZZ = Program(C / "tests" / "fuzz.c", (C / "tests" / "model.c", *sorted((C / "tests").glob("calls_*.c")), *GROWTHS))
 EPOCHS = "".join(f"epoch {epoch}: {2 * epoch + 2} clients in the first rows\n" for epoch in (1, 2, 3))
 PROGRAMS = (
     Program(C / "tests" / "carried.c", is_long=True),
@@ -62,6 +69,7 @@ PROGRAMS = (
     Program(C / "tests" / "joined.c"),
     Program(C / "tests" / "memory.c", GROWTHS),
     Program(C / "tests" / "rounds.c", GROWTHS),
+    FUZZ,
 )
 
 
@@ -75,16 +83,30 @@ def run(words, folder=ROOT, seconds=SECONDS, **environment):
     return done.stdout
 
 
+def compiled(program, folder, name, flags):
+    """Compiles a program with some flags more."""
+    compiler = program.compiler()
+    made = folder / f"{program.source.name}-{name}".replace(" ", "-")
+    run([compiler, f"-std={STANDARDS[compiler][0]}", *STRICT, *flags, "-I", OUT / "include", program.source,
+         *program.others, "-o", made, "-L", OUT / "lib", "-lrenamer", "-lpthread"])
+    return made
+
+
 def run_program(program, folder, sanitizer=None):
     """Compiles and runs a program, under a sanitizer if one is named."""
     flags, environment = SANITIZERS[sanitizer] if sanitizer else ([], {})
-    compiler = program.compiler()
-    made = folder / f"{program.source.name}-{sanitizer or 'plain'}".replace(" ", "-")
-    run([compiler, f"-std={STANDARDS[compiler][0]}", *STRICT, *flags, "-I", OUT / "include", program.source,
-         *program.others, "-o", made, "-L", OUT / "lib", "-lrenamer", "-lpthread"])
+    made = compiled(program, folder, sanitizer or "plain", flags)
     printed = run([made, *program.words(sanitizer)], seconds=SECONDS * (2 if program.is_long else 1), **environment)
     if program.prints and printed != program.prints:
         raise Wrong(f"it printed {printed!r}, not {program.prints!r}")
+
+
+def fuzz_by_valgrind(folder):
+    """Random calls with arrays of exact sizes by valgrind, which also sees the archive's own loads and stores."""
+    if not shutil.which("valgrind"):
+        raise NotTried("not here, so it did not see the archive's loads and stores")
+    made = compiled(FUZZ, folder, "valgrind", ["-DGUARD=0"])
+    run([*VALGRIND, made, "3", "100000"])
 
 
 def has_sanitizer(compiler, sanitizer, folder):
@@ -120,6 +142,8 @@ def cases(compiler, folder):
     for standard in STANDARDS[compiler]:
         yield f"the header, {standard}", lambda standard=standard: header_stands_alone(compiler, standard, folder)
     yield from sanitized(compiler, folder)
+    if compiler == "cc":
+        yield "bindings/c/tests/fuzz.c, valgrind", lambda: fuzz_by_valgrind(folder)
 
 
 def header_stands_alone(compiler, standard, folder):

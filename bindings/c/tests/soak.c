@@ -1,8 +1,8 @@
 /*
  * Eight threads name 262,144 clients on each of many floors, over random networks that go on from random counters: by
  * names, by lists, and by single steps and sweeps, with lanes that are split off, handed back and taken in while others walk.
- * Then one lane takes all in and closes the floor. Each floor is judged by its names, by the grants of that lane, and by
- * the counts and clients of the closed floor.
+ * Then one lane takes all in and closes the floor. Each name is judged when it is given, by how many came in so far; and
+ * each floor by its names, by the grants of that lane, and by the counts and clients of the closed floor.
  *
  *     soak FLOORS SECONDS SEED
  *
@@ -106,6 +106,7 @@ static const char *run_threads(renamer_lane *rest, uint64_t *chance) {
     if (renamer_entries(rest, &entries) != RENAMER_DONE)
         return "renamer_entries was refused";
     memset(named, 0, sizeof named);
+    atomic_store(&came_in, 0);
     for (int t = 0; t < THREADS; t++) {
         struct thread *thread = &threads[t];
         uint64_t left = ALL + 1 - first, most = 1 + 2 * left / (uint64_t)(THREADS - t);

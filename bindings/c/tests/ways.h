@@ -5,6 +5,7 @@
 #include "judge.h"
 #include <inttypes.h>
 #include <pthread.h>
+#include <stdatomic.h>
 
 enum { ALL = RENAMER_MOST_CLIENTS, MOST_PART = 128, RECENT = 16 };
 
@@ -24,6 +25,9 @@ struct thread {
 /* The client with each name: 0 is nobody, and clients are numbered from 1. */
 static uint64_t named[ALL];
 
+/* How many clients came in at most: it is raised before they do. */
+static _Atomic uint64_t came_in;
+
 /* The next of a row of random numbers (splitmix64). */
 static uint64_t draw(uint64_t *chance) {
     uint64_t z = (*chance += 0x9e3779b97f4a7c15u);
@@ -42,6 +46,8 @@ static uint64_t drawn(struct thread *thread, uint64_t below) {
 static const char *note(uint64_t name, uint64_t client) {
     if (name >= ALL)
         return "a name is too high";
+    if (name >= atomic_load(&came_in))
+        return "a name is not below the number of those who came in";
     if (named[name])
         return "a name was given twice";
     named[name] = client;
@@ -59,9 +65,11 @@ static const char *by_names(struct thread *thread, renamer_lane *lane, uint64_t 
     const char *wrong = NULL;
     for (uint64_t i = 0; i < count && !wrong; i++) {
         uint64_t name, entered;
+        atomic_fetch_add(&came_in, 1);
         if (renamer_name(lane, first + i, drawn(thread, thread->entries), &name) != RENAMER_DONE)
             return "renamer_name was refused";
-        if (i == 0 && (renamer_entered(lane, &entered) != RENAMER_DONE || entered <= name || entered > ALL))
+        if (i == 0
+            && (renamer_entered(lane, &entered) != RENAMER_DONE || entered <= name || entered > atomic_load(&came_in)))
             return "renamer_entered is too low or too high";
         wrong = note(name, first + i);
     }
@@ -76,6 +84,7 @@ static const char *by_a_list(struct thread *thread, renamer_lane *lane, uint64_t
         clients[i].client = first + i;
         clients[i].entry = drawn(thread, thread->entries);
     }
+    atomic_fetch_add(&came_in, count);
     if (renamer_name_many(lane, clients, count, grants, count) != RENAMER_DONE)
         return "renamer_name_many was refused";
     thread->did[LISTS]++;
@@ -88,6 +97,7 @@ static const char *by_a_list(struct thread *thread, renamer_lane *lane, uint64_t
 static const char *let_in(struct thread *thread, renamer_lane *lane, uint64_t first, uint64_t count) {
     for (uint64_t i = 0; i < count; i++) {
         uint64_t entry = drawn(thread, thread->entries);
+        atomic_fetch_add(&came_in, 1);
         if (renamer_enter(lane, first + i, entry) != RENAMER_DONE)
             return "renamer_enter was refused";
         thread->wires[drawn(thread, RECENT)] = entry;
