@@ -19,8 +19,8 @@ pub(crate) struct Crew {
 }
 
 impl Crew {
-    /// Two crews of these workers, who are two at least: the first has the part of them that is nearest to `part` of `whole`,
-    /// so far as each has one at least.
+    /// Two crews of these workers, who are two at least, with their numbers and their hand: the first workers, and those after
+    /// them. The first crew has the part of them that is nearest to `part` of `whole`, so far as each has one at least.
     pub(crate) fn split(self, part: usize, whole: usize) -> (Crew, Crew)
         requires crew { IsCrew self }
         requires two { 2 ≤ self.workers }
@@ -29,6 +29,8 @@ impl Crew {
         ensures first { IsCrew result.0 }
         ensures second { IsCrew result.1 }
         ensures all { result.0.workers + result.1.workers ≡ self.workers }
+        ensures numbers { (result.0.first ≡ self.first) × (result.1.first ≡ self.first + result.0.workers) }
+        ensures hand { (result.0.hand ≡ self.hand) × (result.1.hand ≡ self.hand) }
     {
         let (part, whole) = (part as u64, whole as u64);
         let share = (u64::from(self.workers) * part + whole / 2) / whole;

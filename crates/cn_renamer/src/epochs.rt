@@ -1,6 +1,6 @@
 //! The epochs of a batch, run by many workers: one after another, or beside one another.
 
-ghost use Rattle.std.specs.Prelude.{◌≡◌, ◌+◌, ◌++◌, ◌<◌, ◌≤◌, IfOk, OnOk, false, length, take};
+ghost use Rattle.std.specs.Prelude.{◌≡◌, ◌+◌, ◌++◌, ◌<◌, ◌≤◌, ℕ, IfOk, OnOk, false, length, take};
 ghost use Rattle.cn_spec.specs.declared.limits.TheConstants.{MOST_CARRIED, MOST_RECORDS};
 ghost use Rattle.cn_spec.specs.Sums.{when};
 ghost use Rattle.cn_floor.specs.Carried.{client_count};
@@ -105,6 +105,8 @@ fn cut(epochs: &[BatchEpoch], wanted: usize) -> (usize, usize)
     requires few { clients_of_epochs epochs.now ≤ MOST_RECORDS }
     ensures both { (0 < result.0) × (result.0 < length epochs.now) }
     ensures clients { result.1 ≡ clients_of_epochs (take result.0 epochs.now) }
+    ensures enough { result.0 + 1 < length epochs.now → wanted ≤ result.1 }
+    ensures first { (at : ℕ) → 0 < at → at < result.0 → clients_of_epochs (take at epochs.now) < wanted }
 {
     let mut at = 1;
     let mut clients = epochs[0].clients.len();

@@ -72,17 +72,17 @@ impl io::Write for Narrow {
     }
 }
 
-/// Gives a text, and then fails.
+/// Gives what another reader gives, and then fails.
 #[derive(Drop)]
-pub(crate) struct Broken<'a> {
-    pub(crate) left: &'a [u8],
+pub(crate) struct Broken<I> {
+    pub(crate) left: I,
 }
 
-impl io::Read for Broken<'_> {
+impl<I: io::Read> io::Read for Broken<I> {
     fn read(&mut self, buffer: &mut [u8]) -> io::Result<usize> {
-        if self.left.is_empty() {
-            return Err(io::Error::from(io::ErrorKind::ConnectionReset));
+        match self.left.read(buffer)? {
+            0 => Err(io::Error::from(io::ErrorKind::ConnectionReset)),
+            count => Ok(count),
         }
-        self.left.read(buffer)
     }
 }

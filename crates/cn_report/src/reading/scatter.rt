@@ -1,7 +1,7 @@
 //! A hash of numbers that is drawn at random, for a table whose keys anybody may pick.
 
-ghost use Rattle.std.specs.Prelude.{◌≡◌};
-ghost use Rattle.cn_report.specs.Reading.Scatter.{scattered, word_of};
+ghost use Rattle.std.specs.Prelude.{◌≡◌, ◌+◌, ◌*◌, ◌^◌};
+ghost use Rattle.cn_report.specs.Reading.Scatter.{drawn_by, drawn_word, scattered, word_of};
 
 use std::hash::{BuildHasher, Hasher, RandomState};
 
@@ -16,13 +16,28 @@ pub(crate) struct Scatter {
     term: u128,
 }
 
+/// The word that a random state has for a place.
+fn drawn_word(state: &RandomState, place: u64) -> u64
+    ensures { result ≡ drawn_word state.now place }
+{
+    state.hash_one(place)
+}
+
+/// The number of two words.
+fn joined(upper: u64, lower: u64) -> u128
+    ensures { result ≡ upper * 2 ^ 64 + lower }
+{
+    u128::from(upper) << 64 | u128::from(lower)
+}
+
 impl Scatter {
-    /// Drawn by a random state.
-    pub(crate) fn drawn(state: RandomState) -> Self {
-        let word = |place: u64| u128::from(state.hash_one(place));
+    /// Drawn by a random state: each of the two numbers has two words of it.
+    pub(crate) fn drawn(state: RandomState) -> Self
+        ensures { result ≡ drawn_by state }
+    {
         Scatter {
-            factor: word(0) << 64 | word(1),
-            term: word(2) << 64 | word(3),
+            factor: joined(drawn_word(&state, 0), drawn_word(&state, 1)),
+            term: joined(drawn_word(&state, 2), drawn_word(&state, 3)),
         }
     }
 }
