@@ -1,16 +1,17 @@
 -- Clients of a list, of whom those who follow one another by one entry are named together.
-use Rattle.std.proofs.Common.{◌≡◌, ℕ, zero, suc, ◌+◌, ◌≤◌, ◌==◌, cond, count_by, drop, max, replicate, List, [], ◌∷◌, ◌++◌, length, map, take, refl, sym, ap, ◌∙◌, arith, append_assoc}
+use Rattle.std.proofs.Common.{◌≡◌, ℕ, zero, suc, ◌+◌, ◌<◌, ◌≤◌, ◌==◌, cond, count_by, drop, max, replicate, List, [], ◌∷◌, ◌++◌, get_or, length, map, take, refl, sym, ap, ◌∙◌, arith, append_assoc}
 use Rattle.std.proofs.lemmas.List.{length-append, length-map, map-append}
 use Rattle.std.proofs.lemmas.List.Sums.{sum_by-append, sum_by-cons}
 use Rattle.cn_spec.specs.Sums.{times}
 use Rattle.cn_spec.proofs.CallerLemmas.{times-cons, times-nil}
 use Rattle.cn_ledger.specs.declared.client.Client.{Client}
+use Rattle.renamer_c.specs.declared.client.Client as c
 use Rattle.cn_yard.specs.Lists.{Lists, tokens_in}
 use Rattle.cn_floor.specs.declared.view.Grant.{Grant}
-use Rattle.cn_floor.specs.Lane.{LaneValue}
+use Rattle.cn_floor.specs.Lane.{LaneValue, with_room}
 use Rattle.cn_floor.specs.Listed.{AreNamed}
 use Rattle.cn_walk.specs.Walks.{WalksAll}
-use Rattle.renamer_c.specs.Many.{by_entry}
+use Rattle.renamer_c.specs.Many.{AreAllNamed, by_entry, client_from}
 
 entries_by : (entry : ℕ) (ids : List ℕ) → map (λ (c : Client). c.entry) (by_entry entry ids) ≡ replicate (length ids) entry
 entries_by entry [] = refl
@@ -81,3 +82,32 @@ map-part f zero (suc n) (x ∷ xs) = ap (λ (ys : List _). f x ∷ ys) (map-part
 map-part f (suc i) zero [] = refl
 map-part f (suc i) (suc n) [] = refl
 map-part f (suc i) n (x ∷ xs) = map-part f i n xs
+
+-- clients who all come in by one entry, by their identities
+pub by-run : (n entry : ℕ) (clients : List c.Client) → n ≤ length clients → ((i : ℕ) (d : c.Client) → i < n → (get_or clients i d).entry ≡ entry)
+    → map client_from (take n clients) ≡ by_entry entry (map (λ d. d.client) (take n clients))
+by-run zero entry clients few same = refl
+by-run (suc n) entry [] few same = absurd (omega (arith, few))
+by-run (suc n) entry (x ∷ clients) few same =
+    let here : x.entry ≡ entry = same 0 x (omega arith) in
+    ap (λ (k : ℕ). record { id = x.client; entry = k } ∷ map client_from (take n clients)) here
+    ∙ ap (λ (ds : List Client). record { id = x.client; entry = entry } ∷ ds) (by-run n entry clients (omega (arith, few)) (λ i d l. same (suc i) d (omega (arith, l))))
+
+-- a lane that had less room than was wanted, and got it first, named them all
+pub with-more-room : (a b : LaneValue) (clients : List c.Client) → a.room ≤ length clients → AreAllNamed (with_room (length clients) a) b clients → AreAllNamed a b clients
+with-more-room a b clients less is =
+    let long : length (map client_from clients) ≡ length clients = length-map clients client_from in
+    record {
+      walked = record {
+        home = is.walked.home;
+        out = is.walked.out;
+        quota = is.walked.quota;
+        room = omega (arith, less, long, is.walked.room);
+        entries = is.walked.entries;
+        seen = is.walked.seen;
+        grants = is.walked.grants;
+      };
+      moment = is.moment;
+      runs = is.runs;
+      once = is.once;
+    }

@@ -1,4 +1,5 @@
--- Why calls are refused.
+-- Why calls are refused: each by the first cause that stands, in the order of the lines. Of a cause that no lane and
+-- no record shows, as want of memory, they say that the earlier ones do not stand.
 use Rattle.std.specs.Prelude.{◌≡◌, ◌≢◌, ℕ, ◌+◌, ◌<◌, ◌≤◌, All, List, Option, None, Some, ⊤, length}
 use Rattle.cn_spec.specs.declared.limits.TheConstants.{MOST_CARRIED, MOST_CLIENTS}
 use Rattle.cn_wiring.specs.Widths.{IsWidth}
@@ -25,6 +26,10 @@ WithLane lane P = (l : LaneValue) × (lane ≡ Some l) × P l
 abbrev pub WithRecord : Option RecordValue → (RecordValue → Type 0) → Type 0
 WithRecord closed P = (r : RecordValue) × (closed ≡ Some r) × P r
 
+-- how many entries the network of a lane has
+abbrev pub entries_of : LaneValue → ℕ
+entries_of l = l.home.start.network.table.entries
+
 -- why a floor is not opened
 abbrev pub NotOpened : ℕ → ℕ → ℕ → Refusal → Type 0
 NotOpened kind width quota Kind = 2 < kind
@@ -44,27 +49,33 @@ NotSplit lane quota r = ⊥
 abbrev pub NotNamed : Option LaneValue → ℕ → Refusal → Type 0
 NotNamed lane entry Nothing = lane ≡ None
 NotNamed lane entry StillWalking = WithLane lane (λ l. 0 < tokens_in l.yard.lists)
-NotNamed lane entry NoSuchEntry = WithLane lane (λ l. l.home.start.network.table.entries ≤ entry)
-NotNamed lane entry QuotaSpent = WithLane lane (λ l. l.view.quota ≡ 0)
-NotNamed lane entry Memory = WithLane lane (λ l. l.room ≡ 0)
+NotNamed lane entry NoSuchEntry = WithLane lane (λ l. (tokens_in l.yard.lists ≡ 0) × (entries_of l ≤ entry))
+NotNamed lane entry QuotaSpent = WithLane lane (λ l. (tokens_in l.yard.lists ≡ 0) × (entry < entries_of l)
+    × (l.view.quota ≡ 0))
+NotNamed lane entry Memory = WithLane lane (λ l. (tokens_in l.yard.lists ≡ 0) × (entry < entries_of l)
+    × (0 < l.view.quota) × (l.room ≡ 0))
 NotNamed lane entry r = ⊥
 
 -- why clients are not named by one call, with room for so many grants
 abbrev pub NotNamedMany : Option LaneValue → List Client → ℕ → Refusal → Type 0
 NotNamedMany lane clients size Nothing = lane ≡ None
 NotNamedMany lane clients size Size = WithLane lane (λ l. size ≢ length clients)
-NotNamedMany lane clients size StillWalking = WithLane lane (λ l. 0 < tokens_in l.yard.lists)
-NotNamedMany lane clients size NoSuchEntry = WithLane lane (λ l. ¬ All (λ c. c.entry < l.home.start.network.table.entries) clients)
-NotNamedMany lane clients size QuotaSpent = WithLane lane (λ l. l.view.quota < length clients)
-NotNamedMany lane clients size Memory = WithLane lane (λ l. l.room < length clients)
+NotNamedMany lane clients size StillWalking = WithLane lane (λ l. (size ≡ length clients)
+    × (0 < tokens_in l.yard.lists))
+NotNamedMany lane clients size NoSuchEntry = WithLane lane (λ l. (size ≡ length clients) × (tokens_in l.yard.lists ≡ 0)
+    × (¬ All (λ c. c.entry < entries_of l) clients))
+NotNamedMany lane clients size QuotaSpent = WithLane lane (λ l. (size ≡ length clients) × (tokens_in l.yard.lists ≡ 0)
+    × All (λ c. c.entry < entries_of l) clients × (l.view.quota < length clients))
+NotNamedMany lane clients size Memory = WithLane lane (λ l. (size ≡ length clients) × (tokens_in l.yard.lists ≡ 0)
+    × All (λ c. c.entry < entries_of l) clients × (length clients ≤ l.view.quota) × (l.room < length clients))
 NotNamedMany lane clients size r = ⊥
 
 -- why a client is not let in
 abbrev pub NotEntered : Option LaneValue → ℕ → Refusal → Type 0
 NotEntered lane entry Nothing = lane ≡ None
-NotEntered lane entry NoSuchEntry = WithLane lane (λ l. l.home.start.network.table.entries ≤ entry)
-NotEntered lane entry QuotaSpent = WithLane lane (λ l. l.view.quota ≡ 0)
-NotEntered lane entry Memory = WithLane lane (λ l. l.room ≡ 0)
+NotEntered lane entry NoSuchEntry = WithLane lane (λ l. entries_of l ≤ entry)
+NotEntered lane entry QuotaSpent = WithLane lane (λ l. (entry < entries_of l) × (l.view.quota ≡ 0))
+NotEntered lane entry Memory = WithLane lane (λ l. (entry < entries_of l) × (0 < l.view.quota) × (l.room ≡ 0))
 NotEntered lane entry r = ⊥
 
 -- why nobody goes by the end of a wire
@@ -118,8 +129,10 @@ NotClosed lane r = ⊥
 abbrev pub NotOpenedAfter : Option RecordValue → ℕ → Refusal → Type 0
 NotOpenedAfter closed quota Nothing = closed ≡ None
 NotOpenedAfter closed quota Carried = WithRecord closed (λ r. MOST_CARRIED < client_count r.words)
-NotOpenedAfter closed quota Quota = WithRecord closed (λ r. MOST_CLIENTS < quota)
-NotOpenedAfter closed quota Memory = WithRecord closed (λ r. quota ≤ MOST_CLIENTS)
+NotOpenedAfter closed quota Quota = WithRecord closed (λ r. (client_count r.words ≤ MOST_CARRIED)
+    × (MOST_CLIENTS < quota))
+NotOpenedAfter closed quota Memory = WithRecord closed (λ r. (client_count r.words ≤ MOST_CARRIED)
+    × (quota ≤ MOST_CLIENTS))
 NotOpenedAfter closed quota r = ⊥
 
 -- why a lane, or the record of a closed floor, is not asked

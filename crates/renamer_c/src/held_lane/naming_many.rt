@@ -1,10 +1,11 @@
 //! Many clients are named by one call: those who follow one another by one entry together.
 
-ghost use Rattle.std.specs.Prelude.{◌≡◌, ℕ, ◌<◌, ◌≤◌, [], All, Some, false, length, map, IfErr, IsTrue, OnErr, OnOk};
+ghost use Rattle.std.specs.Prelude.{◌≡◌, ℕ, ◌<◌, ◌≤◌, [], All, Some, false, length, map, take};
+ghost use Rattle.std.specs.Prelude.{IfErr, IsTrue, OnErr, OnOk};
 ghost use Rattle.cn_yard.specs.Lists.{tokens_in};
 ghost use Rattle.cn_floor.specs.Steps.{HasMoment};
 ghost use Rattle.cn_walk.specs.Walks.{WalksAll};
-ghost use Rattle.renamer_c.specs.Many.{AreAllNamed, ComeByOneEntry, by_entry};
+ghost use Rattle.renamer_c.specs.Many.{AreAllNamed, AreNamedAtOnce, IsLongestRun, by_entry, first_entry};
 ghost use Rattle.renamer_c.specs.Refusals.{NotNamedMany};
 
 use super::HeldLane;
@@ -28,11 +29,12 @@ fn all_enter(clients: &[Client], entries: u64) -> bool
 /// How many clients who come in by one entry go on together at most.
 const TOGETHER: usize = 64;
 
-/// Copies the identities of the first clients of a list, who come in by the entry of the first of them, as many as there is
-/// room for. Returns how many.
+/// Copies the identities of the first clients of a list: of the longest run of those who come in by one entry, as far
+/// as there is room. Returns how many.
 fn copy_run(clients: &[Client], ids: &mut [u64]) -> usize
     requires some { (0 < length clients.now) × (0 < length ids.old) }
-    ensures run { ComeByOneEntry clients.now ids.new result }
+    ensures run { IsLongestRun clients.now (first_entry clients.now) (length ids.old) result }
+    ensures ids { take result ids.new ≡ map (λ c. c.client) (take result clients.now) }
     ensures same { length ids.new ≡ length ids.old }
 {
     let entry = clients[0].entry;
@@ -52,6 +54,7 @@ fn name_run(floor: &Floor<'static>, lane: &mut Lane, ids: &[u64], entry: u64)
     requires entry { entry < floor.now.start.network.table.entries }
     requires quota { length ids.now ≤ lane.old.view.quota }
     requires room { length ids.now ≤ lane.old.room }
+    ensures named { AreNamedAtOnce lane.old lane.new ids.now entry }
     ensures walked { WalksAll lane.old lane.new (by_entry entry ids.now) }
     ensures moment { HasMoment lane.old.home.start lane.new.view }
 {

@@ -1,5 +1,6 @@
-use Rattle.std.proofs.Common.{◌≡◌, ◌-◌, ◌≤◌, get_or, length, map, take}
-use Rattle.renamer_c.specs.Many.{client_from, no_client}
+use Rattle.std.proofs.Common.{◌≡◌, ℕ, ◌-◌, ◌<◌, ◌≤◌, get_or, length, map, take}
+use Rattle.renamer_c.specs.Many.{first_entry}
+use Rattle.renamer_c.specs.declared.client.Client.{Client}
 use Rattle.renamer_c.proofs.held_lane.naming_many.copy_run.Given as goal
 
 abbrev pub invariant-loop-count : goal.invariant-loop-count
@@ -7,7 +8,8 @@ invariant-loop-count l = record {
   few : l.count ≤ length l.clients;
   room : l.count ≤ length l.ids;
   same : length l.ids ≡ length l.initial.ids;
-  are : map client_from (take l.count l.clients) ≡ map (λ id. record { id = id; entry = (get_or l.clients 0 no_client).entry }) (take l.count l.ids);
+  run : (i : ℕ) (d : Client) → i < l.count → (get_or l.clients i d).entry ≡ first_entry l.clients;
+  are : take l.count l.ids ≡ map (λ c. c.client) (take l.count l.clients);
 }
 
 abbrev pub decreases-loop-count : goal.decreases-loop-count

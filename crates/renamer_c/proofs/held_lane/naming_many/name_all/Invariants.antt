@@ -1,15 +1,18 @@
-use Rattle.std.proofs.Common.{◌≡◌, ◌-◌, ◌<◌, ◌≤◌, length, map, take}
+use Rattle.std.proofs.Common.{◌≡◌, ℕ, ◌-◌, ◌<◌, ◌≤◌, List, drop, length, map, take}
+use Rattle.cn_floor.specs.Lane.{LaneValue}
 use Rattle.cn_floor.specs.Steps.{HasMoment}
 use Rattle.cn_walk.specs.Walks.{WalksAll}
-use Rattle.renamer_c.specs.Many.{client_from}
+use Rattle.renamer_c.specs.Many.{AreNamedByRuns, client_from}
 use Rattle.renamer_c.proofs.held_lane.naming_many.name_all.Given as goal
 
--- the clients so far are named
+-- the clients so far are named, and by runs: a lane that names the others by runs has named all by runs
 abbrev pub invariant-loop-named : goal.invariant-loop-named
 invariant-loop-named l = record {
   few : l.named ≤ length l.clients;
   ids : length l.ids ≡ 64;
   walked : WalksAll l.initial.lane l.lane (take l.named (map client_from l.clients));
+  runs : (ns : List ℕ) (new : LaneValue) → AreNamedByRuns ns l.lane new (drop l.named l.clients)
+      → (ms : List ℕ) × AreNamedByRuns ms l.initial.lane new l.clients;
   moment : 0 < l.named → HasMoment l.initial.lane.home.start l.lane.view;
 }
 
