@@ -18,7 +18,8 @@
  * was there before. renamer_free and renamer_free_quiet free all that a handle has; after them it is none.
  *
  * STATUSES. Each call takes any numbers, any sizes and any handle, also one that is none, and returns a status. A call
- * that does not return RENAMER_DONE has changed nothing: no handle, no floor, no number or array of the caller's. Of
+ * that does not return RENAMER_DONE has changed no handle, no number or array of the caller's, and nothing that a lane
+ * or a quiet floor answers; but a renamer_join that gets no memory keeps the lane that it took, as is said there. Of
  * several causes the first in the order of the call's list is returned.
  *
  * THREADS. Calls on different handles may run at once in any threads, also on lanes of one floor. Calls on one handle may
@@ -209,6 +210,10 @@ uint32_t renamer_hand_back(renamer_lane *lane);
 
 /* Takes one lane of the same floor in that was handed back: its quota is added, and its grants come after the lane's own.
    Which of several, is not said. Takes no memory if the lane has room for these grants, and has that much less room then.
+
+   If it returns RENAMER_MEMORY after it took a lane from the floor, it keeps that one beside the caller's: the next
+   renamer_join of the caller's lane takes it in, and no other lane can. A renamer_split leaves it there. A
+   renamer_hand_back or renamer_free hands it back before the lane itself, also if the lane is refused then.
    RENAMER_NONE, _NOTHING_BACK, _MEMORY. */
 uint32_t renamer_join(renamer_lane *lane);
 
@@ -238,8 +243,8 @@ uint32_t renamer_holders(renamer_quiet *quiet, uint64_t *holders, size_t size);
 uint32_t renamer_open_after(renamer_lane *lane, renamer_quiet *quiet, uint64_t quota);
 
 /* Frees what the handle has, if it has something. A lane is handed back if that can be done. Else, if clients are inside or
-   renamer_hand_back would be refused, its quota and names are lost with it, and its floor cannot be closed any more;
-   the names of other lanes stay as good as they were. */
+   renamer_hand_back would be refused, its quota and names are lost with it, also those of a lane that it keeps, and its
+   floor cannot be closed any more; the names of other lanes stay as good as they were. */
 void renamer_free(renamer_lane *lane);
 void renamer_free_quiet(renamer_quiet *quiet);
 

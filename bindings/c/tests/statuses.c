@@ -133,6 +133,25 @@ static void lists_of_clients(void) {
     renamer_free(&lane);
 }
 
+/* Clients of a list by one entry go on together, 64 of them at most: on the tree of width 2 those by one exit leave
+   right after one another. */
+static void lists_go_together(void) {
+    enum { TOGETHER = 64, LISTED = TOGETHER + 2 };
+    static renamer_client clients[LISTED];
+    static renamer_grant grants[LISTED];
+    renamer_lane lane = RENAMER_NO_LANE_YET;
+    for (uint64_t i = 0; i < LISTED; i++)
+        clients[i].client = i;
+    CHECK(renamer_open(&lane, RENAMER_TREE, 2, LISTED) == RENAMER_DONE);
+    CHECK(renamer_name_many(&lane, clients, LISTED, grants, LISTED) == RENAMER_DONE);
+    for (int i = 0; i < LISTED; i++)
+        CHECK(grants[i].name == grants[i].client && grants[i].exit == grants[i].client % 2);
+    for (int i = 0; i < TOGETHER; i++)
+        CHECK(grants[i].client < TOGETHER && grants[i].exit == grants[i / (TOGETHER / 2) * (TOGETHER / 2)].exit);
+    CHECK(grants[0].exit != grants[TOGETHER / 2].exit && grants[TOGETHER].exit != grants[TOGETHER + 1].exit);
+    renamer_free(&lane);
+}
+
 /* Wires on which no client of the lane is. */
 static void nobody_there(renamer_lane *lane, uint64_t but) {
     static const uint64_t wires[] = {0, 1, 2, 7, 8, 15, 16, 1000, UINT32_MAX, 4294967296, 4294967297, UINT64_MAX};
@@ -257,13 +276,14 @@ int main(void) {
     open_refuses();
     CHECK(renamer_open(&lane, RENAMER_BITONIC, 4, 2) == RENAMER_DONE);
     CHECK(renamer_reserve(&lane, 1048577) == RENAMER_MEMORY && renamer_reserve(&lane, UINT64_MAX) == RENAMER_MEMORY);
-    CHECK(renamer_reserve(&lane, 2) == RENAMER_DONE);
+    CHECK(renamer_reserve(&lane, 1048576) == RENAMER_DONE && renamer_reserve(&lane, 2) == RENAMER_DONE);
     naming_refuses(&lane);
     lists_refuse(&lane, &quiet);
     CHECK(renamer_open_after(&lane, &quiet, 5) == RENAMER_DONE);
     none(&lane, &quiet);
     split_refuses();
     lists_of_clients();
+    lists_go_together();
     clients_inside();
     lost_inside();
     no_place();

@@ -2,7 +2,8 @@
 use std::error;
 use std::fmt;
 
-/// Why a call is refused. A refused call has changed nothing.
+/// Why a call is refused. A refused call has changed nothing that a lane or a closed floor answers; but a join that
+/// gets no memory keeps the lane that it took ([`Lane::join`](crate::Lane::join)).
 ///
 /// The numbers are those of the library's header. What it refuses with 1 or 3, a handle that is none or a kind that
 /// there is not, does not come here.

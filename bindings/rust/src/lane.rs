@@ -123,6 +123,9 @@ impl Lane {
     /// Takes in one lane of the same floor that was handed back: its quota is added, and its grants come after this
     /// lane's own. Which of several, is not said.
     ///
+    /// If it gets no memory, it keeps the lane that it took beside this one: the next join of this lane takes it in, no
+    /// other lane can, and a hand-back or a drop of this lane hands both back.
+    ///
     /// ```
     /// use renamer::{Error, Floor, Kind};
     ///

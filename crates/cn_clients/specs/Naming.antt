@@ -16,7 +16,7 @@ clients_granted grants = map (λ g. g.client) grants
 abbrev pub AreGrantsOf : List ℕ → List ℕ → List Grant → Type 0
 AreGrantsOf clients names grants = (clients ≡ clients_granted grants) × (names ≡ names_granted grants)
 
--- a lane named these clients, one after the other: its newest grants are theirs, and nobody is inside
+-- a lane named these clients, one after the other: its newest grants are theirs, and its wires are as before
 pub record GaveNames (old new : LaneValue) (clients names : List ℕ) : Type 0 where
   pub home : new.home ≡ old.home
   pub lists : new.yard.lists ≡ old.yard.lists
