@@ -101,6 +101,22 @@ fn grant_all(
 }
 
 impl<'a> Floor<'a> {
+    /// Lets the clients of a list in by one entry, in one atomic step.
+    fn enter_list(&self, seat: &mut Seat<(), View>, clients: &[u64], entry: u32)
+        requires own { (seat.old.table_id ≡ self.now.table)
+            × (seat.old.me.0.start ≡ self.now.start) }
+        requires slots { (seat.old.me.1 ≡ []) × (seat.old.me.0.loads ≡ []) }
+        requires wires { length seat.old.me.0.tokens ≡ length self.now.start.network.table.ends }
+        requires entry { entry < self.now.start.network.table.entries }
+        requires quota { length clients.now ≤ seat.old.me.0.quota }
+        ensures seat { (seat.new.table_id ≡ seat.old.table_id) × (seat.new.me.1 ≡ []) }
+        ensures step { ComeTogether self.now.start clients.now entry seat.old.me.0 seat.new.me.0 }
+    {
+        self.start_laws();
+        self.counters
+            .enter_all::<Brand>(seat, clients, entry, clients.len() as u64);
+    }
+
     /// Lets the clients of a list in by one entry, in one atomic step, by a view with nobody inside. Each one's token has the
     /// number of its place in the list.
     fn come_in(&self, seat: &mut Seat<(), View>, clients: &[u64], entry: u32)
@@ -116,8 +132,7 @@ impl<'a> Floor<'a> {
         ensures step { ComeTogether self.now.start clients.now entry seat.old.me.0 seat.new.me.0 }
     {
         self.start_laws();
-        self.counters
-            .enter_all::<Brand>(seat, clients, entry, clients.len() as u64);
+        self.enter_list(seat, clients, entry);
     }
 
     /// Lets all tokens of a wire, as many as `tokens`, go by its end in one atomic step: the end, and the number of the first.

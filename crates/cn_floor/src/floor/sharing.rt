@@ -1,6 +1,6 @@
 //! Lanes of one floor are split and joined.
 
-ghost use Rattle.std.specs.Prelude.{◌≡◌, ◌+◌, ◌-◌, ◌<◌, ◌≤◌, ◌↔◌, ◌++◌, length, vec_capacity, vec_len, IfErr, IfOk, IsErrOf, OnErr, OnOk};
+ghost use Rattle.std.specs.Prelude.{◌≡◌, ◌+◌, ◌-◌, ◌<◌, ◌≤◌, ◌↔◌, ◌++◌, [], length, vec_capacity, vec_len, IfErr, IfOk, IsErrOf, OnErr, OnOk};
 ghost use Rattle.cn_yard.specs.Lists.{tokens_in};
 ghost use Rattle.cn_floor.specs.Lane.{empty_lane};
 ghost use Rattle.cn_floor.specs.Steps.{HasMoment};
@@ -9,7 +9,8 @@ ghost use Rattle.cn_floor.specs.Views.{after_join, after_look, after_split, spli
 use super::lane::{Lane, make_way};
 use super::{Floor, yard_for};
 use crate::fault::{JoinFault, SplitFault};
-use crate::view::Grant;
+use crate::view::{Grant, View};
+use atomic_table::Seat;
 use std::marker::Brand;
 
 /// Adds grants at the end of a list that has room for them.
@@ -47,9 +48,7 @@ impl<'a> Floor<'a> {
         let Ok(yard) = yard_for(self.alloc, self.network()) else {
             return Err(SplitFault::Memory);
         };
-        let mut seat = self.counters.split::<Brand>(&mut lane.seat, quota);
-        self.counters.look::<Brand>(&mut lane.seat);
-        self.counters.look::<Brand>(&mut seat);
+        let seat = self.split_seat(&mut lane.seat, quota);
         lane.quota -= quota;
         Ok(Lane {
             seat,
@@ -58,6 +57,24 @@ impl<'a> Floor<'a> {
             quota,
             room: 0,
         })
+    }
+
+    /// Splits a seat off another, for a lane with this quota. Each of both then looks once.
+    fn split_seat(&self, seat: &mut Seat<(), View>, quota: u64) -> Seat<(), View>
+        requires own { (seat.old.table_id ≡ self.now.table)
+            × (seat.old.me.0.start ≡ self.now.start) }
+        requires slots { (seat.old.me.1 ≡ []) × (seat.old.me.0.loads ≡ []) }
+        requires quota { quota ≤ seat.old.me.0.quota }
+        ensures seats { (seat.new.table_id ≡ seat.old.table_id) × (seat.new.me.1 ≡ [])
+            × (result.table_id ≡ seat.old.table_id) × (result.me.1 ≡ []) }
+        ensures first { seat.new.me.0 ≡ after_look (after_split quota seat.old.me.0) }
+        ensures second { result.me.0 ≡ after_look (split_off quota seat.old.me.0) }
+        ensures moments { HasMoment self.now.start seat.new.me.0 × HasMoment self.now.start result.me.0 }
+    {
+        let mut other = self.counters.split::<Brand>(seat, quota);
+        self.counters.look::<Brand>(seat);
+        self.counters.look::<Brand>(&mut other);
+        other
     }
 
     /// Splits off a lane as [`Floor::split_off`] does, and gives both.

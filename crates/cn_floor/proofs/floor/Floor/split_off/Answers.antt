@@ -1,4 +1,4 @@
-use Rattle.std.proofs.Common.{◌≡◌, ℕ, ◌-◌, [], length, replicate, sym, ap, ◌∙◌, subst, arith}
+use Rattle.std.proofs.Common.{◌≡◌, ℕ, ◌-◌, [], length, replicate, sym, ap, ◌∙◌, arith}
 use Rattle.std.proofs.lemmas.List.{length-replicate}
 use Rattle.cn_wiring.specs.Network.{Network}
 use Rattle.cn_yard.specs.Lists.{empty}
@@ -6,18 +6,15 @@ use Rattle.cn_floor.specs.declared.view.Start.{Start}
 use Rattle.cn_floor.specs.declared.view.View.{View}
 use Rattle.cn_floor.specs.InsideLane.{lane_of}
 use Rattle.cn_floor.specs.Lane.{FloorValue, LaneValue}
-use Rattle.cn_floor.specs.Steps.{HasMoment}
-use Rattle.cn_floor.specs.Views.{after_look, after_split, split_off}
 use Rattle.cn_floor.proofs.floor.Floor.split_off.Goals as goal
 
 pub invariant_of-lane : goal.invariant_of-lane
 invariant_of-lane c =
     let q : ℕ = c.args.quota in
     let was = c.lane.invariant in
-    let view : c.look.new.seat.me.0 ≡ after_look (after_split q c.lane.inside.seat.me.0) =
-    c.look.ensures.looks.0 ∙ ap (λ me. after_look me.0) c.split-seat.ensures.left.1 in
+    let view = c.split_seat-seat.ensures.first in
     record {
-      no_slot = c.look.ensures.seat.1;
+      no_slot = c.split_seat-seat.ensures.seats.1;
       idle = ap (λ (x : View). x.loads) view ∙ was.idle;
       tokens = was.tokens ∙ sym (ap (λ (x : View). x.tokens) view);
       wires = was.wires ∙ sym (ap (λ (x : View). length x.start.network.table.ends) view);
@@ -30,14 +27,13 @@ invariant_of-lane c =
 
 pub invariant_of-result : goal.invariant_of-result
 invariant_of-result c =
-    let view : c.look-2.new.seat.me.0 ≡ after_look (split_off c.args.quota c.lane.inside.seat.me.0) =
-    c.look-2.ensures.looks.0 ∙ ap (λ me. after_look me.0) c.split-seat.ensures.right.1 in
+    let view = c.split_seat-seat.ensures.second in
     let begun : c.lane.inside.seat.me.0.start ≡ c.args.self.now.start = ap (λ (l : LaneValue). l.home.start) c.lane.view_is ∙ ap (λ (h : FloorValue). h.start) c.requires.own in
     let network : c.network.result.now ≡ c.lane.inside.seat.me.0.start.network = c.network.ensures.value ∙ sym (ap (λ (s : Start). s.network) begun) in
-    let tokens : c.in-Ok.yard.lists ≡ c.look-2.new.seat.me.0.tokens =
+    let tokens : c.in-Ok.yard.lists ≡ c.split_seat-seat.result.me.0.tokens =
     c.in-Ok.ensures.idle ∙ ap (λ (x : Network). replicate (length x.table.ends) []) network ∙ sym (ap (λ (x : View). x.tokens) view) in
     record {
-      no_slot = c.look-2.ensures.seat.1;
+      no_slot = c.split_seat-seat.ensures.seats.3;
       idle = ap (λ (x : View). x.loads) view;
       tokens = tokens;
       wires = ap length c.in-Ok.ensures.idle ∙ length-replicate (length c.network.result.now.table.ends) []
@@ -51,10 +47,9 @@ invariant_of-result c =
 
 pub returns-clause-first : goal.returns-clause-first
 returns-clause-first c =
-    let view : c.look.new.seat.me.0 ≡ after_look (after_split c.args.quota c.lane.inside.seat.me.0) =
-    c.look.ensures.looks.0 ∙ ap (λ me. after_look me.0) c.split-seat.ensures.left.1 in
+    let view = c.split_seat-seat.ensures.first in
     rw (← c.lane.view_is) (λ i. record {
-      home = record { table = (c.look.ensures.seat.0 ∙ c.split-seat.ensures.left.0) i; start = (view i).start };
+      home = record { table = c.split_seat-seat.ensures.seats.0 i; start = (view i).start };
       view = view i;
       yard = c.lane.inside.yard;
       room = c.lane.inside.room;
@@ -62,13 +57,12 @@ returns-clause-first c =
 
 pub returns-clause-second : goal.returns-clause-second
 returns-clause-second c =
-    let view : c.look-2.new.seat.me.0 ≡ after_look (split_off c.args.quota c.lane.inside.seat.me.0) =
-    c.look-2.ensures.looks.0 ∙ ap (λ me. after_look me.0) c.split-seat.ensures.right.1 in
+    let view = c.split_seat-seat.ensures.second in
     let begun : c.lane.inside.seat.me.0.start ≡ c.args.self.now.start = ap (λ (l : LaneValue). l.home.start) c.lane.view_is ∙ ap (λ (h : FloorValue). h.start) c.requires.own in
     let network : c.network.result.now ≡ c.lane.inside.seat.me.0.start.network = c.network.ensures.value ∙ sym (ap (λ (s : Start). s.network) begun) in
     let yard : c.in-Ok.yard ≡ empty (length c.lane.inside.seat.me.0.start.network.table.ends) = c.in-Ok.ensures.empty ∙ ap (λ (x : Network). empty (length x.table.ends)) network in
     rw (← c.lane.view_is) (λ i. record {
-      home = record { table = (c.look-2.ensures.seat.0 ∙ c.split-seat.ensures.right.0) i; start = (view i).start };
+      home = record { table = c.split_seat-seat.ensures.seats.2 i; start = (view i).start };
       view = view i;
       yard = yard i;
       room = 0;
@@ -77,19 +71,15 @@ returns-clause-second c =
 pub returns-clause-own : goal.returns-clause-own
 returns-clause-own c =
     let v : View = c.lane.inside.seat.me.0 in
-    let first : c.look.new.seat.me.0 ≡ after_look (after_split c.args.quota v) = c.look.ensures.looks.0 ∙ ap (λ me. after_look me.0) c.split-seat.ensures.left.1 in
-    let second : c.look-2.new.seat.me.0 ≡ after_look (split_off c.args.quota v) = c.look-2.ensures.looks.0 ∙ ap (λ me. after_look me.0) c.split-seat.ensures.right.1 in
+    let first = c.split_seat-seat.ensures.first in
+    let second = c.split_seat-seat.ensures.second in
     let home : (lane_of c.lane.inside).home ≡ c.args.self.now = ap (λ (l : LaneValue). l.home) c.lane.view_is ∙ c.requires.own in (
-      (λ i. record { table = (c.look.ensures.seat.0 ∙ c.split-seat.ensures.left.0) i; start = (first i).start }) ∙ home,
-      (λ i. record { table = (c.look-2.ensures.seat.0 ∙ c.split-seat.ensures.right.0) i; start = (second i).start }) ∙ home,
+      (λ i. record { table = c.split_seat-seat.ensures.seats.0 i; start = (first i).start }) ∙ home,
+      (λ i. record { table = c.split_seat-seat.ensures.seats.2 i; start = (second i).start }) ∙ home,
     )
 
 pub returns-clause-moments : goal.returns-clause-moments
-returns-clause-moments c =
-    let same : c.self.inside.counters.start ≡ c.args.self.now.start = ap (λ (h : FloorValue). h.start) c.self.view_is in (
-      subst (λ (s : Start). HasMoment s c.look.new.seat.me.0) same c.look.ensures.looks.1,
-      subst (λ (s : Start). HasMoment s c.look-2.new.seat.me.0) same c.look-2.ensures.looks.1,
-    )
+returns-clause-moments c = c.split_seat-seat.ensures.moments
 
 pub returns-clause-enough : goal.returns-clause-enough
 returns-clause-enough c = omega (arith, c.if-quota-lane.false, c.lane.invariant.quota, ap (λ (l : LaneValue). l.view.quota) c.lane.view_is)
