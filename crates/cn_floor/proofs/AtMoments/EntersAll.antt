@@ -15,7 +15,7 @@ use Rattle.cn_floor.specs.Rule.{HoldsAt, ledger_of}
 use Rattle.cn_floor.specs.Views.{after_enter, base}
 use Rattle.cn_floor.specs.Words.{clients_in, entered_in}
 use Rattle.cn_floor.proofs.AtMoments.Bounds.{few-came}
-use Rattle.cn_floor.proofs.AtMoments.Kept.{counted-alike, kept-recounted, ledger-alike}
+use Rattle.cn_floor.proofs.AtMoments.Kept.{counted-alike, kept-recounted, ledger-alike, one-step}
 use Rattle.cn_floor.proofs.AtMoments.Places.{get-here, set-here}
 use Rattle.cn_floor.proofs.AtMoments.Raised.{entered-word, raised}
 use Rattle.cn_floor.proofs.AtMoments.Steps.{came_in, kept-after-enter}
@@ -112,17 +112,8 @@ may-enter-all start slots id me clients entry no_slot idle of low inside enough 
         no_slot,
         (
           refl,
-          record {
-            old = s;
-            new = after;
-            id = id;
-            here = here;
-            there = get-here s.views id v w here;
-            views = refl;
-            kept_before = kept.rule;
-            kept_after = kept-w.rule;
-            happened = subst (EnterInRow t clients entry 0 (length clients) (ledger_of t start.words s.words s.views)) same all.row;
-          },
+          one-step start s words id v w (EnterInRow t clients entry 0 (length clients)) here kept.rule kept-w.rule
+              (subst (EnterInRow t clients entry 0 (length clients) (ledger_of t start.words s.words s.views)) same all.row),
         ),
       ),
     )

@@ -9,12 +9,14 @@ use Rattle.cn_spec.specs.Sums.{once_below, times, when}
 use Rattle.cn_wiring.specs.declared.end.End.{End}
 use Rattle.cn_wiring.specs.declared.end.End.TheVariants.{Balancer, Exit}
 use Rattle.cn_wiring.specs.Table.{Table}
-use Rattle.cn_ledger.specs.Ledger.{IsSound}
+use Rattle.cn_ledger.specs.Ledger.{IsSound, Ledger}
 use Rattle.cn_floor.specs.declared.view.Start.{Start}
 use Rattle.cn_floor.specs.declared.view.View.{View}
-use Rattle.cn_floor.specs.Rule.{IsAccounted, IsFresh, HoldsAt, ledger_of}
+use Rattle.cn_floor.specs.Rule.{IsAccounted, IsFresh, HoldsAt, KeepsRule, ledger_of}
+use Rattle.cn_floor.specs.Steps.{IsAtomicStep}
 use Rattle.cn_floor.specs.Views.{base, given_in, granted_in, on_in, standing_in}
 use Rattle.cn_floor.specs.Words.{clients_in, count_in, entered_in}
+use Rattle.cn_floor.proofs.AtMoments.Places.{get-here}
 use Rattle.cn_floor.proofs.AtMoments.Totals.{total-set}
 
 -- the views add up to the same
@@ -93,3 +95,20 @@ module _ (start : Start) (s : State (Unit {0}) View) (id : ℕ) (g : View) (k : 
       (λ y. subst (IsFresh start s.words) y.1 (fresh-alike (kept.rule.fresh id g here)))
       (λ y. kept.rule.fresh i x y.1)
       (at_set s.views id i w x e))
+
+-- where one view changes and the rule holds before and after, that is one atomic step
+pub one-step : (start : Start) (s : State (Unit {0}) View) (words : List ℕ) (id : ℕ) (v w : View) (event : Ledger → Ledger → Type 0) → get_elem? s.views id ≡ some v
+    → KeepsRule start s → KeepsRule start (record { words = words; homes = s.homes; views = set s.views id w })
+    → event (ledger_of start.network.table start.words s.words s.views) (ledger_of start.network.table start.words words (set s.views id w))
+    → IsAtomicStep start v w event
+one-step start s words id v w event here before after happened = record {
+  old = s;
+  new = record { words = words; homes = s.homes; views = set s.views id w };
+  id = id;
+  here = here;
+  there = get-here s.views id v w here;
+  views = refl;
+  kept_before = before;
+  kept_after = after;
+  happened = happened;
+}

@@ -27,9 +27,9 @@ use Rattle.cn_floor.specs.Words.{clients_in, count_in, end_word, entered_in}
 use Rattle.cn_floor.proofs.AtMoments.Bounds.{count-few, few-came, name-later}
 use Rattle.cn_floor.proofs.AtMoments.Accounts.{accounted-after-enter, accounted-after_step}
 use Rattle.cn_floor.proofs.AtMoments.Fresh.{fresh-grown, names_below}
+use Rattle.cn_floor.proofs.AtMoments.Kept.{one-step}
 use Rattle.cn_floor.proofs.AtMoments.Ledgers.{Lands, enters, leaves, passes}
 use Rattle.cn_floor.proofs.AtMoments.Sole.{sole}
-use Rattle.cn_floor.proofs.AtMoments.Places.{get-here}
 use Rattle.cn_floor.proofs.AtMoments.Totals.{total-set}
 use Rattle.cn_floor.proofs.AtMoments.Raised.{count-raised, count-word, entered-kept, entered-raised, entered-word, lanes-raised, one-end, raised}
 use Rattle.cn_spec.proofs.CallerLemmas.{sum-below-one, sum-below-part, sum-below-plus, sum-below-same, times-append, times-nil}
@@ -105,17 +105,8 @@ module _ (start : Start) (id token client entry : ℕ) (v : View) (s : State (Un
   }
 
   pub step-after-enter : v.loads ≡ [] → IsAtomicStep start v w (λ old new. Enters start.network.table old new client entry)
-  step-after-enter idle = record {
-    old = s;
-    new = after;
-    id = id;
-    here = here;
-    there = get-here s.views id v w here;
-    views = refl;
-    kept_before = kept.rule;
-    kept_after = (kept-after-enter idle).rule;
-    happened = came_in;
-  }
+  step-after-enter idle =
+      one-step start s after.words id v w (λ old new. Enters start.network.table old new client entry) here kept.rule (kept-after-enter idle).rule came_in
 
 -- a client may come in
 pub lets-in : (start : Start) (slots id : ℕ) (me : Me (Unit {0}) View) (is : Coming) → is.start ≡ start → me.1 ≡ [] → me.0.loads ≡ [] → me.0.start ≡ start → is.entry < start.network.table.entries
@@ -261,17 +252,8 @@ module _ (start : Start) (id token client wire : ℕ) (end : End) (v : View) (s 
 
   pub let-by : v.loads ≡ [] → IsLetBy start v then client end n
   let-by idle = record {
-    step = record {
-      old = s;
-      new = next;
-      id = id;
-      here = here;
-      there = get-here s.views id v then here;
-      views = refl;
-      kept_before = kept.rule;
-      kept_after = (kept-after_step idle).rule;
-      happened = moved-by start was now client wire end went later-at;
-    };
+    step = one-step start s next.words id v then (λ old new. IsMoveOf start.network.table (base start) old new client (answer_at start end n)) here
+        kept.rule (kept-after_step idle).rule (moved-by start was now client wire end went later-at);
     few = omega (arith, count-few start s kept end stands, few-came start s kept);
     sole = λ whole. sole start s kept id v here whole end stands;
   }

@@ -21,7 +21,7 @@ use Rattle.cn_floor.specs.Sweeps.{AllGoOn, GoInRow, GoesFrom, Sweeping, after_st
 use Rattle.cn_floor.specs.Views.{after_step, base}
 use Rattle.cn_floor.specs.Words.{clients_in, count_in, end_word}
 use Rattle.cn_floor.proofs.AtMoments.Bounds.{count-few, few-came, name-later}
-use Rattle.cn_floor.proofs.AtMoments.Kept.{counted-alike, kept-recounted, ledger-alike}
+use Rattle.cn_floor.proofs.AtMoments.Kept.{counted-alike, kept-recounted, ledger-alike, one-step}
 use Rattle.cn_floor.proofs.Lists.{lists_after, made_at, made-beyond}
 use Rattle.cn_floor.proofs.AtMoments.Places.{get-here, set-here}
 use Rattle.cn_floor.proofs.AtMoments.Raised.{count-raised, count-word, end-there, raised}
@@ -210,17 +210,8 @@ all-may start slots id me wire end no_slot idle of once wires low ends stands s 
         (
           refl,
           record {
-            step = record {
-              old = s;
-              new = after;
-              id = id;
-              here = here;
-              there = get-here s.views id v w here;
-              views = refl;
-              kept_before = kept.rule;
-              kept_after = kept_w.rule;
-              happened = subst (GoInRow t wire end n tokens (ledger_of t start.words s.words s.views)) same gone_all.row;
-            };
+            step = one-step start s words id v w (GoInRow t wire end n tokens) here kept.rule kept_w.rule
+                (subst (GoInRow t wire end n tokens (ledger_of t start.words s.words s.views)) same gone_all.row);
             few = few;
             late = λ i is.
                 let low_exit : i < t.width = subst (Stands t) is stands in

@@ -1,14 +1,14 @@
 -- Wires are swept one after the other.
-use Rattle.std.proofs.Common.{◌≡◌, ℕ, ◌+◌, List, [], ◌∷◌, ◌++◌, length, refl, sym, ap, ◌∙◌, subst, arith}
+use Rattle.std.proofs.Common.{◌≡◌, ℕ, ◌+◌, ◌<◌, List, [], ◌∷◌, ◌++◌, length, refl, sym, ap, ◌∙◌, subst, arith}
 use Rattle.cn_wiring.specs.declared.end.End.{End}
 use Rattle.cn_wiring.specs.Table.{end_of}
+use Rattle.cn_yard.specs.Lists.{on}
 use Rattle.cn_floor.specs.declared.view.Start.{Start}
 use Rattle.cn_floor.specs.declared.view.View.{View}
 use Rattle.cn_floor.specs.EntersAll.{ComeTogether, EnterInRow, after_enter_all}
 use Rattle.cn_floor.specs.Listed.{WalkTogether}
 use Rattle.cn_floor.specs.Steps.{IsAtomicStep}
 use Rattle.cn_floor.specs.Sweeps.{AreLetBy, SweptBy, after_sweep}
-use Rattle.cn_floor.proofs.InLane.Listed.{GoTogether}
 
 -- some wires were swept
 abbrev pub IsSwept : Start → View → View → Type 0
@@ -19,16 +19,17 @@ pub swept-none : (start : Start) (v : View) → IsSwept start v v
 unfolding SweptBy
 swept-none start v = ([], refl)
 
--- one wire first, and then others
-pub swept-first : (start : Start) (wire : ℕ) (end : End) (n : ℕ) (v w x : View) → GoTogether start wire end n v w → IsSwept start w x → IsSwept start v x
+-- one wire first, on which some stand, and then others
+pub swept-first : (start : Start) (wire : ℕ) (end : End) (n : ℕ) (v w x : View) → end_of start.network.table wire ≡ end → w ≡ after_sweep wire end n v
+    → 0 < length (on v.tokens wire) → AreLetBy start v w wire end n → IsSwept start w x → IsSwept start v x
 unfolding SweptBy
-swept-first start wire end n v w x go (wires, later) =
-    let is : w ≡ after_sweep wire (end_of start.network.table wire) n v = go.went ∙ ap (λ (e : End). after_sweep wire e n v) (sym go.ends) in (
+swept-first start wire end n v w x ends went some by (wires, later) =
+    let is : w ≡ after_sweep wire (end_of start.network.table wire) n v = went ∙ ap (λ (e : End). after_sweep wire e n v) (sym ends) in (
       wire ∷ wires,
       (
         n,
-        go.some,
-        subst (λ (z : View × End). AreLetBy start v z.0 wire z.1 n) (λ i. (is i, (sym go.ends) i)) go.by,
+        some,
+        subst (λ (z : View × End). AreLetBy start v z.0 wire z.1 n) (λ i. (is i, (sym ends) i)) by,
         subst (λ (y : View). SweptBy start wires y x) is later,
       ),
     )

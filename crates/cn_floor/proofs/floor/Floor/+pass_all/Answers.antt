@@ -236,37 +236,19 @@ returns-then-group-eq0-clause-swept t c = swept-none c.args.self.now.start c.arg
 
 pub returns-then-group-eq1-clause-swept : goal.returns-then-group-eq1-clause-swept
 returns-then-group-eq1-clause-swept t c =
-    let start : Start = c.args.self.now.start in
-    let wire : ℕ = c.args.wire in
-    let v : View = c.args.seat.now.me.0 in
-    let w : View = c.let_by-end.new.seat.me.0 in
-    let b : ℕ = c.in-Balancer.balancer in
-    let n : ℕ = c.let_by-end.result.1 in
     let g = c.args.group.now in
-    let many : length (on v.tokens wire) ≡ g.count = ap length c.requires.group.are ∙ placed-many c.args.clients.now g.first g.stride g.count in
-    let go : GoTogether start wire (Balancer b) n v w =
-    subst (λ (e : End). GoTogether start wire e n v w) c.in-Balancer.is
-    (together start wire c.let_by-end.result.0 n v w c.start_laws.ensures c.requires.own.1 c.requires.wires c.requires.wire c.requires.once c.requires.above (omega (arith, many, c.if-group-eq0.false))
-    c.let_by-end.ensures.end c.let_by-end.ensures.stands c.let_by-end.ensures.went c.let_by-end.ensures.by) in
-    swept-first start wire (Balancer b) n v w c.pass_all.new.seat.me.0 go c.pass_all.ensures.swept
+    let many : length (on c.args.seat.now.me.0.tokens c.args.wire) ≡ g.count = ap length c.requires.group.are ∙ placed-many c.args.clients.now g.first g.stride g.count in
+    swept-first c.args.self.now.start c.args.wire c.let_by-end.result.0 c.let_by-end.result.1 _ _ _ c.let_by-end.ensures.end c.let_by-end.ensures.went
+    (omega (arith, many, c.if-group-eq0.false)) c.let_by-end.ensures.by
+    c.pass_all.ensures.swept
 
 pub returns-else-group-eq1-clause-swept : goal.returns-else-group-eq1-clause-swept
 returns-else-group-eq1-clause-swept t c =
-    let start : Start = c.args.self.now.start in
-    let wire : ℕ = c.args.wire in
-    let v : View = c.args.seat.now.me.0 in
-    let w : View = c.let_by-end.new.seat.me.0 in
-    let b : ℕ = c.in-Balancer.balancer in
-    let n : ℕ = c.let_by-end.result.1 in
     let g = c.args.group.now in
-    let many : length (on v.tokens wire) ≡ g.count = ap length c.requires.group.are ∙ placed-many c.args.clients.now g.first g.stride g.count in
-    let go : GoTogether start wire (Balancer b) n v w =
-    subst (λ (e : End). GoTogether start wire e n v w) c.in-Balancer.is
-    (together start wire c.let_by-end.result.0 n v w c.start_laws.ensures c.requires.own.1 c.requires.wires c.requires.wire c.requires.once c.requires.above (omega (arith, many, c.if-group-eq0.false))
-    c.let_by-end.ensures.end c.let_by-end.ensures.stands c.let_by-end.ensures.went c.let_by-end.ensures.by) in
-    let mid : View = c.pass_all-in-Balancer.new.seat.me.0 in
-    let x : View = c.pass_all-in-Balancer-2.new.seat.me.0 in
-    swept-first start wire (Balancer b) n v w x go (swept-both start w mid x c.pass_all-in-Balancer.ensures.swept c.pass_all-in-Balancer-2.ensures.swept)
+    let many : length (on c.args.seat.now.me.0.tokens c.args.wire) ≡ g.count = ap length c.requires.group.are ∙ placed-many c.args.clients.now g.first g.stride g.count in
+    swept-first c.args.self.now.start c.args.wire c.let_by-end.result.0 c.let_by-end.result.1 _ _ _ c.let_by-end.ensures.end c.let_by-end.ensures.went
+    (omega (arith, many, c.if-group-eq0.false)) c.let_by-end.ensures.by
+    (swept-both c.args.self.now.start _ _ _ c.pass_all-in-Balancer.ensures.swept c.pass_all-in-Balancer-2.ensures.swept)
 
 -- ---- an exit
 
@@ -312,8 +294,11 @@ left t c =
 
 pub returns-in-Exit-clause-swept : goal.returns-in-Exit-clause-swept
 returns-in-Exit-clause-swept t c =
-    let w : View = c.let_by-end.new.seat.me.0 in
-    swept-first c.args.self.now.start c.args.wire (Exit c.in-Exit.exit) c.let_by-end.result.1 c.args.seat.now.me.0 w w (left t c) (swept-none c.args.self.now.start w)
+    let g = c.args.group.now in
+    let many : length (on c.args.seat.now.me.0.tokens c.args.wire) ≡ g.count = ap length c.requires.group.are ∙ placed-many c.args.clients.now g.first g.stride g.count in
+    swept-first c.args.self.now.start c.args.wire c.let_by-end.result.0 c.let_by-end.result.1 _ _ _ c.let_by-end.ensures.end c.let_by-end.ensures.went
+    (omega (arith, many, c.if-group-eq0.false)) c.let_by-end.ensures.by
+    (swept-none c.args.self.now.start _)
 
 pub returns-in-Exit-clause-left : goal.returns-in-Exit-clause-left
 returns-in-Exit-clause-left t c =
