@@ -1,5 +1,11 @@
 -- Tables by client and by name.
-use Rattle.std.specs.Prelude.{◌≡◌, ℕ, ◌<◌, List, length, slice_index}
+use Rattle.std.specs.Prelude.{◌≡◌, ℕ, ◌<◌, List, length, map, slice_index}
+use Rattle.std.specs.List.{range_with_len}
+use Rattle.cn_ledger.specs.declared.client.Client.{Client}
+
+-- clients with the numbers from 0 up, of whom each comes in by its entry
+abbrev pub AreNumbered : List ℕ → List Client → Type 0
+AreNumbered entries clients = (map (λ c. c.id) clients ≡ range_with_len 0 (length entries)) × (map (λ c. c.entry) clients ≡ entries)
 
 -- the name of each client is that of a place at which it stands, and the client of each name has this name
 pub record AreInverse (names clients : List ℕ) : Type 0 where

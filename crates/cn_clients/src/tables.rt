@@ -1,12 +1,15 @@
 //! A table by name: an epoch's clients are named by many workers, and each finds its name in an array, and each name its client
 //! in another.
 
-ghost use Rattle.std.specs.Prelude.{◌≡◌, ◌+◌, ◌<◌, ◌≤◌, All, IfOk, IfSome, length, map, slice_index, vec_len};
-ghost use Rattle.std.specs.List.{range_with_len};
+ghost use Rattle.std.specs.Prelude.{◌≡◌, ◌+◌, ◌<◌, ◌≤◌, All, IfOk, IfSome, List, OnSome, length, map, slice_index, vec_len};
 ghost use Rattle.cn_spec.specs.Step.{IsEachBelow};
-ghost use Rattle.cn_clients.specs.Tables.{AreInverse};
+ghost use Rattle.cn_spec.specs.declared.limits.TheConstants.{MOST_CLIENTS, MOST_WORKERS};
+ghost use Rattle.cn_floor.specs.Ends.{ListsHolders};
+ghost use Rattle.cn_ledger.specs.declared.client.Client.{Client};
+ghost use Rattle.cn_walk.specs.Runs.{IsRun};
+ghost use Rattle.cn_clients.specs.Tables.{AreInverse, AreNumbered};
 
-use cn_floor::{Grant, OpenGate};
+use cn_floor::{Grant, OpenGate, Quiet};
 use cn_ledger::Client;
 use cn_walk::run_epoch;
 use cn_wiring::Counting;
@@ -16,17 +19,18 @@ use std::thread::Threads;
 
 /// The names of an epoch's clients, which are numbered from 0.
 #[derive(Drop)]
-pub struct NameTable {
+pub struct NameTable<'a> {
     /// The name of each client.
     pub names: Vec<u64>,
     /// The client with each name.
     pub clients: Vec<u64>,
+    /// The closed floor on which they were named.
+    pub quiet: Quiet<'a>,
 }
 
-/// Clients with the numbers from 0 on, of which each comes in by its entry.
+/// Clients with the numbers from 0 on, of whom each comes in by its entry.
 fn numbered(alloc: Global, entries: &[u64]) -> Option<Vec<Client>>
-    ensures { IfSome result (λ clients. map (λ c. c.id) clients.items
-        ≡ range_with_len 0 (length entries.now)) }
+    ensures { IfSome result (λ clients. AreNumbered entries.now clients.items) }
 {
     let mut clients = Vec::new(alloc);
     let mut id = 0;
@@ -56,16 +60,22 @@ fn names_by_client(alloc: Global, grants: &[Grant]) -> Option<Vec<u64>>
 
 /// Names the clients of an epoch by so many workers, each with one client in hand: the client with number i comes in by
 /// `entries[i]`. `None` if [`run_epoch`] refuses, or a list gets no memory.
-pub fn table_of<R: Threads + Wait + Sync>(
+pub fn table_of<'a, R: Threads + Wait + Sync>(
     rt: &R,
     alloc: Global,
-    network: &Counting,
+    network: &'a Counting,
     entries: &[u64],
     workers: u32,
-) -> Option<NameTable>
+) -> Option<NameTable<'a>>
     ensures many { IfSome result (λ table. (length table.names.items ≡ length entries.now)
         × (length table.clients.items ≡ length entries.now)) }
     ensures inverse { IfSome result (λ table. AreInverse table.names.items table.clients.items) }
+    ensures run { IfSome result (λ table. (clients : List Client)
+        × AreNumbered entries.now clients × IsRun network.now clients table.quiet) }
+    ensures own { IfSome result (λ table.
+        ListsHolders table.quiet.did.grants table.clients.items) }
+    ensures allowed { OnSome result ((1 ≤ workers) × (workers ≤ MOST_WORKERS)
+        × (length entries.now ≤ MOST_CLIENTS) × All (λ e. e < network.now.table.entries) entries.now) }
 {
     let Some(clients) = numbered(alloc, entries) else {
         return None;
@@ -82,5 +92,6 @@ pub fn table_of<R: Threads + Wait + Sync>(
     Some(NameTable {
         names,
         clients: holders,
+        quiet,
     })
 }

@@ -8,8 +8,8 @@ use std::alloc::Global;
 use std::sync::OnceLock;
 use std::thread::Threads;
 
-/// How many clients each thread has.
-const EACH: u64 = 1000;
+/// How many clients both threads have.
+const CLIENTS: u64 = 2000;
 
 /// How many slots there are.
 const SLOTS: usize = 2100;
@@ -52,26 +52,37 @@ fn fill(
     Some(are_held(&one) && are_held(&two))
 }
 
-/// The same on a tree of width 8, with 1,000 clients for each thread.
-fn fill_on_tree(rt: &impl Threads, alloc: Global, slots: &[OnceLock<u64>]) -> Option<bool> {
+/// The same on a tree of width 8, with so many clients for the first thread, and the others for the second.
+fn fill_on_tree(
+    rt: &impl Threads,
+    alloc: Global,
+    first: usize,
+    slots: &[OnceLock<u64>],
+) -> Option<bool> {
     let network = tree(alloc, 8).ok()?;
-    let clients: Vec<u64> = Vec::from_iter(alloc, 0..2 * EACH).ok()?;
-    let (first, second) = clients.as_slice().split_at_checked(EACH as usize)?;
+    let clients: Vec<u64> = Vec::from_iter(alloc, 0..CLIENTS).ok()?;
+    let (first, second) = clients.as_slice().split_at_checked(first)?;
     fill(rt, alloc, &network, first, second, slots)
 }
 
 /// Whether the slots that are filled are the first ones, and no others, and whether each holds its client.
-fn filled(rt: &impl Threads, alloc: Global) -> Option<[bool; 2]> {
+fn filled(rt: &impl Threads, alloc: Global, first: usize) -> Option<[bool; 2]> {
     let slots = empty_slots(alloc)?;
-    let held = fill_on_tree(rt, alloc, slots.as_slice())?;
-    let mut first = true;
+    let held = fill_on_tree(rt, alloc, first, slots.as_slice())?;
+    let mut are_first = true;
     for (at, slot) in slots.iter().enumerate() {
-        first &= slot.get().is_some() == (at < 2 * EACH as usize);
+        are_first &= slot.get().is_some() == (at < CLIENTS as usize);
     }
-    Some([first, held])
+    Some([are_first, held])
 }
 
 #[test]
 fn two_threads_fill_the_first_slots(rt: HostRuntime) {
-    assert_eq!(rt; filled(&rt, rt.alloc()), Some([true, true]));
+    let alloc = rt.alloc();
+    let told = [
+        filled(&rt, alloc, 1000),
+        filled(&rt, alloc, 10),
+        filled(&rt, alloc, 1990),
+    ];
+    assert_eq!(rt; told, [Some([true, true]); 3]);
 }

@@ -7,7 +7,7 @@ use crate::walks::{close, enter, entered};
 use cn_bitonic::bitonic;
 use cn_core::{Client, Moved};
 use cn_spec::limits::{MOST_CARRIED, MOST_CLIENTS};
-use cn_walk::{Floor, Lane, OpenFault, OpenGate, Quiet, RunFault, Words, run_epoch_after};
+use cn_walk::{Floor, Gate, Lane, OpenFault, OpenGate, Quiet, RunFault, Words, run_epoch_after};
 use cn_wiring::Counting;
 use std::alloc::Global;
 use std::sync::Wait;
@@ -179,19 +179,21 @@ fn quota_is_refused(rt: HostRuntime) {
 }
 
 /// An epoch that goes on from words.
-fn run_after<'a, R: Threads + Wait + Sync>(
+pub(crate) fn run_after<'a, G: Gate + Sync, R: Threads + Wait + Sync>(
     rt: &R,
     alloc: Global,
     words: &Words<'a>,
     clients: &[Client],
     workers: u32,
+    hand: u32,
+    gate: &G,
 ) -> Result<Quiet<'a>, Option<RunFault>>
     ensures { IfOk result (λ quiet. quiet.start.network ≡ words.now.network) }
 {
     if words.clients() > MOST_CARRIED {
         return Err(None);
     }
-    match run_epoch_after(rt, alloc, words, clients, workers, 1, &OpenGate) {
+    match run_epoch_after(rt, alloc, words, clients, workers, hand, gate) {
         Ok(quiet) => Ok(quiet),
         Err(fault) => Err(Some(fault)),
     }
@@ -241,7 +243,7 @@ fn goes_on<'a, R: Threads + Wait + Sync>(
     row: &Row,
 ) -> Option<(bool, Words<'a>)> {
     let (clients, counts, holders, came) = *row;
-    match run_after(rt, alloc, words, clients, 1) {
+    match run_after(rt, alloc, words, clients, 1, 1, &OpenGate) {
         Ok(quiet) => Some((is_left(&quiet, &counts, holders, came), quiet.into_words())),
         Err(_) => None,
     }
@@ -308,7 +310,7 @@ fn told_after_five<R: Threads + Wait + Sync>(
 ) -> Option<[u64; 6]>
     requires { zero.now.network ≡ network.now }
 {
-    match run_after(rt, alloc, zero, &FIVE, 1) {
+    match run_after(rt, alloc, zero, &FIVE, 1, 1, &OpenGate) {
         Ok(quiet) => tell(quiet.words(), network),
         Err(_) => None,
     }

@@ -52,7 +52,7 @@ impl Asked {
 
 /// Counts how often each worker asks.
 #[derive(Drop)]
-struct Tally {
+pub(crate) struct Tally {
     asked: Vec<Asked>,
 }
 
@@ -64,7 +64,7 @@ impl Gate for Tally {
     }
 }
 
-fn new_tally(alloc: Global) -> Option<Tally> {
+pub(crate) fn new_tally(alloc: Global) -> Option<Tally> {
     let mut asked = Vec::new(alloc);
     for _ in 0..64 {
         let none = Asked {
@@ -78,7 +78,7 @@ fn new_tally(alloc: Global) -> Option<Tally> {
 }
 
 /// A worker, and how often it asks before enters, passes and leaves.
-type Often = (usize, [u64; 3]);
+pub(crate) type Often = (usize, [u64; 3]);
 
 /// Whether a worker that is among these asked so often, and any other not at all.
 fn has_asked(worker: usize, asked: &Asked, often: &[Often]) -> bool {
@@ -90,7 +90,7 @@ fn has_asked(worker: usize, asked: &Asked, often: &[Often]) -> bool {
 }
 
 /// The first worker that did not ask so.
-fn wrong_asker(tally: &Tally, often: &[Often]) -> Option<usize> {
+pub(crate) fn wrong_asker(tally: &Tally, often: &[Often]) -> Option<usize> {
     for (worker, asked) in tally.asked.iter().enumerate() {
         if !has_asked(worker, asked, often) {
             return Some(worker);
@@ -100,7 +100,7 @@ fn wrong_asker(tally: &Tally, often: &[Often]) -> Option<usize> {
 }
 
 /// Whether so many left by each exit, and these clients have names.
-fn are_named(quiet: &Quiet<'_>, counts: &[u64], clients: &[u64]) -> Option<[bool; 2]> {
+pub(crate) fn are_named(quiet: &Quiet<'_>, counts: &[u64], clients: &[u64]) -> Option<[bool; 2]> {
     let mut named = quiet.holders().ok()?;
     named.sort().ok()?;
     Some([quiet.counts() == counts, named.as_slice() == clients])
@@ -108,15 +108,15 @@ fn are_named(quiet: &Quiet<'_>, counts: &[u64], clients: &[u64]) -> Option<[bool
 
 /// Clients on bitonic 4, how many workers, and the hand; how many leave by each exit, who has names, and which workers ask
 /// how often.
-type Told<'a> = (&'a [Client], u32, u32, [u64; 4], &'a [u64], &'a [Often]);
+pub(crate) type Told<'a> = (&'a [Client], u32, u32, [u64; 4], &'a [u64], &'a [Often]);
 
-const THREE_CLIENTS: &[Client] = &[
+pub(crate) const THREE_CLIENTS: &[Client] = &[
     Client { id: 5, entry: 0 },
     Client { id: 6, entry: 1 },
     Client { id: 7, entry: 2 },
 ];
 
-const ONE_CLIENT: [u64; 3] = [1, 3, 1];
+pub(crate) const ONE_CLIENT: [u64; 3] = [1, 3, 1];
 
 const BY_ONE: Told<'_> = (
     THREE_CLIENTS,
@@ -146,7 +146,7 @@ const BY_SIXTY_FOUR: Told<'_> = (
 );
 
 /// The two come in by one entry, and go by its balancer together.
-const TWO_AT_ONCE: Told<'_> = (
+pub(crate) const TWO_AT_ONCE: Told<'_> = (
     &[Client { id: 5, entry: 0 }, Client { id: 6, entry: 0 }],
     1,
     2,

@@ -36,3 +36,5 @@ mod two_lanes;
 mod walks;
 #[cfg(test)]
 mod widest;
+#[cfg(test)]
+mod workers_after;

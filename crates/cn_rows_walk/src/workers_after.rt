@@ -1,0 +1,69 @@
+//! Epochs that go on from words, by one worker and by two: which workers ask the gate, and how often.
+
+use crate::carried::run_after;
+use crate::epochs::{
+    ONE_CLIENT, THREE_CLIENTS, TWO_AT_ONCE, Tally, Told, are_named, new_tally, wrong_asker,
+};
+use cn_bitonic::bitonic;
+use cn_walk::Words;
+use cn_wiring::Counting;
+use std::alloc::Global;
+use std::sync::Wait;
+use std::thread::Threads;
+
+/// The first worker has one client, the second two, of whom one is in hand.
+const BY_TWO: Told<'_> = (
+    THREE_CLIENTS,
+    2,
+    1,
+    [1, 1, 1, 0],
+    &[5, 6, 7],
+    &[(0, ONE_CLIENT), (1, [2, 6, 2])],
+);
+
+/// Whether so many leave by each exit, and these have names.
+fn are_told<R: Threads + Wait + Sync>(
+    rt: &R,
+    alloc: Global,
+    words: &Words<'_>,
+    row: &Told<'_>,
+    gate: &Tally,
+) -> Option<[bool; 2]> {
+    let (clients, workers, hand, counts, named, _) = row;
+    match run_after(rt, alloc, words, clients, *workers, *hand, gate) {
+        Ok(quiet) => are_named(&quiet, counts, named),
+        Err(_) => None,
+    }
+}
+
+/// The same from words of 0.
+fn are_told_at_first<R: Threads + Wait + Sync>(
+    rt: &R,
+    alloc: Global,
+    network: &Counting,
+    row: &Told<'_>,
+    gate: &Tally,
+) -> Option<[bool; 2]> {
+    match Words::zero(alloc, network) {
+        Ok(words) => are_told(rt, alloc, &words, row, gate),
+        Err(_) => None,
+    }
+}
+
+/// Whether all of a row is so on bitonic 4.
+fn is_asked<R: Threads + Wait + Sync>(rt: &R, alloc: Global, row: &Told<'_>) -> Option<bool> {
+    let gate = new_tally(alloc)?;
+    let network = bitonic(alloc, 4).ok()?;
+    let told = are_told_at_first(rt, alloc, &network, row, &gate);
+    Some(told == Some([true; 2]) && wrong_asker(&gate, row.5).is_none())
+}
+
+#[test]
+fn workers_and_hand(rt: HostRuntime) {
+    let alloc = rt.alloc();
+    let told = [
+        is_asked(&rt, alloc, &BY_TWO),
+        is_asked(&rt, alloc, &TWO_AT_ONCE),
+    ];
+    assert_eq!(rt; told, [Some(true); 2]);
+}
