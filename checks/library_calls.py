@@ -127,7 +127,8 @@ def wrong_numbers():
     crate |= {name: int(number) for name, number in re.findall(r"const (\w+): u32 = (\d+);", crate_code())}
     rust = {snake(name): int(number) for name, number in re.findall(r"^    (\w+) = (\d+),", rust_code(), re.M)}
     for name, number in header.items():
-        if crate.get({"NONE": "NOTHING"}.get(name, name)) != number:
+        # No call returns it any more.
+        if name != "NO_PLACE" and crate.get({"NONE": "NOTHING"}.get(name, name)) != number:
             wrong.append(f"{name} is {number} in the header, and {crate.get(name)} in the proved crate")
         if rust.get(name) != number and name not in ("DONE", "NONE", "KIND"):
             wrong.append(f"{name} is {number} in the header, and {rust.get(name)} in the Rust crate")

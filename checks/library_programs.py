@@ -22,6 +22,8 @@ SANITIZERS = {
 WORDS = {
     "rounds.c": {None: ["100000"], "undefined": ["10000"], "others": ["2000"]},
     "fuzz.c": {None: ["1", "2000000"], "others": ["2", "200000"]},
+    "many_lanes.c": {None: ["1000"], "others": ["100"]},
+    "lane_after_lane.c": {None: ["100000"], "others": ["2000"]},
 }
 VALGRIND = ["valgrind", "-q", "--leak-check=full", "--error-exitcode=9"]
 SECONDS = 120
@@ -69,6 +71,9 @@ PROGRAMS = (
     Program(C / "tests" / "joined.c"),
     Program(C / "tests" / "memory.c", GROWTHS),
     Program(C / "tests" / "rounds.c", GROWTHS),
+    Program(C / "tests" / "many_lanes.c"),
+    Program(C / "tests" / "lane_after_lane.c", GROWTHS),
+    Program(C / "tests" / "objects.cpp"),
     FUZZ,
 )
 

@@ -14,12 +14,14 @@
  *     renamer_free(&lane);
  *
  * HANDLES. There are two, a lane and a quiet floor. Each is a struct with one pointer, and all zero is none. Set a handle
- * to zero before its first call, pass its address, and never copy it. A call that puts something into a handle frees what
- * was there before. renamer_free and renamer_free_quiet free all that a handle has; after them it is none.
+ * to zero before its first call, also before renamer_open: by RENAMER_NO_LANE_YET where it is declared, or by
+ * `lane = RENAMER_NO_LANE;` later, as in a struct from malloc. Pass its address, and keep one copy only: a handle may be
+ * moved to another place, also by memcpy, if the old place is not used any more, or is set to none. A call that puts
+ * something into a handle frees what was there before. renamer_free and renamer_free_quiet free all that a handle has;
+ * after them it is none.
  *
  * STATUSES. Each call takes any numbers, any sizes and any handle, also one that is none, and returns a status. A call
- * that does not return RENAMER_DONE has changed no handle, no number or array of the caller's, and nothing that a lane
- * or a quiet floor answers; but a renamer_join that gets no memory keeps the lane that it took, as is said there. Of
+ * that does not return RENAMER_DONE has changed nothing: no handle, no floor, no number or array of the caller's. Of
  * several causes the first in the order of the call's list is returned.
  *
  * THREADS. Calls on different handles may run at once in any threads, also on lanes of one floor. Calls on one handle may
@@ -48,7 +50,7 @@ extern "C" {
 #define RENAMER_MOST_CLIENTS 262144
 #define RENAMER_MOST_CARRIED 2147483648
 
-/* How many lanes of a floor may be handed back and not joined yet. */
+/* No limit any more: any number of lanes may be handed back and not joined yet. It is here for programs that name it. */
 #define RENAMER_MOST_RETURNED 64
 
 /* A lane of a floor, or none: a thread's own part of the floor, by which it lets clients in. */
@@ -61,9 +63,16 @@ typedef struct renamer_quiet {
     void *at;
 } renamer_quiet;
 
-/* Handles that are none. */
+/* Handles that are none: where they are declared, and to be assigned. */
 #define RENAMER_NO_LANE_YET {0}
 #define RENAMER_NO_QUIET_YET {0}
+#ifdef __cplusplus
+#define RENAMER_NO_LANE renamer_lane()
+#define RENAMER_NO_QUIET renamer_quiet()
+#else
+#define RENAMER_NO_LANE ((renamer_lane){0})
+#define RENAMER_NO_QUIET ((renamer_quiet){0})
+#endif
 
 /* A client that is to come in, and by which entry. */
 typedef struct renamer_client {
@@ -122,14 +131,41 @@ typedef enum renamer_status {
     RENAMER_NOTHING_BACK = 12,   /* no lane of the floor was handed back */
     RENAMER_SIZE = 13,           /* the array has the wrong size */
     RENAMER_CARRIED = 14,        /* more clients came before than RENAMER_MOST_CARRIED */
-    RENAMER_NO_PLACE = 15,       /* RENAMER_MOST_RETURNED lanes of the floor were handed back, and none was joined */
-    RENAMER_LANES_THERE = 16     /* other lanes of the floor are there still, with nothing of it */
+    RENAMER_NO_PLACE = 15,       /* no call returns it any more: each lane has its place from its split on */
+    RENAMER_LANES_THERE = 16,    /* other lanes of the floor are there still, with nothing of it */
+    RENAMER_BUSY = 17            /* other threads are in the midst of handing lanes back or joining them: join again */
 } renamer_status;
+
+/* A sentence that says what a status means, and what is allowed. */
+static inline const char *renamer_explain(uint32_t status) {
+    switch (status) {
+    case RENAMER_DONE: return "the call is done";
+    case RENAMER_NONE: return "the handle is none: it was not opened, or it was freed, handed back or closed";
+    case RENAMER_MEMORY: return "the system gave no memory, or room for more than 1048576 clients was asked for";
+    case RENAMER_KIND: return "there is no such network: RENAMER_BITONIC, RENAMER_PERIODIC or RENAMER_TREE";
+    case RENAMER_WIDTH: return "there is no network of this width: 2, 4, 8, 16, 32, 64, 128 or 256";
+    case RENAMER_QUOTA: return "the quota is more than a floor takes: 262144 at most";
+    case RENAMER_NO_SUCH_ENTRY: return "there is no such entry: a tree has only entry 0, others those below their width";
+    case RENAMER_QUOTA_SPENT: return "the lane may let in no more clients, or not so many: renamer_quota says how many";
+    case RENAMER_QUOTA_TOO_SMALL: return "the lane has less quota than is to be split off: renamer_quota says how much";
+    case RENAMER_STILL_WALKING: return "the lane has clients inside: let them out by renamer_step or renamer_sweep";
+    case RENAMER_NOBODY_THERE: return "no client of the lane is there: renamer_lowest says on which wire one is";
+    case RENAMER_LANES_MISSING: return "other lanes have quota, names or clients of the floor: hand them back and join them";
+    case RENAMER_NOTHING_BACK: return "no lane of the floor was handed back";
+    case RENAMER_SIZE: return "the array has another size than what is to be written into it";
+    case RENAMER_CARRIED: return "too many clients came before: 2147483648 at most";
+    case RENAMER_NO_PLACE: return "there is no place for a lane that is handed back";
+    case RENAMER_LANES_THERE: return "other lanes of the floor are there still, with nothing of it: hand them back";
+    case RENAMER_BUSY: return "other threads are handing lanes back or joining them: join again";
+    default: return "there is no such status";
+    }
+}
 
 /* The version of the library, as RENAMER_VERSION. */
 uint32_t renamer_version(void);
 
-/* Opens a floor over a network. The lane has the whole quota: as many clients may come in, over all lanes.
+/* Opens a floor over a network. The lane has the whole quota: as many clients may come in, over all lanes. The handle must be
+   none or have something: one that was never set holds a pointer to nowhere, which the call frees.
    RENAMER_KIND, _WIDTH, _QUOTA, _MEMORY. */
 uint32_t renamer_open(renamer_lane *lane, uint32_t kind, uint32_t width, uint64_t quota);
 
@@ -204,17 +240,14 @@ uint32_t renamer_grant_count(renamer_lane *lane, uint64_t *count);
 uint32_t renamer_grants(renamer_lane *lane, uint64_t first, renamer_grant *grants, size_t size);
 
 /* Hands the lane back to its floor, from any thread: its quota, its grants and all that it did. The lane is none then, and
-   another lane of the floor may take it in by renamer_join. If it was the only lane, the floor is freed.
-   RENAMER_NONE, _STILL_WALKING, _MEMORY, _NO_PLACE. */
+   another lane of the floor may take it in by renamer_join. It takes no memory, and any number of lanes may be back. If it was
+   the only lane, the floor is freed.
+   RENAMER_NONE, _STILL_WALKING. */
 uint32_t renamer_hand_back(renamer_lane *lane);
 
 /* Takes one lane of the same floor in that was handed back: its quota is added, and its grants come after the lane's own.
    Which of several, is not said. Takes no memory if the lane has room for these grants, and has that much less room then.
-
-   If it returns RENAMER_MEMORY after it took a lane from the floor, it keeps that one beside the caller's: the next
-   renamer_join of the caller's lane takes it in, and no other lane can. A renamer_split leaves it there. A
-   renamer_hand_back or renamer_free hands it back before the lane itself, also if the lane is refused then.
-   RENAMER_NONE, _NOTHING_BACK, _MEMORY. */
+   RENAMER_NONE, _NOTHING_BACK, _BUSY (only while other threads hand lanes back or join them), _MEMORY. */
 uint32_t renamer_join(renamer_lane *lane);
 
 /* Closes the floor. The lane must have all of it, and no other may be there: each that was split off was handed back or
@@ -242,9 +275,8 @@ uint32_t renamer_holders(renamer_quiet *quiet, uint64_t *holders, size_t size);
    RENAMER_NONE, _CARRIED, _QUOTA, _MEMORY. */
 uint32_t renamer_open_after(renamer_lane *lane, renamer_quiet *quiet, uint64_t quota);
 
-/* Frees what the handle has, if it has something. A lane is handed back if that can be done. Else, if clients are inside or
-   renamer_hand_back would be refused, its quota and names are lost with it, also those of a lane that it keeps, and its
-   floor cannot be closed any more; the names of other lanes stay as good as they were. */
+/* Frees what the handle has, if it has something. A lane is handed back, unless clients are inside: then its quota and names
+   are lost with it, and its floor cannot be closed any more; the names of other lanes stay as good as they were. */
 void renamer_free(renamer_lane *lane);
 void renamer_free_quiet(renamer_quiet *quiet);
 

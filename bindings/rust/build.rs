@@ -1,4 +1,4 @@
-//! Links the proved library: the archive `librenamer.a` of the folder that RENAMER_LIB names, or of out/lib of the
+//! Links the proved library: the archive `librenamer.a` of the folder that `RENAMER_LIB` names, or of `out/lib` of the
 //! repository, into which `./library` puts it.
 use std::env;
 use std::path::PathBuf;

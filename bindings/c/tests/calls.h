@@ -35,7 +35,7 @@ enum { LANES = 32, QUIETS = 8, STATUSES = RENAMER_LANES_THERE + 1, UNSET = 0xa5 
     X(exits, STATUS(NONE))                                                                                             \
     X(grant_count, STATUS(NONE))                                                                                       \
     X(grants, STATUS(NONE) | STATUS(SIZE))                                                                             \
-    X(hand_back, STATUS(NONE) | STATUS(STILL_WALKING) | STATUS(MEMORY) | STATUS(NO_PLACE))                             \
+    X(hand_back, STATUS(NONE) | STATUS(STILL_WALKING))                                                                 \
     X(join, STATUS(NONE) | STATUS(NOTHING_BACK) | STATUS(MEMORY))                                                      \
     X(close, STATUS(NONE) | STATUS(STILL_WALKING) | STATUS(LANES_MISSING) | STATUS(MEMORY) | STATUS(LANES_THERE))      \
     X(quiet_exits, STATUS(NONE))                                                                                       \
@@ -131,7 +131,7 @@ void call_quiet_number(void);
 /* All that a lane says of itself is asked. Lanes are handed back to a floor until it has no place. All lanes that were
    handed back are joined. All clients of a lane are let out. All is freed. */
 void call_all_of_lane(void);
-void call_fill_places(void);
+void call_many_back(void);
 void call_join_all(void);
 void call_let_out(void);
 void call_free_all(void);

@@ -10,7 +10,7 @@ static uint64_t some_quota(void) {
 /* Puts another lane into a handle. What was there is freed: its own growth can be refused. */
 static void put(struct handle *handle, struct lane *lane) {
     if (handle->model)
-        lane_let_go(handle->model, run.refused > 0);
+        lane_let_go(handle->model);
     handle->model = lane;
     CHECK(handle->lane.at);
 }
@@ -62,7 +62,7 @@ static void free_lane(struct handle *handle) {
     show("");
     CHECK(!handle->lane.at);
     if (handle->model)
-        lane_let_go(handle->model, run.refused > 0);
+        lane_let_go(handle->model);
     handle->model = NULL;
 }
 
@@ -110,12 +110,11 @@ static void hand_back(struct handle *handle) {
     show("");
     if (lane && lane->inside)
         wanted = RENAMER_STILL_WALKING;
-    else if (lane && lane->floor->lanes > 1 && floor_returned(lane->floor) == RENAMER_MOST_RETURNED)
-        wanted = RENAMER_NO_PLACE;
     else if (lane)
         wanted = RENAMER_DONE;
-    if (is_done(status, wanted, STATUS(NO_PLACE))) {
-        lane_let_go(lane, 0);
+    CHECK(run.asked == 0);
+    if (is_done(status, wanted, 0)) {
+        lane_let_go(lane);
         handle->model = NULL;
     }
     judge_refused(handle);
@@ -125,9 +124,11 @@ void call_hand_back(void) {
     hand_back(some_handle());
 }
 
-void call_fill_places(void) {
+/* More lanes come back than a floor has places for them. */
+void call_many_back(void) {
+    enum { MANY = 80 };
     struct handle *handle = some_handle(), *other = &handles[LANES];
-    for (int lanes = 0; lanes < RENAMER_MOST_RETURNED && handle->model; lanes++) {
+    for (int lanes = 0; lanes < MANY && handle->model; lanes++) {
         split(handle, drawn(2), other);
         if (other->model)
             hand_back(other);
@@ -159,7 +160,7 @@ static int join(struct handle *handle) {
     uint32_t wanted = RENAMER_NONE, status = MADE(join, (&handle->lane));
     show("");
     if (lane)
-        wanted = floor_returned(lane->floor) ? RENAMER_DONE : RENAMER_NOTHING_BACK;
+        wanted = lane->floor->back ? RENAMER_DONE : RENAMER_NOTHING_BACK;
     if (is_done(status, wanted, 0)) {
         judge_joined(handle);
         return 1;
@@ -167,7 +168,7 @@ static int join(struct handle *handle) {
     judge_refused(handle);
     if (status != RENAMER_MEMORY)
         return 0;
-    /* A lane that got no memory takes it in by the next call. */
+    /* What was not taken in for want of memory is there for the next call. */
     CHECK(MADE_WITH_MEMORY(join, (&handle->lane)) == RENAMER_DONE);
     judge_joined(handle);
     return 1;

@@ -96,25 +96,33 @@ static void step_some(renamer_lane *lane, uint64_t first) {
         NO_GROWTH(renamer_sweep(lane, wire, &swept));
 }
 
-/* A lane that was taken and not joined for want of memory stays with the one that took it, also when that one is split,
-   and goes back with it: then all is joined, and the floor is closed. */
-static void keep_one(uint32_t kind, uint32_t width) {
-    renamer_lane lane = RENAMER_NO_LANE_YET, other = RENAMER_NO_LANE_YET, third = RENAMER_NO_LANE_YET;
+/* A lane that is not joined for want of memory is there for each lane of the floor, as before; and the lanes that are back
+   stay there if a close gets no memory. */
+static void give_back(uint32_t kind, uint32_t width) {
+    renamer_lane lane = RENAMER_NO_LANE_YET, other = RENAMER_NO_LANE_YET;
     renamer_quiet quiet = RENAMER_NO_QUIET_YET;
-    struct seen before;
     uint64_t name;
     CHECK(renamer_open(&lane, kind, width, 3) == RENAMER_DONE && renamer_split(&lane, 2, &other) == RENAMER_DONE);
     CHECK(renamer_name(&other, 7, 0, &name) == RENAMER_DONE && renamer_hand_back(&other) == RENAMER_DONE);
     CHECK(renamer_split(&lane, 1, &other) == RENAMER_DONE);
     growths_refuse(0, LONG_MAX);
-    CHECK(renamer_join(&other) == RENAMER_MEMORY && renamer_join(&lane) == RENAMER_NOTHING_BACK);
+    CHECK(renamer_join(&other) == RENAMER_MEMORY && renamer_join(&lane) == RENAMER_MEMORY);
+    CHECK(renamer_hand_back(&other) == RENAMER_DONE && growths_refused() > 0);
     growths_refuse(0, 0);
-    before = seen_of(&other);
-    EACH_GROWTH(renamer_split(&other, 0, &third), is_as(&other, &before) && !third.at);
-    CHECK(renamer_hand_back(&other) == RENAMER_DONE && renamer_hand_back(&third) == RENAMER_DONE);
-    for (int i = 0; i < 3; i++)
+    for (int i = 0; i < 2; i++)
         CHECK(renamer_join(&lane) == RENAMER_DONE);
-    CHECK(renamer_close(&lane, &quiet) == RENAMER_DONE);
+    CHECK(renamer_split(&lane, 0, &other) == RENAMER_DONE && renamer_hand_back(&other) == RENAMER_DONE);
+    for (long growth = 0, refused = 1; refused; growth++) {
+        growths_refuse(growth, LONG_MAX);
+        uint32_t status = renamer_close(&lane, &quiet);
+        refused = growths_refused();
+        growths_refuse(0, 0);
+        CHECK(status == (refused ? RENAMER_MEMORY : RENAMER_DONE));
+        if (refused) {
+            CHECK(renamer_join(&lane) == RENAMER_DONE && renamer_join(&lane) == RENAMER_NOTHING_BACK);
+            CHECK(renamer_split(&lane, 0, &other) == RENAMER_DONE && renamer_hand_back(&other) == RENAMER_DONE);
+        }
+    }
     renamer_free_quiet(&quiet);
 }
 
@@ -161,7 +169,7 @@ int main(void) {
     long live = growths_live();
     for (uint32_t kind = 0; kind < KINDS; kind++)
         for (uint32_t level = 1; level <= 4; level++)
-            run_floor(kind, (uint32_t)1 << level), keep_one(kind, (uint32_t)1 << level);
+            run_floor(kind, (uint32_t)1 << level), give_back(kind, (uint32_t)1 << level);
     CHECK(growths_live() == live);
     printf("%ld calls were refused their memory\n", refusals);
     return 0;

@@ -204,43 +204,36 @@ struct lane *floor_open(const struct network *network, const struct quiet *quiet
     return new_lane(floor, quota);
 }
 
-int floor_returned(const struct floor *floor) {
-    int count = 0;
-    for (int place = 0; place < RENAMER_MOST_RETURNED; place++)
-        count += floor->back[place] != NULL;
-    return count;
-}
-
 static void free_floor(struct floor *floor) {
-    for (int place = 0; place < RENAMER_MOST_RETURNED; place++)
-        if (floor->back[place])
-            free_lane(floor->back[place]);
+    while (floor->back) {
+        struct lane *lane = floor->back;
+        floor->back = lane->next;
+        free_lane(lane);
+    }
     free(floor->passed);
     free(floor->visited);
     free(floor);
 }
 
-void lane_let_go(struct lane *lane, int is_refused) {
+void lane_let_go(struct lane *lane) {
     struct floor *floor = lane->floor;
-    int place = 0;
-    while (place < RENAMER_MOST_RETURNED && floor->back[place])
-        place++;
     floor->lanes--;
-    if (floor->lanes && !lane->inside && !is_refused && place < RENAMER_MOST_RETURNED)
-        floor->back[place] = lane;
-    else
+    if (floor->lanes && !lane->inside) {
+        lane->next = floor->back;
+        floor->back = lane;
+    } else
         free_lane(lane);
     if (!floor->lanes)
         free_floor(floor);
 }
 
 int lane_join(struct lane *lane, uint64_t quota, const renamer_grant *grants, size_t count) {
-    for (int place = 0; place < RENAMER_MOST_RETURNED; place++) {
-        struct lane *other = lane->floor->back[place];
-        if (!other || other->quota != quota || other->granted != count
+    for (struct lane **place = &lane->floor->back; *place; place = &(*place)->next) {
+        struct lane *other = *place;
+        if (other->quota != quota || other->granted != count
             || (count && memcmp(other->grants, grants, count * sizeof *grants) != 0))
             continue;
-        lane->floor->back[place] = NULL;
+        *place = other->next;
         lane->quota += quota;
         lane->room -= lane->room < count ? lane->room : count;
         for (size_t at = 0; at < count; at++)

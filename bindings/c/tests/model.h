@@ -30,6 +30,8 @@ struct lane {
     size_t inside;
     renamer_grant *grants;
     size_t granted;
+    /* The next of those that were handed back. */
+    struct lane *next;
 };
 
 struct floor {
@@ -39,7 +41,8 @@ struct floor {
     uint64_t *passed, *visited;
     /* How many lanes it has, without those that were handed back. */
     int lanes;
-    struct lane *back[RENAMER_MOST_RETURNED];
+    /* The lanes that were handed back. */
+    struct lane *back;
 };
 
 struct quiet {
@@ -56,7 +59,6 @@ const struct network *network_of(uint32_t kind, uint32_t width);
 
 /* The one lane of a floor that begins with no counts, or with those that a floor left. */
 struct lane *floor_open(const struct network *network, const struct quiet *quiet, uint64_t quota);
-int floor_returned(const struct floor *floor);
 
 struct lane *lane_split(struct lane *lane, uint64_t quota);
 void lane_enter(struct lane *lane, uint64_t client, uint64_t entry);
@@ -66,8 +68,8 @@ size_t lane_first(const struct lane *lane, uint64_t wire);
 uint64_t lane_lowest(const struct lane *lane);
 renamer_moved lane_step(struct lane *lane, size_t at);
 renamer_swept lane_sweep(struct lane *lane, uint64_t wire);
-/* Frees a lane with its handle: it is handed back if it can be, and memory was not refused. */
-void lane_let_go(struct lane *lane, int is_refused);
+/* Frees a lane with its handle: it is handed back, unless it is the last or has clients inside. */
+void lane_let_go(struct lane *lane);
 /* Takes in a lane that was handed back with such a quota and such grants, if one was. */
 int lane_join(struct lane *lane, uint64_t quota, const renamer_grant *grants, size_t count);
 /* Closes the floor of a lane that has all of it. */

@@ -37,20 +37,14 @@ static const char *name_some(struct thread *thread, renamer_lane *lane, uint64_t
 static const char *join_one(struct thread *thread, renamer_lane *lane) {
     uint32_t status = renamer_join(lane);
     thread->did[JOINS] += status == RENAMER_DONE;
-    return status == RENAMER_DONE || status == RENAMER_NOTHING_BACK ? NULL : "renamer_join was refused";
+    thread->did[BUSY] += status == RENAMER_BUSY;
+    return status == RENAMER_DONE || status == RENAMER_NOTHING_BACK || status == RENAMER_BUSY ? NULL
+                                                                                             : "renamer_join was refused";
 }
 
-/* Hands a lane back. While there is no place, it takes another lane in first. */
 static const char *hand_back(struct thread *thread, renamer_lane *lane) {
-    uint32_t status;
-    while ((status = renamer_hand_back(lane)) == RENAMER_NO_PLACE) {
-        const char *wrong = join_one(thread, lane);
-        if (wrong)
-            return wrong;
-        thread->did[NO_PLACE]++;
-    }
     thread->did[BACK]++;
-    return status == RENAMER_DONE && !lane->at ? NULL : "renamer_hand_back was refused";
+    return renamer_hand_back(lane) == RENAMER_DONE && !lane->at ? NULL : "renamer_hand_back was refused";
 }
 
 /* Names clients by a lane that is split off, while a few clients of the thread's own lane are inside. */

@@ -212,25 +212,30 @@ static void lost_inside(void) {
     renamer_free(&lane);
 }
 
-/* As many lanes as a floor keeps are handed back, and one more. */
-static void no_place(void) {
-    static renamer_lane others[RENAMER_MOST_RETURNED + 1];
-    renamer_lane lane = RENAMER_NO_LANE_YET, *last = &others[RENAMER_MOST_RETURNED];
+/* More lanes come back than a floor has places for them: each finds one. */
+static void many_back(void) {
+    enum { MANY = 100 };
+    static renamer_lane others[MANY];
+    renamer_lane lane = RENAMER_NO_LANE_YET;
     renamer_quiet quiet = RENAMER_NO_QUIET_YET;
-    struct seen before;
-    CHECK(renamer_open(&lane, RENAMER_TREE, 4, 100) == RENAMER_DONE);
-    for (int i = 0; i <= RENAMER_MOST_RETURNED; i++)
+    CHECK(renamer_open(&lane, RENAMER_TREE, 4, MANY) == RENAMER_DONE);
+    for (int i = 0; i < MANY; i++)
         CHECK(renamer_split(&lane, 1, &others[i]) == RENAMER_DONE);
-    for (int i = 0; i < RENAMER_MOST_RETURNED; i++)
+    CHECK(renamer_close(&lane, &quiet) == RENAMER_LANES_MISSING);
+    for (int i = 0; i < MANY; i++)
         CHECK(renamer_hand_back(&others[i]) == RENAMER_DONE && !others[i].at);
-    before = seen_of(last);
-    CHECK(renamer_hand_back(last) == RENAMER_NO_PLACE && is_as(last, &before));
-    CHECK(renamer_join(&lane) == RENAMER_DONE && renamer_hand_back(last) == RENAMER_DONE);
-    for (int i = 0; i < RENAMER_MOST_RETURNED; i++)
+    for (int i = 0; i < MANY; i++)
         CHECK(renamer_join(&lane) == RENAMER_DONE);
-    CHECK(renamer_join(&lane) == RENAMER_NOTHING_BACK && seen_of(&lane).quota == 100);
+    CHECK(renamer_join(&lane) == RENAMER_NOTHING_BACK && seen_of(&lane).quota == MANY);
     CHECK(renamer_close(&lane, &quiet) == RENAMER_DONE);
     renamer_free_quiet(&quiet);
+}
+
+/* Each status has a sentence of its own. */
+static void explained(void) {
+    for (uint32_t status = 0; status <= RENAMER_BUSY + 1; status++)
+        for (uint32_t other = 0; other < status; other++)
+            CHECK(strlen(renamer_explain(status)) > 10 && strcmp(renamer_explain(status), renamer_explain(other)));
 }
 
 /* A lane goes back to its own floor, also where lanes of several are there. */
@@ -286,7 +291,8 @@ int main(void) {
     lists_go_together();
     clients_inside();
     lost_inside();
-    no_place();
+    many_back();
+    explained();
     two_floors();
     missing_lanes();
     return 0;

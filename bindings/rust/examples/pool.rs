@@ -15,10 +15,9 @@ type Slot = OnceLock<(u64, u64)>;
 fn serve(floor: &Floor, slots: &[Slot], thread: u64) -> Result<usize, Error> {
     let mut lane = floor.lane(MOST_EACH)?;
     for job in 0..100 + 37 * thread {
-        let name = lane.name(job, 0)?;
-        slots[name as usize].set((job, thread)).expect("no two jobs have one name");
+        slots[lane.index(job, 0)?].set((job, thread)).expect("no two jobs have one name");
     }
-    Ok(lane.grant_count() as usize)
+    Ok(lane.grants().len())
 }
 
 fn main() -> Result<(), Error> {

@@ -11,8 +11,7 @@ const ROWS: u64 = 64;
 fn serve(floor: &Floor, table: &[AtomicU64], clients: Range<u64>, entries: Range<u64>) -> Result<(), Error> {
     let mut lane = floor.lane(ROWS / 2)?;
     for (client, entry) in clients.zip(entries.cycle()) {
-        let row = lane.name(client, entry)?;
-        table[row as usize].store(client, Ordering::Relaxed);
+        table[lane.index(client, entry)?].store(client, Ordering::Relaxed);
     }
     Ok(())
 }
@@ -35,7 +34,7 @@ fn main() -> Result<(), Error> {
         let mut clients: Vec<u64> = table.iter().map(|row| row.load(Ordering::Relaxed)).collect();
         let count = clients.iter().position(|client| *client == 0).expect("there are more rows than clients");
         clients.truncate(count);
-        clients.sort();
+        clients.sort_unstable();
         assert!(clients.into_iter().eq((100 * epoch..101 * epoch).chain(100 * epoch + 50..102 * epoch + 50)));
         println!("epoch {epoch}: {count} clients in the first rows");
     }

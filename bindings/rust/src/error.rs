@@ -1,18 +1,19 @@
 //! Why a call is refused.
+use crate::{Lane, MOST_CARRIED, MOST_CLIENTS};
 use std::error;
 use std::fmt;
 
-/// Why a call is refused. A refused call has changed nothing that a lane or a closed floor answers; but a join that
-/// gets no memory keeps the lane that it took ([`Lane::join`](crate::Lane::join)).
+/// Why a call is refused. A refused call has changed nothing.
 ///
-/// The numbers are those of the library's header. What it refuses with 1 or 3, a handle that is none or a kind that
-/// there is not, does not come here.
+/// The numbers are those of the library's header. What it refuses with 1, a handle that is none, does not come here.
 #[derive(Clone, Copy, Debug, PartialEq, Eq, Hash)]
 #[non_exhaustive]
 #[repr(u32)]
 pub enum Error {
     /// The system gave no memory.
     Memory = 2,
+    /// There is no network of this kind.
+    Kind = 3,
     /// There is no network of this width.
     Width = 4,
     /// A floor takes no quota above [`MOST_CLIENTS`](crate::MOST_CLIENTS).
@@ -35,15 +36,18 @@ pub enum Error {
     Size = 13,
     /// More clients came before than [`MOST_CARRIED`](crate::MOST_CARRIED).
     Carried = 14,
-    /// As many lanes of the floor as [`MOST_RETURNED`](crate::MOST_RETURNED) were handed back, and none was joined.
+    /// No call returns it: there is a place for each lane that is handed back.
     NoPlace = 15,
     /// Other lanes of the floor are there still, with nothing of it.
     LanesThere = 16,
+    /// Other threads are in the midst of handing lanes back or joining them: join again.
+    Busy = 17,
 }
 
 impl Error {
-    const ALL: [Error; 14] = [
+    const ALL: [Error; 16] = [
         Error::Memory,
+        Error::Kind,
         Error::Width,
         Error::Quota,
         Error::NoSuchEntry,
@@ -57,6 +61,7 @@ impl Error {
         Error::Carried,
         Error::NoPlace,
         Error::LanesThere,
+        Error::Busy,
     ];
 
     /// The error with this number.
@@ -67,22 +72,26 @@ impl Error {
 
 impl fmt::Display for Error {
     fn fmt(&self, out: &mut fmt::Formatter<'_>) -> fmt::Result {
-        out.write_str(match self {
-            Error::Memory => "the system gave no memory",
-            Error::Width => "there is no network of this width",
-            Error::Quota => "the quota is more than a floor takes",
-            Error::NoSuchEntry => "the network has no such entry",
-            Error::QuotaSpent => "the quota of the lane is spent",
-            Error::QuotaTooSmall => "there is less quota than is to be split off",
-            Error::StillWalking => "the lane has clients inside",
-            Error::NobodyThere => "no client of the lane is there",
-            Error::LanesMissing => "lanes of the floor are missing",
-            Error::NothingBack => "no lane was handed back",
-            Error::Size => "a slice has the wrong size",
-            Error::Carried => "too many clients came before",
-            Error::NoPlace => "there is no place for a lane that is handed back",
-            Error::LanesThere => "lanes of the floor are there still",
-        })
+        match self {
+            Error::Memory => out.write_str("the system gave no memory"),
+            Error::Kind => out.write_str("there is no such network: bitonic, periodic or tree"),
+            Error::Width => out.write_str("there is no network of this width: 2, 4, 8, 16, 32, 64, 128 or 256"),
+            Error::Quota => write!(out, "the quota is more than a floor takes: {MOST_CLIENTS} at most"),
+            Error::NoSuchEntry => {
+                out.write_str("there is no such entry: a tree has only entry 0, others those below their width")
+            }
+            Error::QuotaSpent => out.write_str("the quota of the lane is spent"),
+            Error::QuotaTooSmall => out.write_str("there is less quota than is to be split off"),
+            Error::StillWalking => out.write_str("the lane has clients inside"),
+            Error::NobodyThere => out.write_str("no client of the lane is there"),
+            Error::LanesMissing => out.write_str("other lanes have quota, names or clients of the floor"),
+            Error::NothingBack => out.write_str("no lane of the floor was handed back"),
+            Error::Size => out.write_str("a slice has another size than what is to be written into it"),
+            Error::Carried => write!(out, "too many clients came before: {MOST_CARRIED} at most"),
+            Error::NoPlace => out.write_str("there is no place for a lane that is handed back"),
+            Error::LanesThere => out.write_str("other lanes of the floor are there still, with nothing of it"),
+            Error::Busy => out.write_str("other threads are handing lanes back or joining them: join again"),
+        }
     }
 }
 
@@ -90,16 +99,34 @@ impl error::Error for Error {}
 
 /// Why a call that takes a value is refused, and the value, as it was.
 #[derive(Debug)]
+#[non_exhaustive]
 pub struct Refused<T> {
     /// The cause.
     pub error: Error,
     /// What the call was given.
     pub value: T,
+    /// How many other lanes of the floor were alive, if the call wanted to have all.
+    pub others: Option<usize>,
+}
+
+impl Refused<Lane> {
+    /// A lane that was to close its floor, or to be handed back.
+    pub(crate) fn lane(error: Error, value: Lane) -> Refused<Lane> {
+        let others = match error {
+            Error::LanesMissing | Error::LanesThere => Some(value.alive() - 1),
+            _ => None,
+        };
+        Refused { error, value, others }
+    }
 }
 
 impl<T> fmt::Display for Refused<T> {
     fn fmt(&self, out: &mut fmt::Formatter<'_>) -> fmt::Result {
-        self.error.fmt(out)
+        self.error.fmt(out)?;
+        match self.others {
+            Some(others) => write!(out, " ({others} alive)"),
+            None => Ok(()),
+        }
     }
 }
 

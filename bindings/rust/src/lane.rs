@@ -2,6 +2,8 @@
 use crate::raw::RawLane;
 use crate::{Error, Moved, Quiet, Refused, Swept};
 use std::fmt;
+use std::sync::Arc;
+use std::thread;
 
 /// A client that is to come in.
 #[derive(Clone, Copy, Debug, Default, PartialEq, Eq, Hash)]
@@ -27,6 +29,19 @@ pub struct Grant {
     pub name: u64,
 }
 
+impl Grant {
+    /// Its name as an index.
+    #[must_use]
+    pub fn index(&self) -> usize {
+        index(self.name)
+    }
+}
+
+/// A name, which is below the quota of a floor, as an index.
+fn index(name: u64) -> usize {
+    usize::try_from(name).expect("a name is below 262,144")
+}
+
 /// A thread's own part of a [`Floor`](crate::Floor): it lets clients in and gives them their names.
 ///
 /// A lane can be sent to another thread. The floor lives as long as a lane of it. A lane that is dropped is handed back
@@ -41,10 +56,17 @@ pub struct Grant {
 /// shared::<renamer::Lane>();
 /// ```
 pub struct Lane {
-    pub(crate) raw: RawLane,
+    raw: RawLane,
+    /// One of as many as lanes of the floor are alive.
+    count: Arc<()>,
 }
 
 impl Lane {
+    /// The first lane of a floor.
+    pub(crate) fn first(raw: RawLane) -> Lane {
+        Lane { raw, count: Arc::new(()) }
+    }
+
     /// Names a client: lets it in by an entry and walks it out.
     ///
     /// It takes memory only if the lane has no room. Identities are not compared: a client that is named twice gets two
@@ -63,8 +85,29 @@ impl Lane {
     /// assert_eq!(lane.name(5, 0), Err(Error::QuotaSpent));
     /// # Ok::<(), Error>(())
     /// ```
+    ///
+    /// # Errors
+    /// [`Error::StillWalking`], [`Error::NoSuchEntry`], [`Error::QuotaSpent`], [`Error::Memory`]: the first that stands.
     pub fn name(&mut self, client: u64, entry: u64) -> Result<u64, Error> {
         self.raw.name(client, entry)
+    }
+
+    /// Names a client as [`Lane::name`] does, and returns its name as an index into a slice.
+    ///
+    /// ```
+    /// use renamer::{Floor, Kind};
+    ///
+    /// let mut slots = [None; 2];
+    /// let mut lane = Floor::open(Kind::Tree, 2, 2)?.into_lane();
+    /// slots[lane.index(17, 0)?] = Some(17);
+    /// assert_eq!(slots, [Some(17), None]);
+    /// # Ok::<(), renamer::Error>(())
+    /// ```
+    ///
+    /// # Errors
+    /// As those of [`Lane::name`].
+    pub fn index(&mut self, client: u64, entry: u64) -> Result<usize, Error> {
+        self.name(client, entry).map(index)
     }
 
     /// Names clients by one call. Those who follow one another in the list by one entry, up to 64 of them, come in by one
@@ -85,6 +128,9 @@ impl Lane {
     /// assert!(clients.iter().all(|one| grants.iter().any(|grant| grant.client == one.client)));
     /// # Ok::<(), renamer::Error>(())
     /// ```
+    ///
+    /// # Errors
+    /// As those of [`Lane::name`].
     pub fn name_many(&mut self, clients: &[Client]) -> Result<Vec<Grant>, Error> {
         let mut grants = vec![Grant::default(); clients.len()];
         self.name_many_into(clients, &mut grants)?;
@@ -92,13 +138,25 @@ impl Lane {
     }
 
     /// Names clients as [`Lane::name_many`] does, and writes their grants into a slice of as many.
+    ///
+    /// # Errors
+    /// [`Error::Size`] if there are not as many grants as clients, else as those of [`Lane::name`].
     pub fn name_many_into(&mut self, clients: &[Client], grants: &mut [Grant]) -> Result<(), Error> {
         self.raw.name_many(clients, grants)
     }
 
     /// Splits off another lane of the same floor, with so much of the quota.
+    ///
+    /// # Errors
+    /// [`Error::QuotaTooSmall`], [`Error::Memory`]: the first that stands.
     pub fn split(&mut self, quota: u64) -> Result<Lane, Error> {
-        Ok(Lane { raw: self.raw.split(quota)? })
+        Ok(Lane { raw: self.raw.split(quota)?, count: Arc::clone(&self.count) })
+    }
+
+    /// How many lanes of the floor are alive, with this one: not those that were dropped or handed back.
+    #[must_use]
+    pub fn alive(&self) -> usize {
+        Arc::strong_count(&self.count)
     }
 
     /// Hands the lane back to its floor, as a drop does, and says if it cannot be done: then the lane is given back.
@@ -113,18 +171,18 @@ impl Lane {
     /// assert_eq!(refused.error, Error::StillWalking);
     /// # Ok::<(), Error>(())
     /// ```
+    ///
+    /// # Errors
+    /// [`Error::StillWalking`].
     pub fn hand_back(mut self) -> Result<(), Refused<Lane>> {
         match self.raw.hand_back() {
             Ok(()) => Ok(()),
-            Err(error) => Err(Refused { error, value: self }),
+            Err(error) => Err(Refused::lane(error, self)),
         }
     }
 
     /// Takes in one lane of the same floor that was handed back: its quota is added, and its grants come after this
     /// lane's own. Which of several, is not said.
-    ///
-    /// If it gets no memory, it keeps the lane that it took beside this one: the next join of this lane takes it in, no
-    /// other lane can, and a hand-back or a drop of this lane hands both back.
     ///
     /// ```
     /// use renamer::{Error, Floor, Kind};
@@ -139,17 +197,24 @@ impl Lane {
     /// assert_eq!(lane.close()?.holders(), [17]);
     /// # Ok::<(), Error>(())
     /// ```
+    ///
+    /// # Errors
+    /// [`Error::NothingBack`]; [`Error::Busy`] if other threads are in the midst of handing lanes back or joining them;
+    /// [`Error::Memory`]. Then nothing has changed.
     pub fn join(&mut self) -> Result<(), Error> {
         self.raw.join()
     }
 
-    /// Takes in all lanes of the same floor that were handed back.
+    /// Takes in all lanes of the same floor that were handed back. While other threads are in the midst of handing lanes back
+    /// or joining them, it lets them go on, and looks again.
     ///
-    /// If the system gives no memory for one, those before it are taken in; it can be called again.
+    /// # Errors
+    /// [`Error::Memory`]. Then some are taken in, and it can be called again.
     pub fn join_all(&mut self) -> Result<(), Error> {
         loop {
             match self.join() {
                 Ok(()) => {}
+                Err(Error::Busy) => thread::yield_now(),
                 Err(Error::NothingBack) => return Ok(()),
                 Err(error) => return Err(error),
             }
@@ -166,20 +231,26 @@ impl Lane {
     /// lane.name(17, 0)?;
     /// let other = lane.split(0)?;
     /// let refused = lane.close().unwrap_err();
-    /// assert_eq!(refused.error, Error::LanesThere);
+    /// assert_eq!((refused.error, refused.others), (Error::LanesThere, Some(1)));
     ///
     /// drop(other);
     /// assert_eq!(refused.value.close()?.holders(), [17]);
     /// # Ok::<(), Error>(())
     /// ```
+    ///
+    /// # Errors
+    /// [`Error::StillWalking`], [`Error::LanesMissing`], [`Error::Memory`], [`Error::LanesThere`]: the first that stands.
     pub fn close(mut self) -> Result<Quiet, Refused<Lane>> {
         match self.raw.close() {
             Ok(raw) => Ok(Quiet { raw }),
-            Err(error) => Err(Refused { error, value: self }),
+            Err(error) => Err(Refused::lane(error, self)),
         }
     }
 
     /// Makes room for so many clients more, at most 1,048,576: they come in and get their names without further memory.
+    ///
+    /// # Errors
+    /// [`Error::Memory`], also if it is more than that.
     pub fn reserve(&mut self, clients: u64) -> Result<(), Error> {
         self.raw.reserve(clients)
     }
@@ -205,65 +276,87 @@ impl Lane {
     /// assert_eq!(lane.close()?.holders(), [17, 5, 99]);
     /// # Ok::<(), Error>(())
     /// ```
+    ///
+    /// # Errors
+    /// [`Error::NoSuchEntry`], [`Error::QuotaSpent`], [`Error::Memory`]: the first that stands.
     pub fn enter(&mut self, client: u64, entry: u64) -> Result<(), Error> {
         self.raw.enter(client, entry)
     }
 
     /// Lets the lane's first client on a wire go by the wire's end, through a balancer or out with its name.
+    ///
+    /// # Errors
+    /// [`Error::NobodyThere`].
     pub fn step(&mut self, wire: u64) -> Result<Moved, Error> {
         self.raw.step(wire)
     }
 
     /// Lets all of the lane's clients on a wire go by the wire's end, by one atomic add. If they left, the lane's last
     /// grants are theirs, in their order.
+    ///
+    /// # Errors
+    /// [`Error::NobodyThere`].
     pub fn sweep(&mut self, wire: u64) -> Result<Swept, Error> {
         self.raw.sweep(wire)
     }
 
-    /// The least wire on which a client of the lane stands; `NobodyThere` if nobody of the lane is inside.
+    /// The least wire on which a client of the lane stands.
+    ///
+    /// # Errors
+    /// [`Error::NobodyThere`] if nobody of the lane is inside.
     pub fn lowest(&self) -> Result<u64, Error> {
         self.raw.lowest()
     }
 
     /// How many clients came in by all lanes, as far as this one can know: more than each name that it was given, and
     /// never more than came in.
+    #[must_use]
     pub fn entered(&self) -> u64 {
         self.raw.entered()
     }
 
     /// How many clients more the lane may let in.
+    #[must_use]
     pub fn quota(&self) -> u64 {
         self.raw.quota()
     }
 
     /// How many clients of the lane are inside.
+    #[must_use]
     pub fn inside(&self) -> u64 {
         self.raw.inside()
     }
 
     /// How many entries the network has.
+    #[must_use]
     pub fn entries(&self) -> u64 {
         self.raw.entries()
     }
 
     /// How many exits the network has: its width.
+    #[must_use]
     pub fn exits(&self) -> u64 {
         self.raw.exits()
     }
 
     /// How many grants the lane has.
+    #[must_use]
     pub fn grant_count(&self) -> u64 {
         self.raw.grant_count()
     }
 
     /// The lane's grants, in the order in which they were given.
+    #[must_use]
     pub fn grants(&self) -> Vec<Grant> {
-        let mut grants = vec![Grant::default(); self.grant_count() as usize];
+        let mut grants = vec![Grant::default(); index(self.grant_count())];
         self.raw.grants(0, &mut grants).expect("the size is that of the grants");
         grants
     }
 
     /// Copies the lane's grants from one with an index on, as many as the slice has room for.
+    ///
+    /// # Errors
+    /// [`Error::Size`] if there are fewer.
     pub fn copy_grants(&self, first: u64, grants: &mut [Grant]) -> Result<(), Error> {
         self.raw.grants(first, grants)
     }
@@ -271,6 +364,10 @@ impl Lane {
 
 impl fmt::Debug for Lane {
     fn fmt(&self, out: &mut fmt::Formatter<'_>) -> fmt::Result {
-        out.debug_struct("Lane").finish_non_exhaustive()
+        out.debug_struct("Lane")
+            .field("quota", &self.quota())
+            .field("inside", &self.inside())
+            .field("grants", &self.grant_count())
+            .finish_non_exhaustive()
     }
 }

@@ -6,13 +6,23 @@
 //! threads have ended one lane takes the others in and closes the floor, and the [`Quiet`] says who has which name.
 //!
 //! ```
-//! use renamer::{Floor, Kind};
+//! use renamer::{Error, Floor, Kind};
 //!
-//! let mut lane = Floor::open(Kind::Bitonic, 8, 100)?.into_lane();
-//! assert_eq!(lane.name(17, 0), Ok(0));
-//! assert_eq!(lane.name(5, 3), Ok(1));
-//! assert_eq!(lane.close()?.holders(), [17, 5]);
-//! # Ok::<(), renamer::Error>(())
+//! fn main() -> Result<(), Error> {
+//!     let floor = Floor::open(Kind::Tree, 8, 300)?;
+//!     // Each thread takes a lane, names its clients by that, and drops it.
+//!     let name_100 = |first: u64| -> Result<(), Error> {
+//!         let mut lane = floor.lane(100)?;
+//!         (first..first + 100).try_for_each(|client| lane.name(client, 0).map(drop))
+//!     };
+//!     std::thread::scope(|scope| {
+//!         let threads = [0, 100, 200].map(|first| scope.spawn(move || name_100(first)));
+//!         threads.into_iter().try_for_each(|thread| thread.join().expect("a thread ends"))
+//!     })?;
+//!     let quiet = floor.close()?;
+//!     assert!(quiet.iter().map(|(name, _client)| name).eq(0..300));
+//!     Ok(())
+//! }
 //! ```
 //!
 //! Names are given once: a floor lets in at most [`MOST_CLIENTS`] clients, and a name comes back only with the next
@@ -26,13 +36,17 @@
 
 mod error;
 mod floor;
+mod kind;
 mod lane;
+mod quiet;
 mod raw;
 mod steps;
 
 pub use error::{Error, Refused};
-pub use floor::{Floor, Kind, Quiet};
+pub use floor::Floor;
+pub use kind::Kind;
 pub use lane::{Client, Grant, Lane};
+pub use quiet::Quiet;
 pub use steps::{Moved, Place, Swept};
 
 /// How many clients a floor lets in at most.
@@ -41,10 +55,12 @@ pub const MOST_CLIENTS: u64 = 262_144;
 /// How many clients may have come in before a floor that goes on from others.
 pub const MOST_CARRIED: u64 = 2_147_483_648;
 
-/// How many lanes of a floor may be handed back and not joined yet.
+/// No limit any more: any number of lanes of a floor may be handed back and not joined yet. It is here for programs that name
+/// it.
 pub const MOST_RETURNED: u64 = 64;
 
 /// The version of the library: major * 1,000,000 + minor * 1,000 + patch.
+#[must_use]
 pub fn version() -> u32 {
     raw::version()
 }

@@ -74,6 +74,14 @@ pub(crate) fn version() -> u32 {
     unsafe { renamer_version() }
 }
 
+/// The version of this crate, as the library has its own.
+fn own_version() -> u32 {
+    let part = |text: &str| text.parse::<u32>().expect("cargo gives numbers");
+    1_000_000 * part(env!("CARGO_PKG_VERSION_MAJOR"))
+        + 1_000 * part(env!("CARGO_PKG_VERSION_MINOR"))
+        + part(env!("CARGO_PKG_VERSION_PATCH"))
+}
+
 /// What a status says.
 fn done(status: u32) -> Result<(), Error> {
     if status == 0 {
@@ -87,8 +95,13 @@ fn done(status: u32) -> Result<(), Error> {
 fn number<N: Default>(call: unsafe extern "C" fn(*mut Handle, *mut N) -> u32, handle: &UnsafeCell<Handle>) -> N {
     let mut number = N::default();
     // SAFETY: the number lies apart from the handle, whose cell is not `Sync`, so no other thread has it.
-    done(unsafe { call(handle.get(), &mut number) }).expect("a handle that is there has its numbers");
+    done(unsafe { call(handle.get(), &raw mut number) }).expect("a handle that is there has its numbers");
     number
+}
+
+/// How long a list is, of which the library says the length.
+fn size(length: u64) -> usize {
+    usize::try_from(length).expect("a list has at most 262,144 numbers")
 }
 
 fn none() -> UnsafeCell<Handle> {
@@ -102,7 +115,10 @@ pub(crate) struct RawLane(UnsafeCell<Handle>);
 unsafe impl Send for RawLane {}
 
 impl RawLane {
+    /// The first lane of a floor. No other call is made before it, so an archive of another version, whose calls may take other
+    /// things, is found here.
     pub(crate) fn open(kind: u32, width: u32, quota: u64) -> Result<RawLane, Error> {
+        assert_eq!(version(), own_version(), "librenamer.a has another version than the crate renamer");
         let mut lane = none();
         // SAFETY: the handle is new, and none.
         done(unsafe { renamer_open(lane.get_mut(), kind, width, quota) })?;
@@ -124,7 +140,7 @@ impl RawLane {
     pub(crate) fn name(&mut self, client: u64, entry: u64) -> Result<u64, Error> {
         let mut name = 0;
         // SAFETY: `&mut` is the only way to the handle, and the name is a variable of its own.
-        done(unsafe { renamer_name(self.0.get_mut(), client, entry, &mut name) })?;
+        done(unsafe { renamer_name(self.0.get_mut(), client, entry, &raw mut name) })?;
         Ok(name)
     }
 
@@ -145,7 +161,7 @@ impl RawLane {
     pub(crate) fn step(&mut self, wire: u64) -> Result<Moved, Error> {
         let mut moved = RawMoved::default();
         // SAFETY: `&mut` is the only way to the handle, and what is written is a variable of its own.
-        done(unsafe { renamer_step(self.0.get_mut(), wire, &mut moved) })?;
+        done(unsafe { renamer_step(self.0.get_mut(), wire, &raw mut moved) })?;
         let RawMoved { client, has_left, place, number, next } = moved;
         Ok(match Place::of(has_left == 1, place) {
             Place::Balancer(balancer) => Moved::On { client, balancer, number, wire: next },
@@ -156,7 +172,7 @@ impl RawLane {
     pub(crate) fn sweep(&mut self, wire: u64) -> Result<Swept, Error> {
         let mut swept = RawSwept::default();
         // SAFETY: as for a step.
-        done(unsafe { renamer_sweep(self.0.get_mut(), wire, &mut swept) })?;
+        done(unsafe { renamer_sweep(self.0.get_mut(), wire, &raw mut swept) })?;
         let RawSwept { have_left, place, first, clients } = swept;
         Ok(Swept { place: Place::of(have_left == 1, place), first, clients })
     }
@@ -164,7 +180,7 @@ impl RawLane {
     pub(crate) fn lowest(&self) -> Result<u64, Error> {
         let mut wire = 0;
         // SAFETY: the number lies apart from the handle, whose cell is not `Sync`, so no other thread has it.
-        done(unsafe { renamer_lowest(self.0.get(), &mut wire) })?;
+        done(unsafe { renamer_lowest(self.0.get(), &raw mut wire) })?;
         Ok(wire)
     }
 
@@ -231,8 +247,12 @@ pub(crate) struct RawQuiet(UnsafeCell<Handle>);
 unsafe impl Send for RawQuiet {}
 
 impl RawQuiet {
+    pub(crate) fn clients(&self) -> usize {
+        size(number(renamer_quiet_clients, &self.0))
+    }
+
     pub(crate) fn counts(&self) -> Vec<u64> {
-        let mut counts = vec![0; number(renamer_quiet_exits, &self.0) as usize];
+        let mut counts = vec![0; size(number(renamer_quiet_exits, &self.0))];
         // SAFETY: the array is a slice of this size; the cell is not `Sync`, so no other thread has the handle.
         done(unsafe { renamer_counts(self.0.get(), counts.as_mut_ptr(), counts.len()) })
             .expect("the size is that of the counts");
@@ -240,7 +260,7 @@ impl RawQuiet {
     }
 
     pub(crate) fn holders(&self) -> Vec<u64> {
-        let mut holders = vec![0; number(renamer_quiet_clients, &self.0) as usize];
+        let mut holders = vec![0; self.clients()];
         // SAFETY: as for the counts.
         done(unsafe { renamer_holders(self.0.get(), holders.as_mut_ptr(), holders.len()) })
             .expect("the size is that of the holders");

@@ -22,7 +22,7 @@ fn share(clients: u64, width: u64, exit: u64) -> u64 {
 }
 
 /// Runs an epoch by threads, and judges it; so many clients came before.
-fn judge(floor: Floor, width: u64, before: u64) {
+fn judge(floor: &Floor, width: u64, before: u64) {
     let run = |thread| name_all(&mut floor.lane(EACH).unwrap(), thread * EACH);
     let mut grants: Vec<Grant> = thread::scope(|scope| {
         let threads: Vec<_> = (0..THREADS).map(|thread| scope.spawn(move || run(thread))).collect();
@@ -55,8 +55,8 @@ fn names_are_tight_on_each_network() {
     for kind in [Kind::Bitonic, Kind::Periodic, Kind::Tree] {
         for level in 1..=8 {
             let width = 1 << level;
-            judge(Floor::open(kind, width, ALL).unwrap(), width.into(), 0);
-            judge(Floor::open_after(&closed(kind, width), ALL).unwrap(), width.into(), 3);
+            judge(&Floor::open(kind, width, ALL).unwrap(), width.into(), 0);
+            judge(&Floor::open_after(&closed(kind, width), ALL).unwrap(), width.into(), 3);
         }
     }
 }

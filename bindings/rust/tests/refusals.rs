@@ -46,12 +46,26 @@ fn a_lane_that_is_dropped_is_missed_until_it_is_joined() {
     drop(other);
     let refused = floor.into_lane().close().unwrap_err();
     assert_eq!(refused.error, Error::LanesMissing);
-    assert_eq!(refused.to_string(), "lanes of the floor are missing");
+    assert_eq!(refused.to_string(), "other lanes have quota, names or clients of the floor (0 alive)");
     let mut lane = refused.value;
     assert_eq!(lane.quota(), 1);
     assert_eq!(lane.join(), Ok(()));
     assert_eq!(lane.join(), Err(Error::NothingBack));
     assert_eq!(lane.close().unwrap().holders(), [7]);
+}
+
+#[test]
+fn a_close_says_how_many_lanes_are_alive() {
+    let floor = floor(3);
+    let lanes = [floor.lane(1).unwrap(), floor.lane(0).unwrap()];
+    assert_eq!(floor.alive(), 2);
+    let refused = floor.close().unwrap_err();
+    assert_eq!((refused.error, refused.others), (Error::LanesMissing, Some(2)));
+    assert!(refused.to_string().ends_with("(2 alive)"));
+    drop(lanes);
+    let mut lane = refused.value;
+    lane.join_all().unwrap();
+    assert!(lane.close().unwrap().is_empty());
 }
 
 #[test]
@@ -97,20 +111,6 @@ fn steps_where_nobody_is() {
     lane.enter(8, 1).unwrap();
     assert_eq!(lane.enter(9, 1), Err(Error::QuotaSpent));
     assert_eq!((lane.inside(), lane.lowest()), (2, Ok(1)));
-}
-
-#[test]
-fn lanes_that_find_no_place() {
-    let mut lane = floor(9).into_lane();
-    let mut others: Vec<Lane> = (0..=renamer::MOST_RETURNED).map(|_| lane.split(0).unwrap()).collect();
-    let last = others.pop().unwrap();
-    drop(others);
-    let refused = last.hand_back().unwrap_err();
-    assert_eq!(refused.error, Error::NoPlace);
-    lane.join().unwrap();
-    refused.value.hand_back().unwrap();
-    lane.join_all().unwrap();
-    assert_eq!((lane.quota(), lane.close().is_ok()), (9, true));
 }
 
 #[test]

@@ -12,7 +12,7 @@ use Rattle.renamer_c.specs.Statuses.{status_of}
 use Rattle.renamer_c.specs.declared.client.Client.{Client}
 use Rattle.renamer_c.specs.declared.record_of_floor.Listed.{Listed}
 use Rattle.renamer_c.specs.declared.refusal.Refusal.{Refusal}
-use Rattle.renamer_c.specs.declared.refusal.Refusal.TheVariants.{Nothing, Memory, Kind, Width, Quota, NoSuchEntry, QuotaSpent, QuotaTooSmall, StillWalking, NobodyThere, LanesMissing, NothingBack, Size, Carried, NoPlace, LanesThere}
+use Rattle.renamer_c.specs.declared.refusal.Refusal.TheVariants.{Nothing, Memory, Kind, Width, Quota, NoSuchEntry, QuotaSpent, QuotaTooSmall, StillWalking, NobodyThere, LanesMissing, NothingBack, Size, Carried, LanesThere, Busy}
 
 -- a status that is one of these refusals
 abbrev pub IsRefusal : (Refusal → Type 0) → ℕ → Type 0
@@ -100,14 +100,19 @@ NotReserved lane r = ⊥
 abbrev pub NotHandedBack : Option LaneValue → Refusal → Type 0
 NotHandedBack lane Nothing = lane ≡ None
 NotHandedBack lane StillWalking = WithLane lane (λ l. 0 < tokens_in l.yard.lists)
-NotHandedBack lane Memory = WithLane lane (λ l. tokens_in l.yard.lists ≡ 0)
-NotHandedBack lane NoPlace = WithLane lane (λ l. tokens_in l.yard.lists ≡ 0)
 NotHandedBack lane r = ⊥
 
--- why no lane is taken in: none was handed back, or one that was has more grants than there is room for
+-- no lane that was handed back was found: there was none, or other threads were at the places of such lanes
+abbrev pub NobodyBack : Refusal → Type 0
+NobodyBack NothingBack = ⊤
+NobodyBack Busy = ⊤
+NobodyBack r = ⊥
+
+-- why no lane is taken in: none that was handed back was found, or one has more grants than there is room for
 abbrev pub NotJoined : Option LaneValue → Refusal → Type 0
 NotJoined lane Nothing = lane ≡ None
 NotJoined lane NothingBack = WithLane lane (λ l. ⊤)
+NotJoined lane Busy = WithLane lane (λ l. ⊤)
 NotJoined lane Memory = WithLane lane (λ l. (m : LaneValue) × IsBack l.home m × (l.room < length m.view.grants))
 NotJoined lane r = ⊥
 

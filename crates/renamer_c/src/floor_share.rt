@@ -1,11 +1,12 @@
 //! A share of a floor: lanes own their floor together.
 
 ghost use Rattle.std.specs.Arc.{arc_value};
-ghost use Rattle.std.specs.Prelude.{◌≡◌, Some, IfErr, IfOk, IfSome};
-ghost use Rattle.renamer_c.specs.Refusals.{NotHandedBack};
+ghost use Rattle.std.specs.Prelude.{◌≡◌, IfErr, IfOk};
+ghost use Rattle.renamer_c.specs.Refusals.{NobodyBack};
 ghost use Rattle.renamer_c.specs.Returns.{IsBack};
 
 use crate::group::Group;
+use crate::link::Link;
 use crate::refusal::Refusal;
 use cn_floor::{Floor, Lane};
 use std::alloc::Global;
@@ -16,7 +17,7 @@ use std::sync::Arc;
 #[derive(Drop)]
 pub(crate) enum Owners {
     /// It is the only one.
-    One(Floor<'static>),
+    One(Group),
     /// Together with others.
     Many(Arc<Group, Global>),
 }
@@ -36,27 +37,31 @@ impl Model for FloorShare {
     ghost view = { floor_of };
 }
 
-/// A floor that lanes own together, for its first owner.
-///
-/// # Errors
-/// The floor, if there is no memory.
-fn shared(alloc: Global, floor: Floor<'static>) -> Result<Arc<Group, Global>, Floor<'static>>
-    ensures ok { IfOk result (λ group. arc_value group ≡ floor.entry) }
-    ensures err { IfErr result (λ back. back ≡ floor.entry) }
-{
-    match Arc::new(alloc, Group::of(alloc, floor)?) {
-        Ok(group) => Ok(group),
-        Err(failed) => Err(failed.value.into_floor()),
-    }
-}
-
 impl FloorShare {
     /// All of a floor.
-    pub(crate) fn of(floor: Floor<'static>) -> FloorShare
-        ensures { result ≡ floor.entry }
+    pub(crate) fn of(group: Group) -> FloorShare
+        ensures { result ≡ group }
     {
         FloorShare {
-            owners: Owners::One(floor),
+            owners: Owners::One(group),
+        }
+    }
+
+    fn together(group: Arc<Group, Global>) -> FloorShare
+        ensures { result ≡ arc_value group }
+    {
+        FloorShare {
+            owners: Owners::Many(group),
+        }
+    }
+
+    /// The floor with its places.
+    fn group(&self) -> &Group
+        ensures { result.now ≡ self.now }
+    {
+        match &self.owners {
+            Owners::One(group) => group,
+            Owners::Many(group) => group,
         }
     }
 
@@ -64,9 +69,27 @@ impl FloorShare {
     pub(crate) fn floor(&self) -> &Floor<'static>
         ensures { result.now ≡ self.now }
     {
-        match &self.owners {
-            Owners::One(floor) => floor,
-            Owners::Many(group) => group.floor(),
+        self.group().floor()
+    }
+
+    /// The floor, owned together with others that may come.
+    ///
+    /// # Errors
+    /// The share, if there is no memory.
+    fn into_shared(self, alloc: Global) -> Result<Arc<Group, Global>, FloorShare>
+        ensures ok { IfOk result (λ group. arc_value group ≡ self) }
+        ensures err { IfErr result (λ back. back ≡ self) }
+    {
+        let group = match self.owners {
+            Owners::Many(group) => return Ok(group),
+            Owners::One(group) => group,
+        };
+        match group.with_places(alloc) {
+            Ok(group) => match Arc::new(alloc, group) {
+                Ok(group) => Ok(group),
+                Err(failed) => Err(FloorShare::of(failed.value)),
+            },
+            Err(group) => Err(FloorShare::of(group)),
         }
     }
 
@@ -78,69 +101,45 @@ impl FloorShare {
         ensures ok { IfOk result (λ r. (r.0 ≡ self) × (r.1 ≡ self)) }
         ensures err { IfErr result (λ back. back ≡ self) }
     {
-        let group = match self.owners {
-            Owners::Many(group) => group,
-            Owners::One(floor) => match shared(alloc, floor) {
-                Ok(group) => group,
-                Err(floor) => return Err(FloorShare::of(floor)),
-            },
-        };
-        let other = Arc::try_clone(&group);
-        let first = FloorShare {
-            owners: Owners::Many(group),
-        };
-        match other {
-            Ok(group) => Ok((
-                first,
-                FloorShare {
-                    owners: Owners::Many(group),
-                },
-            )),
-            Err(_) => Err(first),
+        let group = self.into_shared(alloc)?;
+        match Arc::try_clone(&group) {
+            Ok(other) => Ok((FloorShare::together(group), FloorShare::together(other))),
+            Err(_) => Err(FloorShare::together(group)),
         }
     }
 
-    /// The floor itself.
+    /// The floor itself with its places.
     ///
     /// # Errors
     /// The share, if there are others.
-    pub(crate) fn into_floor(self) -> Result<Floor<'static>, FloorShare>
-        ensures ok { IfOk result (λ floor. floor ≡ self) }
+    pub(crate) fn into_group(self) -> Result<Group, FloorShare>
+        ensures ok { IfOk result (λ group. group ≡ self) }
         ensures err { IfErr result (λ back. back ≡ self) }
     {
         match self.owners {
-            Owners::One(floor) => Ok(floor),
+            Owners::One(group) => Ok(group),
             Owners::Many(group) => match Arc::try_unwrap(group) {
-                Ok(group) => Ok(group.into_floor()),
-                Err(group) => Err(FloorShare {
-                    owners: Owners::Many(group),
-                }),
+                Ok(group) => Ok(group),
+                Err(group) => Err(FloorShare::together(group)),
             },
         }
     }
 
-    /// Hands a lane of the floor back, for other lanes to take in. If there can be none, it is let go.
-    ///
-    /// # Errors
-    /// `Memory` or `NoPlace`, with the lane.
-    pub(crate) fn hand_back(&self, lane: Lane) -> Result<(), (Refusal, Lane)>
+    /// Hands a lane of the floor back, in the room that was made for it, for other lanes to take in.
+    pub(crate) fn hand_back(&self, lane: Lane, room: Box<Link>)
         requires { IsBack self.now lane }
-        ensures err { IfErr result (λ r. r.1 ≡ lane) }
-        ensures refused { IfErr result (λ r. NotHandedBack (Some lane) r.0) }
     {
-        match &self.owners {
-            Owners::One(_) => Ok(()),
-            Owners::Many(group) => group.hand_back(lane),
-        }
+        self.group().hand_back(lane, room);
     }
 
-    /// Takes a lane of the floor that was handed back, if one was.
-    pub(crate) fn take_back(&self) -> Option<Lane>
-        ensures { IfSome result (IsBack self.now) }
+    /// Takes a lane of the floor that was handed back, with its room.
+    ///
+    /// # Errors
+    /// `NothingBack` or `Busy`.
+    pub(crate) fn take_back(&self) -> Result<(Lane, Box<Link>), Refusal>
+        ensures ok { IfOk result (λ r. IsBack self.now r.0) }
+        ensures refused { IfErr result NobodyBack }
     {
-        match &self.owners {
-            Owners::One(_) => None,
-            Owners::Many(group) => group.take_back(),
-        }
+        self.group().take_back()
     }
 }

@@ -1,52 +1,71 @@
 //! A floor that lanes own together, and the lanes that were handed back to it.
 
-ghost use Rattle.std.specs.Prelude.{◌≡◌, All, Some, IfErr, IfOk, IfSome};
-ghost use Rattle.renamer_c.specs.Refusals.{NotHandedBack};
+ghost use Rattle.std.specs.Prelude.{◌≡◌, ◌+◌, All, None, length, IfErr, IfOk, IfSome, MatchOption};
+ghost use Rattle.cn_yard.specs.Lists.{tokens_in};
+ghost use Rattle.renamer_c.specs.Links.{AreBack};
+ghost use Rattle.renamer_c.specs.Refusals.{NobodyBack};
 ghost use Rattle.renamer_c.specs.Returns.{IsBack};
 
+use crate::link::{Link, above, first};
 use crate::loose::Loose;
 use crate::refusal::Refusal;
-use cn_floor::{Floor, Lane};
-use counted_slot::{Counted, FREE, Fits, PRESENT, TAKEN};
+use cn_floor::{CloseFault, Floor, Lane, Quiet};
+use counted_slot::{Counted, FREE, Fits, MARKED, PRESENT, TAKEN};
 use std::alloc::{AllocError, Global};
+use std::hint::spin_loop;
 use std::marker::Model;
 
-/// How many lanes may be handed back and not taken yet.
-const MOST_RETURNED: usize = 64;
+/// How many places there are for lanes that are handed back. Each has any number of them; several, so that threads that
+/// hand back at once seldom meet.
+const PLACES: usize = 16;
 
-/// A lane that was handed back: nobody is inside. It stands there as a pointer, of which a `&` shows nothing, since places
-/// are shared by threads, and a lane is not.
+/// How often all places are looked at for one that no other thread is at, before a lane is let go: for centuries.
+const MOST_ROUNDS: u64 = u64::MAX;
+
+/// How often a join looks at all places while other threads are at some of them: some microseconds.
+const MOST_LOOKS: u32 = 64;
+
+/// Lanes that were handed back. They stand there as a pointer, of which a `&` shows nothing, since places are shared by
+/// threads, and a lane is not.
 pub(crate) struct Returned {
-    lane: Loose<Lane, Global>,
+    links: Loose<Link, Global>,
 }
 
 impl Returned {
-    fn into_lane(self) -> Box<Lane>
-        ensures { result.value ≡ self.lane.value }
+    fn of(links: Box<Link>) -> Returned
+        ensures { result.links.value ≡ links.value }
     {
-        let Returned { lane } = self;
-        lane.into_box()
+        Returned {
+            links: Loose::of(links),
+        }
+    }
+
+    fn into_links(self) -> Box<Link>
+        ensures { result.value ≡ self.links.value }
+    {
+        let Returned { links } = self;
+        links.into_box()
     }
 }
 
 impl Drop for Returned {
     fn drop(self) {
-        drop(self.into_lane());
+        drop(self.into_links());
     }
 }
 
 impl Fits for Returned {
     type Tag = Floor<'static>;
 
-    ghost fits = { λ floor r. IsBack floor r.lane.value };
+    ghost fits = { λ floor r. AreBack floor r.links.value };
 }
 
-/// A floor that lanes own together, and a place for each lane that is handed back. To contracts it is the floor.
+/// A floor with places for lanes that are handed back, of which there are none before its first split. To contracts it is the
+/// floor.
 #[derive(Drop)]
 pub(crate) struct Group {
-    alloc: Global,
     floor: Floor<'static>,
-    returned: Vec<Counted<Option<Returned>>>,
+    places: Vec<Counted<Option<Returned>>>,
 }
 
 impl Model for Group {
@@ -64,35 +83,107 @@ impl Model for Group {
 ///
 /// # Errors
 /// `AllocError` if they get no memory.
-fn places(
+fn empty_places(
     alloc: Global,
     floor: &Floor<'static>,
 ) -> Result<Vec<Counted<Option<Returned>>>, AllocError>
     ensures { IfOk result (λ places. All (λ tag. tag ≡ floor.now) places.items) }
 {
     let mut places = Vec::new(alloc);
-    for _ in 0..MOST_RETURNED {
+    for _ in 0..PLACES {
         places.push(Counted::new(None, floor))?;
     }
     Ok(places)
 }
 
+/// The lanes that were there, as they stand in boxes.
+fn links_of(returned: Option<Returned>) -> Option<Box<Link>>
+    ensures { MatchOption returned (result ≡ None) (λ r. IfSome result (λ b. b.value ≡ r.links.value)) }
+{
+    match returned {
+        Some(returned) => Some(returned.into_links()),
+        None => None,
+    }
+}
+
+/// Puts lanes back at a place that this thread has marked: no other turns it.
+fn leave(place: &Counted<Option<Returned>>, floor: &Floor<'static>, links: Option<Box<Link>>)
+    requires place { place.now ≡ floor.now }
+    requires links { IfSome links (λ b. AreBack floor.now b.value) }
+{
+    let _ = floor;
+    let (found, claim) = place.turn(MARKED, TAKEN);
+    if found != MARKED {
+        claim.done();
+        return;
+    }
+    let _ = match links {
+        Some(links) => claim.put(Some(Returned::of(links)), PRESENT),
+        None => claim.put(None, FREE),
+    };
+}
+
+/// Another thread is at a place.
+#[derive(Drop)]
+struct Busy;
+
+/// Takes the first lane of a place with its room, if one is there.
+///
+/// # Errors
+/// `Busy` if another thread is at the place.
+fn take_from(
+    place: &Counted<Option<Returned>>,
+    floor: &Floor<'static>,
+) -> Result<Option<(Lane, Box<Link>)>, Busy>
+    requires { place.now ≡ floor.now }
+    ensures { IfOk result (λ taken. IfSome taken (λ r. IsBack floor.now r.0)) }
+{
+    if place.load() == FREE {
+        return Ok(None);
+    }
+    let (found, claim) = place.turn(PRESENT, TAKEN);
+    if found != PRESENT {
+        claim.done();
+        return if found == FREE { Ok(None) } else { Err(Busy) };
+    }
+    match links_of(claim.put(None, MARKED)) {
+        Some(links) => {
+            let (lane, rest) = first(floor, links);
+            leave(place, floor, rest);
+            Ok(lane)
+        }
+        None => Ok(None),
+    }
+}
+
 impl Group {
-    /// That of a floor, to which no lane was handed back.
+    /// A floor to which no lane can be handed back yet. It takes no memory.
+    pub(crate) fn of(alloc: Global, floor: Floor<'static>) -> Group
+        ensures { result ≡ floor.entry }
+    {
+        Group {
+            floor,
+            places: Vec::new(alloc),
+        }
+    }
+
+    /// The same floor, to which lanes can be handed back.
     ///
     /// # Errors
-    /// The floor, if there is no memory.
-    pub(crate) fn of(alloc: Global, floor: Floor<'static>) -> Result<Group, Floor<'static>>
-        ensures ok { IfOk result (λ group. group ≡ floor.entry) }
-        ensures err { IfErr result (λ back. back ≡ floor.entry) }
+    /// The floor as it was, if there is no memory.
+    pub(crate) fn with_places(self, alloc: Global) -> Result<Group, Group>
+        ensures ok { IfOk result (λ group. group ≡ self) }
+        ensures err { IfErr result (λ back. back ≡ self) }
     {
-        match places(alloc, &floor) {
-            Ok(returned) => Ok(Group {
-                alloc,
-                floor,
-                returned,
+        if !self.places.is_empty() {
+            return Ok(self);
+        }
+        match empty_places(alloc, &self.floor) {
+            Ok(places) => Ok(Group {
+                floor: self.floor,
+                places,
             }),
-            Err(_) => Err(floor),
+            Err(_) => Err(self),
         }
     }
 
@@ -103,66 +194,85 @@ impl Group {
         &self.floor
     }
 
-    /// The floor itself. Lanes that were handed back are let go.
-    pub(crate) fn into_floor(self) -> Floor<'static>
-        ensures { result ≡ self }
-    {
-        self.floor
-    }
-
-    /// Puts a lane into a free place.
+    /// Closes the floor by a lane that has the whole of its quota, spent or not, and nobody inside. Lanes that were handed back
+    /// have nothing of it, and are let go.
     ///
     /// # Errors
-    /// The lane, if no place is free.
-    fn put(&self, lane: Box<Lane>) -> Result<(), Box<Lane>>
-        requires { IsBack self.now lane.value }
-        ensures { IfErr result (λ back. back.value ≡ lane.value) }
+    /// All as it was, if there is no memory.
+    pub(crate) fn close(self, lane: Lane) -> Result<Quiet<'static>, (Group, Lane)>
+        requires own { lane.home ≡ self }
+        requires out { tokens_in lane.yard.lists ≡ 0 }
+        requires all { lane.view.quota + length lane.view.grants ≡ lane.home.start.quota }
+        ensures ok { IfOk result (λ quiet. (quiet.start ≡ self.start) × (quiet.did ≡ lane.view)) }
+        ensures err { IfErr result (λ back. (back.0 ≡ self) × (back.1 ≡ lane)) }
     {
-        for place in &self.returned {
-            let (found, claim) = place.turn(FREE, TAKEN);
-            if found == FREE {
-                let lane = Loose::of(lane);
-                claim.put(Some(Returned { lane }), PRESENT);
-                return Ok(());
+        let Group { floor, places } = self;
+        match floor.close(lane) {
+            Ok(quiet) => Ok(quiet),
+            Err(CloseFault::StillWalking(floor, lane) | CloseFault::Memory(floor, lane)) => {
+                Err((Group { floor, places }, lane))
             }
-            claim.done();
+            Err(CloseFault::LanesMissing { .. }) => unreachable!(),
         }
-        Err(lane)
     }
 
-    /// Hands a lane back. It waits for nobody.
-    ///
-    /// # Errors
-    /// `Memory` or `NoPlace`, with the lane.
-    pub(crate) fn hand_back(&self, lane: Lane) -> Result<(), (Refusal, Lane)>
+    /// Hands a lane back, in the room that was made for it: into a free place, or else above the lanes at a place where no
+    /// other thread is. It goes round only while as many other threads as there are places are in the midst of a call.
+    pub(crate) fn hand_back(&self, lane: Lane, room: Box<Link>)
         requires { IsBack self.now lane }
-        ensures err { IfErr result (λ r. r.1 ≡ lane) }
-        ensures refused { IfErr result (λ r. NotHandedBack (Some lane) r.0) }
     {
-        let lane = match Box::new(self.alloc, lane) {
-            Ok(lane) => lane,
-            Err(failed) => return Err((Refusal::Memory, failed.value)),
-        };
-        match self.put(lane) {
-            Ok(()) => Ok(()),
-            Err(lane) => Err((Refusal::NoPlace, Box::into_inner(lane))),
+        if self.places.is_empty() {
+            return;
+        }
+        for _ in 0..MOST_ROUNDS {
+            for place in &self.places {
+                let (found, claim) = place.turn(FREE, TAKEN);
+                if found == FREE {
+                    let links = above(&self.floor, lane, room, None);
+                    let _ = claim.put(Some(Returned::of(links)), PRESENT);
+                    return;
+                }
+                claim.done();
+            }
+            for place in &self.places {
+                let (found, claim) = place.turn(PRESENT, TAKEN);
+                if found == PRESENT {
+                    let there = links_of(claim.put(None, MARKED));
+                    leave(
+                        place,
+                        &self.floor,
+                        Some(above(&self.floor, lane, room, there)),
+                    );
+                    return;
+                }
+                claim.done();
+            }
+            spin_loop();
         }
     }
 
-    /// Takes a lane that was handed back, if one was. It waits for nobody.
-    pub(crate) fn take_back(&self) -> Option<Lane>
-        ensures { IfSome result (IsBack self.now) }
+    /// Takes a lane that was handed back, with its room.
+    ///
+    /// # Errors
+    /// `NothingBack` if each place was empty when it was looked at, `Busy` if other threads were at the others all the time.
+    pub(crate) fn take_back(&self) -> Result<(Lane, Box<Link>), Refusal>
+        ensures ok { IfOk result (λ r. IsBack self.now r.0) }
+        ensures refused { IfErr result NobodyBack }
     {
-        for place in &self.returned {
-            let (found, claim) = place.turn(PRESENT, TAKEN);
-            if found == PRESENT {
-                return match claim.put(None, FREE) {
-                    Some(returned) => Some(Box::into_inner(returned.into_lane())),
-                    None => None,
-                };
+        for _ in 0..MOST_LOOKS {
+            let mut is_busy = false;
+            for place in &self.places {
+                match take_from(place, &self.floor) {
+                    Ok(Some(taken)) => return Ok(taken),
+                    Ok(None) => {}
+                    Err(Busy) => is_busy = true,
+                }
             }
-            claim.done();
+            if !is_busy {
+                return Err(Refusal::NothingBack);
+            }
+            spin_loop();
         }
-        None
+        Err(Refusal::Busy)
     }
 }

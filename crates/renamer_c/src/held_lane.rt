@@ -5,7 +5,7 @@ mod naming_many;
 mod returning;
 mod stepping;
 
-ghost use Rattle.std.specs.Prelude.{◌≡◌, ◌≤◌, Some, IfErr, IfOk, IfSome, OnErr, OnOk};
+ghost use Rattle.std.specs.Prelude.{◌≡◌, ◌≤◌, Some, IfErr, IfOk, OnErr, OnOk};
 ghost use Rattle.cn_spec.specs.declared.limits.TheConstants.{MOST_CARRIED, MOST_CLIENTS};
 ghost use Rattle.cn_floor.specs.Carried.{client_count, start_after};
 ghost use Rattle.cn_floor.specs.Lane.{empty_lane, with_room};
@@ -15,9 +15,10 @@ ghost use Rattle.cn_floor.specs.Views.{after_entered};
 ghost use Rattle.renamer_c.specs.Calls.{IsOpened, IsSplit};
 ghost use Rattle.renamer_c.specs.Questions.{number_asked};
 ghost use Rattle.renamer_c.specs.Refusals.{NotNamed, NotReserved};
-ghost use Rattle.renamer_c.specs.Returns.{IsBack};
 
 use crate::floor_share::FloorShare;
+use crate::group::Group;
+use crate::link::Link;
 use crate::question::Question;
 use crate::refusal::Refusal;
 use cn_floor::{Floor, Lane, LaneFault, Words};
@@ -33,8 +34,8 @@ pub(crate) struct HeldLane {
     lane: Lane,
     /// How many clients the floor may let in.
     most: u64,
-    /// A lane that was handed back and taken, and not joined for want of memory.
-    spare: Option<Lane>,
+    /// Room for the lane among those that are handed back.
+    room: Box<Link>,
 }
 
 impl Model for HeldLane {
@@ -50,17 +51,16 @@ impl Model for HeldLane {
 
 impl HeldLane {
     /// A lane with its share of its floor.
-    fn of(floor: FloorShare, lane: Lane, most: u64, spare: Option<Lane>) -> HeldLane
+    fn of(floor: FloorShare, lane: Lane, most: u64, room: Box<Link>) -> HeldLane
         requires own { lane.home ≡ floor }
         requires most { most ≡ floor.start.quota }
-        requires spare { IfSome spare (IsBack floor) }
         ensures { result ≡ lane }
     {
         HeldLane {
             floor,
             lane,
             most,
-            spare,
+            room,
         }
     }
 
@@ -77,8 +77,11 @@ impl HeldLane {
         let Ok(network) = Arc::new(alloc, network) else {
             return Err(Refusal::Memory);
         };
+        let Ok(room) = Box::new(alloc, Link::Empty) else {
+            return Err(Refusal::Memory);
+        };
         match Floor::open_shared(alloc, &network, quota) {
-            Ok((floor, lane)) => Ok(HeldLane::of(FloorShare::of(floor), lane, quota, None)),
+            Ok((floor, lane)) => Ok(HeldLane::of(FloorShare::of(Group::of(alloc, floor)), lane, quota, room)),
             Err(_) => Err(Refusal::Memory),
         }
     }
@@ -112,21 +115,24 @@ impl HeldLane {
         ensures ok { IfOk result (λ r. IsSplit self r.0 r.1 quota) }
         ensures err { IfErr result (λ back. back ≡ self) }
     {
+        let Ok(other_room) = Box::new(alloc, Link::Empty) else {
+            return Err(self);
+        };
         let HeldLane {
             floor,
             mut lane,
             most,
-            spare,
+            room,
         } = self;
         match floor.split(alloc) {
             Ok((floor, other_floor)) => match floor.floor().split_off(&mut lane, quota) {
                 Ok(other) => Ok((
-                    HeldLane::of(floor, lane, most, spare),
-                    HeldLane::of(other_floor, other, most, None),
+                    HeldLane::of(floor, lane, most, room),
+                    HeldLane::of(other_floor, other, most, other_room),
                 )),
-                Err(_) => Err(HeldLane::of(floor, lane, most, spare)),
+                Err(_) => Err(HeldLane::of(floor, lane, most, room)),
             },
-            Err(floor) => Err(HeldLane::of(floor, lane, most, spare)),
+            Err(floor) => Err(HeldLane::of(floor, lane, most, room)),
         }
     }
 
@@ -192,8 +198,11 @@ impl HeldLane {
             × (l ≡ empty_lane l.home quota)) }
         ensures memory { IfErr result (λ r. r ≡ Refusal.Memory) }
     {
+        let Ok(room) = Box::new(alloc, Link::Empty) else {
+            return Err(Refusal::Memory);
+        };
         match Floor::open_after(alloc, words, quota) {
-            Ok((floor, lane)) => Ok(HeldLane::of(FloorShare::of(floor), lane, quota, None)),
+            Ok((floor, lane)) => Ok(HeldLane::of(FloorShare::of(Group::of(alloc, floor)), lane, quota, room)),
             Err(_) => Err(Refusal::Memory),
         }
     }
@@ -204,7 +213,7 @@ impl HeldLane {
             floor: _floor,
             lane: _lane,
             most: _most,
-            spare: _spare,
+            room: _room,
         } = self;
     }
 }

@@ -12,6 +12,7 @@ mod handle;
 mod held;
 mod held_lane;
 mod joining;
+mod link;
 mod loose;
 mod moved;
 mod naming;

@@ -39,10 +39,10 @@ pub enum Refusal {
     Size,
     /// More clients came before than a floor may carry.
     Carried,
-    /// As many lanes were handed back as a floor keeps.
-    NoPlace,
     /// Other lanes are there still, with none of the floor's quota.
     LanesThere,
+    /// Other threads are in the midst of handing lanes back or joining them.
+    Busy,
 }
 
 impl Refusal {
@@ -66,8 +66,8 @@ impl Refusal {
             Refusal::NothingBack => 12,
             Refusal::Size => 13,
             Refusal::Carried => 14,
-            Refusal::NoPlace => 15,
             Refusal::LanesThere => 16,
+            Refusal::Busy => 17,
         }
     }
 }

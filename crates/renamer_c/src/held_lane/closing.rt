@@ -9,7 +9,6 @@ use super::HeldLane;
 use crate::floor_share::FloorShare;
 use crate::record_of_floor::Record;
 use crate::refusal::Refusal;
-use cn_floor::CloseFault;
 use std::alloc::Global;
 
 impl HeldLane {
@@ -41,26 +40,23 @@ impl HeldLane {
             floor,
             lane,
             most,
-            spare,
+            room,
         } = self;
-        let floor = match floor.into_floor() {
-            Ok(floor) => floor,
+        let group = match floor.into_group() {
+            Ok(group) => group,
             Err(floor) => {
-                return Err((Refusal::LanesThere, HeldLane::of(floor, lane, most, spare)));
+                return Err((Refusal::LanesThere, HeldLane::of(floor, lane, most, room)));
             }
         };
-        match floor.close(lane) {
+        match group.close(lane) {
             Ok(quiet) => {
                 quiet.quiet_laws();
                 Ok(Record::of(quiet, counts, holders))
             }
-            Err(CloseFault::StillWalking(floor, lane) | CloseFault::Memory(floor, lane)) => {
-                Err((
-                    Refusal::Memory,
-                    HeldLane::of(FloorShare::of(floor), lane, most, spare),
-                ))
-            }
-            Err(CloseFault::LanesMissing { .. }) => unreachable!(),
+            Err((group, lane)) => Err((
+                Refusal::Memory,
+                HeldLane::of(FloorShare::of(group), lane, most, room),
+            )),
         }
     }
 

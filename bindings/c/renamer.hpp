@@ -1,0 +1,201 @@
+/*
+ * renamer for C++11: lanes and closed floors as objects that free themselves. Header only, over renamer.h, which says
+ * what each call does; link the same archive.
+ *
+ *     renamer::lane lane;
+ *     std::uint64_t name;
+ *     if (lane.open(renamer::kind::tree, 64, 1000) == renamer::status::done
+ *         && lane.name(17, 0, name) == renamer::status::done)
+ *         std::cout << "client 17 has name " << name << "\n";
+ *
+ * An object that was made, moved from, handed back or closed has nothing, and its calls return status::none. Objects can be
+ * moved, also to another thread, and not copied. A lane that goes out of scope is handed back to its floor. No call here
+ * throws, but for those that write a std::vector, if it gets no memory.
+ */
+#ifndef RENAMER_HPP
+#define RENAMER_HPP
+
+#include "renamer.h"
+
+#include <cstddef>
+#include <cstdint>
+#include <vector>
+
+namespace renamer {
+
+/* The networks. */
+enum class kind : std::uint32_t {
+    bitonic = RENAMER_BITONIC,
+    periodic = RENAMER_PERIODIC,
+    tree = RENAMER_TREE
+};
+
+/* What calls return. */
+enum class status : std::uint32_t {
+    done = RENAMER_DONE,
+    none = RENAMER_NONE,
+    memory = RENAMER_MEMORY,
+    kind = RENAMER_KIND,
+    width = RENAMER_WIDTH,
+    quota = RENAMER_QUOTA,
+    no_such_entry = RENAMER_NO_SUCH_ENTRY,
+    quota_spent = RENAMER_QUOTA_SPENT,
+    quota_too_small = RENAMER_QUOTA_TOO_SMALL,
+    still_walking = RENAMER_STILL_WALKING,
+    nobody_there = RENAMER_NOBODY_THERE,
+    lanes_missing = RENAMER_LANES_MISSING,
+    nothing_back = RENAMER_NOTHING_BACK,
+    size = RENAMER_SIZE,
+    carried = RENAMER_CARRIED,
+    no_place = RENAMER_NO_PLACE,
+    lanes_there = RENAMER_LANES_THERE,
+    busy = RENAMER_BUSY
+};
+
+/* A sentence that says what a status means, and what is allowed. */
+inline const char *explain(status status) noexcept { return renamer_explain(static_cast<std::uint32_t>(status)); }
+
+using client = renamer_client;
+using grant = renamer_grant;
+using moved = renamer_moved;
+using swept = renamer_swept;
+
+/* A floor that is closed: how many left by each exit, and who has which name. */
+class quiet {
+  public:
+    quiet() noexcept = default;
+    quiet(const quiet &) = delete;
+    quiet &operator=(const quiet &) = delete;
+    quiet(quiet &&other) noexcept : handle(other.handle) { other.handle = RENAMER_NO_QUIET; }
+    quiet &operator=(quiet &&other) noexcept {
+        if (this != &other) {
+            renamer_free_quiet(&handle);
+            handle = other.handle;
+            other.handle = RENAMER_NO_QUIET;
+        }
+        return *this;
+    }
+    ~quiet() { renamer_free_quiet(&handle); }
+
+    status exits(std::uint64_t &exits) noexcept { return status(renamer_quiet_exits(&handle, &exits)); }
+    status clients(std::uint64_t &clients) noexcept { return status(renamer_quiet_clients(&handle, &clients)); }
+
+    /* counts[i] left by exit i. */
+    status counts(std::vector<std::uint64_t> &counts) {
+        return list(renamer_quiet_exits, renamer_counts, counts);
+    }
+
+    /* holders[n] is the client with name n. */
+    status holders(std::vector<std::uint64_t> &holders) {
+        return list(renamer_quiet_clients, renamer_holders, holders);
+    }
+
+  private:
+    friend class lane;
+
+    status list(std::uint32_t (*size)(renamer_quiet *, std::uint64_t *),
+                std::uint32_t (*copy)(renamer_quiet *, std::uint64_t *, std::size_t),
+                std::vector<std::uint64_t> &to) {
+        std::uint64_t length = 0;
+        const status asked = status(size(&handle, &length));
+        if (asked != status::done) return asked;
+        // One more than is copied: no pointer of a call is null.
+        std::vector<std::uint64_t> list(static_cast<std::size_t>(length) + 1);
+        const status copied = status(copy(&handle, list.data(), static_cast<std::size_t>(length)));
+        list.pop_back();
+        if (copied == status::done) to.swap(list);
+        return copied;
+    }
+
+    renamer_quiet handle = RENAMER_NO_QUIET_YET;
+};
+
+/* A lane of a floor: a thread's own part of it, by which it lets clients in. */
+class lane {
+  public:
+    lane() noexcept = default;
+    lane(const lane &) = delete;
+    lane &operator=(const lane &) = delete;
+    lane(lane &&other) noexcept : handle(other.handle) { other.handle = RENAMER_NO_LANE; }
+    lane &operator=(lane &&other) noexcept {
+        if (this != &other) {
+            renamer_free(&handle);
+            handle = other.handle;
+            other.handle = RENAMER_NO_LANE;
+        }
+        return *this;
+    }
+    ~lane() { renamer_free(&handle); }
+
+    status open(kind kind, std::uint32_t width, std::uint64_t quota) noexcept {
+        return status(renamer_open(&handle, static_cast<std::uint32_t>(kind), width, quota));
+    }
+    status open_after(quiet &closed, std::uint64_t quota) noexcept {
+        return status(renamer_open_after(&handle, &closed.handle, quota));
+    }
+    status split(std::uint64_t quota, lane &other) noexcept {
+        return status(renamer_split(&handle, quota, &other.handle));
+    }
+    status reserve(std::uint64_t clients) noexcept { return status(renamer_reserve(&handle, clients)); }
+
+    status name(std::uint64_t client, std::uint64_t entry, std::uint64_t &name) noexcept {
+        return status(renamer_name(&handle, client, entry, &name));
+    }
+
+    /* Names the clients of a list; their grants take the place of what the second list had. */
+    status name_many(const std::vector<client> &clients, std::vector<grant> &grants) {
+        // One more than is written: no pointer of a call is null.
+        static const client nobody = {0, 0};
+        std::vector<grant> list(clients.size() + 1);
+        const client *first = clients.empty() ? &nobody : clients.data();
+        const status named = status(renamer_name_many(&handle, first, clients.size(), list.data(), clients.size()));
+        list.pop_back();
+        if (named == status::done) grants.swap(list);
+        return named;
+    }
+
+    status enter(std::uint64_t client, std::uint64_t entry) noexcept {
+        return status(renamer_enter(&handle, client, entry));
+    }
+    status step(std::uint64_t wire, moved &moved) noexcept { return status(renamer_step(&handle, wire, &moved)); }
+    status sweep(std::uint64_t wire, swept &swept) noexcept { return status(renamer_sweep(&handle, wire, &swept)); }
+
+    status lowest(std::uint64_t &wire) noexcept { return status(renamer_lowest(&handle, &wire)); }
+    status entered(std::uint64_t &entered) noexcept { return status(renamer_entered(&handle, &entered)); }
+    status quota(std::uint64_t &quota) noexcept { return status(renamer_quota(&handle, &quota)); }
+    status inside(std::uint64_t &inside) noexcept { return status(renamer_inside(&handle, &inside)); }
+    status entries(std::uint64_t &entries) noexcept { return status(renamer_entries(&handle, &entries)); }
+    status exits(std::uint64_t &exits) noexcept { return status(renamer_exits(&handle, &exits)); }
+    status grant_count(std::uint64_t &count) noexcept { return status(renamer_grant_count(&handle, &count)); }
+
+    /* The lane's grants, in the order in which they were given. */
+    status grants(std::vector<grant> &grants) {
+        std::uint64_t count = 0;
+        const status asked = grant_count(count);
+        if (asked != status::done) return asked;
+        std::vector<grant> list(static_cast<std::size_t>(count) + 1);
+        const status copied = status(renamer_grants(&handle, 0, list.data(), static_cast<std::size_t>(count)));
+        list.pop_back();
+        if (copied == status::done) grants.swap(list);
+        return copied;
+    }
+
+    status hand_back() noexcept { return status(renamer_hand_back(&handle)); }
+    status join() noexcept { return status(renamer_join(&handle)); }
+
+    /* Takes in all lanes that were handed back; status::memory or status::busy if one of them could not be. */
+    status join_all() noexcept {
+        status joined = join();
+        while (joined == status::done) joined = join();
+        return joined == status::nothing_back ? status::done : joined;
+    }
+
+    status close(quiet &closed) noexcept { return status(renamer_close(&handle, &closed.handle)); }
+
+  private:
+    renamer_lane handle = RENAMER_NO_LANE_YET;
+};
+
+} // namespace renamer
+
+#endif

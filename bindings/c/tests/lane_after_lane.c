@@ -1,0 +1,39 @@
+/*
+ * Lanes that come and go one after another, 100,000 of them: each names a client and is handed back, which takes no memory
+ * and is never refused. They take no more memory than one if they are joined, and the floor is closed by all of them
+ * also if none is joined before the end.
+ */
+#include "growths.h"
+#include "judge.h"
+#include <limits.h>
+
+/* Lanes one after another, of which each names a client. Those that are not joined meanwhile are joined at the end; with
+   memory refused they are handed back all the same. */
+static void one_after_another(int count, int are_joined) {
+    renamer_lane lane = RENAMER_NO_LANE_YET, other = RENAMER_NO_LANE_YET;
+    uint64_t name;
+    CHECK(renamer_open(&lane, RENAMER_TREE, 64, (uint64_t)count) == RENAMER_DONE);
+    CHECK(renamer_reserve(&lane, (uint64_t)count) == RENAMER_DONE);
+    long live = 0;
+    for (int client = 0; client < count; client++) {
+        CHECK(renamer_split(&lane, 1, &other) == RENAMER_DONE);
+        CHECK(renamer_name(&other, (uint64_t)client, 0, &name) == RENAMER_DONE && name == (uint64_t)client);
+        growths_refuse(0, LONG_MAX);
+        CHECK(renamer_hand_back(&other) == RENAMER_DONE && growths_refused() == 0);
+        growths_refuse(0, 0);
+        if (are_joined)
+            CHECK(renamer_join(&lane) == RENAMER_DONE);
+        if (client == 0)
+            live = growths_live();
+    }
+    if (are_joined)
+        CHECK(growths_live() == live);
+    close_floor(&lane, (uint64_t)count);
+}
+
+int main(int count, char **words) {
+    int lanes = count > 1 ? atoi(words[1]) : 100000;
+    one_after_another(lanes, 1);
+    one_after_another(lanes, 0);
+    CHECK(growths_live() == 0);
+}

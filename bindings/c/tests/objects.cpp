@@ -1,0 +1,108 @@
+// The objects of renamer.hpp: each call once, moves, statuses, and lanes that are freed where their scope ends.
+#include "renamer.hpp"
+#include <cstdint>
+#include <cstdio>
+#include <cstdlib>
+#include <cstring>
+#include <type_traits>
+#include <utility>
+#include <vector>
+
+using renamer::kind;
+using renamer::status;
+
+#define CHECK(what)                                                                                                    \
+    do {                                                                                                               \
+        if (!(what)) {                                                                                                 \
+            std::fprintf(stderr, "%s:%d: %s\n", __FILE__, __LINE__, #what);                                            \
+            std::exit(1);                                                                                              \
+        }                                                                                                              \
+    } while (0)
+
+static_assert(!std::is_copy_constructible<renamer::lane>::value && !std::is_copy_assignable<renamer::lane>::value,
+              "a lane is not copied");
+static_assert(!std::is_copy_constructible<renamer::quiet>::value && !std::is_copy_assignable<renamer::quiet>::value,
+              "a closed floor is not copied");
+static_assert(std::is_nothrow_move_constructible<renamer::lane>::value, "a vector of lanes moves them");
+
+// What a lane that only reads says.
+template <typename Ask> static std::uint64_t number(Ask ask, renamer::lane &lane) {
+    std::uint64_t answer = 99;
+    CHECK((lane.*ask)(answer) == status::done);
+    return answer;
+}
+
+// A lane that has nothing, and what is refused.
+static void refused() {
+    renamer::lane lane;
+    renamer::quiet quiet;
+    std::uint64_t name = 0;
+    std::vector<std::uint64_t> list(3, 5);
+    CHECK(lane.name(17, 0, name) == status::none);
+    CHECK(quiet.holders(list) == status::none && list.size() == 3);
+    CHECK(lane.open(kind::tree, 3, 4) == status::width);
+    CHECK(lane.open(kind::tree, 2, 262145) == status::quota);
+    CHECK(lane.open(kind::bitonic, 4, 4) == status::done);
+    CHECK(lane.name(17, 4, name) == status::no_such_entry);
+    CHECK(lane.close(quiet) == status::done);
+    CHECK(quiet.clients(name) == status::done && name == 0);
+    for (std::uint32_t number = 0; number <= RENAMER_BUSY; number++)
+        CHECK(std::strlen(renamer::explain(status(number))) > 10);
+}
+
+// Lists, single steps and a list of none.
+static void walk(renamer::lane &lane) {
+    const std::vector<renamer::client> clients = {{17, 0}, {5, 0}, {99, 1}};
+    std::vector<renamer::grant> grants(1);
+    CHECK(lane.name_many({}, grants) == status::done && grants.empty());
+    CHECK(lane.reserve(5) == status::done);
+    CHECK(lane.name_many(clients, grants) == status::done && grants.size() == 3);
+    renamer::moved moved;
+    renamer::swept swept;
+    std::uint64_t wire = 99;
+    CHECK(lane.lowest(wire) == status::nobody_there);
+    CHECK(lane.enter(23, 1) == status::done && lane.enter(42, 1) == status::done);
+    CHECK(lane.lowest(wire) == status::done && wire == 1);
+    CHECK(lane.step(1, moved) == status::done && moved.client == 23);
+    CHECK(lane.hand_back() == status::still_walking);
+    while (lane.lowest(wire) == status::done)
+        CHECK(lane.sweep(wire, swept) == status::done);
+    CHECK(number(&renamer::lane::inside, lane) == 0);
+    CHECK(number(&renamer::lane::grant_count, lane) == 5);
+    CHECK(lane.grants(grants) == status::done && grants.size() == 5);
+}
+
+// Lanes that move, are freed and joined; the floor is closed, and another goes on from it.
+static void close_and_go_on() {
+    renamer::lane lane;
+    CHECK(lane.open(kind::bitonic, 4, 9) == status::done);
+    CHECK(number(&renamer::lane::entries, lane) == 4 && number(&renamer::lane::exits, lane) == 4);
+    {
+        std::vector<renamer::lane> lanes(2);
+        CHECK(lane.split(6, lanes[0]) == status::done && lane.split(1, lanes[1]) == status::done);
+        lanes.emplace_back(std::move(lanes[0])); // the vector grows, and moves its lanes
+        CHECK(lanes[0].join() == status::none);
+        lanes[0] = std::move(lanes[2]);
+        walk(lanes[0]);
+    }
+    CHECK(number(&renamer::lane::quota, lane) == 2);
+    CHECK(lane.join_all() == status::done);
+    CHECK(number(&renamer::lane::quota, lane) == 4);
+    std::uint64_t number_of = 99;
+    CHECK(lane.entered(number_of) == status::done && number_of == 5);
+    renamer::quiet quiet, moved_to;
+    CHECK(lane.close(quiet) == status::done && lane.join() == status::none);
+    moved_to = std::move(quiet);
+    std::vector<std::uint64_t> counts, holders;
+    CHECK(moved_to.exits(number_of) == status::done && number_of == 4);
+    CHECK(moved_to.counts(counts) == status::done && counts == std::vector<std::uint64_t>({2, 1, 1, 1}));
+    CHECK(moved_to.holders(holders) == status::done && holders.size() == 5);
+    renamer::lane next;
+    CHECK(next.open_after(moved_to, 1) == status::done);
+    CHECK(next.name(7, 0, number_of) == status::done && number_of == 0);
+}
+
+int main() {
+    refused();
+    close_and_go_on();
+}

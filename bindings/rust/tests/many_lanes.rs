@@ -1,0 +1,83 @@
+//! Lanes that come and go, as those of a thread pool: any number of them, alive at once or one after another.
+use renamer::{Error, Floor, Kind};
+use std::sync::Barrier;
+use std::thread;
+
+const NETWORKS: [Kind; 3] = Kind::ALL;
+
+/// A thousand threads are alive at once, each with a lane, and name a client each.
+fn a_thousand_threads(kind: Kind) {
+    const THREADS: usize = 1_000;
+    let clients = 0..THREADS as u64;
+    let floor = Floor::open(kind, 8, clients.end).unwrap();
+    let all_are_there = Barrier::new(THREADS);
+    thread::scope(|scope| {
+        for client in clients.clone() {
+            let (floor, all_are_there) = (&floor, &all_are_there);
+            let by_lane = move || {
+                let mut lane = floor.lane(1).unwrap();
+                all_are_there.wait();
+                lane.name(client, client % lane.entries()).unwrap();
+            };
+            thread::Builder::new().stack_size(0x1_0000).spawn_scoped(scope, by_lane).unwrap();
+        }
+    });
+    let mut holders = floor.close().unwrap().holders();
+    holders.sort_unstable();
+    assert!(holders.into_iter().eq(clients));
+}
+
+#[test]
+fn a_thousand_lanes_at_once() {
+    for kind in NETWORKS {
+        a_thousand_threads(kind);
+    }
+}
+
+#[test]
+fn lanes_one_after_another_find_the_quota_that_is_left() {
+    for kind in NETWORKS {
+        let floor = Floor::open(kind, 2, 2_000).unwrap();
+        for client in 0..2_000 {
+            // Each lane takes all that is left, uses one, and hands the rest back.
+            let mut lane = floor.lane(2_000 - client).unwrap();
+            assert_eq!(lane.name(client, 0), Ok(client));
+        }
+        assert_eq!((floor.quota(), floor.lane(1).err()), (0, Some(Error::QuotaTooSmall)));
+        assert!(floor.close().unwrap().iter().all(|(name, client)| name as u64 == client));
+    }
+}
+
+#[test]
+fn lanes_that_were_never_taken_again() {
+    let mut lane = Floor::open(Kind::Tree, 2, 100_000).unwrap().into_lane();
+    for client in 0..100_000 {
+        lane.split(1).unwrap().name(client, 0).unwrap();
+    }
+    lane.join_all().unwrap();
+    assert_eq!(lane.alive(), 1);
+    assert_eq!(lane.close().unwrap().len(), 100_000);
+}
+
+#[test]
+fn quota_and_entries_are_shared_out() {
+    let floor = Floor::open(Kind::Bitonic, 8, 10).unwrap();
+    let lanes = floor.lanes(3).unwrap();
+    assert!(lanes.iter().map(|(lane, _)| lane.quota()).eq([4, 3, 3]));
+    assert!(lanes.iter().map(|(_, entries)| entries.clone()).eq([0..2, 2..5, 5..8]));
+    assert_eq!(floor.quota(), 0);
+    drop(lanes);
+    assert_eq!(floor.quota(), 10);
+    let by_one_entry = Floor::open(Kind::Tree, 8, 3).unwrap();
+    assert!(by_one_entry.lanes(2).unwrap().iter().all(|(_, entries)| *entries == (0..1)));
+    assert!(by_one_entry.lanes(0).unwrap().is_empty());
+}
+
+#[test]
+fn a_lane_says_what_it_has() {
+    let floor = Floor::open(Kind::Tree, 2, 3).unwrap();
+    let mut lane = floor.lane(2).unwrap();
+    lane.enter(17, 0).unwrap();
+    assert_eq!(format!("{lane:?}"), "Lane { quota: 1, inside: 1, grants: 0, .. }");
+    assert_eq!(format!("{floor:?}"), "Floor { quota: 1, alive: 1 }");
+}

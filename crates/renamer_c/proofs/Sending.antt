@@ -1,0 +1,99 @@
+-- What a handle has may cross threads: rattle makes no such proof of a type with a recursive type in it, as `Link`.
+use denote.Signature.{static_lft}
+use denote.Param.Send.{IsSend, IsSync, plain_send, struct_send, struct_sync, enum_send, recorded_send, recorded_sync, view_send, view_sync}
+use denote.Struct.Declared as structs
+use denote.Enum.Declared as enums
+use Rattle.std.proofs.Crossing.{frees}
+use Rattle.std.proofs.alloc.Global.TheSendSync as heap
+use Rattle.std.proofs.boxed.Box.TheSendSync as boxed
+use Rattle.std.proofs.option.Option.TheSendSync as option
+use Rattle.std.proofs.sync.Arc.TheSendSync as arc
+use Rattle.std.proofs.vec.Vec.TheSendSync as vec
+use Rattle.std.specs.contracts.alloc.Global as global
+use Rattle.std.specs.contracts.impls.GlobalAllocator.TheImpl as global_impl
+use Rattle.std.specs.contracts.option.Option as Option
+use Rattle.counted_slot.proofs.Counted.TheSendSync as counted
+use Rattle.counted_slot.specs.contracts.Counted as Counted
+use Rattle.counted_slot.specs.contracts.OptionFits.TheImpl as option_fits
+use Rattle.cn_floor.proofs.floor.Floor.TheSendSync as floor
+use Rattle.cn_floor.specs.contracts.floor.Floor as Floor
+use Rattle.cn_floor.proofs.floor.lane.Lane.TheSendSync as lane
+use Rattle.renamer_c.proofs.link.Link.TheLaws.TheKnot.{send-Link}
+use Rattle.renamer_c.proofs.loose.Loose.TheSendSync as loose
+use Rattle.renamer_c.proofs.record_of_floor.Record.TheSendSync as record_of
+use Rattle.renamer_c.specs.contracts.link.Link as Link
+use Rattle.renamer_c.specs.contracts.group.Returned as Returned
+use Rattle.renamer_c.specs.contracts.group.ReturnedFits.TheImpl as returned_fits
+use Rattle.renamer_c.specs.contracts.group.Group as Group
+use Rattle.renamer_c.specs.contracts.group.Group.TheInside as InGroup
+use Rattle.renamer_c.specs.contracts.floor_share.Owners as Owners
+use Rattle.renamer_c.specs.contracts.floor_share.FloorShare as FloorShare
+use Rattle.renamer_c.specs.contracts.floor_share.FloorShare.TheInside as InFloorShare
+use Rattle.renamer_c.specs.contracts.held_lane.HeldLane as HeldLane
+use Rattle.renamer_c.specs.contracts.held_lane.HeldLane.TheInside as InHeldLane
+use Rattle.renamer_c.specs.contracts.held.Held as Held
+
+link_send : IsSend Link.the_row
+link_send = recorded_send (Link.the_field).row _ _ (Link.the_type).to_one
+    (send-Link lane.the_send (λ h s. boxed.the_send h global.the_row global_impl.ghosts s heap.the_send frees))
+
+returned_send : IsSend Returned.the_row
+returned_send = recorded_send (Returned.the_field).row _ _ (Returned.the_type).to_one
+    (struct_send (structs.shape Returned.the_type) (loose.the_send Link.the_row global.the_row global_impl.ghosts link_send heap.the_send frees, tt))
+
+returned_sync : IsSync Returned.the_row
+returned_sync = recorded_sync (Returned.the_field).row _ _ (Returned.the_type).to_one
+    (struct_sync (structs.shape Returned.the_type) (loose.the_sync Link.the_row global.the_row global_impl.ghosts link_send heap.the_send frees, tt))
+
+place_send : IsSend (Counted.the_row (Option.the_row Returned.the_row) (Floor.the_row static_lft)
+    (option_fits.ghosts Returned.the_row (Floor.the_row static_lft) returned_fits.ghosts option_fits.no_dict))
+place_send = counted.the_send (Option.the_row Returned.the_row) (Floor.the_row static_lft)
+    (option_fits.ghosts Returned.the_row (Floor.the_row static_lft) returned_fits.ghosts option_fits.no_dict)
+    (option.the_send Returned.the_row returned_send)
+
+place_sync : IsSync (Counted.the_row (Option.the_row Returned.the_row) (Floor.the_row static_lft)
+    (option_fits.ghosts Returned.the_row (Floor.the_row static_lft) returned_fits.ghosts option_fits.no_dict))
+place_sync = counted.the_sync (Option.the_row Returned.the_row) (Floor.the_row static_lft)
+    (option_fits.ghosts Returned.the_row (Floor.the_row static_lft) returned_fits.ghosts option_fits.no_dict)
+    (option.the_send Returned.the_row returned_send) (option.the_sync Returned.the_row returned_sync)
+
+group_send : IsSend Group.the_row
+group_send = view_send InGroup.the_row _ _ _ _ (recorded_send (InGroup.the_field).row _ _ (InGroup.the_type).to_one
+    (struct_send (structs.shape InGroup.the_type) (
+      floor.the_send static_lft,
+      (vec.the_send _ global.the_row global_impl.ghosts place_send heap.the_send frees, tt),
+    )))
+
+group_sync : IsSync Group.the_row
+group_sync = view_sync InGroup.the_row _ _ _ _ (recorded_sync (InGroup.the_field).row _ _ (InGroup.the_type).to_one
+    (struct_sync (structs.shape InGroup.the_type) (
+      floor.the_sync static_lft,
+      (vec.the_sync _ global.the_row global_impl.ghosts place_sync heap.the_sync, tt),
+    )))
+
+owners_send : IsSend (Owners.the_field).row
+owners_send = enum_send (enums.shape Owners.the_type) (
+  (group_send, tt),
+  ((arc.the_send Group.the_row global.the_row global_impl.ghosts group_send heap.the_send group_sync heap.the_sync frees, tt), tt),
+)
+
+share_send : IsSend FloorShare.the_row
+share_send = view_send InFloorShare.the_row _ _ _ _ (recorded_send (InFloorShare.the_field).row _ _ (InFloorShare.the_type).to_one
+    (struct_send (structs.shape InFloorShare.the_type) (owners_send, tt)))
+
+held_lane_send : IsSend HeldLane.the_row
+held_lane_send = view_send InHeldLane.the_row _ _ _ _ (recorded_send (InHeldLane.the_field).row _ _ (InHeldLane.the_type).to_one
+    (struct_send (structs.shape InHeldLane.the_type) (
+      share_send,
+      (
+        lane.the_send,
+        (
+          plain_send _ _ _ _ _,
+          (boxed.the_send Link.the_row global.the_row global_impl.ghosts link_send heap.the_send frees, tt),
+        ),
+      ),
+    )))
+
+pub held_send : IsSend Held.the_row
+held_send = recorded_send (Held.the_field).row _ _ (Held.the_type).to_one
+    (enum_send (enums.shape Held.the_type) (tt, ((held_lane_send, tt), ((record_of.the_send, tt), tt))))
