@@ -26,7 +26,8 @@ fn entries_of(alloc: Global, clients: u64) -> Option<Vec<u64>> {
     Vec::from_iter(alloc, (0..clients).map(|client| client % 4)).ok()
 }
 
-/// How many names 1,000 clients have whom four workers name on bitonic 4, and whether both lists lead back to each other.
+/// How many names 1,000 clients have whom four workers name on bitonic 4, and whether both lists lead back to each
+/// other.
 fn named<R: Threads + Wait + Sync>(rt: &R, alloc: Global) -> Option<(usize, [bool; 2])> {
     let network = bitonic(alloc, 4).ok()?;
     let table = table_of(rt, alloc, &network, &entries_of(alloc, 1000)?, 4)?;
@@ -49,8 +50,8 @@ const ROWS: [Row; 5] = [
     (&[3, 3, 3, 3, 3], [2, 1, 1, 1], [0, 5, 2, 3, 3, 2]),
 ];
 
-/// Whether one worker, with one client in hand, gives names in the order of the clients, and the floor has these counts and
-/// passes.
+/// Whether one worker, with one client in hand, gives names in the order of the clients, and the floor has these counts
+/// and passes.
 fn is_told<R: Threads + Wait + Sync>(rt: &R, alloc: Global, row: &Row) -> Option<[bool; 4]> {
     let network = bitonic(alloc, 4).ok()?;
     let table = table_of(rt, alloc, &network, row.0, 1)?;
