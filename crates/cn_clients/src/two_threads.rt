@@ -3,6 +3,7 @@
 
 ghost use Rattle.std.specs.Prelude.{◌≡◌, ◌<◌, ◌≤◌, All, IfSome, length};
 ghost use Rattle.cn_yard.specs.Lists.{tokens_in};
+ghost use Rattle.cn_floor.specs.Together.{StoodAsOne};
 ghost use Rattle.cn_clients.specs.Naming.{AreApart, GaveNames};
 ghost use denote.Param.Send.{IsSync};
 
@@ -121,6 +122,7 @@ pub fn name_by_two<R: Threads>(
     ensures low { IfSome result (λ r. All (λ name. name < r.2.entered) r.2.first.items
         × All (λ name. name < r.2.entered) r.2.second.items) }
     ensures few { IfSome result (λ r. r.2.entered ≤ floor.now.start.quota) }
+    ensures moment { IfSome result (λ r. StoodAsOne floor.now.start r.0.view r.1.view r.2.entered) }
     ensures later { IfSome result (λ r. (r.0.view.seen ≡ r.2.entered) × (r.1.view.seen ≡ r.2.entered)) }
 {
     let named = name_in_threads(rt, alloc, floor, lane, other, first, second);

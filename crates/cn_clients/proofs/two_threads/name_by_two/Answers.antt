@@ -29,3 +29,6 @@ pub returns-clause-low : goal.returns-clause-low
 returns-clause-low g c =
     let gave = c.in-Some.ensures in
     let answer = c.look_at_both-lane.ensures.answer in (below _ _ _ _ _ gave.0 answer.0.names, below _ _ _ _ _ gave.1 answer.1.names)
+
+pub returns-clause-moment : goal.returns-clause-moment
+returns-clause-moment g c = c.look_at_both-lane.ensures.moment
