@@ -1,13 +1,11 @@
 //! A table by name: an epoch's clients are named by many workers, and each finds its name in an array, and each name its client
 //! in another.
 
-ghost use Rattle.std.specs.Prelude.{◌≡◌, ◌+◌, ◌<◌, ◌≤◌, All, IfOk, IfSome, List, OnSome, length, map, slice_index, vec_len};
+ghost use Rattle.std.specs.Prelude.{◌≡◌, ◌+◌, ◌<◌, ◌≤◌, All, IfOk, IfSome, OnSome, length, map, slice_index, vec_len};
 ghost use Rattle.cn_spec.specs.Step.{IsEachBelow};
 ghost use Rattle.cn_spec.specs.declared.limits.TheConstants.{MOST_CLIENTS, MOST_WORKERS};
 ghost use Rattle.cn_floor.specs.Ends.{ListsHolders};
-ghost use Rattle.cn_ledger.specs.declared.client.Client.{Client};
-ghost use Rattle.cn_walk.specs.Runs.{IsRun};
-ghost use Rattle.cn_clients.specs.Tables.{AreInverse, AreNumbered};
+ghost use Rattle.cn_clients.specs.Tables.{AreInverse, AreNumbered, IsRunOf};
 
 use cn_floor::{Grant, OpenGate, Quiet};
 use cn_ledger::Client;
@@ -43,6 +41,28 @@ fn numbered(alloc: Global, entries: &[u64]) -> Option<Vec<Client>>
     Some(clients)
 }
 
+/// Runs an epoch of such clients by so many workers, each with one client in hand: its closed floor. `None` if
+/// [`run_epoch`] refuses, or the list of clients gets no memory.
+fn run_numbered<'a, R: Threads + Wait + Sync>(
+    rt: &R,
+    alloc: Global,
+    network: &'a Counting,
+    entries: &[u64],
+    workers: u32,
+) -> Option<Quiet<'a>>
+    ensures run { IfSome result (IsRunOf network.now entries.now) }
+    ensures allowed { OnSome result ((1 ≤ workers) × (workers ≤ MOST_WORKERS)
+        × (length entries.now ≤ MOST_CLIENTS) × All (λ e. e < network.now.table.entries) entries.now) }
+{
+    let Some(clients) = numbered(alloc, entries) else {
+        return None;
+    };
+    let Ok(quiet) = run_epoch(rt, alloc, network, &clients, workers, 1, &OpenGate) else {
+        return None;
+    };
+    Some(quiet)
+}
+
 /// The name of each client: these are the grants of clients with the numbers from 0 up, one each.
 fn names_by_client(alloc: Global, grants: &[Grant]) -> Option<Vec<u64>>
     requires { IsEachBelow (length grants.now) (map (λ g. g.client) grants.now) }
@@ -70,17 +90,13 @@ pub fn table_of<'a, R: Threads + Wait + Sync>(
     ensures many { IfSome result (λ table. (length table.names.items ≡ length entries.now)
         × (length table.clients.items ≡ length entries.now)) }
     ensures inverse { IfSome result (λ table. AreInverse table.names.items table.clients.items) }
-    ensures run { IfSome result (λ table. (clients : List Client)
-        × AreNumbered entries.now clients × IsRun network.now clients table.quiet) }
+    ensures run { IfSome result (λ table. IsRunOf network.now entries.now table.quiet) }
     ensures own { IfSome result (λ table.
         ListsHolders table.quiet.did.grants table.clients.items) }
     ensures allowed { OnSome result ((1 ≤ workers) × (workers ≤ MOST_WORKERS)
         × (length entries.now ≤ MOST_CLIENTS) × All (λ e. e < network.now.table.entries) entries.now) }
 {
-    let Some(clients) = numbered(alloc, entries) else {
-        return None;
-    };
-    let Ok(quiet) = run_epoch(rt, alloc, network, &clients, workers, 1, &OpenGate) else {
+    let Some(quiet) = run_numbered(rt, alloc, network, entries, workers) else {
         return None;
     };
     let Ok(holders) = quiet.holders() else {

@@ -29,11 +29,8 @@ fn are_told<R: Threads + Wait + Sync>(
     row: &Told<'_>,
     gate: &Tally,
 ) -> Option<[bool; 2]> {
-    let (clients, workers, hand, counts, named, _) = row;
-    match run_after(rt, alloc, words, clients, *workers, *hand, gate) {
-        Ok(quiet) => are_named(&quiet, counts, named),
-        Err(_) => None,
-    }
+    let ended = run_after(rt, alloc, words, row.0, row.1, row.2, gate);
+    are_named(&ended.ok()?, &row.3, row.4)
 }
 
 /// The same from words of 0.

@@ -106,13 +106,12 @@ impl<'a> Floor<'a> {
         requires own { (seat.old.table_id ≡ self.now.table)
             × (seat.old.me.0.start ≡ self.now.start) }
         requires slots { (seat.old.me.1 ≡ []) × (seat.old.me.0.loads ≡ []) }
-        requires wires { length seat.old.me.0.tokens ≡ length self.now.start.network.table.ends }
-        requires entry { entry < self.now.start.network.table.entries }
+        requires entry { (entry < self.now.start.network.table.entries)
+            × (entry < length seat.old.me.0.tokens) }
         requires quota { length clients.now ≤ seat.old.me.0.quota }
         ensures seat { (seat.new.table_id ≡ seat.old.table_id) × (seat.new.me.1 ≡ []) }
         ensures step { ComeTogether self.now.start clients.now entry seat.old.me.0 seat.new.me.0 }
     {
-        self.start_laws();
         self.counters
             .enter_all::<Brand>(seat, clients, entry, clients.len() as u64);
     }

@@ -4,6 +4,10 @@ use Rattle.cn_floor.specs.Listed.{CameIn}
 use Rattle.cn_floor.proofs.InLane.Listed.{all-came-in}
 use Rattle.cn_floor.proofs.floor.Floor.come_in.Goals as goal
 
+pub enter_list-requires-clause-entry : goal.enter_list-requires-clause-entry
+enter_list-requires-clause-entry c =
+    (c.requires.entry, omega (arith, c.requires.wires, c.start_laws.ensures.network.formed.wires, c.requires.entry))
+
 pub returns-clause-came : goal.returns-clause-came
 returns-clause-came c =
     subst (λ (w : View). CameIn c.args.seat.now.me.0 w c.args.clients.now c.args.entry (length c.args.clients.now)) (sym c.enter_list.ensures.step.0)
