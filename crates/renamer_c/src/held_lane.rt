@@ -81,7 +81,12 @@ impl HeldLane {
             return Err(Refusal::Memory);
         };
         match Floor::open_shared(alloc, &network, quota) {
-            Ok((floor, lane)) => Ok(HeldLane::of(FloorShare::of(Group::of(alloc, floor)), lane, quota, room)),
+            Ok((floor, lane)) => Ok(HeldLane::of(
+                FloorShare::of(Group::of(alloc, floor)),
+                lane,
+                quota,
+                room,
+            )),
             Err(_) => Err(Refusal::Memory),
         }
     }
@@ -202,7 +207,12 @@ impl HeldLane {
             return Err(Refusal::Memory);
         };
         match Floor::open_after(alloc, words, quota) {
-            Ok((floor, lane)) => Ok(HeldLane::of(FloorShare::of(Group::of(alloc, floor)), lane, quota, room)),
+            Ok((floor, lane)) => Ok(HeldLane::of(
+                FloorShare::of(Group::of(alloc, floor)),
+                lane,
+                quota,
+                room,
+            )),
             Err(_) => Err(Refusal::Memory),
         }
     }
