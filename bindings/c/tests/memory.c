@@ -136,20 +136,19 @@ static void run_floor(uint32_t kind, uint32_t width) {
     name_some(&lane, 1000);
     name_some(&other, 2000);
     step_some(&other, 2100);
-    before = seen_of(&other);
-    EACH_GROWTH(renamer_hand_back(&other), is_as(&other, &before));
+    growths_refuse(0, LONG_MAX);
+    NO_GROWTH(renamer_hand_back(&other));
+    growths_refuse(0, 0);
     before = seen_of(&lane);
     EACH_GROWTH(renamer_join(&lane), is_as(&lane, &before));
     before = seen_of(&lane);
     CHECK(before.grants == 105 && before.quota == 95);
-    /* A lane that was taken and not joined for want of memory goes back with the one that took it. */
     CHECK(renamer_split(&lane, 60, &other) == RENAMER_DONE);
     name_some(&other, 4000);
     CHECK(renamer_hand_back(&other) == RENAMER_DONE && renamer_split(&lane, 0, &other) == RENAMER_DONE);
     growths_refuse(0, LONG_MAX);
-    CHECK(renamer_join(&other) == RENAMER_MEMORY && renamer_hand_back(&other) == RENAMER_MEMORY);
+    CHECK(renamer_join(&other) == RENAMER_MEMORY && renamer_hand_back(&other) == RENAMER_DONE);
     growths_refuse(0, 0);
-    CHECK(renamer_hand_back(&other) == RENAMER_DONE);
     CHECK(renamer_join(&lane) == RENAMER_DONE && renamer_join(&lane) == RENAMER_DONE);
     before = seen_of(&lane);
     CHECK(before.grants == 156 && before.quota == 44);

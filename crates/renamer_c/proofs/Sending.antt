@@ -33,67 +33,67 @@ use Rattle.renamer_c.specs.contracts.held_lane.HeldLane as HeldLane
 use Rattle.renamer_c.specs.contracts.held_lane.HeldLane.TheInside as InHeldLane
 use Rattle.renamer_c.specs.contracts.held.Held as Held
 
-link_send : IsSend Link.the_row
-link_send = recorded_send (Link.the_field).row _ _ (Link.the_type).to_one
+link-send : IsSend Link.the_row
+link-send = recorded_send (Link.the_field).row _ _ (Link.the_type).to_one
     (send-Link lane.the_send (λ h s. boxed.the_send h global.the_row global_impl.ghosts s heap.the_send frees))
 
-returned_send : IsSend Returned.the_row
-returned_send = recorded_send (Returned.the_field).row _ _ (Returned.the_type).to_one
-    (struct_send (structs.shape Returned.the_type) (loose.the_send Link.the_row global.the_row global_impl.ghosts link_send heap.the_send frees, tt))
+returned-send : IsSend Returned.the_row
+returned-send = recorded_send (Returned.the_field).row _ _ (Returned.the_type).to_one
+    (struct_send (structs.shape Returned.the_type) (loose.the_send Link.the_row global.the_row global_impl.ghosts link-send heap.the_send frees, tt))
 
-returned_sync : IsSync Returned.the_row
-returned_sync = recorded_sync (Returned.the_field).row _ _ (Returned.the_type).to_one
-    (struct_sync (structs.shape Returned.the_type) (loose.the_sync Link.the_row global.the_row global_impl.ghosts link_send heap.the_send frees, tt))
+returned-sync : IsSync Returned.the_row
+returned-sync = recorded_sync (Returned.the_field).row _ _ (Returned.the_type).to_one
+    (struct_sync (structs.shape Returned.the_type) (loose.the_sync Link.the_row global.the_row global_impl.ghosts link-send heap.the_send frees, tt))
 
-place_send : IsSend (Counted.the_row (Option.the_row Returned.the_row) (Floor.the_row static_lft)
+place-send : IsSend (Counted.the_row (Option.the_row Returned.the_row) (Floor.the_row static_lft)
     (option_fits.ghosts Returned.the_row (Floor.the_row static_lft) returned_fits.ghosts option_fits.no_dict))
-place_send = counted.the_send (Option.the_row Returned.the_row) (Floor.the_row static_lft)
+place-send = counted.the_send (Option.the_row Returned.the_row) (Floor.the_row static_lft)
     (option_fits.ghosts Returned.the_row (Floor.the_row static_lft) returned_fits.ghosts option_fits.no_dict)
-    (option.the_send Returned.the_row returned_send)
+    (option.the_send Returned.the_row returned-send)
 
-place_sync : IsSync (Counted.the_row (Option.the_row Returned.the_row) (Floor.the_row static_lft)
+place-sync : IsSync (Counted.the_row (Option.the_row Returned.the_row) (Floor.the_row static_lft)
     (option_fits.ghosts Returned.the_row (Floor.the_row static_lft) returned_fits.ghosts option_fits.no_dict))
-place_sync = counted.the_sync (Option.the_row Returned.the_row) (Floor.the_row static_lft)
+place-sync = counted.the_sync (Option.the_row Returned.the_row) (Floor.the_row static_lft)
     (option_fits.ghosts Returned.the_row (Floor.the_row static_lft) returned_fits.ghosts option_fits.no_dict)
-    (option.the_send Returned.the_row returned_send) (option.the_sync Returned.the_row returned_sync)
+    (option.the_send Returned.the_row returned-send) (option.the_sync Returned.the_row returned-sync)
 
-group_send : IsSend Group.the_row
-group_send = view_send InGroup.the_row _ _ _ _ (recorded_send (InGroup.the_field).row _ _ (InGroup.the_type).to_one
+group-send : IsSend Group.the_row
+group-send = view_send InGroup.the_row _ _ _ _ (recorded_send (InGroup.the_field).row _ _ (InGroup.the_type).to_one
     (struct_send (structs.shape InGroup.the_type) (
       floor.the_send static_lft,
-      (vec.the_send _ global.the_row global_impl.ghosts place_send heap.the_send frees, tt),
+      (vec.the_send _ global.the_row global_impl.ghosts place-send heap.the_send frees, tt),
     )))
 
-group_sync : IsSync Group.the_row
-group_sync = view_sync InGroup.the_row _ _ _ _ (recorded_sync (InGroup.the_field).row _ _ (InGroup.the_type).to_one
+group-sync : IsSync Group.the_row
+group-sync = view_sync InGroup.the_row _ _ _ _ (recorded_sync (InGroup.the_field).row _ _ (InGroup.the_type).to_one
     (struct_sync (structs.shape InGroup.the_type) (
       floor.the_sync static_lft,
-      (vec.the_sync _ global.the_row global_impl.ghosts place_sync heap.the_sync, tt),
+      (vec.the_sync _ global.the_row global_impl.ghosts place-sync heap.the_sync, tt),
     )))
 
-owners_send : IsSend (Owners.the_field).row
-owners_send = enum_send (enums.shape Owners.the_type) (
-  (group_send, tt),
-  ((arc.the_send Group.the_row global.the_row global_impl.ghosts group_send heap.the_send group_sync heap.the_sync frees, tt), tt),
+owners-send : IsSend (Owners.the_field).row
+owners-send = enum_send (enums.shape Owners.the_type) (
+  (group-send, tt),
+  ((arc.the_send Group.the_row global.the_row global_impl.ghosts group-send heap.the_send group-sync heap.the_sync frees, tt), tt),
 )
 
-share_send : IsSend FloorShare.the_row
-share_send = view_send InFloorShare.the_row _ _ _ _ (recorded_send (InFloorShare.the_field).row _ _ (InFloorShare.the_type).to_one
-    (struct_send (structs.shape InFloorShare.the_type) (owners_send, tt)))
+share-send : IsSend FloorShare.the_row
+share-send = view_send InFloorShare.the_row _ _ _ _ (recorded_send (InFloorShare.the_field).row _ _ (InFloorShare.the_type).to_one
+    (struct_send (structs.shape InFloorShare.the_type) (owners-send, tt)))
 
-held_lane_send : IsSend HeldLane.the_row
-held_lane_send = view_send InHeldLane.the_row _ _ _ _ (recorded_send (InHeldLane.the_field).row _ _ (InHeldLane.the_type).to_one
+held-lane-send : IsSend HeldLane.the_row
+held-lane-send = view_send InHeldLane.the_row _ _ _ _ (recorded_send (InHeldLane.the_field).row _ _ (InHeldLane.the_type).to_one
     (struct_send (structs.shape InHeldLane.the_type) (
-      share_send,
+      share-send,
       (
         lane.the_send,
         (
           plain_send _ _ _ _ _,
-          (boxed.the_send Link.the_row global.the_row global_impl.ghosts link_send heap.the_send frees, tt),
+          (boxed.the_send Link.the_row global.the_row global_impl.ghosts link-send heap.the_send frees, tt),
         ),
       ),
     )))
 
-pub held_send : IsSend Held.the_row
-held_send = recorded_send (Held.the_field).row _ _ (Held.the_type).to_one
-    (enum_send (enums.shape Held.the_type) (tt, ((held_lane_send, tt), ((record_of.the_send, tt), tt))))
+pub held-send : IsSend Held.the_row
+held-send = recorded_send (Held.the_field).row _ _ (Held.the_type).to_one
+    (enum_send (enums.shape Held.the_type) (tt, ((held-lane-send, tt), ((record_of.the_send, tt), tt))))
