@@ -8,7 +8,9 @@ import subprocess
 
 ROOT = pathlib.Path(__file__).resolve().parent.parent
 C, RUST, OUT = ROOT / "bindings" / "c", ROOT / "bindings" / "rust", ROOT / "out"
-STRICT = ["-Wall", "-Wextra", "-Werror", "-O1", "-g"]
+STRICT = ["-Wall", "-Wextra", "-Wpedantic", "-Werror", "-O1", "-g"]
+# By which programs in C++ are compiled once more, since their header has all of its code.
+SECOND = "clang++"
 # The standards that the header is to compile by; programs are compiled by the first.
 STANDARDS = {"cc": ["c99", "c11", "c17"], "c++": ["c++11", "c++14", "c++17", "c++20"]}
 WRAPPED = "-Wl,--wrap=malloc,--wrap=calloc,--wrap=realloc,--wrap=free"
@@ -88,11 +90,11 @@ def run(words, folder=ROOT, seconds=SECONDS, **environment):
     return done.stdout
 
 
-def compiled(program, folder, name, flags):
+def compiled(program, folder, name, flags, compiler=None):
     """Compiles a program with some flags more."""
-    compiler = program.compiler()
     made = folder / f"{program.source.name}-{name}".replace(" ", "-")
-    run([compiler, f"-std={STANDARDS[compiler][0]}", *STRICT, *flags, "-I", OUT / "include", program.source,
+    own = program.compiler()
+    run([compiler or own, f"-std={STANDARDS[own][0]}", *STRICT, *flags, "-I", OUT / "include", program.source,
          *program.others, "-o", made, "-L", OUT / "lib", "-lrenamer", "-lpthread"])
     return made
 
@@ -104,6 +106,13 @@ def run_program(program, folder, sanitizer=None):
     printed = run([made, *program.words(sanitizer)], seconds=SECONDS * (2 if program.is_long else 1), **environment)
     if program.prints and printed != program.prints:
         raise Wrong(f"it printed {printed!r}, not {program.prints!r}")
+
+
+def run_by_second(program, folder):
+    """Runs a program in C++ as another compiler makes it."""
+    if not shutil.which(SECOND):
+        raise NotTried(f"{SECOND} is not here; Debian has it in the package clang")
+    run([compiled(program, folder, SECOND, [], SECOND)])
 
 
 def fuzz_by_valgrind(folder):
@@ -142,8 +151,11 @@ def sanitized(compiler, folder):
 def cases(compiler, folder):
     """The cases of a compiler: a name, and what raises Wrong."""
     for program in PROGRAMS:
+        name = f"{program.source.relative_to(ROOT)}"
         if program.compiler() == compiler:
-            yield f"{program.source.relative_to(ROOT)}", lambda program=program: run_program(program, folder)
+            yield name, lambda program=program: run_program(program, folder)
+        if program.compiler() == compiler == "c++":
+            yield f"{name}, {SECOND}", lambda program=program: run_by_second(program, folder)
     for standard in STANDARDS[compiler]:
         yield f"the header, {standard}", lambda standard=standard: header_stands_alone(compiler, standard, folder)
     yield from sanitized(compiler, folder)
@@ -155,4 +167,4 @@ def header_stands_alone(compiler, standard, folder):
     """The header needs no other before it, and can be included twice."""
     source = folder / f"header-{standard}.{'cpp' if compiler == 'c++' else 'c'}"
     source.write_text('#include "renamer.h"\n#include "renamer.h"\nint main(void) { return !renamer_version(); }\n')
-    run([compiler, f"-std={standard}", "-pedantic", *STRICT, "-I", C, "-fsyntax-only", source])
+    run([compiler, f"-std={standard}", *STRICT, "-I", C, "-fsyntax-only", source])

@@ -27,11 +27,11 @@
  * THREADS. Calls on different handles may run at once in any threads, also on lanes of one floor. Calls on one handle may
  * not overlap. A handle may go to another thread by what orders memory: a start or a join of a thread, a lock, an
  * atomic. No call waits for another thread, and none starts one. No call may be made from a signal handler, or in the
- * child of a fork of a process with threads.
+ * child of a fork of a process with threads. A fork copies floors: parent and child both give name 1, to two clients.
  *
- * THE CALLER'S SIDE. What no call can check is the caller's: no pointer is NULL, also that of an array of size 0; a
- * number or an array that a call writes overlaps nothing else that is passed; two handles of one call are not the same
- * handle.
+ * THE CALLER'S SIDE. What no call can check is the caller's: no pointer is NULL, also that of an array of size 0; an
+ * array is as long as its size says; a number or an array that a call writes overlaps nothing else that is passed; two
+ * handles of one call are not the same handle.
  */
 #ifndef RENAMER_H
 #define RENAMER_H

@@ -1,6 +1,7 @@
 /*
- * Eight threads name 262,144 clients on each of many floors, over random networks that go on from random counters: by
- * names, by lists, and by single steps and sweeps, with lanes that are split off, handed back and taken in while others walk.
+ * Eight threads or a hundred name 262,144 clients on each of many floors, over random networks that go on from random
+ * counters: by names, by lists, and by single steps and sweeps, with lanes that are split off, handed back and taken in
+ * while others walk.
  * Then one lane takes all in and closes the floor. Each name is judged when it is given, by how many came in so far; and
  * each floor by its names, by the grants of that lane, and by the counts and clients of the closed floor.
  *
@@ -14,9 +15,9 @@
 #include <string.h>
 #include <time.h>
 
-enum { THREADS = 8, MOST_WIDTH = 256, MOST_BEFORE = 1000 };
+enum { FEW_THREADS = 8, MOST_THREADS = 100, MOST_WIDTH = 256, MOST_BEFORE = 1000 };
 
-static struct thread threads[THREADS];
+static struct thread threads[MOST_THREADS];
 
 /* ---- lanes */
 
@@ -93,25 +94,25 @@ static const char *open_after(renamer_lane *rest, uint32_t kind, uint32_t width,
     return status == RENAMER_DONE ? NULL : "the floor was not opened";
 }
 
-/* Runs the threads on a floor, whose rest has the whole quota, and takes their lanes in. */
-static const char *run_threads(renamer_lane *rest, uint64_t *chance) {
+/* Runs so many threads on a floor, whose rest has the whole quota, and takes their lanes in. */
+static const char *run_threads(renamer_lane *rest, int threads_there, uint64_t *chance) {
     const char *wrong = NULL;
     uint64_t entries, first = 1;
     if (renamer_entries(rest, &entries) != RENAMER_DONE)
         return "renamer_entries was refused";
     memset(named, 0, sizeof named);
     atomic_store(&came_in, 0);
-    for (int t = 0; t < THREADS; t++) {
+    for (int t = 0; t < threads_there; t++) {
         struct thread *thread = &threads[t];
-        uint64_t left = ALL + 1 - first, most = 1 + 2 * left / (uint64_t)(THREADS - t);
-        uint64_t count = t == THREADS - 1 ? left : draw(chance) % most;
+        uint64_t left = ALL + 1 - first, most = 1 + 2 * left / (uint64_t)(threads_there - t);
+        uint64_t count = t == threads_there - 1 ? left : draw(chance) % most;
         thread->chance = draw(chance), thread->entries = entries, thread->first = first, thread->count = count;
         thread->wrong = renamer_split(rest, count, &thread->lane) == RENAMER_DONE ? NULL : "renamer_split was refused";
         first += count;
     }
-    for (int t = 0; t < THREADS; t++)
+    for (int t = 0; t < threads_there; t++)
         CHECK(pthread_create(&threads[t].id, NULL, name_all, &threads[t]) == 0);
-    for (int t = 0; t < THREADS; t++) {
+    for (int t = 0; t < threads_there; t++) {
         CHECK(pthread_join(threads[t].id, NULL) == 0);
         wrong = wrong ? wrong : threads[t].wrong;
     }
@@ -166,22 +167,23 @@ static const char *run_floor(uint64_t seed) {
     uint64_t chance = seed;
     uint32_t kind = (uint32_t)(draw(&chance) % KINDS), width = (uint32_t)2 << draw(&chance) % LEVELS;
     uint64_t before = draw(&chance) % MOST_BEFORE;
+    int count = draw(&chance) % 2 ? FEW_THREADS : MOST_THREADS;
     const char *wrong = open_after(&rest, kind, width, before);
-    wrong = wrong ? wrong : run_threads(&rest, &chance);
+    wrong = wrong ? wrong : run_threads(&rest, count, &chance);
     wrong = wrong ? wrong : judge_grants(&rest, width, before);
     wrong = wrong ? wrong : judge_quiet(&rest, width, before);
-    for (int t = 0; t < THREADS; t++)
+    for (int t = 0; t < MOST_THREADS; t++)
         renamer_free(&threads[t].lane);
     renamer_free(&rest);
     return wrong;
 }
 
 static void print_calls(void) {
-    static const char *const calls[CALLS] = {"names",  "lists",  "names in lists", "enters",       "steps",
-                                             "sweeps", "splits", "lanes back",     "lanes joined", "times no place"};
+    static const char *const calls[CALLS] = {"names",  "lists",      "names in lists", "enters",    "steps", "sweeps",
+                                             "splits", "lanes back", "lanes joined",   "busy joins"};
     for (int call = 0; call < CALLS; call++) {
         uint64_t all = 0;
-        for (int t = 0; t < THREADS; t++)
+        for (int t = 0; t < MOST_THREADS; t++)
             all += threads[t].did[call];
         printf("%s%" PRIu64 " %s", call ? ", " : "", all, calls[call]);
     }
