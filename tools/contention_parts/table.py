@@ -1,0 +1,101 @@
+"""A table of names per microsecond, as text, as CSV and as a picture."""
+import math
+
+COLOURS = ("#1d2733", "#b4431f", "#0b4f8a", "#2c7a4b", "#7a3e9d", "#a67c00", "#c2185b", "#00838f")
+WIDE, HIGH, LEFT, RIGHT, TOP, BOTTOM = 900, 520, 70, 230, 50, 60
+# Labels at the right stand at least so far below one another.
+APART = 16
+
+
+class Row:
+    """What one network with one stride does, by the number of processors."""
+
+    def __init__(self, name: str, stride: int, rates: list[float]):
+        self.name, self.stride, self.rates = name, stride, rates
+
+    @property
+    def label(self) -> str:
+        """The network and how its words lie."""
+        return self.name if self.stride == 0 else f"{self.name}, stride {self.stride}"
+
+
+def as_text(processors: list[int], rows: list[Row]) -> str:
+    """Returns the table with its columns one below the other."""
+    lines = ["names per microsecond", f"{'processors':24}" + "".join(f"{number:8}" for number in processors)]
+    return "\n".join(lines + [f"{row.label:24}" + "".join(f"{rate:8.1f}" for rate in row.rates) for row in rows]) + "\n"
+
+
+def as_csv(processors: list[int], rows: list[Row]) -> str:
+    """Returns a record for each network, stride and number of processors."""
+    records = [f"{row.name},{row.stride},{number},{rate:.2f}"
+               for row in rows for number, rate in zip(processors, row.rates)]
+    return "\n".join(["network,stride,processors,names_per_microsecond", *records]) + "\n"
+
+
+class Plot:
+    """A plot whose axes are logarithms."""
+
+    def __init__(self, processors: list[int], rows: list[Row]):
+        rates = [rate for row in rows for rate in row.rates]
+        self.most = max(processors[-1], 2)
+        self.low, self.high = math.floor(math.log10(min(rates))), math.ceil(math.log10(max(rates)))
+        self.high = max(self.high, self.low + 1)
+
+    def x(self, number: int) -> float:
+        """Returns where a number of processors lies."""
+        return LEFT + (WIDE - LEFT - RIGHT) * math.log2(number) / math.log2(self.most)
+
+    def y(self, rate: float) -> float:
+        """Returns where so many names per microsecond lie."""
+        part = (math.log10(rate) - self.low) / (self.high - self.low)
+        return HIGH - BOTTOM - (HIGH - TOP - BOTTOM) * part
+
+
+def grid(plot: Plot, processors: list[int]) -> list[str]:
+    """Returns the axes with their numbers."""
+    found = []
+    for number in processors:
+        x = f"{plot.x(number):.1f}"
+        found.append(f'<path d="M{x} {TOP}V{HIGH - BOTTOM}"/><text x="{x}" y="{HIGH - 38}" text-anchor="middle">'
+                     f"{number}</text>")
+    for power in range(plot.low, plot.high + 1):
+        for digit in (1, 2, 5) if power < plot.high else (1,):
+            y = plot.y(digit * 10**power)
+            found.append(f'<path d="M{LEFT} {y:.1f}H{WIDE - RIGHT}"/><text x="{LEFT - 8}" y="{y + 4:.1f}" '
+                         f'text-anchor="end">{digit * 10.0**power:g}</text>')
+    return found
+
+
+def places_of_labels(wanted: list[float]) -> list[float]:
+    """Returns heights near these, none of which is too near to another."""
+    order = sorted(range(len(wanted)), key=lambda row: wanted[row])
+    found, last = [0.0] * len(wanted), -math.inf
+    for row in order:
+        found[row] = last = max(wanted[row], last + APART)
+    over = max(0.0, last - (HIGH - BOTTOM))
+    return [height - over for height in found]
+
+
+def as_picture(title: str, processors: list[int], rows: list[Row]) -> str:
+    """Returns a line for each row, from left to right by the number of processors."""
+    plot, names = Plot(processors, rows), list(dict.fromkeys(row.name for row in rows))
+    labels = places_of_labels([plot.y(row.rates[-1]) for row in rows])
+    lines = []
+    for row, height in zip(rows, labels):
+        colour = COLOURS[names.index(row.name) % len(COLOURS)]
+        points = " ".join(f"{plot.x(number):.1f},{plot.y(rate):.1f}" for number, rate in zip(processors, row.rates))
+        dashes = ' stroke-dasharray="5 4"' if row.stride == 1 else ""
+        lines.append(f'<polyline points="{points}" fill="none" stroke="{colour}" stroke-width="2"{dashes}/>')
+        lines.append(f'<text x="{WIDE - RIGHT + 10}" y="{height + 4:.1f}" style="fill: {colour}">{row.label}</text>')
+    return "\n".join([
+        f'<svg xmlns="http://www.w3.org/2000/svg" width="{WIDE}" height="{HIGH}" viewBox="0 0 {WIDE} {HIGH}">',
+        f"<title>{title}</title>",
+        '<style>text { font-family: "DejaVu Sans", Verdana, Arial, sans-serif; font-size: 12px; fill: #1d2733 }',
+        ".grid path { stroke: #d5dbe3; fill: none }</style>",
+        f'<rect width="{WIDE}" height="{HIGH}" fill="white"/>',
+        f'<text x="{LEFT}" y="28" style="font-size: 15px">{title}</text>',
+        '<g class="grid">', *grid(plot, processors), "</g>",
+        f'<text x="{(LEFT + WIDE - RIGHT) / 2}" y="{HIGH - 14}" text-anchor="middle">processors</text>',
+        *lines,
+        "</svg>\n",
+    ])
