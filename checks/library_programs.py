@@ -107,7 +107,7 @@ def run_program(program, folder, sanitizer=None):
     """Compiles and runs a program, under a sanitizer if one is named."""
     flags, environment = SANITIZERS[sanitizer] if sanitizer else ([], {})
     made = compiled(program, folder, sanitizer or "plain", flags)
-    printed = run([made, *program.words(sanitizer)], seconds=SECONDS * (2 if program.is_long else 1), **environment)
+    printed = run([made, *program.words(sanitizer)], seconds=SECONDS * (5 if program.is_long else 1), **environment)
     if program.prints and printed != program.prints:
         raise Wrong(f"it printed {printed!r}, not {program.prints!r}")
 
