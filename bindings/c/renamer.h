@@ -170,7 +170,8 @@ uint32_t renamer_version(void);
 uint32_t renamer_open(renamer_lane *lane, uint32_t kind, uint32_t width, uint64_t quota);
 
 /* Splits off another lane of the same floor, with so much of the quota; the lane keeps all else. Other lanes may walk
-   meanwhile, and the lane may have clients inside.
+   meanwhile, and the lane may have clients inside. On every network the other lane takes less than 1,000 bytes, until a
+   client comes in by renamer_enter or renamer_name_many, or renamer_reserve makes room: then a list for each wire too.
    RENAMER_NONE, _QUOTA_TOO_SMALL, _MEMORY. */
 uint32_t renamer_split(renamer_lane *lane, uint64_t quota, renamer_lane *other);
 
@@ -178,8 +179,8 @@ uint32_t renamer_split(renamer_lane *lane, uint64_t quota, renamer_lane *other);
    RENAMER_NONE, _MEMORY (also if it is more than that). */
 uint32_t renamer_reserve(renamer_lane *lane, uint64_t clients);
 
-/* Names a client: lets it in by an entry and walks it out. Takes memory only if the lane has no room. Identities are any
-   numbers, and are not compared: a client that is named twice gets two names.
+/* Names a client: lets it in by an entry and walks it out. Takes memory only if the lane has no room, and then only for
+   its grant. Identities are any numbers, and are not compared: a client that is named twice gets two names.
 
    Any entry will do. If threads name clients at once on a bitonic network of width w, it is best that each lets its clients
    in by entries of its own, one after another: thread t of n, which is at most w, by those from t * w / n up to, not

@@ -7,7 +7,7 @@ use Rattle.std.proofs.lemmas.Simd.{map-map}
 use Rattle.std.specs.Sync.OnceLock.{Named}
 use Rattle.cn_spec.specs.Step.{IsEachBelow}
 use Rattle.cn_spec.proofs.CallerLemmas.{sum-below-zero}
-use Rattle.cn_yard.specs.Lists.{empty, on, tokens_in}
+use Rattle.cn_yard.specs.Lists.{Yard, empty, on, tokens_in}
 use Rattle.cn_floor.specs.declared.view.Grant.{Grant}
 use Rattle.cn_floor.specs.Lane.{LaneValue}
 use Rattle.cn_floor.specs.Named.{IsNamed}
@@ -24,7 +24,7 @@ filled-one slots a b c clients filled one entry by is at =
     let grant : List Grant = record { client = one.client; exit = is.exit; visit = is.visit; name = one.name } ∷ [] in
     record {
       home = is.home ∙ by.home;
-      lists = is.lists ∙ by.lists;
+      lists = ap (λ (y : Yard). y.lists) is.yard ∙ by.lists;
       grants = (
         more ++ grant,
         is.grants ∙ ap (λ (gs : List Grant). gs ++ grant) grants ∙ append_assoc a.view.grants more grant,

@@ -3,6 +3,7 @@ use Rattle.std.proofs.Common.{◌≡◌, ℕ, ◌+◌, ◌<◌, ◌≤◌, All, 
 use Rattle.std.proofs.lemmas.List.{get_or-append-add, get_or-map, length-append, length-map, map-append}
 use Rattle.cn_spec.specs.Sums.{times}
 use Rattle.cn_spec.proofs.CallerLemmas.{times-append}
+use Rattle.cn_yard.specs.Lists.{Yard}
 use Rattle.cn_floor.specs.declared.view.Grant.{Grant}
 use Rattle.cn_floor.specs.Lane.{LaneValue}
 use Rattle.cn_floor.specs.Named.{IsNamed}
@@ -17,7 +18,7 @@ gave-one a b c clients names client entry name gave is =
     let one : List Grant = record { client = client; exit = is.exit; visit = is.visit; name = name } ∷ [] in
     record {
       home = is.home ∙ gave.home;
-      lists = is.lists ∙ gave.lists;
+      lists = ap (λ (y : Yard). y.lists) is.yard ∙ gave.lists;
       grants = (
         more ++ one,
         is.grants ∙ ap (λ (gs : List Grant). gs ++ one) grants ∙ append_assoc a.view.grants more one,

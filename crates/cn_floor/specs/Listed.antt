@@ -1,5 +1,5 @@
 -- Clients of a list who come in by one entry and pass the ends of wires together.
-use Rattle.std.specs.Prelude.{◌≡◌, ◌≢◌, ℕ, zero, suc, ◌+◌, ◌-◌, ◌*◌, ◌<◌, ◌++◌, ◌==◌, [], ◌∷◌, List, count_by, length, max, replicate, slice_index}
+use Rattle.std.specs.Prelude.{◌≡◌, ◌≢◌, ℕ, zero, suc, ◌+◌, ◌-◌, ◌*◌, ◌<◌, ◌++◌, ◌==◌, [], ◌∷◌, List, count_by, length, replicate, slice_index}
 use Rattle.cn_spec.specs.Sums.{times}
 use Rattle.cn_yard.specs.Deals.{every_second}
 use Rattle.cn_yard.specs.Lists.{on}
@@ -80,6 +80,5 @@ pub record AreNamed (old new : LaneValue) (clients : List ℕ) (entry : ℕ) : T
       × ((client : ℕ) → count_by (λ g. g.client == client) more ≡ times client clients)
   -- the lane stands at some moment: so the rule holds of its names
   pub moment : 0 < length clients → HasMoment old.home.start new.view
-  pub lists : new.yard.lists ≡ old.yard.lists
-  pub spare : new.yard.spare ≡ max (length clients) old.yard.spare
-  pub room : new.room + length clients ≡ max (length clients) old.room
+  pub yard : new.yard ≡ old.yard
+  pub room : new.room ≡ old.room - length clients

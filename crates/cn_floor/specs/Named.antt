@@ -1,5 +1,5 @@
 -- A client that walked through a network by itself, and its name.
-use Rattle.std.specs.Prelude.{◌≡◌, ℕ, ◌+◌, ◌<◌, ◌++◌, ◌∷◌, [], List, max}
+use Rattle.std.specs.Prelude.{◌≡◌, ℕ, ◌+◌, ◌-◌, ◌<◌, ◌++◌, ◌∷◌, [], List}
 use Rattle.cn_wiring.specs.declared.end.End.TheVariants.{Exit}
 use Rattle.cn_wiring.specs.Table.{end_of}
 use Rattle.cn_ledger.specs.Events.{Enters}
@@ -39,6 +39,5 @@ pub record IsNamed (old new : LaneValue) (client entry name : ℕ) : Type 0 wher
   -- the name is below what the floor may let in, and the lane stands at some moment
   pub low : name < old.home.start.quota
   pub moment : HasMoment old.home.start new.view
-  pub lists : new.yard.lists ≡ old.yard.lists
-  pub spare : new.yard.spare ≡ max 1 old.yard.spare
-  pub room : new.room + 1 ≡ max 1 old.room
+  pub yard : new.yard ≡ old.yard
+  pub room : new.room ≡ old.room - 1

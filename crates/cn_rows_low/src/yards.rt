@@ -187,6 +187,21 @@ fn yard_moves(rt: HostRuntime) {
     assert_eq!(rt; stands(rt.alloc()), Some(STANDS));
 }
 
+/// What a yard returns before its first record, also after a reserve of none.
+fn bare(alloc: Global) -> Option<(Stand, bool)> {
+    let mut yard = yard_of(alloc, 3)?;
+    yard.reserve(0)?;
+    let counts = [yard.count(0), yard.count(1), yard.count(2)];
+    let has_token = yard.yard.is_live(Token::first()) || counts != [Some(0); 3];
+    Some((yard.stand(), has_token))
+}
+
+#[test]
+fn yard_without_a_record(rt: HostRuntime) {
+    let nobody = ([NOBODY, NOBODY, NOBODY], None, (0, 0, true));
+    assert_eq!(rt; bare(rt.alloc()), Some((nobody, false)));
+}
+
 /// Five clients on one wire: once three of their tokens have moved to the other, once one is released, and once another
 /// client has come.
 fn linked(alloc: Global) -> Option<[Pair; 3]> {

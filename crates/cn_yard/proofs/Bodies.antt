@@ -190,6 +190,13 @@ filled-by y lines marks records' lines' marks' l m ll ml more lined words =
       more = rw b more';
     }
 
+-- nothing was added: a caller sees the yard as it was
+pub unfilled : (y : Inside) (records' : Vec Record Global) (lines' : List Line) (marks' : List ℕ) → length lines' ≡ vec_len y.lines
+    → (records'.items ≡ y.records.items) × (lines' ≡ y.lines.items) → yard_of (after-fill y records' lines' marks') ≡ yard_of y
+unfilled y records' lines' marks' len (r, l) =
+    let b : (with_items y.lines lines').items ≡ y.lines.items = with_items_is y.lines lines' len ∙ l in
+    rw (r, b) refl
+
 -- and with the records of `set_client`
 abbrev pub with_records : Inside → List Record → Inside
 with_records y records = record { wires = y.wires; records = with_items y.records records; lines = y.lines; marks = y.marks }

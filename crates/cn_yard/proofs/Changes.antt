@@ -16,7 +16,8 @@ use Rattle.cn_yard.specs.InsideYard.{Keeps, with_clients, lists_of, yard_of}
 use Rattle.cn_yard.proofs.Chains.{but-out, chain-same}
 use Rattle.cn_yard.proofs.Keyed.{lookup-added, lookup-gone, lookup-last, lookup-without}
 use Rattle.cn_yard.proofs.Standings.{lookup-absent, standing-added, standing-same}
-use Rattle.cn_yard.proofs.Wires.{clients-same, on-beyond, on-moved, on-wire, standing-free, tokens-are, wires-are, without-clients}
+use Rattle.cn_yard.proofs.Bare.{on-beyond, wires-are}
+use Rattle.cn_yard.proofs.Wires.{clients-same, on-moved, on-wire, standing-free, tokens-are, without-clients}
 
 -- ---- a record has another client
 
@@ -51,8 +52,8 @@ pub moves-of : (y z : Inside) (order : ℕ → List ℕ) (t to : ℕ) → Keeps 
 moves-of y z order t to k k' wires same h len count =
     let old = lists_of y in
     let new = lists_of z in
-    let rows = wires-are y order k in
-    let rows' = wires-are z (moved order t to) k' in
+    let rows = wires-are y in
+    let rows' = wires-are z in
     let there : length new ≡ length old = rows' ∙ wires ∙ sym rows in
     record {
       wires = there;
@@ -67,7 +68,7 @@ moves-of y z order t to k k' wires same h len count =
     lists : (u : ℕ) → on (lists_of z) u ≡ without t (on (lists_of y) u) ++ last_on t (client_of y.records.items t) to u
     lists u = elim (cases_lt u y.wires) [
       | inl l ↦ on-moved y z order t to k k' wires (λ n i o. same n) u l ∙ ap (λ (c : ℕ). without t (on (lists_of y) u) ++ last_on t c to u) (same t)
-      | inr l ↦ let f : eqb to u ≡ false = grind (arith, nat_tests) in rw (on-beyond z (moved order t to) k' u (omega (arith, wires)), on-beyond y order k u l, f) refl
+      | inr l ↦ let f : eqb to u ≡ false = grind (arith, nat_tests) in rw (on-beyond z u (omega (arith, wires)), on-beyond y u l, f) refl
     ]
 
 -- ---- a move to the free records
@@ -79,8 +80,8 @@ pub releases-of : (y z : Inside) (order : ℕ → List ℕ) (t : ℕ) → Keeps 
 releases-of y z order t k k' wires same free len count =
     let old = lists_of y in
     let new = lists_of z in
-    let rows = wires-are y order k in
-    let rows' = wires-are z (moved order t y.wires) k' in
+    let rows = wires-are y in
+    let rows' = wires-are z in
     let there : length new ≡ length old = rows' ∙ wires ∙ sym rows in
     record {
       wires = there;
@@ -97,7 +98,7 @@ releases-of y z order t k k' wires same free len count =
     lists u = elim (cases_lt u y.wires) [
       | inl l ↦ let f : eqb y.wires u ≡ false = grind (arith, nat_tests) in
           on-moved y z order t y.wires k k' wires (λ n i o. same n) u l ∙ rw f (append-nil (without t (on (lists_of y) u)))
-      | inr l ↦ rw (on-beyond z (moved order t y.wires) k' u (omega (arith, wires)), on-beyond y order k u l) refl
+      | inr l ↦ rw (on-beyond z u (omega (arith, wires)), on-beyond y u l) refl
     ]
 
 -- ---- more free records
@@ -107,8 +108,8 @@ pub lists-same : (y z : Inside) (order order' : ℕ → List ℕ) → Keeps y or
     → ((n : ℕ) → n < length y.records.items → client_of z.records.items n ≡ client_of y.records.items n)
     → lists_of z ≡ lists_of y
 lists-same y z order order' k k' wires same clients =
-    let rows = wires-are y order k in
-    let rows' = wires-are z order' k' in
+    let rows = wires-are y in
+    let rows' = wires-are z in
     let w = k.wires in
     ext_get_or [] (lists_of z) (lists_of y) (rows' ∙ wires ∙ sym rows)
     (λ u h. let l : u < y.wires = omega (arith, rows', wires) in
@@ -131,8 +132,8 @@ pub admits-of : (old : Yard) (y z : Inside) (order : ℕ → List ℕ) (t to : �
     → count_of z.lines.items y.wires + 1 ≡ count_of y.lines.items y.wires
     → Admits old (yard_of z) t (client_of z.records.items t) to
 admits-of old y z order t to k k' wires same spare clients h free len count =
-    let rows = wires-are y order k in
-    let there : length (lists_of z) ≡ length (lists_of y) = wires-are z (moved order t to) k' ∙ wires ∙ sym rows in
+    let rows = wires-are y in
+    let there : length (lists_of z) ≡ length (lists_of y) = wires-are z ∙ wires ∙ sym rows in
     let fresh : standing (lists_of y) t ≡ None = standing-free y order k t (rw free (omega arith)) in
     let client = client_of z.records.items t in
     let left : count_of z.lines.items z.wires ≡ old.spare - 1 = rw wires (grind arith) in
@@ -156,5 +157,5 @@ admits-of old y z order t to k k' wires same spare clients h free len count =
           let at = on-wire y order k u l in
           let out : without t (on (lists_of y) u) ≡ on (lists_of y) u = ap (λ es. without t es) at ∙ without-clients (client_of y.records.items) t (order u) ∙ ap (λ xs. with_clients (client_of y.records.items) xs) (but-out t (order u) none) ∙ sym at in
           on-moved y z order t to k k' wires (λ n i o. clients n o) u l ∙ ap (λ es. es ++ last_on t (client_of z.records.items t) to u) out
-      | inr l ↦ let f : eqb to u ≡ false = grind (arith, nat_tests) in rw (on-beyond z (moved order t to) k' u (omega (arith, wires)), on-beyond y order k u l, f) refl
+      | inr l ↦ let f : eqb to u ≡ false = grind (arith, nat_tests) in rw (on-beyond z u (omega (arith, wires)), on-beyond y u l, f) refl
     ]

@@ -6,6 +6,7 @@ pub mod Unlinked
 pub mod Appended
 pub mod AllLines
 pub mod Bits
+pub mod Bare
 pub mod Wires
 pub mod Changes
 pub mod Readers

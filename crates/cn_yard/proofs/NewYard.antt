@@ -1,21 +1,22 @@
--- A yard that is made: its lists are empty, and so are its lines.
-use Rattle.std.proofs.Common.{◌≡◌, ℕ, ◌+◌, ◌^◌, ◌<◌, List, [], length, refl, sym, ap, ◌∙◌, arith}
+-- A yard whose lines are made: its lists are empty, and so are its lines.
+use Rattle.std.proofs.Common.{◌≡◌, inl, inr, ℕ, ◌+◌, ◌^◌, ◌<◌, List, [], length, refl, sym, ap, ◌∙◌, arith}
 use Rattle.std.proofs.Common.{◌/◌, ◌%◌}
 use Rattle.std.specs.Prelude.{replicate}
 use Rattle.std.specs.Int.{bit_at}
-use Rattle.std.proofs.lemmas.List.{ext_get_or, get_or-replicate, length-replicate}
+use Rattle.std.proofs.lemmas.List.{get_or-replicate, length-replicate}
 use Rattle.std.proofs.lemmas.Nat.Bits.{bit_at-zero}
 use Rattle.cn_spec.proofs.CallerLemmas.{times-nil, sum-below-zero}
 use Rattle.cn_yard.specs.declared.yard.Yard.TheInside.{Inside}
 use Rattle.cn_yard.specs.declared.lines.Line.{Line}
-use Rattle.cn_yard.specs.Lists.{Lists, Yard, empty, tokens_in}
+use Rattle.cn_yard.specs.Lists.{empty}
 use Rattle.cn_yard.specs.Marks.{marked}
 use Rattle.cn_yard.proofs.Chains.{chain-nil}
 use Rattle.cn_yard.specs.Chains.{last_or}
 use Rattle.cn_yard.specs.Lines.{Ends, count_of, line_of, no_line}
 use Rattle.cn_yard.specs.Records.{next_of, prev_of}
-use Rattle.cn_yard.specs.InsideYard.{Keeps, lists_of, yard_of}
-use Rattle.cn_yard.proofs.Wires.{on-wire, tokens-are, wires-are}
+use Rattle.cn_yard.specs.InsideYard.{IsYard, Keeps, yard_of}
+use Rattle.cn_yard.proofs.Bare.{bare-empty, closed, closed-bare, empty-of, opened}
+use Rattle.cn_yard.proofs.Wires.{on-wire}
 
 -- the ends of a line with nobody
 no-ends : Ends no_line []
@@ -54,21 +55,48 @@ new-keeps y r l m fits =
       wires = rows;
     }
 
-abbrev yard-with : Lists → ℕ → Yard
-yard-with lists spare = record { lists = lists; spare = spare }
-
-both : {a b : Lists} {m n : ℕ} → a ≡ b → m ≡ n → yard-with a m ≡ yard-with b n
-both e f = rw (e, f) refl
-
 -- a caller sees an empty yard
 pub new-empty : (y : Inside) → Keeps y (λ u. []) → y.lines.items ≡ replicate (y.wires + 1) no_line → yard_of y ≡ empty y.wires
 new-empty y k l =
-    let count : count_of y.lines.items y.wires ≡ 0 = ap (λ ls. count_of ls y.wires) l ∙ ap (λ (x : Line). x.count) (get_or-replicate (y.wires + 1) y.wires no_line no_line (omega arith)) in
-    let lists : lists_of y ≡ replicate y.wires [] =
-    ext_get_or [] (lists_of y) (replicate y.wires []) (wires-are y (λ u. []) k ∙ sym (length-replicate y.wires []))
-    (λ u h. let w = wires-are y (λ u. []) k in on-wire y (λ u. []) k u (omega arith) ∙ sym (get_or-replicate y.wires u [] [] (omega arith))) in
-    both lists count
+    empty-of y (λ u h. on-wire y (λ u. []) k u h)
+    (ap (λ ls. count_of ls y.wires) l ∙ ap (λ (x : Line). x.count) (get_or-replicate (y.wires + 1) y.wires no_line no_line (omega arith)))
 
--- with no token
-pub new-nobody : (y : Inside) → Keeps y (λ u. []) → y.records.items ≡ [] → tokens_in (lists_of y) ≡ 0
-new-nobody y k r = let all = tokens-are y (λ u. []) k in let none : length y.records.items ≡ 0 = ap length r in omega arith
+-- ---- the lines are made, if there are none
+
+-- what `make_lines` leaves of a yard
+pub record HasLines (y z : Inside) : Type 0 where
+  pub wires : z.wires ≡ y.wires
+  pub fits : y.wires < 2 ^ 32
+  pub records : z.records.items ≡ y.records.items
+  pub same : 0 < length y.lines.items → (z.lines.items ≡ y.lines.items) × (z.marks.items ≡ y.marks.items)
+  pub made : y.lines.items ≡ [] → y.marks.items ≡ []
+      → (z.lines.items ≡ replicate (y.wires + 1) no_line) × (z.marks.items ≡ replicate (y.wires / 64 + 1) 0)
+
+-- the same items make the same yard
+pub keeps-same : (y z : Inside) (order : ℕ → List ℕ) → z.wires ≡ y.wires → z.records.items ≡ y.records.items → z.lines.items ≡ y.lines.items
+    → z.marks.items ≡ y.marks.items → Keeps y order → Keeps z order
+keeps-same y z order w r l m k = record { lined = rw (r, l, m) k.lined; wires = rw (l, w) k.wires }
+
+pub view-same : (y z : Inside) → z.wires ≡ y.wires → z.records.items ≡ y.records.items → z.lines.items ≡ y.lines.items → yard_of z ≡ yard_of y
+view-same y z w r l = rw (w, r, l) refl
+
+pub is-same : (y z : Inside) → z.wires ≡ y.wires → z.records.items ≡ y.records.items → z.lines.items ≡ y.lines.items
+    → z.marks.items ≡ y.marks.items → IsYard y → IsYard z
+is-same y z w r l m is = elim (opened y is) [
+  | inl b ↦ closed-bare z (record { records = r ∙ b.records; lines = l ∙ b.lines; marks = m ∙ b.marks })
+  | inr k ↦ closed z k.0 (keeps-same y z k.0 w r l m k.1)
+]
+
+-- a yard with its lines, which a caller sees as the one before
+pub lines-made : (y z : Inside) → IsYard y → HasLines y z → ((order : ℕ → List ℕ) × Keeps z order) × (yard_of z ≡ yard_of y)
+lines-made y z is has = elim (opened y is) [
+  | inr k ↦
+      let (l, m) = has.same (omega (arith, k.1.wires)) in
+      ((k.0, keeps-same y z k.0 has.wires has.records l m k.1), view-same y z has.wires has.records l)
+  | inl b ↦
+      let (l, m) = has.made b.lines b.marks in
+      let lines : z.lines.items ≡ replicate (z.wires + 1) no_line = rw has.wires l in
+      let marks : z.marks.items ≡ replicate (z.wires / 64 + 1) 0 = rw has.wires m in
+      let keeps = new-keeps z (has.records ∙ b.records) lines marks (omega (arith, has.fits, has.wires)) in
+      (((λ u. []), keeps), new-empty z keeps lines ∙ ap empty has.wires ∙ sym (bare-empty y b))
+]

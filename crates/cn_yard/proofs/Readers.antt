@@ -1,5 +1,5 @@
 -- What a yard's readers return.
-use Rattle.std.proofs.Common.{◌≡◌, ℕ, ◌*◌, ◌<◌, ◌≤◌, inl, inr, true, false, cond, eqb, ltb, List, [], ◌∷◌, length, get_or, refl, sym, ap, ◌∙◌, arith, subst, Option, Some, None}
+use Rattle.std.proofs.Common.{◌≡◌, ℕ, ◌+◌, ◌*◌, ◌<◌, ◌≤◌, inl, inr, true, false, cond, eqb, ltb, List, [], ◌∷◌, length, get_or, refl, sym, ap, ◌∙◌, arith, subst, Option, Some, None}
 use Rattle.std.specs.Prelude.{IsSome, IsTrue, ◌↔◌}
 use Rattle.std.proofs.lemmas.Bool.{cases_lt}
 use Rattle.std.proofs.lemmas.Bool.Decides.{nat_tests}
@@ -8,13 +8,15 @@ use Rattle.cn_spec.specs.Sums.{times}
 use Rattle.cn_yard.specs.declared.yard.Yard.TheInside.{Inside}
 use Rattle.cn_yard.specs.declared.records.Record.{Record}
 use Rattle.cn_yard.specs.declared.lines.Line.{Line}
-use Rattle.cn_yard.specs.Lists.{IsLowest, IsThere, next_after, first_of, on, standing}
+use Rattle.cn_spec.specs.declared.limits.TheConstants.{MOST_TOKENS}
+use Rattle.cn_yard.specs.Lists.{IsLowest, IsThere, next_after, first_of, on, standing, tokens_in}
 use Rattle.cn_yard.specs.Chains.{last_or}
 use Rattle.cn_yard.specs.Lines.{Ends, count_of, line_of, no_line}
 use Rattle.cn_yard.specs.Records.{client_of, next_of, no_record, prev_of, wire_of}
 use Rattle.cn_yard.specs.Marks.{marked}
-use Rattle.cn_yard.specs.InsideYard.{Keeps, with_clients, lists_of}
-use Rattle.cn_yard.proofs.Wires.{after-clients, length-on, live, on-beyond, on-wire, standing-live, there-live}
+use Rattle.cn_yard.specs.InsideYard.{IsYard, Keeps, with_clients, lists_of}
+use Rattle.cn_yard.proofs.Bare.{bare-count, bare-on, bare-records, bare-tokens, on-beyond, opened}
+use Rattle.cn_yard.proofs.Wires.{after-clients, length-on, live, on-wire, standing-live, there-live, tokens-are}
 
 module _ (y : Inside) (order : ℕ → List ℕ) (k : Keeps y order) where
   -- a line as the code reads it
@@ -105,7 +107,7 @@ module _ (y : Inside) (order : ℕ → List ℕ) (k : Keeps y order) where
   nobody u none = elim (cases_lt u y.wires) [
     | inl l ↦ let rows = k.wires in let m = k.lined.marks u (omega arith) in let z = none l in
         nil_from_length (on (lists_of y) u) (length-on y order k u l ∙ (grind (arith, nat_tests)))
-    | inr l ↦ on-beyond y order k u l
+    | inr l ↦ on-beyond y u l
   ]
 
   -- nobody stands below a wire: the least number with a mark, from a word on that begins there or before, is the lowest
@@ -131,3 +133,46 @@ module _ (y : Inside) (order : ℕ → List ℕ) (k : Keeps y order) where
 
     pub nobody-read : ((n : ℕ) → 64 * word ≤ n → marked y.marks.items n ≡ 0) → (u : ℕ) → on (lists_of y) u ≡ []
     nobody-read lower u = nobody-at u (λ _ w. lower u w)
+
+-- ---- of each yard, with lines or bare
+
+module _ (y : Inside) (is : IsYard y) where
+  -- as many stand on a wire as its line counts
+  pub count-all : (u : ℕ) → u < y.wires → length (on (lists_of y) u) ≡ count_of y.lines.items u
+  count-all u h = elim (opened y is) [
+    | inl b ↦ ap length (bare-on y b u) ∙ sym (bare-count y b u)
+    | inr k ↦ length-on y k.0 k.1 u h
+  ]
+
+  -- all records are tokens or free, and they are few
+  pub tokens-all : tokens_in (lists_of y) + count_of y.lines.items y.wires ≡ length y.records.items
+  tokens-all = elim (opened y is) [
+    | inl b ↦ omega (arith, bare-tokens y b, bare-count y b y.wires, bare-records y b)
+    | inr k ↦ tokens-are y k.0 k.1
+  ]
+
+  pub few-all : length y.records.items ≤ MOST_TOKENS
+  few-all = elim (opened y is) [
+    | inl b ↦ omega (arith, bare-records y b)
+    | inr k ↦ k.1.lined.few
+  ]
+
+  -- where somebody is counted, or a record stands, the lines are there
+  pub kept-count : (u : ℕ) → 0 < count_of y.lines.items u → (order : ℕ → List ℕ) × Keeps y order
+  kept-count u some = elim (opened y is) [
+    | inl b ↦ absurd (omega (arith, some, bare-count y b u))
+    | inr k ↦ k
+  ]
+
+  pub kept-record : 0 < length y.records.items → (order : ℕ → List ℕ) × Keeps y order
+  kept-record some = elim (opened y is) [
+    | inl b ↦ absurd (omega (arith, some, bare-records y b))
+    | inr k ↦ k
+  ]
+
+  -- without lines nobody stands anywhere
+  pub nobody-all : length y.lines.items ≡ 0 → (u : ℕ) → on (lists_of y) u ≡ []
+  nobody-all none u = elim (opened y is) [
+    | inl b ↦ bare-on y b u
+    | inr k ↦ absurd (omega (arith, none, k.1.wires))
+  ]

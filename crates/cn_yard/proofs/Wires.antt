@@ -1,13 +1,12 @@
 -- What stands on the wires of a yard.
 use Rattle.std.proofs.Common.{◌≡◌, ◌≢◌, ℕ, zero, suc, ◌+◌, ◌<◌, ◌≤◌, inl, inr, Bool, true, false, cond, not, nat_eq, eqb, ltb, List, [], ◌∷◌, ◌++◌, length, refl, sym, ap, ◌∙◌, arith, subst, Some, None}
 use Rattle.std.specs.Prelude.{IsSome, count_by}
-use Rattle.std.specs.List.{range_with_len}
 use Rattle.std.specs.Map.{lookup}
 use Rattle.std.proofs.lemmas.Bool.{cases_eq, cases_lt}
 use Rattle.std.proofs.lemmas.Bool.Decides.{nat_tests}
-use Rattle.std.proofs.lemmas.List.{get_or_past, length-map, map-append}
+use Rattle.std.proofs.lemmas.List.{length-map, map-append}
 use Rattle.std.proofs.lemmas.List.Sums.{sum_by-cons}
-use Rattle.std.proofs.lemmas.List.FromFn.{get_or-map-range_with_len, length-range_with_len}
+use Rattle.std.proofs.lemmas.List.FromFn.{get_or-map-range_with_len}
 use Rattle.cn_spec.specs.Sums.{sum_below, times}
 use Rattle.cn_spec.proofs.CallerLemmas.{times-cons, times-nil, sum-below-same}
 use Rattle.cn_yard.specs.declared.yard.Yard.TheInside.{Inside}
@@ -16,7 +15,8 @@ use Rattle.cn_yard.specs.Lists.{IsThere, next_after, last_on, on, standing, time
 use Rattle.cn_yard.specs.Chains.{Chain, but, last_of, last_or, moved}
 use Rattle.cn_yard.specs.Lines.{count_of, line_of}
 use Rattle.cn_yard.specs.Records.{client_of, next_of, prev_of, wire_of}
-use Rattle.cn_yard.specs.InsideYard.{IsYard, Keeps, walked, with_clients, lists_of}
+use Rattle.cn_yard.specs.InsideYard.{Keeps, walked, with_clients, lists_of}
+use Rattle.cn_yard.proofs.Bare.{on-beyond, wires-are}
 use Rattle.cn_yard.proofs.Chains.{chain-rest, chain-tied, last-in, times-but, walk-chain}
 use Rattle.cn_yard.proofs.Standings.{standing-none, standing-only}
 
@@ -111,15 +111,6 @@ sum-last n f = let e : n + 1 ≡ suc n = omega arith in rw e refl
 
 -- ---- a yard's wires
 
--- the lists of numbers of its lines
-pub opened : (y : Inside) → IsYard y → (order : ℕ → List ℕ) × Keeps y order
-unfolding IsYard
-opened y is = is
-
-pub closed : (y : Inside) (order : ℕ → List ℕ) → Keeps y order → IsYard y
-unfolding IsYard
-closed y order k = (order, k)
-
 module _ (y : Inside) (order : ℕ → List ℕ) (k : Keeps y order) where
   -- a walk along a line meets its numbers
   pub walked-is : (u : ℕ) → u < length y.lines.items → walked y.records.items y.lines.items u ≡ order u
@@ -127,17 +118,11 @@ module _ (y : Inside) (order : ℕ → List ℕ) (k : Keeps y order) where
       let e = k.lined.links.linked.ends u h in
       rw (e.count, ← e.first) (walk-chain (next_of y.records.items) (prev_of y.records.items) (line_of y.lines.items u).first (order u) (k.lined.links.linked.chain u h))
 
-  -- there are as many lists as wires, each the line with its clients, and none beyond
-  pub wires-are : length (lists_of y) ≡ y.wires
-  wires-are = length-map (range_with_len 0 y.wires) (λ u. with_clients (client_of y.records.items) (walked y.records.items y.lines.items u)) ∙ length-range_with_len 0 y.wires
-
+  -- each list is the line with its clients
   pub on-wire : (u : ℕ) → u < y.wires → on (lists_of y) u ≡ with_clients (client_of y.records.items) (order u)
   on-wire u h =
       get_or-map-range_with_len (λ w. with_clients (client_of y.records.items) (walked y.records.items y.lines.items w)) 0 y.wires u u [] h (omega arith)
       ∙ ap (λ xs. with_clients (client_of y.records.items) xs) (walked-is u (let w = k.wires in omega arith))
-
-  pub on-beyond : (u : ℕ) → y.wires ≤ u → on (lists_of y) u ≡ []
-  on-beyond u h = get_or_past (lists_of y) u [] (omega (arith, wires-are))
 
   -- as many stand on a wire as its line counts
   pub length-on : (u : ℕ) → u < y.wires → length (on (lists_of y) u) ≡ count_of y.lines.items u
@@ -151,14 +136,14 @@ module _ (y : Inside) (order : ℕ → List ℕ) (k : Keeps y order) where
       let all : sum_below (y.wires + 1) (λ u. length (order u)) ≡ length y.records.items = rw w at k.lined.links.all in
       let last = sum-last y.wires (λ u. length (order u)) in
       let same = sum-below-same y.wires (λ u. length (on (lists_of y) u)) (λ u. length (order u)) (λ u h. ap length (on-wire u h) ∙ length-map (order u) (λ n. (n, client_of y.records.items n))) in
-      rw wires-are (omega arith)
+      rw (wires-are y) (omega arith)
 
   -- no token stands there twice
   pub times-most : (t : ℕ) → times_in (lists_of y) t ≤ 1
   times-most t =
       let most = sum-once y.wires (wire_of y.records.items t) (λ u. count_by (λ e. nat_eq t e.0) (on (lists_of y) u))
       (λ u h. rw (on-wire u h, times-clients (client_of y.records.items) t (order u)) (k.lined.links.linked.once t u (let w = k.wires in omega arith))) in
-      rw wires-are (grind (arith, nat_tests))
+      rw (wires-are y) (grind (arith, nat_tests))
 
   -- ---- who stands where
 
@@ -167,7 +152,7 @@ module _ (y : Inside) (order : ℕ → List ℕ) (k : Keeps y order) where
   lookup-none t u none =
       elim (cases_lt u y.wires) [
         | inl l ↦ rw (on-wire u l) (lookup-out (client_of y.records.items) t (order u) (none l))
-        | inr l ↦ rw (on-beyond u l) refl
+        | inr l ↦ rw (on-beyond y u l) refl
       ]
 
   -- a record stands on the wire that it names, a free one on none, and what is no record on none
@@ -177,7 +162,7 @@ module _ (y : Inside) (order : ℕ → List ℕ) (k : Keeps y order) where
       let w = wire_of y.records.items t in
       let one = k.lined.links.there t h in
       let rows = k.wires in
-      standing-only (length (lists_of y)) (lists_of y) t w (client_of y.records.items t) (omega (arith, wires-are))
+      standing-only (length (lists_of y)) (lists_of y) t w (client_of y.records.items t) (omega (arith, wires-are y))
       (rw (on-wire w on_wire) (lookup-in (client_of y.records.items) t (order w) (omega arith)))
       (λ u o. lookup-none t u (λ l. let once = k.lined.links.linked.once t u (omega arith) in grind (arith, nat_tests)))
 

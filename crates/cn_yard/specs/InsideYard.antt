@@ -1,5 +1,5 @@
 -- What a yard holds.
-use Rattle.std.specs.Prelude.{◌≡◌, ℕ, ◌+◌, List, length, map}
+use Rattle.std.specs.Prelude.{◌≡◌, ◌⊎◌, ℕ, ◌+◌, List, [], length, map}
 use Rattle.std.specs.List.{range_with_len}
 use Rattle.cn_yard.specs.declared.records.Record.{Record}
 use Rattle.cn_yard.specs.declared.lines.Line.{Line}
@@ -34,6 +34,13 @@ pub record Keeps (y : Inside) (order : ℕ → List ℕ) : Type 0 where
   pub lined : IsLined y.records.items y.lines.items y.marks.items order
   pub wires : length y.lines.items ≡ y.wires + 1
 
--- some lists of numbers are those of the lines. It opens only if that is asked: a caller's proof needs nothing of it
+-- no line was made yet, and no record
+pub record IsBare (y : Inside) : Type 0 where
+  pub records : y.records.items ≡ []
+  pub lines : y.lines.items ≡ []
+  pub marks : y.marks.items ≡ []
+
+-- the yard is bare, or some lists of numbers are those of the lines. It opens only if that is asked: a caller's proof
+-- needs nothing of it
 unfoldable pub IsYard : Inside → Type 0
-IsYard y = (order : ℕ → List ℕ) × Keeps y order
+IsYard y = IsBare y ⊎ ((order : ℕ → List ℕ) × Keeps y order)

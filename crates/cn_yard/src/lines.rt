@@ -1,12 +1,13 @@
 //! Lines of records: each record of a line is linked both ways with the one after it.
 
-ghost use Rattle.std.specs.Prelude.{◌≡◌, ℕ, ◌+◌, ◌<◌, ◌≤◌, ◌^◌, ◌==◌, ◌||◌, List, length};
+ghost use Rattle.std.specs.Prelude.{◌≡◌, ℕ, ◌+◌, ◌/◌, ◌<◌, ◌≤◌, ◌^◌, ◌==◌, ◌||◌, List, [], length, replicate, OnErr, OnOk};
 ghost use Rattle.cn_spec.specs.Sums.{times};
 ghost use Rattle.cn_yard.specs.Chains.{but, put_last};
-ghost use Rattle.cn_yard.specs.Lines.{IsOff, IsOn, Linked, OffLine, count_of, line_with, line_without};
+ghost use Rattle.cn_yard.specs.Lines.{IsOff, IsOn, Linked, OffLine, count_of, line_with, line_without, no_line};
 ghost use Rattle.cn_yard.specs.Records.{wire_of};
 
 use crate::records::{Record, link, set_wire};
+use std::alloc::AllocError;
 
 /// How many records stand on a line, and the first and the last of them if there are any.
 #[derive(Clone, Copy, Debug)]
@@ -14,6 +15,45 @@ pub(crate) struct Line {
     pub(crate) first: u32,
     pub(crate) last: u32,
     pub(crate) count: u32,
+}
+
+/// How many records stand on a line: 0 if there are no lines.
+pub(crate) fn count_on(lines: &[Line], number: u32) -> u32
+    ensures { result ≡ count_of lines.now number }
+{
+    match lines.get(number as usize) {
+        Some(line) => line.count,
+        None => 0,
+    }
+}
+
+/// Makes a line for each wire and one for the free records, with their marks, if there are none: nobody stands on them.
+///
+/// # Errors
+/// `AllocError` if there are none, and they get no memory. Then there are none.
+pub(crate) fn make_lines(
+    lines: &mut Vec<Line>,
+    marks: &mut Vec<u64>,
+    wires: u32,
+) -> Result<(), AllocError>
+    ensures same { 0 < length lines.old.items
+        → (lines.new.items ≡ lines.old.items) × (marks.new.items ≡ marks.old.items) }
+    ensures made { lines.old.items ≡ [] → marks.old.items ≡ [] → OnOk result
+        ((lines.new.items ≡ replicate (wires + 1) no_line) × (marks.new.items ≡ replicate (wires / 64 + 1) 0)) }
+    ensures err { OnErr result ((lines.new.items ≡ lines.old.items) × (marks.new.items ≡ marks.old.items)) }
+{
+    if !lines.is_empty() {
+        return Ok(());
+    }
+    let words = wires as usize / 64 + 1;
+    marks.reserve(words)?;
+    let line = Line {
+        first: 0,
+        last: 0,
+        count: 0,
+    };
+    lines.resize(wires as usize + 1, line)?;
+    marks.resize(words, 0)
 }
 
 /// Whether a number is the first or the last of a line.

@@ -1,6 +1,6 @@
 //! Records that move from line to line, with the marks of the lines on which any stand.
 
-ghost use Rattle.std.specs.Prelude.{◌≡◌, ℕ, ◌+◌, ◌<◌, ◌≤◌, ◌-◌, List, length, max, vec_capacity, vec_len, IsOk, OnErr, OnOk};
+ghost use Rattle.std.specs.Prelude.{◌≡◌, ℕ, ◌+◌, ◌<◌, ◌≤◌, ◌-◌, List, length, vec_capacity, vec_len, OnErr, OnOk};
 ghost use Rattle.cn_spec.specs.declared.limits.TheConstants.{MOST_TOKENS};
 ghost use Rattle.cn_yard.specs.Chains.{moved, put_last};
 ghost use Rattle.cn_yard.specs.Lines.{count_of};
@@ -84,7 +84,7 @@ fn add_all(
     }
 }
 
-/// Adds records to a line until at least `wanted` stand there.
+/// Adds records to a line until `wanted` stand there. No more stand there before.
 ///
 /// # Errors
 /// `AllocError` if they get no memory. Then nothing has changed.
@@ -96,21 +96,17 @@ pub(crate) fn fill(
     wanted: u32,
 ) -> Result<(), AllocError>
     requires wire { wire < length lines.old }
+    requires less { count_of lines.old wire ≤ wanted }
     requires few { length records.old.items + (wanted - count_of lines.old wire) ≤ MOST_TOKENS }
     requires lined { (order : ℕ → List ℕ) × IsLined records.old.items lines.old marks.old order }
     ensures lined { Fills records.old.items lines.old marks.old
         records.new.items lines.new marks.new wire }
     ensures kept { IsMore records.old.items lines.old records.new.items lines.new wire }
     ensures words { length marks.new ≡ length marks.old }
-    ensures ok { OnOk result (count_of lines.new wire ≡ max wanted (count_of lines.old wire)) }
-    ensures records { OnErr result (records.new.items ≡ records.old.items) }
-    ensures lines { OnErr result (lines.new ≡ lines.old) }
-    ensures enough { wanted ≤ count_of lines.old wire → IsOk result }
+    ensures ok { OnOk result (count_of lines.new wire ≡ wanted) }
+    ensures err { OnErr result ((records.new.items ≡ records.old.items) × (lines.new ≡ lines.old)) }
 {
     let count = lines[wire as usize].count;
-    if wanted <= count {
-        return Ok(());
-    }
     records.reserve((wanted - count) as usize)?;
     add_all(records, lines, marks, wire, count, wanted);
     Ok(())

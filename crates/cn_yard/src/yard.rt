@@ -4,7 +4,7 @@ ghost use Rattle.std.specs.Prelude.{◌≡◌, ℕ, ◌+◌, ◌<◌, ◌≤◌,
 ghost use Rattle.cn_spec.specs.declared.limits.TheConstants.{MOST_TOKENS};
 ghost use Rattle.cn_yard.specs.Lists.{Admits, IsLowest, IsThere, Moves, Releases, next_after, empty, first_of, on, standing, times_in, tokens_in};
 
-use crate::lines::Line;
+use crate::lines::{Line, count_on, make_lines};
 use crate::marks::least_from;
 use crate::moves::{fill, relink};
 use crate::records::{Record, set_client};
@@ -15,15 +15,15 @@ use std::marker::Model;
 
 /// Per wire a list of tokens from first to last, each with its client, and a number of free records.
 ///
-/// Only [`Yard::new`], [`Yard::reserve`] and [`Yard::admit`] take memory. The tokens are records that are linked by their
-/// numbers, and the free records stand on a line of their own, so an admit, a move, a release and most
-/// looks take a few steps; [`Yard::lowest`] and [`Yard::lowest_from`] look at one bit per wire, 64 at a time, and
-/// [`Yard::deal`] moves one token after another.
+/// Only [`Yard::reserve`] and [`Yard::admit`] take memory, and the first that makes a record takes that for the wires too.
+/// The tokens are records that are linked by their numbers, and the free records stand on a line of their own, so an admit,
+/// a move, a release and most looks take a few steps; [`Yard::lowest`] and [`Yard::lowest_from`] look at one bit per wire,
+/// 64 at a time, and [`Yard::deal`] moves one token after another.
 #[derive(Drop)]
 pub struct Yard {
     wires: u32,
     records: Vec<Record>,
-    // One per wire, and then that of the free records.
+    // One per wire, and then that of the free records; none before the first record.
     lines: Vec<Line>,
     // One bit per line: whether a record stands there.
     marks: Vec<u64>,
@@ -41,24 +41,17 @@ impl Model for Yard {
 }
 
 impl Yard {
-    /// A yard of `wires` wires, numbered from 0, with nobody on them and no record.
-    ///
-    /// # Errors
-    /// `AllocError` if the wires get no memory.
+    /// A yard of `wires` wires, numbered from 0, with nobody on them and no record. It takes no memory, and does not fail.
     pub fn new(alloc: Global, wires: u32) -> Result<Self, AllocError>
         ensures yard { IfOk result (λ yard. yard ≡ empty wires) }
         ensures nobody { IfOk result (λ yard. tokens_in yard.lists ≡ 0) }
+        ensures made { IsOk result }
     {
-        let lines = wires as usize + 1;
         Ok(Yard {
             wires,
             records: Vec::new(alloc),
-            lines: vec![in alloc; Line {
-                first: 0,
-                last: 0,
-                count: 0
-            }; lines]?,
-            marks: vec![in alloc; 0; wires as usize / 64 + 1]?,
+            lines: Vec::new(alloc),
+            marks: Vec::new(alloc),
         })
     }
 
@@ -75,6 +68,10 @@ impl Yard {
         ensures err { OnErr result (self.new ≡ self.old) }
         ensures enough { records ≤ self.old.spare → IsOk result }
     {
+        if records <= self.spare() {
+            return Ok(());
+        }
+        make_lines(&mut self.lines, &mut self.marks, self.wires)?;
         fill(
             &mut self.records,
             &mut self.lines,
@@ -167,11 +164,10 @@ impl Yard {
         requires { wire < length self.now.lists }
         ensures { result ≡ first_of (on self.now.lists wire) }
     {
-        let line = self.lines[wire as usize];
-        if line.count == 0 {
+        if count_on(&self.lines, wire) == 0 {
             return None;
         }
-        Some(Token::of(line.first))
+        Some(Token::of(self.lines[wire as usize].first))
     }
 
     /// The token after `token`, which stands in the yard, on its wire, if it is not the last there.
@@ -203,6 +199,9 @@ impl Yard {
         ensures some { IfSome result (λ wire. IsLowest self.now.lists wire) }
         ensures none { result ≡ None → (wire : ℕ) → on self.now.lists wire ≡ [] }
     {
+        if self.lines.is_empty() {
+            return None;
+        }
         match least_from(&self.marks, from / 64) {
             Some(wire) if wire < self.wires as u64 => Some(wire as u32),
             _ => None,
@@ -214,14 +213,14 @@ impl Yard {
         requires { wire < length self.now.lists }
         ensures { result ≡ length (on self.now.lists wire) }
     {
-        self.lines[wire as usize].count
+        count_on(&self.lines, wire)
     }
 
     /// How many tokens stand in the yard.
     pub fn len(&self) -> u32
         ensures { result ≡ tokens_in self.now.lists }
     {
-        self.records.len() as u32 - self.lines[self.wires as usize].count
+        self.records.len() as u32 - self.spare()
     }
 
     /// Whether no token stands in the yard.
@@ -235,7 +234,7 @@ impl Yard {
     pub fn spare(&self) -> u32
         ensures { result ≡ self.now.spare }
     {
-        self.lines[self.wires as usize].count
+        count_on(&self.lines, self.wires)
     }
 
     /// How many wires there are.

@@ -1,12 +1,12 @@
 -- Clients of a list, of whom those who follow one another by one entry are named together.
-use Rattle.std.proofs.Common.{◌≡◌, ℕ, zero, suc, ◌+◌, ◌<◌, ◌≤◌, ◌==◌, cond, count_by, drop, max, replicate, List, [], ◌∷◌, ◌++◌, get_or, length, map, take, refl, sym, ap, ◌∙◌, arith, append_assoc}
+use Rattle.std.proofs.Common.{◌≡◌, ℕ, zero, suc, ◌+◌, ◌<◌, ◌≤◌, ◌==◌, cond, count_by, drop, replicate, List, [], ◌∷◌, ◌++◌, get_or, length, map, take, refl, sym, ap, ◌∙◌, arith, append_assoc}
 use Rattle.std.proofs.lemmas.List.{length-append, length-map, map-append}
 use Rattle.std.proofs.lemmas.List.Sums.{sum_by-append, sum_by-cons}
 use Rattle.cn_spec.specs.Sums.{times}
 use Rattle.cn_spec.proofs.CallerLemmas.{times-cons, times-nil}
 use Rattle.cn_ledger.specs.declared.client.Client.{Client}
 use Rattle.renamer_c.specs.declared.client.Client as c
-use Rattle.cn_yard.specs.Lists.{Lists, tokens_in}
+use Rattle.cn_yard.specs.Lists.{Yard, tokens_in}
 use Rattle.cn_floor.specs.declared.view.Grant.{Grant}
 use Rattle.cn_floor.specs.Lane.{LaneValue, with_room}
 use Rattle.cn_floor.specs.Listed.{AreNamed}
@@ -27,12 +27,11 @@ pub together : (a b : LaneValue) (ids : List ℕ) (entry : ℕ) → tokens_in a.
 together a b ids entry out room is =
     let (most, grew, many, often) = is.grants in
     let long : length (by_entry entry ids) ≡ length ids = length-map ids (λ (id : ℕ). record { id = id; entry = entry }) in
-    let whole : max (length ids) a.room ≡ a.room = omega (arith, room) in
     record {
       home = is.home;
-      out = ap (λ (ls : Lists). tokens_in ls) is.lists ∙ out;
+      out = ap (λ (y : Yard). tokens_in y.lists) is.yard ∙ out;
       quota = omega (arith, is.quota, long);
-      room = omega (arith, is.room, whole, long);
+      room = omega (arith, is.room, long);
       entries = is.entries ∙ ap (λ (es : List ℕ). a.view.entries ++ es) (sym (entries_by entry ids));
       seen = is.seen;
       grants = (most, grew, record { as_many = many ∙ sym long; as_often = λ id. often id ∙ sym (times-by entry id ids) });

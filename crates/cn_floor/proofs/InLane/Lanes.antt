@@ -1,5 +1,5 @@
 -- What a lane holds is what its view says, also after a step.
-use Rattle.std.proofs.Common.{◌≡◌, ℕ, ◌+◌, ◌-◌, ◌%◌, ◌<◌, ◌≤◌, List, [], ◌∷◌, ◌++◌, length, get_or, Some, sym, ap, ◌∙◌, subst, arith, append-nil}
+use Rattle.std.proofs.Common.{Global, Vec, ◌≡◌, ℕ, ◌+◌, ◌-◌, ◌%◌, ◌<◌, ◌≤◌, List, [], ◌∷◌, ◌++◌, length, get_or, Some, sym, ap, ◌∙◌, subst, arith, append-nil}
 use Rattle.std.specs.Prelude.{vec_capacity}
 use Rattle.std.proofs.lemmas.List.{length_push}
 use Rattle.cn_spec.specs.Step.{name_of}
@@ -10,6 +10,7 @@ use Rattle.cn_yard.specs.Lists.{Admits, Moves, Releases, last_on, on, standing, 
 use Rattle.cn_ledger.specs.Moves.{IsMoveOf}
 use Rattle.cn_ledger.specs.declared.moved.Moved.{Moved}
 use Rattle.cn_floor.specs.declared.floor.lane.Lane.TheInside.{Inside}
+use Rattle.cn_floor.specs.declared.view.Grant.{Grant}
 use Rattle.cn_floor.specs.declared.view.View.{View}
 use Rattle.cn_floor.specs.declared.view.Start.{Start}
 use Rattle.cn_floor.specs.InsideLane.{IsLane}
@@ -109,3 +110,19 @@ module _ (old new : LaneValue) (token client wire n : ℕ) (answer : Moved) wher
         few = by.few;
         sole = by.sole;
       }
+
+-- a lane whose list of grants got way for more keeps what it kept
+pub lane-with-way : (l : Inside) (grants : Vec Grant Global) → IsLane l → grants.items ≡ l.grants.items
+    → length grants.items + tokens_in l.yard.lists + l.room ≤ vec_capacity grants
+    → IsLane (record { seat = l.seat; yard = l.yard; grants = grants; quota = l.quota; room = l.room })
+lane-with-way l grants kept items room = record {
+  no_slot = kept.no_slot;
+  idle = kept.idle;
+  tokens = kept.tokens;
+  wires = kept.wires;
+  grants = items ∙ kept.grants;
+  quota = kept.quota;
+  few = kept.few;
+  room = room;
+  spare = kept.spare;
+}

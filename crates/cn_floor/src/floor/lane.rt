@@ -115,22 +115,6 @@ impl Lane {
         Ok(())
     }
 
-    /// Makes room for so many clients, at most [`MOST_ROOM`], if there is less.
-    ///
-    /// # Errors
-    /// `AllocError` if there is less, and the rest gets no memory. Then nothing has changed.
-    pub(super) fn make_room(&mut self, clients: u64) -> Result<(), AllocError>
-        requires { clients ≤ MOST_ROOM }
-        ensures ok { OnOk result (self.new ≡ with_room clients self.old) }
-        ensures err { OnErr result (self.new ≡ self.old) }
-        ensures less { OnErr result (self.old.room < clients) }
-    {
-        if self.room >= clients {
-            return Ok(());
-        }
-        self.reserve(clients)
-    }
-
     /// For how many clients it has room: as many can come in, and get their grants, with no further memory.
     pub fn room(&self) -> u64
         ensures { result ≡ self.now.room }

@@ -43,7 +43,7 @@ impl<'a> Leftovers<'a> {
     {
         Ok(Leftovers {
             words: Words::zero(alloc, network)?,
-            yard: Some(yard_for(alloc, network)?),
+            yard: Some(yard_for(alloc, network)),
         })
     }
 

@@ -11,7 +11,7 @@ ghost use Rattle.cn_floor.specs.Listed.{AreDealt, AreNamed, CameIn, HaveLeft, St
 ghost use Rattle.cn_floor.specs.Sweeps.{AreLetBy, SweptBy, after_sweep, grants_out};
 
 use super::Floor;
-use super::lane::Lane;
+use super::lane::{Lane, make_way};
 use crate::fault::LaneFault;
 use crate::view::{Grant, View};
 use atomic_table::Seat;
@@ -217,7 +217,7 @@ impl<'a> Floor<'a> {
     /// Lets the clients of a list in by one entry and walks them out, all who stand on a wire by one atomic step: a step
     /// by which they come in, and one for each sweep of a wire, on which some of them stand. Nobody of the lane is
     /// inside. Where they stand is in locals, and not in the lane's yard. It waits for nobody, and takes memory only if
-    /// the lane lacks room.
+    /// the lane lacks room, and then only for their grants.
     ///
     /// # Errors
     /// The first that stands: `NoSuchEntry`, `QuotaSpent` (there are more clients than quota), `Memory` (the lane has less
@@ -243,7 +243,7 @@ impl<'a> Floor<'a> {
             return Err(LaneFault::QuotaSpent);
         }
         lane.lane_laws();
-        let Ok(()) = lane.make_room(count) else {
+        let Ok(()) = make_way(&mut lane.grants, count, &lane.yard, lane.room) else {
             return Err(LaneFault::Memory);
         };
         let entry = entry as u32;
@@ -262,7 +262,7 @@ impl<'a> Floor<'a> {
             entry,
         );
         lane.quota -= count;
-        lane.room -= count;
+        lane.room = lane.room.saturating_sub(count);
         Ok(())
     }
 }

@@ -5,7 +5,7 @@ ghost use Rattle.cn_yard.specs.Lists.{on, tokens_in};
 ghost use Rattle.cn_floor.specs.Named.{IsNamed, WalksThrough};
 
 use super::Floor;
-use super::lane::Lane;
+use super::lane::{Lane, make_way};
 use crate::fault::LaneFault;
 use crate::gate::NoPause;
 use crate::view::{Grant, View};
@@ -18,7 +18,7 @@ use std::marker::Brand;
 impl<'a> Floor<'a> {
     /// Lets a client in by an entry and walks it out, in one atomic step for the entry, for each balancer on its way and for
     /// the exit: its name. Nobody of the lane is inside. The client's place is in a local, and not in the lane's yard. It
-    /// waits for nobody, and takes memory only if the lane has no room.
+    /// waits for nobody, and takes memory only if the lane has no room, and then only for its grant.
     ///
     /// # Errors
     /// The first that stands: `NoSuchEntry`, `QuotaSpent`, `Memory` (the lane has no room, and gets no memory). Then nothing
@@ -42,7 +42,7 @@ impl<'a> Floor<'a> {
         if lane.quota() == 0 {
             return Err(LaneFault::QuotaSpent);
         }
-        let Ok(()) = lane.make_room(1) else {
+        let Ok(()) = make_way(&mut lane.grants, 1, &lane.yard, lane.room) else {
             return Err(LaneFault::Memory);
         };
         let (exit, visit) = self.walk_through(&mut lane.seat, client, entry as u32);
@@ -54,7 +54,7 @@ impl<'a> Floor<'a> {
             name,
         });
         lane.quota -= 1;
-        lane.room -= 1;
+        lane.room = lane.room.saturating_sub(1);
         Ok(name)
     }
 

@@ -41,16 +41,16 @@ pub(super) fn zeros(alloc: Global, network: &Counting) -> Result<Vec<u64>, Alloc
     Ok(words)
 }
 
-/// A yard with a wire for each of the network.
-///
-/// # Errors
-/// `AllocError` if it gets no memory.
-pub(super) fn yard_for(alloc: Global, network: &Counting) -> Result<Yard, AllocError>
-    ensures empty { IfOk result (λ yard. yard ≡ empty (length network.now.table.ends)) }
-    ensures idle { IfOk result (λ yard. IsIdle network.now yard.lists) }
-    ensures nobody { IfOk result (λ yard. tokens_in yard.lists ≡ 0) }
+/// A yard with a wire for each of the network. It takes no memory.
+pub(super) fn yard_for(alloc: Global, network: &Counting) -> Yard
+    ensures empty { result ≡ empty (length network.now.table.ends) }
+    ensures idle { IsIdle network.now result.lists }
+    ensures nobody { tokens_in result.lists ≡ 0 }
 {
-    Yard::new(alloc, network.entries() + 2 * network.balancers())
+    let Ok(yard) = Yard::new(alloc, network.entries() + 2 * network.balancers()) else {
+        unreachable!()
+    };
+    yard
 }
 
 /// Whether so many clients may come in.
@@ -68,12 +68,12 @@ fn quota_fits(quota: u64) -> Result<(), OpenFault>
 }
 
 /// The yard that is there, or else a new one.
-fn spare_yard(alloc: Global, network: &Counting, spare: Option<Yard>) -> Result<Yard, AllocError>
+fn spare_yard(alloc: Global, network: &Counting, spare: Option<Yard>) -> Yard
     requires { IfSome spare (λ yard. IsIdle network.now yard.lists) }
-    ensures { IfOk result (λ yard. IsIdle network.now yard.lists) }
+    ensures { IsIdle network.now result.lists }
 {
     match spare {
-        Some(yard) => Ok(yard),
+        Some(yard) => yard,
         None => yard_for(alloc, network),
     }
 }
@@ -165,9 +165,7 @@ impl<'a> Floor<'a> {
         ensures back { IfErr result (λ back. back ≡ leftovers.entry) }
     {
         let (words, yard) = leftovers.into_parts();
-        let Ok(yard) = spare_yard(alloc, words.network(), yard) else {
-            return Err(Leftovers { words, yard: None });
-        };
+        let yard = spare_yard(alloc, words.network(), yard);
         match Floor::begin(alloc, words, quota, yard) {
             Ok(opened) => Ok(opened),
             Err(words) => Err(Leftovers { words, yard: None }),
@@ -188,7 +186,7 @@ impl<'a> Floor<'a> {
         ensures lane { IfOk result (λ r. r.1 ≡ empty_lane r.0 quota) }
         ensures memory { IfErr result (λ fault. fault ≡ OpenFault.Memory) }
     {
-        let yard = yard_for(alloc, words.network())?;
+        let yard = yard_for(alloc, words.network());
         match Floor::begin(alloc, words, quota, yard) {
             Ok(opened) => Ok(opened),
             Err(_words) => Err(OpenFault::Memory),

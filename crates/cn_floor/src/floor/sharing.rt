@@ -25,10 +25,11 @@ fn append(to: &mut Vec<Grant>, from: &[Grant])
 }
 
 impl<'a> Floor<'a> {
-    /// Splits off a lane with some of the quota; the lane keeps all else. Each of both lanes then looks once.
+    /// Splits off a lane with some of the quota; the lane keeps all else. Each of both lanes then looks once. It takes no
+    /// memory.
     ///
     /// # Errors
-    /// The first that stands: `QuotaTooSmall`, `Memory`. Then nothing has changed.
+    /// `QuotaTooSmall`. Then nothing has changed.
     pub fn split_off(&self, lane: &mut Lane, quota: u64) -> Result<Lane, SplitFault>
         requires own { lane.old.home ≡ self.now }
         ensures first { OnOk result (lane.new
@@ -41,13 +42,12 @@ impl<'a> Floor<'a> {
         ensures enough { OnOk result (quota ≤ lane.old.view.quota) }
         ensures err { OnErr result (lane.new ≡ lane.old) }
         ensures small { IsErrOf result SplitFault.QuotaTooSmall ↔ (lane.old.view.quota < quota) }
+        ensures memory { ¬ (IsErrOf result SplitFault.Memory) }
     {
         if quota > lane.quota {
             return Err(SplitFault::QuotaTooSmall);
         }
-        let Ok(yard) = yard_for(self.alloc, self.network()) else {
-            return Err(SplitFault::Memory);
-        };
+        let yard = yard_for(self.alloc, self.network());
         let seat = self.split_seat(&mut lane.seat, quota);
         lane.quota -= quota;
         Ok(Lane {
@@ -80,7 +80,7 @@ impl<'a> Floor<'a> {
     /// Splits off a lane as [`Floor::split_off`] does, and gives both.
     ///
     /// # Errors
-    /// The first that stands, with the lane: `QuotaTooSmall`, `Memory`.
+    /// `QuotaTooSmall`, with the lane.
     pub fn split(&self, mut lane: Lane, quota: u64) -> Result<(Lane, Lane), (SplitFault, Lane)>
         requires own { lane.home ≡ self.now }
         ensures first { IfOk result (λ r. r.0

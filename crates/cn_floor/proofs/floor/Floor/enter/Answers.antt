@@ -9,7 +9,7 @@ use Rattle.cn_floor.specs.InsideLane.{IsLane, lane_of}
 use Rattle.cn_floor.specs.Lane.{FloorValue, LaneValue}
 use Rattle.cn_floor.specs.Steps.{IsAtomicStep}
 use Rattle.cn_floor.specs.Views.{after_enter}
-use Rattle.cn_floor.proofs.InLane.Lanes.{lane-in}
+use Rattle.cn_floor.proofs.InLane.Lanes.{lane-in, lane-with-way}
 use Rattle.cn_floor.proofs.floor.Floor.enter.Goals as goal
 
 pub make_way-requires-clause-room : goal.make_way-requires-clause-room
@@ -69,18 +69,7 @@ overflow_sub-lane c = omega (arith, c.if-lane-eq0)
 
 pub invariant_of-lane : goal.invariant_of-lane
 invariant_of-lane c =
-    let was = c.lane.invariant in
-    record {
-      no_slot = was.no_slot;
-      idle = was.idle;
-      tokens = was.tokens;
-      wires = was.wires;
-      grants = c.make_way.ensures.items ∙ was.grants;
-      quota = was.quota;
-      few = was.few;
-      room = c.make_way.ensures.room;
-      spare = was.spare;
-    }
+    lane-with-way c.lane.inside c.make_way.new.grants c.lane.invariant c.make_way.ensures.items c.make_way.ensures.room
 
 pub invariant_of-lane-in_default-admit : goal.invariant_of-lane-in_default-admit
 invariant_of-lane-in_default-admit c =
@@ -108,17 +97,7 @@ invariant_of-lane-2 c =
       quota = c.lane.inside.quota;
       room = c.lane.inside.room;
     } in
-    let kept : IsLane mid = record {
-      no_slot = was.no_slot;
-      idle = was.idle;
-      tokens = was.tokens;
-      wires = was.wires;
-      grants = c.make_way.ensures.items ∙ was.grants;
-      quota = was.quota;
-      few = was.few;
-      room = c.make_way.ensures.room;
-      spare = was.spare;
-    } in
+    let kept : IsLane mid = lane-with-way c.lane.inside c.make_way.new.grants was c.make_way.ensures.items c.make_way.ensures.room in
     lane-in mid _ c.in-Ok-admit.token c.args.client kept c.enter.ensures.seat.1 c.args.entry c.enter.ensures.came.0 c.in-Ok-admit.ensures.ok refl refl (omega (arith, c.if-lane-eq0)) c.saturating_sub-lane-inside.ensures c.in-Ok.ensures.ok
 
 pub returns-clause-ok : goal.returns-clause-ok

@@ -1,4 +1,4 @@
-use Rattle.std.proofs.Common.{◌≡◌, ℕ, ◌-◌, ◌<◌, ◌++◌, ◌∷◌, [], List, length, max, replicate, get_or, sym, ap, ◌∙◌, subst, arith}
+use Rattle.std.proofs.Common.{◌≡◌, ℕ, ◌-◌, ◌<◌, ◌++◌, ◌∷◌, [], List, length, replicate, get_or, sym, ap, ◌∙◌, subst, arith}
 use Rattle.std.proofs.Math.Seq.{get_or-append_seam}
 use Rattle.std.proofs.lemmas.List.{length_push, nil_from_length}
 use Rattle.cn_spec.specs.Step as step
@@ -9,18 +9,19 @@ use Rattle.cn_floor.specs.declared.view.Grant.{Grant}
 use Rattle.cn_floor.specs.declared.view.Start.{Start}
 use Rattle.cn_floor.specs.declared.view.View.{View}
 use Rattle.cn_floor.specs.InsideLane.{lane_of}
-use Rattle.cn_floor.specs.Lane.{FloorValue, LaneValue, with_room}
+use Rattle.cn_floor.specs.Lane.{FloorValue, LaneValue}
 use Rattle.cn_floor.specs.Named.{WalksThrough}
 use Rattle.cn_floor.specs.Rule.{IsStart}
 use Rattle.cn_floor.specs.Steps.{HasMoment}
 use Rattle.cn_floor.specs.Views.{base}
 use Rattle.cn_floor.proofs.AtClose.Rises.{all-empty}
 use Rattle.cn_floor.proofs.InLane.Named.{grew, moment-after, names-low}
+use Rattle.cn_floor.proofs.InLane.Lanes.{lane-with-way}
 use Rattle.cn_floor.proofs.floor.Floor.name.Goals as goal
 
 pub walk_through-exit-requires-clause-out : goal.walk_through-exit-requires-clause-out
 walk_through-exit-requires-clause-out c u =
-    let held : lane_of c.lane.inside ≡ with_room 1 c.args.lane.now = c.lane.view_is ∙ c.in-Ok.ensures.ok in
+    let held : lane_of c.lane.inside ≡ c.args.lane.now = c.lane.view_is in
     let nobody : tokens_in c.lane.inside.yard.lists ≡ 0 = ap (λ (l : LaneValue). tokens_in l.yard.lists) held ∙ c.requires.out in
     subst (λ (ls : Lists). on ls u ≡ []) c.lane.invariant.tokens (nil_from_length (on c.lane.inside.yard.lists u) (nobody-on c.lane.inside.yard.lists nobody u))
 
@@ -28,16 +29,20 @@ pub name_of-requires-clause-visit : goal.name_of-requires-clause-visit
 name_of-requires-clause-visit c =
     omega (arith, c.walk_through-exit.ensures.walked.leaves.few, c.start_laws.ensures.few, c.start_laws.ensures.quota)
 
+-- if the grant gets no memory the lane is as it was
 pub invariant_of-lane : goal.invariant_of-lane
 invariant_of-lane c =
+    lane-with-way c.lane.inside c.make_way.new.grants c.lane.invariant c.make_way.ensures.items c.make_way.ensures.room
+
+pub invariant_of-lane-2 : goal.invariant_of-lane-2
+invariant_of-lane-2 c =
     let v : View = c.lane.inside.seat.me.0 in
     let w : View = c.walk_through-exit.new.seat.me.0 in
     let exit : ℕ = c.walk_through-exit.result.0 in
     let visit : ℕ = c.walk_through-exit.result.1 in
     let was = c.lane.invariant in
-    let held : lane_of c.lane.inside ≡ with_room 1 c.args.lane.now = c.lane.view_is ∙ c.in-Ok.ensures.ok in
+    let held : lane_of c.lane.inside ≡ c.args.lane.now = c.lane.view_is in
     let nobody : tokens_in c.lane.inside.yard.lists ≡ 0 = ap (λ (l : LaneValue). tokens_in l.yard.lists) held ∙ c.requires.out in
-    let some : c.lane.inside.room ≡ max 1 c.args.lane.now.room = ap (λ (l : LaneValue). l.room) held in
     let is = grew _ c.args.client c.args.entry exit visit v w c.walk_through-exit.ensures.walked in
     let begun : v.start ≡ c.args.self.now.start = ap (λ (l : LaneValue). l.home.start) held ∙ ap (λ (h : FloorValue). h.start) c.requires.own in
     let width : c.width.result ≡ v.start.network.table.width = c.width.ensures.value ∙ (λ i. (c.network-network.ensures.value i).table.width) ∙ sym (ap (λ (s : Start). s.network.table.width) begun) in
@@ -45,7 +50,7 @@ invariant_of-lane c =
     let name : c.name_of.result - c.self.inside.base ≡ step.name_of v.start.network.table.width exit visit - base v.start =
     (λ x. c.name_of.ensures x - base_is x) ∙ ap (λ (n : ℕ). step.name_of n exit visit - base v.start) width in
     let grants : c.push_reserved.new.self.items ≡ w.grants =
-    c.push_reserved.ensures.items ∙ (λ x. was.grants x ++ record { client = c.args.client; exit = exit; visit = visit; name = name x } ∷ []) ∙ sym is.grants in
+    c.push_reserved.ensures.items ∙ (λ x. (c.make_way.ensures.items ∙ was.grants) x ++ record { client = c.args.client; exit = exit; visit = visit; name = name x } ∷ []) ∙ sym is.grants in
     record {
       no_slot = c.walk_through-exit.ensures.seat.1;
       idle = is.loads ∙ was.idle;
@@ -56,13 +61,13 @@ invariant_of-lane c =
       few = omega (arith, was.few);
       room = omega (
         arith,
-        was.room,
-        some,
+        c.in-Ok.ensures.ok,
+        c.saturating_sub-lane-inside.ensures,
         c.push_reserved.ensures.capacity,
         ap (λ (gs : List Grant). length gs) c.push_reserved.ensures.items,
-        length_push c.lane.inside.grants.items (record { client = c.args.client; exit = exit; visit = visit; name = c.name_of.result - c.self.inside.base }),
+        length_push c.make_way.new.grants.items (record { client = c.args.client; exit = exit; visit = visit; name = c.name_of.result - c.self.inside.base }),
       );
-      spare = omega (arith, was.spare);
+      spare = omega (arith, was.spare, c.saturating_sub-lane-inside.ensures);
     }
 
 pub returns-clause-ok : goal.returns-clause-ok
@@ -74,7 +79,7 @@ returns-clause-ok c =
     let given : ℕ = c.name_of.result - c.self.inside.base in
     let old : LaneValue = c.args.lane.now in
     let was = c.lane.invariant in
-    let held : lane_of c.lane.inside ≡ with_room 1 old = c.lane.view_is ∙ c.in-Ok.ensures.ok in
+    let held : lane_of c.lane.inside ≡ old = c.lane.view_is in
     let view : v ≡ old.view = ap (λ (l : LaneValue). l.view) held in
     let is = grew _ c.args.client c.args.entry exit visit v w c.walk_through-exit.ensures.walked in
     let own : c.args.self.now.start ≡ old.home.start = sym (ap (λ (h : FloorValue). h.start) c.requires.own) in
@@ -103,17 +108,19 @@ returns-clause-ok c =
       seen = is.seen ∙ ap (λ (x : View). x.seen) view;
       low = subst (λ (g : Grant). g.name < old.home.start.quota) last low;
       moment = moment;
-      lists = ap (λ (l : LaneValue). l.yard.lists) held;
-      spare = ap (λ (l : LaneValue). l.yard.spare) held;
-      room = omega (arith, ap (λ (l : LaneValue). l.room) held);
+      yard = ap (λ (l : LaneValue). l.yard) held;
+      room = omega (arith, c.saturating_sub-lane-inside.ensures, ap (λ (l : LaneValue). l.room) held);
     }
 
-pub make_room-requires : goal.make_room-requires
-make_room-requires c = omega arith
+pub make_way-requires-clause-room : goal.make_way-requires-clause-room
+make_way-requires-clause-room c = c.lane.invariant.room
+
+pub make_way-requires-clause-more : goal.make_way-requires-clause-more
+make_way-requires-clause-more c = omega arith
 
 pub walk_through-exit-requires-clause-own : goal.walk_through-exit-requires-clause-own
 walk_through-exit-requires-clause-own c =
-    let home : (lane_of c.lane.inside).home ≡ c.args.self.now = ap (λ (l : LaneValue). l.home) (c.lane.view_is ∙ c.in-Ok.ensures.ok) ∙ c.requires.own in
+    let home : (lane_of c.lane.inside).home ≡ c.args.self.now = ap (λ (l : LaneValue). l.home) c.lane.view_is ∙ c.requires.own in
     (ap (λ (h : FloorValue). h.table) home, ap (λ (h : FloorValue). h.start) home)
 
 pub walk_through-exit-requires-clause-slots : goal.walk_through-exit-requires-clause-slots
@@ -121,7 +128,7 @@ walk_through-exit-requires-clause-slots c = (c.lane.invariant.no_slot, c.lane.in
 
 pub walk_through-exit-requires-clause-wires : goal.walk_through-exit-requires-clause-wires
 walk_through-exit-requires-clause-wires c =
-    let home : (lane_of c.lane.inside).home ≡ c.args.self.now = ap (λ (l : LaneValue). l.home) (c.lane.view_is ∙ c.in-Ok.ensures.ok) ∙ c.requires.own in
+    let home : (lane_of c.lane.inside).home ≡ c.args.self.now = ap (λ (l : LaneValue). l.home) c.lane.view_is ∙ c.requires.own in
     sym (ap length c.lane.invariant.tokens) ∙ c.lane.invariant.wires ∙ ap (λ (h : FloorValue). length h.start.network.table.ends) home
 
 pub walk_through-exit-requires-clause-entry : goal.walk_through-exit-requires-clause-entry
@@ -130,7 +137,7 @@ walk_through-exit-requires-clause-entry c =
 
 pub walk_through-exit-requires-clause-quota : goal.walk_through-exit-requires-clause-quota
 walk_through-exit-requires-clause-quota c =
-    omega (arith, c.if-quota-eq0, c.quota.ensures, ap (λ (l : LaneValue). l.view.quota) (c.lane.view_is ∙ c.in-Ok.ensures.ok))
+    omega (arith, c.if-quota-eq0, c.quota.ensures, ap (λ (l : LaneValue). l.view.quota) c.lane.view_is)
 
 pub name_of-requires-clause-width : goal.name_of-requires-clause-width
 name_of-requires-clause-width c = omega (arith, c.width.ensures.value, c.width.ensures.network.formed.width)
@@ -140,8 +147,8 @@ name_of-requires-clause-exit c =
     omega (arith, c.walk_through-exit.ensures.exit, c.width.ensures.value, ap (λ (n : Network). n.table.width) c.network-network.ensures.value)
 
 pub push_reserved-requires : goal.push_reserved-requires
-push_reserved-requires c = omega (arith, c.lane.invariant.room, ap (λ (l : LaneValue). l.room) (c.lane.view_is ∙ c.in-Ok.ensures.ok))
+push_reserved-requires c = omega (arith, c.in-Ok.ensures.ok)
 
 pub overflow_sub-lane : goal.overflow_sub-lane
 overflow_sub-lane c =
-    omega (arith, c.if-quota-eq0, c.quota.ensures, c.lane.invariant.quota, ap (λ (l : LaneValue). l.view.quota) (c.lane.view_is ∙ c.in-Ok.ensures.ok))
+    omega (arith, c.if-quota-eq0, c.quota.ensures, c.lane.invariant.quota, ap (λ (l : LaneValue). l.view.quota) c.lane.view_is)

@@ -1,4 +1,4 @@
-use Rattle.std.proofs.Common.{◌≡◌, ℕ, ◌+◌, ◌==◌, List, [], ◌++◌, count_by, length, max, replicate, arith, sym, ap, ◌∙◌, subst, length-append}
+use Rattle.std.proofs.Common.{◌≡◌, ℕ, ◌+◌, ◌==◌, List, [], ◌++◌, count_by, length, replicate, arith, sym, ap, ◌∙◌, subst, length-append}
 use Rattle.std.proofs.lemmas.List.{nil_from_length}
 use Rattle.cn_wiring.specs.Network.{Network}
 use Rattle.cn_yard.specs.Lists.{Lists, on, tokens_in}
@@ -6,24 +6,25 @@ use Rattle.cn_yard.proofs.CallerLemmas.{nobody-on}
 use Rattle.cn_floor.specs.declared.view.Start.{Start}
 use Rattle.cn_floor.specs.declared.view.View.{View}
 use Rattle.cn_floor.specs.InsideLane.{lane_of}
-use Rattle.cn_floor.specs.Lane.{FloorValue, LaneValue, with_room}
+use Rattle.cn_floor.specs.Lane.{FloorValue, LaneValue}
 use Rattle.cn_floor.specs.Listed.{WalkTogether}
 use Rattle.cn_floor.specs.Steps.{HasMoment}
 use Rattle.cn_floor.proofs.AtClose.Rises.{all-empty}
 use Rattle.cn_floor.proofs.InLane.Listed.{all-clients, came-once, nobody-stands, placed-many}
 use Rattle.cn_floor.proofs.InLane.InTurn.{walk-together}
+use Rattle.cn_floor.proofs.InLane.Lanes.{lane-with-way}
 use Rattle.cn_floor.proofs.floor.Floor.name_all.Goals as goal
 
 pub come_in-requires-clause-out : goal.come_in-requires-clause-out
 come_in-requires-clause-out c u =
-    let held : lane_of c.lane.inside ≡ with_room (length c.args.clients.now) c.args.lane.now = c.lane.view_is ∙ c.in-Ok.ensures.ok in
+    let held : lane_of c.lane.inside ≡ c.args.lane.now = c.lane.view_is in
     let nobody : tokens_in c.lane.inside.yard.lists ≡ 0 = ap (λ (l : LaneValue). tokens_in l.yard.lists) held ∙ c.requires.out in
     subst (λ (ls : Lists). on ls u ≡ []) c.lane.invariant.tokens (nil_from_length (on c.lane.inside.yard.lists u) (nobody-on c.lane.inside.yard.lists nobody u))
 
 pub pass_all-requires-clause-once : goal.pass_all-requires-clause-once
 pass_all-requires-clause-once c =
     let came = c.come_in.ensures.came in
-    let held : lane_of c.lane.inside ≡ with_room (length c.args.clients.now) c.args.lane.now = c.lane.view_is ∙ c.in-Ok.ensures.ok in
+    let held : lane_of c.lane.inside ≡ c.args.lane.now = c.lane.view_is in
     let begun : c.lane.inside.seat.me.0.start ≡ c.args.self.now.start = ap (λ (l : LaneValue). l.home.start) held ∙ ap (λ (h : FloorValue). h.start) c.requires.own in
     came-once c.lane.inside.seat.me.0 c.come_in.new.seat.me.0 c.args.clients.now c.args.entry (length c.args.clients.now) came
     (omega (
@@ -39,8 +40,13 @@ pass_all-requires-clause-once c =
       ap (λ (n : Network). n.table.entries) c.network.ensures.value,
     ))
 
+-- if the grants get no memory the lane is as it was
 pub invariant_of-lane : goal.invariant_of-lane
 invariant_of-lane c =
+    lane-with-way c.lane.inside c.make_way.new.grants c.lane.invariant c.make_way.ensures.items c.make_way.ensures.room
+
+pub invariant_of-lane-2 : goal.invariant_of-lane-2
+invariant_of-lane-2 c =
     let v : View = c.lane.inside.seat.me.0 in
     let w : View = c.come_in.new.seat.me.0 in
     let x : View = c.pass_all.new.seat.me.0 in
@@ -49,9 +55,8 @@ invariant_of-lane c =
     let was = c.lane.invariant in
     let came = c.come_in.ensures.came in
     let left = c.pass_all.ensures.left in
-    let held : lane_of c.lane.inside ≡ with_room k c.args.lane.now = c.lane.view_is ∙ c.in-Ok.ensures.ok in
+    let held : lane_of c.lane.inside ≡ c.args.lane.now = c.lane.view_is in
     let nobody : tokens_in c.lane.inside.yard.lists ≡ 0 = ap (λ (l : LaneValue). tokens_in l.yard.lists) held ∙ c.requires.out in
-    let some : c.lane.inside.room ≡ max k c.args.lane.now.room = ap (λ (l : LaneValue). l.room) held in
     let (more, grew, theirs) = left.grants in
     let many : length c.pass_all.new.grants.items ≡ length v.grants + k =
     ap length (c.pass_all.ensures.grants ∙ grew) ∙ length-append w.grants more
@@ -64,8 +69,8 @@ invariant_of-lane c =
       grants = c.pass_all.ensures.grants;
       quota = omega (arith, was.quota, came.quota, left.quota);
       few = omega (arith, was.few);
-      room = omega (arith, was.room, some, many, ap length was.grants, c.pass_all.ensures.capacity);
-      spare = omega (arith, was.spare);
+      room = omega (arith, c.in-Ok.ensures.ok, c.saturating_sub-lane-inside.ensures, many, ap length c.make_way.ensures.items, ap length was.grants, c.pass_all.ensures.capacity);
+      spare = omega (arith, was.spare, c.saturating_sub-lane-inside.ensures);
     }
 
 pub returns-clause-ok : goal.returns-clause-ok
@@ -78,7 +83,7 @@ returns-clause-ok c =
     let old : LaneValue = c.args.lane.now in
     let came = c.come_in.ensures.came in
     let left = c.pass_all.ensures.left in
-    let held : lane_of c.lane.inside ≡ with_room k old = c.lane.view_is ∙ c.in-Ok.ensures.ok in
+    let held : lane_of c.lane.inside ≡ old = c.lane.view_is in
     let view : v ≡ old.view = ap (λ (l : LaneValue). l.view) held in
     let began : c.args.self.now.start ≡ old.home.start = sym (ap (λ (h : FloorValue). h.start) c.requires.own) in
     let own : v.start ≡ old.home.start = ap (λ (l : LaneValue). l.home.start) held in
@@ -101,32 +106,34 @@ returns-clause-ok c =
         λ client. theirs.as_often client ∙ ap (count_by (λ e. e.1 == client)) came.there ∙ all-clients clients client,
       );
       moment = λ some. subst (λ (s : Start). HasMoment s x) (came.start ∙ own) (left.moment (omega (arith, some, stood)));
-      lists = ap (λ (l : LaneValue). l.yard.lists) held;
-      spare = ap (λ (l : LaneValue). l.yard.spare) held;
-      room = omega (arith, ap (λ (l : LaneValue). l.room) held);
+      yard = ap (λ (l : LaneValue). l.yard) held;
+      room = omega (arith, c.saturating_sub-lane-inside.ensures, ap (λ (l : LaneValue). l.room) held);
     }
 
-pub make_room-requires : goal.make_room-requires
-make_room-requires c = omega (arith, c.if-quota-count.false, c.quota.ensures, c.lane_laws.ensures.few)
+pub make_way-requires-clause-room : goal.make_way-requires-clause-room
+make_way-requires-clause-room c = c.lane.invariant.room
+
+pub make_way-requires-clause-more : goal.make_way-requires-clause-more
+make_way-requires-clause-more c = omega (arith, c.if-quota-count.false, c.quota.ensures, c.lane_laws.ensures.few)
 
 pub come_in-requires-clause-own : goal.come_in-requires-clause-own
 come_in-requires-clause-own c =
-    let home : (lane_of c.lane.inside).home ≡ c.args.self.now = ap (λ (l : LaneValue). l.home) (c.lane.view_is ∙ c.in-Ok.ensures.ok) ∙ c.requires.own in
+    let home : (lane_of c.lane.inside).home ≡ c.args.self.now = ap (λ (l : LaneValue). l.home) c.lane.view_is ∙ c.requires.own in
     (ap (λ (h : FloorValue). h.table) home, ap (λ (h : FloorValue). h.start) home)
 
 pub come_in-requires-clause-wires : goal.come_in-requires-clause-wires
 come_in-requires-clause-wires c =
-    let home : (lane_of c.lane.inside).home ≡ c.args.self.now = ap (λ (l : LaneValue). l.home) (c.lane.view_is ∙ c.in-Ok.ensures.ok) ∙ c.requires.own in
+    let home : (lane_of c.lane.inside).home ≡ c.args.self.now = ap (λ (l : LaneValue). l.home) c.lane.view_is ∙ c.requires.own in
     sym (ap length c.lane.invariant.tokens) ∙ c.lane.invariant.wires ∙ ap (λ (h : FloorValue). length h.start.network.table.ends) home
 
 pub pass_all-requires-clause-own : goal.pass_all-requires-clause-own
 pass_all-requires-clause-own c =
-    let home : (lane_of c.lane.inside).home ≡ c.args.self.now = ap (λ (l : LaneValue). l.home) (c.lane.view_is ∙ c.in-Ok.ensures.ok) ∙ c.requires.own in
+    let home : (lane_of c.lane.inside).home ≡ c.args.self.now = ap (λ (l : LaneValue). l.home) c.lane.view_is ∙ c.requires.own in
     (c.come_in.ensures.seat.0 ∙ ap (λ (h : FloorValue). h.table) home, c.come_in.ensures.came.start ∙ ap (λ (h : FloorValue). h.start) home)
 
 pub pass_all-requires-clause-wires : goal.pass_all-requires-clause-wires
 pass_all-requires-clause-wires c =
-    let home : (lane_of c.lane.inside).home ≡ c.args.self.now = ap (λ (l : LaneValue). l.home) (c.lane.view_is ∙ c.in-Ok.ensures.ok) ∙ c.requires.own in
+    let home : (lane_of c.lane.inside).home ≡ c.args.self.now = ap (λ (l : LaneValue). l.home) c.lane.view_is ∙ c.requires.own in
     c.come_in.ensures.came.wires ∙ sym (ap length c.lane.invariant.tokens) ∙ c.lane.invariant.wires ∙ ap (λ (h : FloorValue). length h.start.network.table.ends) home
 
 pub pass_all-requires-clause-wire : goal.pass_all-requires-clause-wire
@@ -147,11 +154,11 @@ pub pass_all-requires-clause-above : goal.pass_all-requires-clause-above
 pass_all-requires-clause-above c u more = c.come_in.ensures.came.others u (λ e. omega (arith, e, more))
 
 pub pass_all-requires-clause-room : goal.pass_all-requires-clause-room
-pass_all-requires-clause-room c = omega (arith, c.lane.invariant.room, ap (λ (l : LaneValue). l.room) (c.lane.view_is ∙ c.in-Ok.ensures.ok))
+pass_all-requires-clause-room c = omega (arith, c.in-Ok.ensures.ok)
 
 pub pass_all-requires-clause-grants : goal.pass_all-requires-clause-grants
-pass_all-requires-clause-grants c = c.lane.invariant.grants ∙ sym c.come_in.ensures.came.grants
+pass_all-requires-clause-grants c = c.make_way.ensures.items ∙ c.lane.invariant.grants ∙ sym c.come_in.ensures.came.grants
 
 pub overflow_sub-lane : goal.overflow_sub-lane
 overflow_sub-lane c =
-    omega (arith, c.if-quota-count.false, c.quota.ensures, c.lane.invariant.quota, ap (λ (l : LaneValue). l.view.quota) (c.lane.view_is ∙ c.in-Ok.ensures.ok))
+    omega (arith, c.if-quota-count.false, c.quota.ensures, c.lane.invariant.quota, ap (λ (l : LaneValue). l.view.quota) c.lane.view_is)

@@ -30,18 +30,18 @@ invariant_of-result c =
     let view = c.split_seat-seat.ensures.second in
     let begun : c.lane.inside.seat.me.0.start ≡ c.args.self.now.start = ap (λ (l : LaneValue). l.home.start) c.lane.view_is ∙ ap (λ (h : FloorValue). h.start) c.requires.own in
     let network : c.network.result.now ≡ c.lane.inside.seat.me.0.start.network = c.network.ensures.value ∙ sym (ap (λ (s : Start). s.network) begun) in
-    let tokens : c.in-Ok.yard.lists ≡ c.split_seat-seat.result.me.0.tokens =
-    c.in-Ok.ensures.idle ∙ ap (λ (x : Network). replicate (length x.table.ends) []) network ∙ sym (ap (λ (x : View). x.tokens) view) in
+    let tokens : c.yard_for-yard.result.lists ≡ c.split_seat-seat.result.me.0.tokens =
+    c.yard_for-yard.ensures.idle ∙ ap (λ (x : Network). replicate (length x.table.ends) []) network ∙ sym (ap (λ (x : View). x.tokens) view) in
     record {
       no_slot = c.split_seat-seat.ensures.seats.3;
       idle = ap (λ (x : View). x.loads) view;
       tokens = tokens;
-      wires = ap length c.in-Ok.ensures.idle ∙ length-replicate (length c.network.result.now.table.ends) []
+      wires = ap length c.yard_for-yard.ensures.idle ∙ length-replicate (length c.network.result.now.table.ends) []
           ∙ ap (λ (x : Network). length x.table.ends) network ∙ sym (ap (λ (x : View). length x.start.network.table.ends) view);
       grants = c.new.ensures.items ∙ sym (ap (λ (x : View). x.grants) view);
       quota = sym (ap (λ (x : View). x.quota) view);
-      few = omega (arith, c.in-Ok.ensures.nobody, c.lane.invariant.few, c.if-quota-lane.false);
-      room = omega (arith, c.in-Ok.ensures.nobody, ap length c.new.ensures.items);
+      few = omega (arith, c.yard_for-yard.ensures.nobody, c.lane.invariant.few, c.if-quota-lane.false);
+      room = omega (arith, c.yard_for-yard.ensures.nobody, ap length c.new.ensures.items);
       spare = omega arith;
     }
 
@@ -60,7 +60,7 @@ returns-clause-second c =
     let view = c.split_seat-seat.ensures.second in
     let begun : c.lane.inside.seat.me.0.start ≡ c.args.self.now.start = ap (λ (l : LaneValue). l.home.start) c.lane.view_is ∙ ap (λ (h : FloorValue). h.start) c.requires.own in
     let network : c.network.result.now ≡ c.lane.inside.seat.me.0.start.network = c.network.ensures.value ∙ sym (ap (λ (s : Start). s.network) begun) in
-    let yard : c.in-Ok.yard ≡ empty (length c.lane.inside.seat.me.0.start.network.table.ends) = c.in-Ok.ensures.empty ∙ ap (λ (x : Network). empty (length x.table.ends)) network in
+    let yard : c.yard_for-yard.result ≡ empty (length c.lane.inside.seat.me.0.start.network.table.ends) = c.yard_for-yard.ensures.empty ∙ ap (λ (x : Network). empty (length x.table.ends)) network in
     rw (← c.lane.view_is) (λ i. record {
       home = record { table = c.split_seat-seat.ensures.seats.2 i; start = (view i).start };
       view = view i;

@@ -7,6 +7,7 @@ use Rattle.cn_floor.specs.InsideLane.{lane_of}
 use Rattle.cn_floor.specs.Lane.{FloorValue, LaneValue}
 use Rattle.cn_floor.specs.Steps.{HasMoment}
 use Rattle.cn_floor.specs.Views.{after_join, after_look, on_in}
+use Rattle.cn_floor.proofs.InLane.Lanes.{lane-with-way}
 use Rattle.cn_floor.proofs.floor.Floor.take_in.Goals as goal
 
 pub make_way-requires-clause-room : goal.make_way-requires-clause-room
@@ -14,18 +15,7 @@ make_way-requires-clause-room c = c.lane.invariant.room
 
 pub invariant_of-lane : goal.invariant_of-lane
 invariant_of-lane c =
-    let was = c.lane.invariant in
-    record {
-      no_slot = was.no_slot;
-      idle = was.idle;
-      tokens = was.tokens;
-      wires = was.wires;
-      grants = c.make_way.ensures.items ∙ was.grants;
-      quota = was.quota;
-      few = was.few;
-      room = c.make_way.ensures.room;
-      spare = was.spare;
-    }
+    lane-with-way c.lane.inside c.make_way.new.grants c.lane.invariant c.make_way.ensures.items c.make_way.ensures.room
 
 pub returns-in_default-clause-err : goal.returns-in_default-clause-err
 returns-in_default-clause-err c = c.lane.view_is

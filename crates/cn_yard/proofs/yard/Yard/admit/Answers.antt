@@ -1,12 +1,13 @@
-use Rattle.std.proofs.Common.{◌≡◌, ◌∙◌, ◌<◌, length, refl, ap, arith, max}
+use Rattle.std.proofs.Common.{◌≡◌, ◌∙◌, ◌<◌, ℕ, List, length, refl, ap, arith, max}
 use Rattle.cn_yard.specs.Chains.{moved}
-use Rattle.cn_yard.specs.InsideYard.{lists_of}
+use Rattle.cn_yard.specs.InsideYard.{Keeps, lists_of}
 use Rattle.cn_yard.specs.Lines.{count_of}
 use Rattle.cn_yard.specs.Lists.{Yard}
 use Rattle.cn_yard.specs.Records.{wire_of}
 use Rattle.cn_yard.specs.declared.yard.Yard.TheInside.{Inside}
 use Rattle.cn_yard.proofs.Bodies.{Relinked, Renamed, admits-renamed, after, free-read, keeps-relinked, keeps-renamed, relinked-by, renamed-by, with_records}
-use Rattle.cn_yard.proofs.Wires.{closed, opened, wires-are}
+use Rattle.cn_yard.proofs.Bare.{closed, wires-are}
+use Rattle.cn_yard.proofs.Readers.{kept-count}
 use Rattle.cn_yard.proofs.yard.Yard.admit.Goals.{After-index, After-relink, After-set_client}
 use Rattle.cn_yard.proofs.yard.Yard.admit.Goals as goal
 
@@ -18,31 +19,33 @@ lists c = ap (λ (v : Yard). v.lists) c.self.view_is ∙ c.in_ok-reserve.ensures
 spare : (c : After-index) → count_of c.self.inside.lines.items c.self.inside.wires ≡ max 1 c.args.self.now.spare
 spare c = ap (λ (v : Yard). v.spare) c.self.view_is ∙ c.in_ok-reserve.ensures.ok
 
+-- so the lines are there
+kept : (c : After-index) → (order : ℕ → List ℕ) × Keeps c.self.inside order
+kept c = kept-count c.self.inside c.self.invariant c.self.inside.wires (omega (arith, spare c))
+
 free : (c : After-index) → (c.index.result.now.last < length c.self.inside.records.items) × (wire_of c.self.inside.records.items c.index.result.now.last ≡ c.self.inside.wires)
 free c =
-    let (order, k) = opened c.self.inside c.self.invariant in
+    let (order, k) = kept c in
     let one = spare c in
     free-read c.self.inside order c.index.result.now k (grind arith) c.index.ensures
 
 -- the wire is one of the yard's
 within : (c : After-index) → c.args.wire < c.self.inside.wires
-within c =
-    let (order, k) = opened c.self.inside c.self.invariant in
-    rw (← wires-are c.self.inside order k, lists c) c.requires.wire
+within c = rw (← wires-are c.self.inside, lists c) c.requires.wire
 
 pub relink-requires-clause-number : goal.relink-requires-clause-number
 relink-requires-clause-number c = rw c.deref_mut.ensures.value (free (goal.at.relink-requires-clause-number c).After-index).0
 
 pub relink-requires-clause-wire : goal.relink-requires-clause-wire
 relink-requires-clause-wire c =
-    let (order, k) = opened c.self.inside c.self.invariant in
+    let (order, k) = kept (goal.at.relink-requires-clause-wire c).After-index in
     let h = within (goal.at.relink-requires-clause-wire c).After-index in
     let rows = k.wires in
     rw c.deref_mut-2.ensures.value (omega arith)
 
 pub relink-requires-clause-lined : goal.relink-requires-clause-lined
 relink-requires-clause-lined c =
-    let (order, k) = opened c.self.inside c.self.invariant in
+    let (order, k) = kept (goal.at.relink-requires-clause-lined c).After-index in
     rw (c.deref_mut.ensures.value, c.deref_mut-2.ensures.value, c.deref_mut-3.ensures.value) (order, k.lined)
 
 -- ---- it moves to the wire
@@ -75,7 +78,7 @@ renamed c =
 
 pub invariant_of-self : goal.invariant_of-self
 invariant_of-self c =
-    let (order, k) = opened c.self.inside c.self.invariant in
+    let (order, k) = kept (goal.at.invariant_of-self c).After-index in
     let here = goal.at.invariant_of-self c in
     let m = moved-yard here.After-relink in
     let z = named-yard here.After-set_client in
@@ -85,7 +88,7 @@ invariant_of-self c =
 
 pub returns-clause-ok : goal.returns-clause-ok
 returns-clause-ok c =
-    let (order, k) = opened c.self.inside c.self.invariant in
+    let (order, k) = kept (goal.at.returns-clause-ok c).After-index in
     let here = goal.at.returns-clause-ok c in
     let m = moved-yard here.After-relink in
     let z = named-yard here.After-set_client in

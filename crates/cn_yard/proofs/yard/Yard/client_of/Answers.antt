@@ -1,18 +1,19 @@
 use Rattle.std.proofs.Common.{◌≡◌, length, rules, vec_len}
-use Rattle.cn_yard.proofs.Wires.{opened, live}
+use Rattle.cn_yard.proofs.Bare.{kept-live}
+use Rattle.cn_yard.proofs.Wires.{live}
 use Rattle.cn_yard.proofs.Readers.{there-read}
 use Rattle.cn_yard.proofs.yard.Yard.client_of.Goals as goal
 
 pub index-requires : goal.index-requires
 index-requires c =
-    let (order, k) = opened c.self.inside c.self.invariant in
+    let (order, k) = kept-live c.self.inside c.args.token c.self.invariant (rw (← c.self.view_is) at c.requires) in
     let y = c.self.inside in
     let counted : vec_len y.records ≡ length y.records.items = search rules in
     rw (c.number.ensures, counted) (live y order k c.args.token (rw (← c.self.view_is) at c.requires)).0
 
 pub returns : goal.returns
 returns c =
-    let (order, k) = opened c.self.inside c.self.invariant in
+    let (order, k) = kept-live c.self.inside c.args.token c.self.invariant (rw (← c.self.view_is) at c.requires) in
     let r = c.index.result.now in (
       r.wire,
       rw (← c.self.view_is)

@@ -1,20 +1,13 @@
-use Rattle.std.proofs.Common.{◌≡◌, ◌∙◌, ◌<◌, length, sym, arith, rules, vec_len}
-use Rattle.cn_yard.proofs.Wires.{opened, length-on, wires-are}
-use Rattle.cn_yard.proofs.Readers.{count-read}
+use Rattle.std.proofs.Common.{◌∙◌, ◌<◌, ap, sym, List}
+use Rattle.cn_yard.specs.declared.lines.Line.{Line}
+use Rattle.cn_yard.specs.Lines.{count_of}
+use Rattle.cn_yard.proofs.Bare.{wires-are}
+use Rattle.cn_yard.proofs.Readers.{count-all}
 use Rattle.cn_yard.proofs.yard.Yard.count.Goals as goal
-
-pub index-requires : goal.index-requires
-index-requires c =
-    let (order, k) = opened c.self.inside c.self.invariant in
-    let y = c.self.inside in
-    let counted : vec_len y.lines ≡ length y.lines.items = search rules in
-    let h = rw (← c.self.view_is, wires-are y order k) at c.requires in
-    let rows = k.wires in
-    omega arith
 
 pub returns : goal.returns
 returns c =
-    let (order, k) = opened c.self.inside c.self.invariant in
     let y = c.self.inside in
-    let h : c.args.wire < y.wires = rw (← c.self.view_is, wires-are y order k) at c.requires in
-    rw (← c.self.view_is) (count-read y order k c.args.wire c.index.result.now (omega arith) c.index.ensures ∙ sym (length-on y order k c.args.wire h))
+    let h : c.args.wire < y.wires = rw (← c.self.view_is, wires-are y) at c.requires in
+    rw (← c.self.view_is)
+    (c.count_on.ensures ∙ ap (λ (ls : List Line). count_of ls c.args.wire) c.deref.ensures.value ∙ sym (count-all y c.self.invariant c.args.wire h))

@@ -1,32 +1,48 @@
-use Rattle.std.proofs.Common.{◌≡◌, ◌∙◌, ◌<◌, length, refl, sym, arith, rules, vec_len, true, false, eqb}
+use Rattle.std.proofs.Common.{◌≡◌, ◌∙◌, ◌<◌, ℕ, List, [], length, refl, sym, ap, arith, rules, vec_len, false, eqb}
 use Rattle.std.proofs.lemmas.Bool.Decides.{nat_tests}
-use Rattle.cn_yard.proofs.Wires.{opened, wires-are}
-use Rattle.cn_yard.proofs.Readers.{first-read}
+use Rattle.std.proofs.lemmas.List.{nil_from_length}
+use Rattle.cn_yard.specs.declared.lines.Line.{Line}
+use Rattle.cn_yard.specs.InsideYard.{Keeps, lists_of}
+use Rattle.cn_yard.specs.Lines.{count_of}
+use Rattle.cn_yard.specs.Lists.{first_of, on}
+use Rattle.cn_yard.proofs.Bare.{wires-are}
+use Rattle.cn_yard.proofs.Readers.{count-all, count-read, first-read, kept-count}
+use Rattle.cn_yard.proofs.yard.Yard.first.Goals.{After-count_on}
 use Rattle.cn_yard.proofs.yard.Yard.first.Goals as goal
 
-pub index-line-requires : goal.index-line-requires
-index-line-requires c =
-    let (order, k) = opened c.self.inside c.self.invariant in
-    let y = c.self.inside in
-    let counted : vec_len y.lines ≡ length y.lines.items = search rules in
-    let h = rw (← c.self.view_is, wires-are y order k) at c.requires in
-    let rows = k.wires in
-    omega arith
+counted : (c : After-count_on) → c.count_on.result ≡ count_of c.self.inside.lines.items c.args.wire
+counted c = c.count_on.ensures ∙ ap (λ (ls : List Line). count_of ls c.args.wire) c.deref.ensures.value
 
-pub returns-then-line-eq0 : goal.returns-then-line-eq0
-returns-then-line-eq0 c =
-    let (order, k) = opened c.self.inside c.self.invariant in
+within : (c : After-count_on) → c.args.wire < c.self.inside.wires
+within c = rw (← c.self.view_is, wires-are c.self.inside) at c.requires
+
+-- if somebody is counted the lines are there
+kept : (c : After-count_on) → 0 < c.count_on.result → (order : ℕ → List ℕ) × Keeps c.self.inside order
+kept c some = kept-count c.self.inside c.self.invariant c.args.wire (omega (arith, some, counted c))
+
+pub index-requires : goal.index-requires
+index-requires c =
+    let here = (goal.at.index-requires c).After-count_on in
+    let (order, k) = kept here (omega (arith, c.if-count_on-eq0.false)) in
     let y = c.self.inside in
-    let h : c.args.wire < y.wires = rw (← c.self.view_is, wires-are y order k) at c.requires in
-    let test = c.if-line-eq0.true in
-    let f : eqb c.index-line.result.now.count 0 ≡ true = grind (arith, nat_tests) in
-    rw (← c.self.view_is) (sym (first-read y order k c.args.wire c.index-line.result.now h c.index-line.ensures ∙ rw f refl))
+    let size : vec_len y.lines ≡ length y.lines.items = search rules in
+    omega (arith, size, k.wires, within here)
+
+pub returns-then-count_on-eq0 : goal.returns-then-count_on-eq0
+returns-then-count_on-eq0 c =
+    let here = (goal.at.returns-then-count_on-eq0 c).After-count_on in
+    let y = c.self.inside in
+    let none : on (lists_of y) c.args.wire ≡ [] =
+    nil_from_length (on (lists_of y) c.args.wire) (count-all y c.self.invariant c.args.wire (within here) ∙ sym (counted here) ∙ c.if-count_on-eq0.true) in
+    rw (← c.self.view_is) (sym (ap first_of none))
 
 pub returns : goal.returns
 returns c =
-    let (order, k) = opened c.self.inside c.self.invariant in
+    let here = (goal.at.returns c).After-count_on in
+    let (order, k) = kept here (omega (arith, c.if-count_on-eq0.false)) in
     let y = c.self.inside in
-    let h : c.args.wire < y.wires = rw (← c.self.view_is, wires-are y order k) at c.requires in
-    let test = c.if-line-eq0.false in
-    let f : eqb c.index-line.result.now.count 0 ≡ false = grind (arith, nat_tests) in
-    rw (← c.self.view_is, c.of.ensures) (sym (first-read y order k c.args.wire c.index-line.result.now h c.index-line.ensures ∙ rw f refl))
+    let read = count-read y order k c.args.wire c.index.result.now (omega (arith, within here)) c.index.ensures in
+    let some : c.index.result.now.count ≡ c.count_on.result = read ∙ sym (counted here) in
+    let zero = c.if-count_on-eq0.false in
+    let f : eqb c.index.result.now.count 0 ≡ false = grind (arith, nat_tests) in
+    rw (← c.self.view_is, c.of.ensures) (sym (first-read y order k c.args.wire c.index.result.now (within here) c.index.ensures ∙ rw f refl))

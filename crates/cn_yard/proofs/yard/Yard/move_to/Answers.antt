@@ -1,26 +1,27 @@
 use Rattle.std.proofs.Common.{◌<◌, arith}
 use Rattle.cn_yard.specs.Chains.{moved}
 use Rattle.cn_yard.proofs.Bodies.{Relinked, after, keeps-relinked, moves-relinked, relinked-by}
-use Rattle.cn_yard.proofs.Wires.{opened, closed, live, wires-are}
+use Rattle.cn_yard.proofs.Bare.{closed, kept-live, wires-are}
+use Rattle.cn_yard.proofs.Wires.{live}
 use Rattle.cn_yard.proofs.yard.Yard.move_to.Goals.{After-relink}
 use Rattle.cn_yard.proofs.yard.Yard.move_to.Goals as goal
 
 pub relink-requires-clause-number : goal.relink-requires-clause-number
 relink-requires-clause-number c =
-    let (order, k) = opened c.self.inside c.self.invariant in
+    let (order, k) = kept-live c.self.inside c.args.token c.self.invariant (rw (← c.self.view_is) at c.requires.live) in
     let y = c.self.inside in
     rw (c.number.ensures, c.deref_mut.ensures.value) (live y order k c.args.token (rw (← c.self.view_is) at c.requires.live)).0
 
 pub relink-requires-clause-wire : goal.relink-requires-clause-wire
 relink-requires-clause-wire c =
-    let (order, k) = opened c.self.inside c.self.invariant in
+    let (order, k) = kept-live c.self.inside c.args.token c.self.invariant (rw (← c.self.view_is) at c.requires.live) in
     let rows = k.wires in
-    let h = rw (← c.self.view_is, wires-are c.self.inside order k) at c.requires.wire in
+    let h = rw (← c.self.view_is, wires-are c.self.inside) at c.requires.wire in
     rw c.deref_mut-2.ensures.value (omega arith)
 
 pub relink-requires-clause-lined : goal.relink-requires-clause-lined
 relink-requires-clause-lined c =
-    let (order, k) = opened c.self.inside c.self.invariant in
+    let (order, k) = kept-live c.self.inside c.args.token c.self.invariant (rw (← c.self.view_is) at c.requires.live) in
     rw (c.deref_mut.ensures.value, c.deref_mut-2.ensures.value, c.deref_mut-3.ensures.value) (order, k.lined)
 
 relinked : (c : After-relink)
@@ -32,16 +33,16 @@ relinked c =
 
 pub invariant_of-self : goal.invariant_of-self
 invariant_of-self c =
-    let (order, k) = opened c.self.inside c.self.invariant in
+    let (order, k) = kept-live c.self.inside c.args.token c.self.invariant (rw (← c.self.view_is) at c.requires.live) in
     let y = c.self.inside in
     let z = after y c.relink.new.records c.relink.new.lines c.relink.new.marks in
     closed z (moved order c.args.token c.args.wire) (keeps-relinked y z order c.args.token c.args.wire k (relinked (goal.at.invariant_of-self c).After-relink))
 
 pub returns : goal.returns
 returns c from client stands =
-    let (order, k) = opened c.self.inside c.self.invariant in
+    let (order, k) = kept-live c.self.inside c.args.token c.self.invariant (rw (← c.self.view_is) at c.requires.live) in
     let y = c.self.inside in
     let z = after y c.relink.new.records c.relink.new.lines c.relink.new.marks in
-    let h : c.args.wire < y.wires = rw (← c.self.view_is, wires-are y order k) at c.requires.wire in
+    let h : c.args.wire < y.wires = rw (← c.self.view_is, wires-are y) at c.requires.wire in
     rw (← c.self.view_is)
     (moves-relinked y z order c.args.token c.args.wire from client k (relinked (goal.at.returns c).After-relink) h (rw (← c.self.view_is) at stands))

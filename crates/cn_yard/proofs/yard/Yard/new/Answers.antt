@@ -1,31 +1,30 @@
-use Rattle.std.proofs.Common.{[], arith}
+use Rattle.std.proofs.Common.{◌≡◌, ℕ, [], Vec, Global}
 use Rattle.cn_yard.specs.declared.yard.Yard.TheInside.{Inside}
-use Rattle.cn_yard.proofs.NewYard.{new-empty, new-keeps, new-nobody}
-use Rattle.std.proofs.Common.{ℕ, Vec, Global}
 use Rattle.cn_yard.specs.declared.records.Record.{Record}
 use Rattle.cn_yard.specs.declared.lines.Line.{Line}
-use Rattle.cn_yard.proofs.Wires.{closed}
+use Rattle.cn_yard.specs.InsideYard.{IsBare}
+use Rattle.cn_yard.proofs.Bare.{bare-empty, bare-tokens, closed-bare}
 use Rattle.cn_yard.proofs.yard.Yard.new.Goals as goal
 
 abbrev made : (wires : ℕ) → Vec Record Global → Vec Line Global → Vec ℕ Global → Inside
 made wires records lines marks = record { wires = wires; records = records; lines = lines; marks = marks }
 
+-- nothing was made
+bare : (wires : ℕ) (records : Vec Record Global) (lines : Vec Line Global) (marks : Vec ℕ Global) → records.items ≡ [] → lines.items ≡ []
+    → marks.items ≡ [] → IsBare (made wires records lines marks)
+bare wires records lines marks r l m = record { records = r; lines = l; marks = m }
+
 pub invariant_of-result : goal.invariant_of-result
 invariant_of-result c =
-    let z = made c.args.wires c.new.result c.in_ok-vec.field-0 c.in_ok-vec-2.field-0 in
-    let fits = c.ranges.wires in
-    closed z (λ u. []) (new-keeps z c.new.ensures.items (c.in_ok-vec.ensures.items_if_clones_equal (λ y h. h)) (c.in_ok-vec-2.ensures.items_if_clones_equal (λ y h. h)) (omega arith))
+    closed-bare (made c.args.wires c.new.result c.new-2.result c.new-3.result)
+    (bare c.args.wires c.new.result c.new-2.result c.new-3.result c.new.ensures.items c.new-2.ensures.items c.new-3.ensures.items)
 
 pub returns-clause-yard : goal.returns-clause-yard
 returns-clause-yard c =
-    let z = made c.args.wires c.new.result c.in_ok-vec.field-0 c.in_ok-vec-2.field-0 in
-    let fits = c.ranges.wires in
-    let lines = c.in_ok-vec.ensures.items_if_clones_equal (λ y h. h) in
-    new-empty z (new-keeps z c.new.ensures.items lines (c.in_ok-vec-2.ensures.items_if_clones_equal (λ y h. h)) (omega arith)) lines
+    bare-empty (made c.args.wires c.new.result c.new-2.result c.new-3.result)
+    (bare c.args.wires c.new.result c.new-2.result c.new-3.result c.new.ensures.items c.new-2.ensures.items c.new-3.ensures.items)
 
 pub returns-clause-nobody : goal.returns-clause-nobody
 returns-clause-nobody c =
-    let z = made c.args.wires c.new.result c.in_ok-vec.field-0 c.in_ok-vec-2.field-0 in
-    let fits = c.ranges.wires in
-    let lines = c.in_ok-vec.ensures.items_if_clones_equal (λ y h. h) in
-    new-nobody z (new-keeps z c.new.ensures.items lines (c.in_ok-vec-2.ensures.items_if_clones_equal (λ y h. h)) (omega arith)) c.new.ensures.items
+    bare-tokens (made c.args.wires c.new.result c.new-2.result c.new-3.result)
+    (bare c.args.wires c.new.result c.new-2.result c.new-3.result c.new.ensures.items c.new-2.ensures.items c.new-3.ensures.items)

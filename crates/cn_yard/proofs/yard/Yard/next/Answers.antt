@@ -1,19 +1,20 @@
 use Rattle.std.proofs.Common.{◌≡◌, ◌∙◌, length, refl, sym, arith, rules, vec_len, true, false, eqb}
 use Rattle.std.proofs.lemmas.Bool.Decides.{nat_tests}
-use Rattle.cn_yard.proofs.Wires.{opened, live}
+use Rattle.cn_yard.proofs.Bare.{kept-live}
+use Rattle.cn_yard.proofs.Wires.{live}
 use Rattle.cn_yard.proofs.Readers.{next-read, wire-read}
 use Rattle.cn_yard.proofs.yard.Yard.next.Goals as goal
 
 pub index-record-requires : goal.index-record-requires
 index-record-requires c =
-    let (order, k) = opened c.self.inside c.self.invariant in
+    let (order, k) = kept-live c.self.inside c.args.token c.self.invariant (rw (← c.self.view_is) at c.requires) in
     let y = c.self.inside in
     let counted : vec_len y.records ≡ length y.records.items = search rules in
     rw (c.number.ensures, counted) (live y order k c.args.token (rw (← c.self.view_is) at c.requires)).0
 
 pub index-requires : goal.index-requires
 index-requires c =
-    let (order, k) = opened c.self.inside c.self.invariant in
+    let (order, k) = kept-live c.self.inside c.args.token c.self.invariant (rw (← c.self.view_is) at c.requires) in
     let y = c.self.inside in
     let counted : vec_len y.lines ≡ length y.lines.items = search rules in
     let rows = k.wires in
@@ -22,7 +23,7 @@ index-requires c =
 
 pub returns-then-index-number : goal.returns-then-index-number
 returns-then-index-number c wire client stands =
-    let (order, k) = opened c.self.inside c.self.invariant in
+    let (order, k) = kept-live c.self.inside c.args.token c.self.invariant (rw (← c.self.view_is) at c.requires) in
     let y = c.self.inside in
     let told = next-read y order k c.args.token c.index-record.result.now c.index.result.now wire client (rw (← c.self.view_is) at c.requires) (rw c.number.ensures at c.index-record.ensures) c.index.ensures
     (rw (← c.self.view_is) at stands) in
@@ -33,7 +34,7 @@ returns-then-index-number c wire client stands =
 
 pub returns : goal.returns
 returns c wire client stands =
-    let (order, k) = opened c.self.inside c.self.invariant in
+    let (order, k) = kept-live c.self.inside c.args.token c.self.invariant (rw (← c.self.view_is) at c.requires) in
     let y = c.self.inside in
     let told = next-read y order k c.args.token c.index-record.result.now c.index.result.now wire client (rw (← c.self.view_is) at c.requires) (rw c.number.ensures at c.index-record.ensures) c.index.ensures
     (rw (← c.self.view_is) at stands) in

@@ -5,28 +5,29 @@ use Rattle.cn_yard.specs.Chains.{moved}
 use Rattle.cn_yard.specs.Records.{client_of, no_record, wire_of}
 use Rattle.cn_yard.specs.declared.records.Record.{Record}
 use Rattle.cn_yard.proofs.Bodies.{Relinked, after, keeps-relinked, relinked-by, releases-relinked}
-use Rattle.cn_yard.proofs.Wires.{opened, closed, live, there-live}
+use Rattle.cn_yard.proofs.Bare.{closed, kept-live}
+use Rattle.cn_yard.proofs.Wires.{live, there-live}
 use Rattle.cn_yard.proofs.yard.Yard.release.Goals.{After-relink}
 use Rattle.cn_yard.proofs.yard.Yard.release.Goals as goal
 
 pub relink-requires-clause-number : goal.relink-requires-clause-number
 relink-requires-clause-number c =
-    let (order, k) = opened c.self.inside c.self.invariant in
+    let (order, k) = kept-live c.self.inside c.args.token c.self.invariant (rw (← c.self.view_is) at c.requires) in
     rw (c.number-number.ensures, c.deref_mut.ensures.value) (live c.self.inside order k c.args.token (rw (← c.self.view_is) at c.requires)).0
 
 pub relink-requires-clause-wire : goal.relink-requires-clause-wire
 relink-requires-clause-wire c =
-    let (order, k) = opened c.self.inside c.self.invariant in
+    let (order, k) = kept-live c.self.inside c.args.token c.self.invariant (rw (← c.self.view_is) at c.requires) in
     let rows = k.wires in rw c.deref_mut-2.ensures.value (omega arith)
 
 pub relink-requires-clause-lined : goal.relink-requires-clause-lined
 relink-requires-clause-lined c =
-    let (order, k) = opened c.self.inside c.self.invariant in
+    let (order, k) = kept-live c.self.inside c.args.token c.self.invariant (rw (← c.self.view_is) at c.requires) in
     rw (c.deref_mut.ensures.value, c.deref_mut-2.ensures.value, c.deref_mut-3.ensures.value) (order, k.lined)
 
 pub index-requires : goal.index-requires
 index-requires c =
-    let (order, k) = opened c.self.inside c.self.invariant in
+    let (order, k) = kept-live c.self.inside c.args.token c.self.invariant (rw (← c.self.view_is) at c.requires) in
     let y = c.self.inside in
     let counted : vec_len y.records ≡ length y.records.items = search rules in
     rw c.number-number.ensures (rw (← counted) at (live y order k c.args.token (rw (← c.self.view_is) at c.requires)).0)
@@ -40,7 +41,7 @@ relinked c =
 
 pub invariant_of-self : goal.invariant_of-self
 invariant_of-self c =
-    let (order, k) = opened c.self.inside c.self.invariant in
+    let (order, k) = kept-live c.self.inside c.args.token c.self.invariant (rw (← c.self.view_is) at c.requires) in
     let y = c.self.inside in
     let z = after y c.relink.new.records c.relink.new.lines c.relink.new.marks in
     let re = relinked (goal.at.invariant_of-self c).After-relink in
@@ -48,7 +49,7 @@ invariant_of-self c =
 
 pub returns-clause-client : goal.returns-clause-client
 returns-clause-client c =
-    let (order, k) = opened c.self.inside c.self.invariant in
+    let (order, k) = kept-live c.self.inside c.args.token c.self.invariant (rw (← c.self.view_is) at c.requires) in
     let y = c.self.inside in
     let stands = rw (← c.self.view_is) at c.requires in
     let within = (live y order k c.args.token stands).0 in
@@ -62,7 +63,7 @@ returns-clause-client c =
 
 pub returns-clause-released : goal.returns-clause-released
 returns-clause-released c =
-    let (order, k) = opened c.self.inside c.self.invariant in
+    let (order, k) = kept-live c.self.inside c.args.token c.self.invariant (rw (← c.self.view_is) at c.requires) in
     let y = c.self.inside in
     let z = after y c.relink.new.records c.relink.new.lines c.relink.new.marks in
     let re = relinked (goal.at.returns-clause-released c).After-relink in

@@ -1,31 +1,35 @@
-use Rattle.std.proofs.Common.{arith}
+use Rattle.std.proofs.Common.{inl, inr, refl, arith}
+use Rattle.cn_yard.proofs.Bare.{bare-times, kept-live, opened}
+use Rattle.cn_yard.proofs.Readers.{few-all, tokens-all}
 use Rattle.cn_yard.proofs.There.{there}
-use Rattle.cn_yard.proofs.Wires.{opened, live, times-most, tokens-are}
+use Rattle.cn_yard.proofs.Wires.{live, times-most}
 use Rattle.cn_yard.specs.InsideYard.{lists_of}
 use Rattle.cn_yard.proofs.yard.Yard.yard_laws.Goals as goal
 
 pub returns-clause-once : goal.returns-clause-once
 returns-clause-once c token =
-    let (order, k) = opened c.self.inside c.self.invariant in
-    rw (← c.self.view_is) (times-most c.self.inside order k token)
+    rw (← c.self.view_is) (elim (opened c.self.inside c.self.invariant) [
+      | inl b ↦ omega (arith, bare-times c.self.inside b token)
+      | inr k ↦ times-most c.self.inside k.0 k.1 token
+    ])
 
 pub returns-clause-there : goal.returns-clause-there
 returns-clause-there c token client wire stands =
-    let (order, k) = opened c.self.inside c.self.invariant in
-    let once = times-most c.self.inside order k token in
-    rw (← c.self.view_is) (there (lists_of c.self.inside) token client wire once (rw (← c.self.view_is) at stands))
+    let stood = rw (← c.self.view_is) at stands in
+    let (order, k) = kept-live c.self.inside token c.self.invariant (rw stood refl) in
+    rw (← c.self.view_is) (there (lists_of c.self.inside) token client wire (times-most c.self.inside order k token) stood)
 
 pub returns-clause-numbers : goal.returns-clause-numbers
 returns-clause-numbers c token stands =
-    let (order, k) = opened c.self.inside c.self.invariant in
     let y = c.self.inside in
-    let all = tokens-are y order k in
-    let within = (live y order k token (rw (← c.self.view_is) at stands)).0 in
+    let stood = rw (← c.self.view_is) at stands in
+    let (order, k) = kept-live y token c.self.invariant stood in
+    let all = tokens-all y c.self.invariant in
+    let within = (live y order k token stood).0 in
     rw (← c.self.view_is) (omega arith)
 
 pub returns-clause-few : goal.returns-clause-few
 returns-clause-few c =
-    let (order, k) = opened c.self.inside c.self.invariant in
-    let all = tokens-are c.self.inside order k in
-    let few = k.lined.few in
+    let all = tokens-all c.self.inside c.self.invariant in
+    let few = few-all c.self.inside c.self.invariant in
     rw (← c.self.view_is) (omega arith)
