@@ -5,6 +5,7 @@ pub mod InsideFloorShare
 pub mod InsideGroup
 pub mod InsideHeldLane
 pub mod InsideRecord
+pub mod Lends
 pub mod Links
 pub mod Many
 pub mod Moves

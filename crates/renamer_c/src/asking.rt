@@ -11,115 +11,109 @@ ghost use Rattle.renamer_c.specs.declared.refusal.TheConstants.{DONE};
 use crate::answer::{status, write};
 use crate::handle::Handle;
 use crate::question::Question;
-use std::alloc::Global;
+use crate::refusal::Refusal;
 
 /// How many clients came in, by all lanes, as far as this one can know.
 #[unsafe(no_mangle)]
-pub extern "C" fn renamer_entered(alloc: Global, lane: &mut Handle, entered: &mut u64) -> u32
+pub extern "C" fn renamer_entered(lane: &mut Handle, entered: &mut u64) -> u32
     ensures answered { result ≡ DONE
         → Answers (lane_in lane.old.held) (lane_in lane.new.held) entered.new }
     ensures kept { 0 < result → (lane.new.held ≡ lane.old.held) × (entered.new ≡ entered.old) }
     ensures refused { 0 < result → IsRefusal (NotThere (lane_in lane.old.held)) result }
 {
-    let mut held = match lane.take(alloc) {
-        Ok(held) => held,
-        Err(refusal) => return refusal.status(),
+    let answer = match lane.get_mut() {
+        Some(held) => held.entered(),
+        None => Err(Refusal::Nothing),
     };
-    let answer = held.entered();
-    lane.put(held);
     write(answer, entered)
 }
 
 /// Makes room for so many clients.
 #[unsafe(no_mangle)]
-pub extern "C" fn renamer_reserve(alloc: Global, lane: &mut Handle, clients: u64) -> u32
+pub extern "C" fn renamer_reserve(lane: &mut Handle, clients: u64) -> u32
     ensures reserved { result ≡ DONE
         → Reserves (lane_in lane.old.held) (lane_in lane.new.held) clients }
     ensures kept { 0 < result → lane.new.held ≡ lane.old.held }
     ensures refused { 0 < result → IsRefusal (NotReserved (lane_in lane.old.held)) result }
 {
-    let mut held = match lane.take(alloc) {
-        Ok(held) => held,
-        Err(refusal) => return refusal.status(),
+    let answer = match lane.get_mut() {
+        Some(held) => held.reserve(clients),
+        None => Err(Refusal::Nothing),
     };
-    let answer = held.reserve(clients);
-    lane.put(held);
     status(answer)
 }
 
 /// Asks a lane for a number.
-fn ask(alloc: Global, lane: &mut Handle, question: Question, to: &mut u64) -> u32
+fn ask(lane: &mut Handle, question: Question, to: &mut u64) -> u32
     ensures answered { result ≡ DONE
         → WithLane (lane_in lane.old.held) (λ l. to.new ≡ number_asked question l) }
     ensures lane { lane.new.held ≡ lane.old.held }
     ensures kept { 0 < result → to.new ≡ to.old }
     ensures refused { 0 < result → IsRefusal (NotThere (lane_in lane.old.held)) result }
 {
-    let held = match lane.take(alloc) {
-        Ok(held) => held,
-        Err(refusal) => return refusal.status(),
+    let answer = match lane.get_mut() {
+        Some(held) => held.ask(question),
+        None => Err(Refusal::Nothing),
     };
-    let answer = held.ask(question);
-    lane.put(held);
     write(answer, to)
 }
 
 /// How many clients more the lane may let in.
 #[unsafe(no_mangle)]
-pub extern "C" fn renamer_quota(alloc: Global, lane: &mut Handle, quota: &mut u64) -> u32
+pub extern "C" fn renamer_quota(lane: &mut Handle, quota: &mut u64) -> u32
     ensures answered { result ≡ DONE
         → WithLane (lane_in lane.old.held) (λ l. quota.new ≡ l.view.quota) }
     ensures lane { lane.new.held ≡ lane.old.held }
     ensures kept { 0 < result → quota.new ≡ quota.old }
     ensures refused { 0 < result → IsRefusal (NotThere (lane_in lane.old.held)) result }
 {
-    ask(alloc, lane, Question::Quota, quota)
+    ask(lane, Question::Quota, quota)
 }
 
 /// How many of the lane's clients are inside.
 #[unsafe(no_mangle)]
-pub extern "C" fn renamer_inside(alloc: Global, lane: &mut Handle, inside: &mut u64) -> u32
+pub extern "C" fn renamer_inside(lane: &mut Handle, inside: &mut u64) -> u32
     ensures answered { result ≡ DONE
         → WithLane (lane_in lane.old.held) (λ l. inside.new ≡ tokens_in l.yard.lists) }
     ensures lane { lane.new.held ≡ lane.old.held }
     ensures kept { 0 < result → inside.new ≡ inside.old }
     ensures refused { 0 < result → IsRefusal (NotThere (lane_in lane.old.held)) result }
 {
-    ask(alloc, lane, Question::Inside, inside)
+    ask(lane, Question::Inside, inside)
 }
 
 /// How many entries the network of the lane's floor has.
 #[unsafe(no_mangle)]
-pub extern "C" fn renamer_entries(alloc: Global, lane: &mut Handle, entries: &mut u64) -> u32
+pub extern "C" fn renamer_entries(lane: &mut Handle, entries: &mut u64) -> u32
     ensures answered { result ≡ DONE
         → WithLane (lane_in lane.old.held) (λ l. entries.new ≡ l.home.start.network.table.entries) }
     ensures lane { lane.new.held ≡ lane.old.held }
     ensures kept { 0 < result → entries.new ≡ entries.old }
     ensures refused { 0 < result → IsRefusal (NotThere (lane_in lane.old.held)) result }
 {
-    ask(alloc, lane, Question::Entries, entries)
+    ask(lane, Question::Entries, entries)
 }
 
 /// How many exits the network of the lane's floor has.
 #[unsafe(no_mangle)]
-pub extern "C" fn renamer_exits(alloc: Global, lane: &mut Handle, exits: &mut u64) -> u32
+pub extern "C" fn renamer_exits(lane: &mut Handle, exits: &mut u64) -> u32
     ensures answered { result ≡ DONE
         → WithLane (lane_in lane.old.held) (λ l. exits.new ≡ l.home.start.network.table.width) }
     ensures lane { lane.new.held ≡ lane.old.held }
     ensures kept { 0 < result → exits.new ≡ exits.old }
     ensures refused { 0 < result → IsRefusal (NotThere (lane_in lane.old.held)) result }
 {
-    ask(alloc, lane, Question::Exits, exits)
+    ask(lane, Question::Exits, exits)
 }
 
 /// How many grants the lane has.
 #[unsafe(no_mangle)]
-pub extern "C" fn renamer_grant_count(alloc: Global, lane: &mut Handle, count: &mut u64) -> u32
+pub extern "C" fn renamer_grant_count(lane: &mut Handle, count: &mut u64) -> u32
     ensures answered { result ≡ DONE
         → WithLane (lane_in lane.old.held) (λ l. count.new ≡ length l.view.grants) }
     ensures lane { lane.new.held ≡ lane.old.held }
     ensures kept { 0 < result → count.new ≡ count.old }
     ensures refused { 0 < result → IsRefusal (NotThere (lane_in lane.old.held)) result }
 {
-    ask(alloc, lane, Question::Grants, count)
+    ask(lane, Question::Grants, count)
 }

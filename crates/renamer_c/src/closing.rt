@@ -22,17 +22,18 @@ pub extern "C" fn renamer_close(alloc: Global, lane: &mut Handle, quiet: &mut Ha
     ensures kept { 0 < result → (lane.new.held ≡ lane.old.held) × (quiet.new.held ≡ quiet.old.held) }
     ensures refused { 0 < result → IsRefusal (NotClosed (lane_in lane.old.held)) result }
 {
-    let mut held = match lane.take(alloc) {
-        Ok(held) => held,
+    let (held, mut room) = match lane.take_lane(alloc) {
+        Ok(taken) => taken,
         Err(refusal) => return refusal.status(),
     };
     match held.close(alloc) {
-        Ok(()) => {
-            quiet.put(held);
+        Ok(closed) => {
+            *room = Held::Closed(closed);
+            quiet.put(room);
             DONE
         }
-        Err(refusal) => {
-            lane.put(held);
+        Err((refusal, held)) => {
+            lane.put_lane(held, room);
             refusal.status()
         }
     }
@@ -87,12 +88,10 @@ pub extern "C" fn renamer_open_after(
     ensures kept { 0 < result → lane.new.held ≡ lane.old.held }
     ensures refused { 0 < result → IsRefusal (NotOpenedAfter (record_in quiet.old.held) quota) result }
 {
-    let held = match quiet.take(alloc) {
-        Ok(held) => held,
-        Err(refusal) => return refusal.status(),
+    let opened = match quiet.get_mut() {
+        Some(held) => open_from(alloc, held, quota),
+        None => Err(Refusal::Nothing),
     };
-    let opened = open_from(alloc, &held, quota);
-    quiet.put(held);
     match opened {
         Ok(opened) => {
             lane.put(opened);

@@ -10,7 +10,6 @@ use crate::answer::status;
 use crate::handle::Handle;
 use crate::held::Held;
 use crate::refusal::Refusal;
-use std::alloc::Global;
 
 /// A client's way out, and its name, as C sees it.
 #[repr(C)]
@@ -72,12 +71,7 @@ fn copy(held: &Held, first: u64, copies: &mut [Grant]) -> Result<(), Refusal>
 
 /// Copies grants of the lane, in the order in which they were given, from this one on.
 #[unsafe(no_mangle)]
-pub extern "C" fn renamer_grants(
-    alloc: Global,
-    lane: &mut Handle,
-    first: u64,
-    grants: &mut [Grant],
-) -> u32
+pub extern "C" fn renamer_grants(lane: &mut Handle, first: u64, grants: &mut [Grant]) -> u32
     ensures copied { result ≡ DONE
         → WithLane (lane_in lane.old.held) (λ l. AreGrantsFrom l.view.grants first grants.new) }
     ensures lane { lane.new.held ≡ lane.old.held }
@@ -85,11 +79,9 @@ pub extern "C" fn renamer_grants(
     ensures refused { 0 < result
         → IsRefusal (NotGranted (lane_in lane.old.held) first (length grants.old)) result }
 {
-    let held = match lane.take(alloc) {
-        Ok(held) => held,
-        Err(refusal) => return refusal.status(),
+    let answer = match lane.get_mut() {
+        Some(held) => copy(held, first, grants),
+        None => Err(Refusal::Nothing),
     };
-    let copied = copy(&held, first, grants);
-    lane.put(held);
-    status(copied)
+    status(answer)
 }

@@ -1,11 +1,13 @@
 //! A handle as C sees it: a pointer, which is null if the handle is none.
 
-ghost use Rattle.std.specs.Prelude.{◌≡◌, Option, None, Some, IfErr, IfOk, MatchOption};
+ghost use Rattle.std.specs.Prelude.{◌≡◌, Option, None, Some, IfErr, IfOk, MatchOption, OnErr, OnOk};
+ghost use Rattle.std.specs.Borrow.{sem};
 ghost use Rattle.std.specs.Coded.{coded_option};
 ghost use Rattle.renamer_c.specs.Holding.{holds};
 ghost use Rattle.renamer_c.specs.contracts.held.Held.{the_row};
 
 use crate::held::Held;
+use crate::held_lane::HeldLane;
 use crate::loose::Loose;
 use crate::refusal::Refusal;
 use std::alloc::Global;
@@ -26,6 +28,11 @@ impl Model for Handle {
 }
 
 impl Handle {
+    ghost use Rattle.renamer_c.specs.Handles.{lane_in};
+    ghost use Rattle.renamer_c.specs.Lends.{LendsHeld};
+    ghost use Rattle.renamer_c.specs.Refusals.{NotThere};
+    ghost use Rattle.renamer_c.specs.declared.held.Held.TheVariants.{Lane};
+
     fn none(alloc: Global) -> Handle
         ensures { result.held ≡ None }
     {
@@ -68,6 +75,15 @@ impl Handle {
         }
     }
 
+    /// What is there, to be used where it is.
+    pub(crate) fn get_mut(&mut self) -> Option<&mut Held>
+        ensures* writes_back { sem 𝓛 (LendsHeld self.entry result) }
+        ensures there { MatchOption result (self.old.held ≡ None) (λ held. self.old.held ≡ Some held.now) }
+    {
+        let at = self.at as *mut Held;
+        unsafe { if at.is_null() { None } else { Some(&mut *at) } }
+    }
+
     /// Takes what is there, and leaves none.
     ///
     /// # Errors
@@ -81,6 +97,35 @@ impl Handle {
             Some(held) => Ok(held),
             None => Err(Refusal::Nothing),
         }
+    }
+
+    /// Takes the lane that is there, and its box, and leaves none.
+    ///
+    /// # Errors
+    /// `Nothing` if there is none. Then nothing has changed.
+    pub(crate) fn take_lane(&mut self, alloc: Global) -> Result<(HeldLane, Box<Held>), Refusal>
+        ensures left { OnOk result (self.new.held ≡ None) }
+        ensures taken { IfOk result (λ r. self.old.held ≡ Some (Lane r.0)) }
+        ensures err { OnErr result (self.new.held ≡ self.old.held) }
+        ensures refused { IfErr result (NotThere (lane_in self.old.held)) }
+    {
+        match self.get_mut() {
+            Some(held) => held.lane()?,
+            None => return Err(Refusal::Nothing),
+        };
+        let mut room = self.take(alloc)?;
+        match replace(room.as_mut(), Held::Nothing) {
+            Held::Lane(lane) => Ok((lane, room)),
+            _ => unreachable!(),
+        }
+    }
+
+    /// Puts a lane there, in this box.
+    pub(crate) fn put_lane(&mut self, lane: HeldLane, mut room: Box<Held>)
+        ensures { self.new.held ≡ Some (Lane lane) }
+    {
+        *room = Held::Lane(lane);
+        self.put(room);
     }
 
     /// Puts something there.

@@ -1,21 +1,18 @@
 //! What a handle has.
 
 mod naming_many;
-mod returning;
 mod stepping;
 
 ghost use Rattle.std.specs.Prelude.{◌≡◌, Some, IfErr, IfOk, OnErr, OnOk};
-ghost use Rattle.renamer_c.specs.Calls.{Answers, Closes, Names, Reserves, Splits};
+ghost use Rattle.renamer_c.specs.Calls.{Answers, Names, Reserves};
 ghost use Rattle.renamer_c.specs.Handles.{lane_held, record_held};
 ghost use Rattle.renamer_c.specs.Questions.{number_asked};
-ghost use Rattle.renamer_c.specs.Refusals.{NotClosed, NotNamed, NotReserved, NotSplit, NotThere, WithLane};
+ghost use Rattle.renamer_c.specs.Refusals.{NotNamed, NotReserved, NotThere, WithLane};
 
 use crate::held_lane::HeldLane;
 use crate::question::Question;
 use crate::record_of_floor::Record;
 use crate::refusal::Refusal;
-use std::alloc::Global;
-use std::mem::replace;
 
 /// What a handle has.
 #[derive(Drop)]
@@ -26,34 +23,6 @@ pub enum Held {
     Lane(HeldLane),
     /// A closed floor.
     Closed(Record),
-}
-
-/// Splits off a lane with some of the quota: this lane, and the other in a box.
-///
-/// # Errors
-/// The first that stands, with this lane as it was: `QuotaTooSmall`, `Memory`.
-fn split_lane(
-    alloc: Global,
-    lane: HeldLane,
-    quota: u64,
-) -> Result<(HeldLane, Box<Held>), (Refusal, HeldLane)>
-    ensures ok { IfOk result (λ r. Splits (Some lane) (Some r.0) (lane_held r.1.value) quota) }
-    ensures err { IfErr result (λ r. r.1 ≡ lane) }
-    ensures refused { IfErr result (λ r. NotSplit (Some lane) quota r.0) }
-{
-    if quota > lane.lane().quota() {
-        return Err((Refusal::QuotaTooSmall, lane));
-    }
-    let Ok(mut room) = Box::new(alloc, Held::Nothing) else {
-        return Err((Refusal::Memory, lane));
-    };
-    match lane.split(alloc, quota) {
-        Ok((lane, other)) => {
-            *room = Held::Lane(other);
-            Ok((lane, room))
-        }
-        Err(lane) => Err((Refusal::Memory, lane)),
-    }
 }
 
 impl Held {
@@ -70,35 +39,6 @@ impl Held {
         match self {
             Held::Lane(lane) => lane.name(client, entry),
             _ => Err(Refusal::Nothing),
-        }
-    }
-
-    /// Splits off a lane with some of the quota, in a box.
-    ///
-    /// # Errors
-    /// `Nothing` if there is no lane, else `QuotaTooSmall` or `Memory`. Then nothing has changed.
-    pub(crate) fn split(&mut self, alloc: Global, quota: u64) -> Result<Box<Held>, Refusal>
-        ensures ok { IfOk result (λ other.
-            Splits (lane_held self.old) (lane_held self.new) (lane_held other.value) quota) }
-        ensures err { OnErr result (self.new ≡ self.old) }
-        ensures refused { IfErr result (NotSplit (lane_held self.old) quota) }
-    {
-        match replace(self, Held::Nothing) {
-            Held::Lane(lane) => match split_lane(alloc, lane, quota) {
-                Ok((lane, other)) => {
-                    *self = Held::Lane(lane);
-                    Ok(other)
-                }
-                Err((refusal, lane)) => {
-                    *self = Held::Lane(lane);
-                    Err(refusal)
-                }
-            },
-            Held::Nothing => Err(Refusal::Nothing),
-            Held::Closed(record) => {
-                *self = Held::Closed(record);
-                Err(Refusal::Nothing)
-            }
         }
     }
 
@@ -173,34 +113,6 @@ impl Held {
         match self {
             Held::Lane(lane) => lane.reserve(clients),
             _ => Err(Refusal::Nothing),
-        }
-    }
-
-    /// Closes the floor of the lane, and leaves its record.
-    ///
-    /// # Errors
-    /// `Nothing` if there is no lane, else as [`HeldLane::close`]. Then nothing has changed.
-    pub(crate) fn close(&mut self, alloc: Global) -> Result<(), Refusal>
-        ensures ok { OnOk result (Closes (lane_held self.old) (record_held self.new)) }
-        ensures err { OnErr result (self.new ≡ self.old) }
-        ensures refused { IfErr result (NotClosed (lane_held self.old)) }
-    {
-        match replace(self, Held::Nothing) {
-            Held::Lane(lane) => match lane.close(alloc) {
-                Ok(record) => {
-                    *self = Held::Closed(record);
-                    Ok(())
-                }
-                Err((refusal, lane)) => {
-                    *self = Held::Lane(lane);
-                    Err(refusal)
-                }
-            },
-            Held::Nothing => Err(Refusal::Nothing),
-            Held::Closed(record) => {
-                *self = Held::Closed(record);
-                Err(Refusal::Nothing)
-            }
         }
     }
 }

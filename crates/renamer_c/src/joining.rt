@@ -6,7 +6,6 @@ ghost use Rattle.renamer_c.specs.Refusals.{IsRefusal, NotHandedBack, NotJoined};
 ghost use Rattle.renamer_c.specs.Returns.{HandsBack, Joins};
 ghost use Rattle.renamer_c.specs.declared.refusal.TheConstants.{DONE};
 
-use crate::answer::status;
 use crate::handle::Handle;
 use crate::refusal::DONE;
 use std::alloc::Global;
@@ -19,14 +18,14 @@ pub extern "C" fn renamer_hand_back(alloc: Global, lane: &mut Handle) -> u32
     ensures kept { 0 < result → lane.new.held ≡ lane.old.held }
     ensures refused { 0 < result → IsRefusal (NotHandedBack (lane_in lane.old.held)) result }
 {
-    let mut held = match lane.take(alloc) {
-        Ok(held) => held,
+    let (held, room) = match lane.take_lane(alloc) {
+        Ok(taken) => taken,
         Err(refusal) => return refusal.status(),
     };
     match held.hand_back() {
         Ok(()) => DONE,
-        Err(refusal) => {
-            lane.put(held);
+        Err((refusal, held)) => {
+            lane.put_lane(held, room);
             refusal.status()
         }
     }
@@ -39,11 +38,18 @@ pub extern "C" fn renamer_join(alloc: Global, lane: &mut Handle) -> u32
     ensures kept { 0 < result → lane.new.held ≡ lane.old.held }
     ensures refused { 0 < result → IsRefusal (NotJoined (lane_in lane.old.held)) result }
 {
-    let mut held = match lane.take(alloc) {
-        Ok(held) => held,
+    let (held, room) = match lane.take_lane(alloc) {
+        Ok(taken) => taken,
         Err(refusal) => return refusal.status(),
     };
-    let joined = held.join();
-    lane.put(held);
-    status(joined)
+    match held.join() {
+        Ok(held) => {
+            lane.put_lane(held, room);
+            DONE
+        }
+        Err((refusal, held)) => {
+            lane.put_lane(held, room);
+            refusal.status()
+        }
+    }
 }

@@ -10,12 +10,11 @@ use crate::answer::status;
 use crate::client::Client;
 use crate::granting::Grant;
 use crate::handle::Handle;
-use std::alloc::Global;
+use crate::refusal::Refusal;
 
 /// Names clients, those who follow one another by one entry together. Copies their grants, in the order in which they left.
 #[unsafe(no_mangle)]
 pub extern "C" fn renamer_name_many(
-    alloc: Global,
     lane: &mut Handle,
     clients: &[Client],
     grants: &mut [Grant],
@@ -26,11 +25,9 @@ pub extern "C" fn renamer_name_many(
     ensures refused { 0 < result
         → IsRefusal (NotNamedMany (lane_in lane.old.held) clients.now (length grants.old)) result }
 {
-    let mut held = match lane.take(alloc) {
-        Ok(held) => held,
-        Err(refusal) => return refusal.status(),
+    let answer = match lane.get_mut() {
+        Some(held) => held.name_many(clients, grants),
+        None => Err(Refusal::Nothing),
     };
-    let named = held.name_many(clients, grants);
-    lane.put(held);
-    status(named)
+    status(answer)
 }

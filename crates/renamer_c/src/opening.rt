@@ -1,6 +1,6 @@
 //! Calls that open, split and free.
 
-ghost use Rattle.std.specs.Prelude.{◌≡◌, ◌<◌, ◌≤◌, None, IfErr, IfOk, OnOk};
+ghost use Rattle.std.specs.Prelude.{◌≡◌, ◌<◌, ◌≤◌, None, Some, IfErr, IfOk, OnOk};
 ghost use Rattle.cn_spec.specs.declared.limits.TheConstants.{MOST_CLIENTS};
 ghost use Rattle.cn_wiring.specs.Widths.{IsWidth};
 ghost use Rattle.renamer_c.specs.Calls.{Opens, Splits, number_of};
@@ -90,6 +90,34 @@ pub extern "C" fn renamer_open(
     }
 }
 
+/// Splits off a lane with some of the quota: this lane, and the other in a box.
+///
+/// # Errors
+/// The first that stands, with this lane as it was: `QuotaTooSmall`, `Memory`.
+fn split(
+    alloc: Global,
+    lane: HeldLane,
+    quota: u64,
+) -> Result<(HeldLane, Box<Held>), (Refusal, HeldLane)>
+    ensures ok { IfOk result (λ r. Splits (Some lane) (Some r.0) (lane_held r.1.value) quota) }
+    ensures err { IfErr result (λ r. r.1 ≡ lane) }
+    ensures refused { IfErr result (λ r. NotSplit (Some lane) quota r.0) }
+{
+    if quota > lane.lane().quota() {
+        return Err((Refusal::QuotaTooSmall, lane));
+    }
+    let Ok(mut room) = Box::new(alloc, Held::Nothing) else {
+        return Err((Refusal::Memory, lane));
+    };
+    match lane.split(alloc, quota) {
+        Ok((lane, other)) => {
+            *room = Held::Lane(other);
+            Ok((lane, room))
+        }
+        Err(lane) => Err((Refusal::Memory, lane)),
+    }
+}
+
 /// Splits off another lane with some of the quota.
 #[unsafe(no_mangle)]
 pub extern "C" fn renamer_split(
@@ -103,18 +131,20 @@ pub extern "C" fn renamer_split(
     ensures kept { 0 < result → (lane.new.held ≡ lane.old.held) × (other.new.held ≡ other.old.held) }
     ensures refused { 0 < result → IsRefusal (NotSplit (lane_in lane.old.held) quota) result }
 {
-    let mut held = match lane.take(alloc) {
-        Ok(held) => held,
+    let (held, room) = match lane.take_lane(alloc) {
+        Ok(taken) => taken,
         Err(refusal) => return refusal.status(),
     };
-    let split = held.split(alloc, quota);
-    lane.put(held);
-    match split {
-        Ok(second) => {
+    match split(alloc, held, quota) {
+        Ok((held, second)) => {
+            lane.put_lane(held, room);
             other.put(second);
             DONE
         }
-        Err(refusal) => refusal.status(),
+        Err((refusal, held)) => {
+            lane.put_lane(held, room);
+            refusal.status()
+        }
     }
 }
 

@@ -11,7 +11,6 @@ use crate::handle::Handle;
 use crate::held::Held;
 use crate::record_of_floor::Listed;
 use crate::refusal::Refusal;
-use std::alloc::Global;
 
 /// How long a list of the record is.
 ///
@@ -29,19 +28,17 @@ fn size_of(held: &Held, listed: Listed) -> Result<u64, Refusal>
 }
 
 /// Asks how long a list of the record is.
-fn ask_size(alloc: Global, quiet: &mut Handle, listed: Listed, size: &mut u64) -> u32
+fn ask_size(quiet: &mut Handle, listed: Listed, size: &mut u64) -> u32
     ensures answered { result ≡ DONE
         → WithRecord (record_in quiet.old.held) (λ r. size.new ≡ length (list_of listed r)) }
     ensures quiet { quiet.new.held ≡ quiet.old.held }
     ensures kept { 0 < result → size.new ≡ size.old }
     ensures refused { 0 < result → IsRefusal (NotThere (record_in quiet.old.held)) result }
 {
-    let held = match quiet.take(alloc) {
-        Ok(held) => held,
-        Err(refusal) => return refusal.status(),
+    let answer = match quiet.get_mut() {
+        Some(held) => size_of(held, listed),
+        None => Err(Refusal::Nothing),
     };
-    let answer = size_of(&held, listed);
-    quiet.put(held);
     write(answer, size)
 }
 
@@ -66,7 +63,7 @@ fn copy(held: &Held, listed: Listed, to: &mut [u64]) -> Result<(), Refusal>
 }
 
 /// Copies a list of the record.
-fn ask_list(alloc: Global, quiet: &mut Handle, listed: Listed, to: &mut [u64]) -> u32
+fn ask_list(quiet: &mut Handle, listed: Listed, to: &mut [u64]) -> u32
     ensures copied { result ≡ DONE
         → WithRecord (record_in quiet.old.held) (λ r. to.new ≡ list_of listed r) }
     ensures quiet { quiet.new.held ≡ quiet.old.held }
@@ -74,42 +71,40 @@ fn ask_list(alloc: Global, quiet: &mut Handle, listed: Listed, to: &mut [u64]) -
     ensures refused { 0 < result
         → IsRefusal (NotCopied (record_in quiet.old.held) listed (length to.old)) result }
 {
-    let held = match quiet.take(alloc) {
-        Ok(held) => held,
-        Err(refusal) => return refusal.status(),
+    let answer = match quiet.get_mut() {
+        Some(held) => copy(held, listed, to),
+        None => Err(Refusal::Nothing),
     };
-    let copied = copy(&held, listed, to);
-    quiet.put(held);
-    status(copied)
+    status(answer)
 }
 
 /// How many exits the floor had.
 #[unsafe(no_mangle)]
-pub extern "C" fn renamer_quiet_exits(alloc: Global, quiet: &mut Handle, exits: &mut u64) -> u32
+pub extern "C" fn renamer_quiet_exits(quiet: &mut Handle, exits: &mut u64) -> u32
     ensures answered { result ≡ DONE
         → WithRecord (record_in quiet.old.held) (λ r. exits.new ≡ length r.counts) }
     ensures quiet { quiet.new.held ≡ quiet.old.held }
     ensures kept { 0 < result → exits.new ≡ exits.old }
     ensures refused { 0 < result → IsRefusal (NotThere (record_in quiet.old.held)) result }
 {
-    ask_size(alloc, quiet, Listed::Counts, exits)
+    ask_size(quiet, Listed::Counts, exits)
 }
 
 /// How many clients the floor named.
 #[unsafe(no_mangle)]
-pub extern "C" fn renamer_quiet_clients(alloc: Global, quiet: &mut Handle, clients: &mut u64) -> u32
+pub extern "C" fn renamer_quiet_clients(quiet: &mut Handle, clients: &mut u64) -> u32
     ensures answered { result ≡ DONE
         → WithRecord (record_in quiet.old.held) (λ r. clients.new ≡ length r.holders) }
     ensures quiet { quiet.new.held ≡ quiet.old.held }
     ensures kept { 0 < result → clients.new ≡ clients.old }
     ensures refused { 0 < result → IsRefusal (NotThere (record_in quiet.old.held)) result }
 {
-    ask_size(alloc, quiet, Listed::Holders, clients)
+    ask_size(quiet, Listed::Holders, clients)
 }
 
 /// Copies how many left by each exit.
 #[unsafe(no_mangle)]
-pub extern "C" fn renamer_counts(alloc: Global, quiet: &mut Handle, counts: &mut [u64]) -> u32
+pub extern "C" fn renamer_counts(quiet: &mut Handle, counts: &mut [u64]) -> u32
     ensures copied { result ≡ DONE
         → WithRecord (record_in quiet.old.held) (λ r. counts.new ≡ r.counts) }
     ensures quiet { quiet.new.held ≡ quiet.old.held }
@@ -117,12 +112,12 @@ pub extern "C" fn renamer_counts(alloc: Global, quiet: &mut Handle, counts: &mut
     ensures refused { 0 < result
         → IsRefusal (NotCopied (record_in quiet.old.held) Listed.Counts (length counts.old)) result }
 {
-    ask_list(alloc, quiet, Listed::Counts, counts)
+    ask_list(quiet, Listed::Counts, counts)
 }
 
 /// Copies the clients by rising name.
 #[unsafe(no_mangle)]
-pub extern "C" fn renamer_holders(alloc: Global, quiet: &mut Handle, holders: &mut [u64]) -> u32
+pub extern "C" fn renamer_holders(quiet: &mut Handle, holders: &mut [u64]) -> u32
     ensures copied { result ≡ DONE
         → WithRecord (record_in quiet.old.held) (λ r. holders.new ≡ r.holders) }
     ensures quiet { quiet.new.held ≡ quiet.old.held }
@@ -130,5 +125,5 @@ pub extern "C" fn renamer_holders(alloc: Global, quiet: &mut Handle, holders: &m
     ensures refused { 0 < result
         → IsRefusal (NotCopied (record_in quiet.old.held) Listed.Holders (length holders.old)) result }
 {
-    ask_list(alloc, quiet, Listed::Holders, holders)
+    ask_list(quiet, Listed::Holders, holders)
 }

@@ -11,83 +11,65 @@ ghost use Rattle.renamer_c.specs.declared.refusal.TheConstants.{DONE};
 use crate::answer::{status, write};
 use crate::handle::Handle;
 use crate::moved::{Moved, Swept};
-use std::alloc::Global;
+use crate::refusal::Refusal;
 
 /// Lets a client in by an entry: it stands last on the wire with the entry's number.
 #[unsafe(no_mangle)]
-pub extern "C" fn renamer_enter(alloc: Global, lane: &mut Handle, client: u64, entry: u64) -> u32
+pub extern "C" fn renamer_enter(lane: &mut Handle, client: u64, entry: u64) -> u32
     ensures entered { result ≡ DONE
         → EntersBy (lane_in lane.old.held) (lane_in lane.new.held) client entry }
     ensures kept { 0 < result → lane.new.held ≡ lane.old.held }
     ensures refused { 0 < result → IsRefusal (NotEntered (lane_in lane.old.held) entry) result }
 {
-    let mut held = match lane.take(alloc) {
-        Ok(held) => held,
-        Err(refusal) => return refusal.status(),
+    let answer = match lane.get_mut() {
+        Some(held) => held.enter(client, entry),
+        None => Err(Refusal::Nothing),
     };
-    let entered = held.enter(client, entry);
-    lane.put(held);
-    status(entered)
+    status(answer)
 }
 
 /// Lets the lane's first client on a wire go by the end of the wire.
 #[unsafe(no_mangle)]
-pub extern "C" fn renamer_step(
-    alloc: Global,
-    lane: &mut Handle,
-    wire: u64,
-    moved: &mut Moved,
-) -> u32
+pub extern "C" fn renamer_step(lane: &mut Handle, wire: u64, moved: &mut Moved) -> u32
     ensures stepped { result ≡ DONE
         → Steps (lane_in lane.old.held) (lane_in lane.new.held) wire moved.new }
     ensures kept { 0 < result → (lane.new.held ≡ lane.old.held) × (moved.new ≡ moved.old) }
     ensures refused { 0 < result → IsRefusal (NobodyOn (lane_in lane.old.held) wire) result }
 {
-    let mut held = match lane.take(alloc) {
-        Ok(held) => held,
-        Err(refusal) => return refusal.status(),
+    let answer = match lane.get_mut() {
+        Some(held) => held.step(wire),
+        None => Err(Refusal::Nothing),
     };
-    let answer = held.step(wire);
-    lane.put(held);
     write(answer, moved)
 }
 
 /// Lets all of the lane's clients on a wire go by the end of the wire, by one step.
 #[unsafe(no_mangle)]
-pub extern "C" fn renamer_sweep(
-    alloc: Global,
-    lane: &mut Handle,
-    wire: u64,
-    swept: &mut Swept,
-) -> u32
+pub extern "C" fn renamer_sweep(lane: &mut Handle, wire: u64, swept: &mut Swept) -> u32
     ensures swept { result ≡ DONE
         → Sweeps (lane_in lane.old.held) (lane_in lane.new.held) wire swept.new }
     ensures kept { 0 < result → (lane.new.held ≡ lane.old.held) × (swept.new ≡ swept.old) }
     ensures refused { 0 < result → IsRefusal (NobodyOn (lane_in lane.old.held) wire) result }
 {
-    let mut held = match lane.take(alloc) {
-        Ok(held) => held,
-        Err(refusal) => return refusal.status(),
+    let answer = match lane.get_mut() {
+        Some(held) => held.sweep(wire),
+        None => Err(Refusal::Nothing),
     };
-    let answer = held.sweep(wire);
-    lane.put(held);
     write(answer, swept)
 }
 
 /// The least wire on which a client of the lane stands.
 #[unsafe(no_mangle)]
-pub extern "C" fn renamer_lowest(alloc: Global, lane: &mut Handle, wire: &mut u64) -> u32
+pub extern "C" fn renamer_lowest(lane: &mut Handle, wire: &mut u64) -> u32
     ensures answered { result ≡ DONE
         → WithLane (lane_in lane.old.held) (λ l. IsLowest l.yard.lists wire.new) }
     ensures lane { lane.new.held ≡ lane.old.held }
     ensures kept { 0 < result → wire.new ≡ wire.old }
     ensures refused { 0 < result → IsRefusal (NoLowestWire (lane_in lane.old.held)) result }
 {
-    let held = match lane.take(alloc) {
-        Ok(held) => held,
-        Err(refusal) => return refusal.status(),
+    let answer = match lane.get_mut() {
+        Some(held) => held.lowest(),
+        None => Err(Refusal::Nothing),
     };
-    let answer = held.lowest();
-    lane.put(held);
     write(answer, wire)
 }
