@@ -11,6 +11,10 @@ C, RUST, OUT = ROOT / "bindings" / "c", ROOT / "bindings" / "rust", ROOT / "out"
 STRICT = ["-Wall", "-Wextra", "-Wpedantic", "-Werror", "-O1", "-g"]
 # By which programs in C++ are compiled once more, since their header has all of its code.
 SECOND = "clang++"
+# Another processor: its name, its compiler, by what its programs run here, and the packages of Debian that have these.
+ARM, ARM_CC, ARM_RUN = "aarch64-unknown-linux-gnu", "aarch64-linux-gnu-gcc", "qemu-aarch64"
+ARM_HOME = pathlib.Path("/usr/aarch64-linux-gnu")
+ARM_PACKAGES = {ARM_CC: "gcc-aarch64-linux-gnu", ARM_RUN: "qemu-user", str(ARM_HOME): "libc6-dev-arm64-cross"}
 # The standards that the header is to compile by; programs are compiled by the first.
 STANDARDS = {"cc": ["c99", "c11", "c17"], "c++": ["c++11", "c++14", "c++17", "c++20"]}
 WRAPPED = "-Wl,--wrap=malloc,--wrap=calloc,--wrap=realloc,--wrap=free"
@@ -91,12 +95,12 @@ def run(words, folder=ROOT, seconds=SECONDS, **environment):
     return done.stdout
 
 
-def compiled(program, folder, name, flags, compiler=None):
+def compiled(program, folder, name, flags, compiler=None, out=OUT):
     """Compiles a program with some flags more."""
     made = folder / f"{program.source.name}-{name}".replace(" ", "-")
     own = program.compiler()
-    run([compiler or own, f"-std={STANDARDS[own][0]}", *STRICT, *flags, "-I", OUT / "include", program.source,
-         *program.others, "-o", made, "-L", OUT / "lib", "-lrenamer", "-lpthread"])
+    run([compiler or own, f"-std={STANDARDS[own][0]}", *STRICT, *flags, "-I", out / "include", program.source,
+         *program.others, "-o", made, "-L", out / "lib", "-lrenamer", "-lpthread"])
     return made
 
 
@@ -114,6 +118,22 @@ def run_by_second(program, folder):
     if not shutil.which(SECOND):
         raise NotTried(f"{SECOND} is not here; Debian has it in the package clang")
     run([compiled(program, folder, SECOND, [], SECOND)])
+
+
+def run_on_arm(program, folder):
+    """Runs a program in C that is made for ARM, as an emulator of that processor runs it."""
+    made = compiled(program, folder, "arm", [], ARM_CC, OUT / ARM)
+    printed = run([ARM_RUN, "-L", ARM_HOME, made, *program.words("others")], seconds=10 * SECONDS)
+    if program.prints and printed != program.prints:
+        raise Wrong(f"it printed {printed!r}, not {program.prints!r}")
+
+
+def arm_cases(folder):
+    """A case for each program in C on ARM."""
+    for program in PROGRAMS:
+        if program.compiler() == "cc" and not program.is_long:
+            name = f"{program.source.relative_to(ROOT)}, ARM"
+            yield name, lambda program=program: run_on_arm(program, folder)
 
 
 def fuzz_by_valgrind(folder):

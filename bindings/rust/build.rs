@@ -1,15 +1,18 @@
 //! Links the proved library: the archive `librenamer.a` of the folder that `RENAMER_LIB` names, or of `out/lib` of the
-//! repository, into which `./library` puts it.
+//! repository, into which `./library` puts it; for ARM of `out/aarch64-unknown-linux-gnu/lib`.
 use std::env;
 use std::path::PathBuf;
 use std::process;
 
 fn main() {
     println!("cargo:rerun-if-env-changed=RENAMER_LIB");
+    let target = env::var("TARGET").expect("cargo names the target");
     let folder = match env::var_os("RENAMER_LIB") {
         Some(folder) => PathBuf::from(folder),
         None => PathBuf::from(env::var_os("CARGO_MANIFEST_DIR").expect("cargo names the crate's folder"))
-            .join("../../out/lib"),
+            .join("../../out")
+            .join(if target.starts_with("x86_64-") { "" } else { &target })
+            .join("lib"),
     };
     let archive = folder.join("librenamer.a");
     if !archive.is_file() {

@@ -2,7 +2,8 @@
  * What atomic adds and a walk through a network take on this machine, in nanoseconds.
  *
  *     measure own                       an add on a word that no other thread uses
- *     measure turns                     an add on a word that another thread used last: two threads take turns
+ *     measure turns                     a turn of two threads that add to one word in turn: each reads the other's
+ *                                       number, and then adds, so the word goes over twice
  *     measure together THREADS          one add, if so many threads add to one word, by the clock
  *     measure walk THREADS STRIDE       one name on a network whose words lie so many words apart, by the clock
  *
@@ -18,7 +19,8 @@
 #include <string.h>
 #include <time.h>
 
-enum { MOST_THREADS = 256, ROUNDS = 7, ADDS = 2000000, NAMES = 200000, MOST_WIRES = 1 << 16, MOST_STRIDE = 64, LINES = 128 };
+enum { MOST_THREADS = 256, ROUNDS = 7, ADDS = 2000000, NAMES = 200000, MOST_WIRES = 1 << 16 };
+enum { MOST_STRIDE = 64, LINES = 128 };
 
 static _Atomic uint64_t *words;
 static unsigned entries, balancers, wires, stride = 1;

@@ -29,9 +29,9 @@ class Machine:
         return float(subprocess.run(command, input=text, capture_output=True, text=True, check=True).stdout)
 
     def prices(self) -> Prices:
-        """Returns the prices: of an add by one thread, of one by two threads in turn, and the distance at which adds on
-        one word follow one another by all threads."""
-        own, other = self.asked("own"), self.asked("turns")
+        """Returns the prices: of an add by one thread, of one on a line of another, and the distance at which adds on one
+        word follow one another by all threads. In a turn of two threads a line goes over twice: it is read, and taken."""
+        own, other = self.asked("own"), self.asked("turns") / 2
         return Prices(own, max(own, other), max(own, self.asked("together", processors_here())))
 
     def counter_rate(self, threads: int) -> float:

@@ -1,4 +1,4 @@
-"""The calls that the program checks/sweep makes itself: its shapes, and how many calls it makes at each."""
+"""The calls that the program checks/long/sweep makes itself: its shapes, and how many calls it makes at each."""
 
 KINDS = ("bitonic", "periodic", "tree")
 WIDTHS = tuple(2**level for level in range(1, 9))

@@ -1,4 +1,4 @@
-"""The rows of the built program whose growths checks/refuse refuses. What they wait for is reckoned by the rules: the
+"""The rows of the built program whose growths checks/long/refuse refuses. What they wait for is reckoned by the rules: the
 n-th client of an epoch, counted from 0, has name n where one worker with one token in hand names them; and of c clients
 a network of width w lets (c + w - 1 - i) div w out by exit i."""
 from apart import ROOT

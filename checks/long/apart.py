@@ -1,4 +1,4 @@
-"""Crates that stand apart from the gate, in folders of checks/: it neither proves nor runs them.
+"""Crates that stand apart from the gate, in folders of checks/long: it neither proves nor runs them.
 
 Their files have endings that no check reads. They get those of a crate in a copy of the repository's libraries, in a
 temporary folder, and what is built there is kept in the folder's out/.
@@ -12,7 +12,7 @@ import subprocess
 import tempfile
 import time
 
-ROOT = pathlib.Path(__file__).resolve().parent.parent
+ROOT = pathlib.Path(__file__).resolve().parent.parent.parent
 # The endings of such a file, and in a crate.
 ENDINGS = {".rattle": ".rt", ".proof": ".antt"}
 
