@@ -74,6 +74,8 @@ PROGRAMS = (
     Program(C / "tests" / "names.c"),
     Program(C / "tests" / "statuses.c"),
     Program(C / "tests" / "handed.c"),
+    Program(C / "tests" / "asked.c", (WRAPPED,)),
+    Program(C / "tests" / "lane_size.c", (WRAPPED,)),
     Program(C / "tests" / "joined.c"),
     Program(C / "tests" / "memory.c", GROWTHS),
     Program(C / "tests" / "rounds.c", GROWTHS),

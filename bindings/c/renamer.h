@@ -25,9 +25,11 @@
  * several causes the first in the order of the call's list is returned.
  *
  * THREADS. Calls on different handles may run at once in any threads, also on lanes of one floor. Calls on one handle may
- * not overlap. A handle may go to another thread by what orders memory: a start or a join of a thread, a lock, an
- * atomic. No call waits for another thread, and none starts one. No call may be made from a signal handler, or in the
- * child of a fork of a process with threads. A fork copies floors: parent and child both give name 1, to two clients.
+ * not overlap, but for those that take it as `const`: they only ask, and write nothing to it, so any number of threads
+ * may make them at once, while no other call on it is made. A handle may go to another thread by what orders memory: a
+ * start or a join of a thread, a lock, an atomic. No call waits for another thread, and none starts one. No call may be
+ * made from a signal handler, or in the child of a fork of a process with threads. A fork copies floors: parent and child
+ * both give name 1, to two clients.
  *
  * THE CALLER'S SIDE. What no call can check is the caller's: no pointer is NULL, also that of an array of size 0; an
  * array is as long as its size says; a number or an array that a call writes overlaps nothing else that is passed; two
@@ -216,29 +218,29 @@ uint32_t renamer_step(renamer_lane *lane, uint64_t wire, renamer_moved *moved);
 uint32_t renamer_sweep(renamer_lane *lane, uint64_t wire, renamer_swept *swept);
 
 /* The least wire on which a client of the lane stands. RENAMER_NONE, _NOBODY_THERE (nobody of the lane is inside). */
-uint32_t renamer_lowest(renamer_lane *lane, uint64_t *wire);
+uint32_t renamer_lowest(const renamer_lane *lane, uint64_t *wire);
 
 /* How many clients came in by all lanes, as far as this one can know: more than each name that it was given, no less
    than its earlier answers, and never more than came in.
    RENAMER_NONE. */
-uint32_t renamer_entered(renamer_lane *lane, uint64_t *entered);
+uint32_t renamer_entered(const renamer_lane *lane, uint64_t *entered);
 
 /* How many clients more the lane may let in. RENAMER_NONE. */
-uint32_t renamer_quota(renamer_lane *lane, uint64_t *quota);
+uint32_t renamer_quota(const renamer_lane *lane, uint64_t *quota);
 
 /* How many clients of the lane are inside. RENAMER_NONE. */
-uint32_t renamer_inside(renamer_lane *lane, uint64_t *inside);
+uint32_t renamer_inside(const renamer_lane *lane, uint64_t *inside);
 
 /* How many entries the network of the lane's floor has, and how many exits. RENAMER_NONE. */
-uint32_t renamer_entries(renamer_lane *lane, uint64_t *entries);
-uint32_t renamer_exits(renamer_lane *lane, uint64_t *exits);
+uint32_t renamer_entries(const renamer_lane *lane, uint64_t *entries);
+uint32_t renamer_exits(const renamer_lane *lane, uint64_t *exits);
 
 /* How many grants the lane has. RENAMER_NONE. */
-uint32_t renamer_grant_count(renamer_lane *lane, uint64_t *count);
+uint32_t renamer_grant_count(const renamer_lane *lane, uint64_t *count);
 
 /* Copies size grants of the lane, in the order in which they were given, from the grant with the index first on.
    RENAMER_NONE, _SIZE (there are fewer than first + size). */
-uint32_t renamer_grants(renamer_lane *lane, uint64_t first, renamer_grant *grants, size_t size);
+uint32_t renamer_grants(const renamer_lane *lane, uint64_t first, renamer_grant *grants, size_t size);
 
 /* Hands the lane back to its floor, from any thread: its quota, its grants and all that it did. The lane is none then, and
    another lane of the floor may take it in by renamer_join. It takes no memory, and any number of lanes may be back. If it was
@@ -262,19 +264,19 @@ uint32_t renamer_close(renamer_lane *lane, renamer_quiet *quiet);
 
 /* How many clients left by each exit is a list of as many numbers as there are exits; who has which name is a list of as
    many clients as came in. These two return the sizes. RENAMER_NONE. */
-uint32_t renamer_quiet_exits(renamer_quiet *quiet, uint64_t *exits);
-uint32_t renamer_quiet_clients(renamer_quiet *quiet, uint64_t *clients);
+uint32_t renamer_quiet_exits(const renamer_quiet *quiet, uint64_t *exits);
+uint32_t renamer_quiet_clients(const renamer_quiet *quiet, uint64_t *clients);
 
 /* Copies how many left by each exit: counts[i] is that of exit i. RENAMER_NONE, _SIZE (counts has not that size). */
-uint32_t renamer_counts(renamer_quiet *quiet, uint64_t *counts, size_t size);
+uint32_t renamer_counts(const renamer_quiet *quiet, uint64_t *counts, size_t size);
 
 /* Copies who has which name: holders[n] is the client with name n. RENAMER_NONE, _SIZE (holders has not that size). */
-uint32_t renamer_holders(renamer_quiet *quiet, uint64_t *holders, size_t size);
+uint32_t renamer_holders(const renamer_quiet *quiet, uint64_t *holders, size_t size);
 
 /* Opens a floor that goes on from the counters of a closed one, over the same network; its names begin at 0 again. The
    closed floor stays as it is.
    RENAMER_NONE, _CARRIED, _QUOTA, _MEMORY. */
-uint32_t renamer_open_after(renamer_lane *lane, renamer_quiet *quiet, uint64_t quota);
+uint32_t renamer_open_after(renamer_lane *lane, const renamer_quiet *quiet, uint64_t quota);
 
 /* Frees what the handle has, if it has something. A lane is handed back, unless clients are inside: then its quota and names
    are lost with it, and its floor cannot be closed any more; the names of other lanes stay as good as they were. */

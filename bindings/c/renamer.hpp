@@ -8,9 +8,10 @@
  *         && lane.name(17, 0, name) == renamer::status::done)
  *         std::cout << "client 17 has name " << name << "\n";
  *
- * An object that was made, moved from, handed back or closed has nothing, and its calls return status::none. Objects can be
- * moved, also to another thread, and not copied. A lane that goes out of scope is handed back to its floor. No call here
- * throws, but for those that write a std::vector, if it gets no memory.
+ * Calls that are `const` only ask: any number of threads may make them at once on one object. An object that was made,
+ * moved from, handed back or closed has nothing, and its calls return status::none. Objects can be moved, also to another
+ * thread, and not copied. A lane that goes out of scope is handed back to its floor. No call here throws, but for those
+ * that write a std::vector, if it gets no memory.
  */
 #ifndef RENAMER_HPP
 #define RENAMER_HPP
@@ -77,25 +78,25 @@ class quiet {
     }
     ~quiet() { renamer_free_quiet(&handle); }
 
-    status exits(std::uint64_t &exits) noexcept { return status(renamer_quiet_exits(&handle, &exits)); }
-    status clients(std::uint64_t &clients) noexcept { return status(renamer_quiet_clients(&handle, &clients)); }
+    status exits(std::uint64_t &exits) const noexcept { return status(renamer_quiet_exits(&handle, &exits)); }
+    status clients(std::uint64_t &clients) const noexcept { return status(renamer_quiet_clients(&handle, &clients)); }
 
     /* counts[i] left by exit i. */
-    status counts(std::vector<std::uint64_t> &counts) {
+    status counts(std::vector<std::uint64_t> &counts) const {
         return list(renamer_quiet_exits, renamer_counts, counts);
     }
 
     /* holders[n] is the client with name n. */
-    status holders(std::vector<std::uint64_t> &holders) {
+    status holders(std::vector<std::uint64_t> &holders) const {
         return list(renamer_quiet_clients, renamer_holders, holders);
     }
 
   private:
     friend class lane;
 
-    status list(std::uint32_t (*size)(renamer_quiet *, std::uint64_t *),
-                std::uint32_t (*copy)(renamer_quiet *, std::uint64_t *, std::size_t),
-                std::vector<std::uint64_t> &to) {
+    status list(std::uint32_t (*size)(const renamer_quiet *, std::uint64_t *),
+                std::uint32_t (*copy)(const renamer_quiet *, std::uint64_t *, std::size_t),
+                std::vector<std::uint64_t> &to) const {
         std::uint64_t length = 0;
         const status asked = status(size(&handle, &length));
         if (asked != status::done) return asked;
@@ -130,7 +131,7 @@ class lane {
     status open(kind kind, std::uint32_t width, std::uint64_t quota) noexcept {
         return status(renamer_open(&handle, static_cast<std::uint32_t>(kind), width, quota));
     }
-    status open_after(quiet &closed, std::uint64_t quota) noexcept {
+    status open_after(const quiet &closed, std::uint64_t quota) noexcept {
         return status(renamer_open_after(&handle, &closed.handle, quota));
     }
     status split(std::uint64_t quota, lane &other) noexcept {
@@ -160,16 +161,16 @@ class lane {
     status step(std::uint64_t wire, moved &moved) noexcept { return status(renamer_step(&handle, wire, &moved)); }
     status sweep(std::uint64_t wire, swept &swept) noexcept { return status(renamer_sweep(&handle, wire, &swept)); }
 
-    status lowest(std::uint64_t &wire) noexcept { return status(renamer_lowest(&handle, &wire)); }
-    status entered(std::uint64_t &entered) noexcept { return status(renamer_entered(&handle, &entered)); }
-    status quota(std::uint64_t &quota) noexcept { return status(renamer_quota(&handle, &quota)); }
-    status inside(std::uint64_t &inside) noexcept { return status(renamer_inside(&handle, &inside)); }
-    status entries(std::uint64_t &entries) noexcept { return status(renamer_entries(&handle, &entries)); }
-    status exits(std::uint64_t &exits) noexcept { return status(renamer_exits(&handle, &exits)); }
-    status grant_count(std::uint64_t &count) noexcept { return status(renamer_grant_count(&handle, &count)); }
+    status lowest(std::uint64_t &wire) const noexcept { return status(renamer_lowest(&handle, &wire)); }
+    status entered(std::uint64_t &entered) const noexcept { return status(renamer_entered(&handle, &entered)); }
+    status quota(std::uint64_t &quota) const noexcept { return status(renamer_quota(&handle, &quota)); }
+    status inside(std::uint64_t &inside) const noexcept { return status(renamer_inside(&handle, &inside)); }
+    status entries(std::uint64_t &entries) const noexcept { return status(renamer_entries(&handle, &entries)); }
+    status exits(std::uint64_t &exits) const noexcept { return status(renamer_exits(&handle, &exits)); }
+    status grant_count(std::uint64_t &count) const noexcept { return status(renamer_grant_count(&handle, &count)); }
 
     /* The lane's grants, in the order in which they were given. */
-    status grants(std::vector<grant> &grants) {
+    status grants(std::vector<grant> &grants) const {
         std::uint64_t count = 0;
         const status asked = grant_count(count);
         if (asked != status::done) return asked;

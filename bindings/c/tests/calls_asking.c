@@ -28,7 +28,7 @@ static void judge_number(uint32_t status, uint32_t wanted, uint64_t number, uint
     CHECK(run.asked == 0);
 }
 
-static void ask(struct handle *handle, enum call call, uint32_t (*asking)(renamer_lane *, uint64_t *)) {
+static void ask(struct handle *handle, enum call call, uint32_t (*asking)(const renamer_lane *, uint64_t *)) {
     const struct lane *lane = handle->model;
     uint64_t number = UNSET_NUMBER;
     uint32_t status, wanted = RENAMER_DONE;
@@ -43,7 +43,7 @@ static void ask(struct handle *handle, enum call call, uint32_t (*asking)(rename
 
 static const struct {
     enum call call;
-    uint32_t (*asking)(renamer_lane *, uint64_t *);
+    uint32_t (*asking)(const renamer_lane *, uint64_t *);
 } numbers[] = {{CALL_quota, renamer_quota},     {CALL_inside, renamer_inside},
                {CALL_lowest, renamer_lowest},   {CALL_grant_count, renamer_grant_count},
                {CALL_entries, renamer_entries}, {CALL_exits, renamer_exits}};

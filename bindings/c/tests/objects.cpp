@@ -26,7 +26,7 @@ static_assert(!std::is_copy_constructible<renamer::quiet>::value && !std::is_cop
 static_assert(std::is_nothrow_move_constructible<renamer::lane>::value, "a vector of lanes moves them");
 
 // What a lane that only reads says.
-template <typename Ask> static std::uint64_t number(Ask ask, renamer::lane &lane) {
+template <typename Ask> static std::uint64_t number(Ask ask, const renamer::lane &lane) {
     std::uint64_t answer = 99;
     CHECK((lane.*ask)(answer) == status::done);
     return answer;
@@ -97,8 +97,10 @@ static void close_and_go_on() {
     CHECK(moved_to.exits(number_of) == status::done && number_of == 4);
     CHECK(moved_to.counts(counts) == status::done && counts == std::vector<std::uint64_t>({2, 1, 1, 1}));
     CHECK(moved_to.holders(holders) == status::done && holders.size() == 5);
+    const renamer::quiet &asked = moved_to;
+    CHECK(asked.counts(counts) == status::done && asked.clients(number_of) == status::done && number_of == 5);
     renamer::lane next;
-    CHECK(next.open_after(moved_to, 1) == status::done);
+    CHECK(next.open_after(asked, 1) == status::done);
     CHECK(next.name(7, 0, number_of) == status::done && number_of == 0);
 }
 

@@ -49,12 +49,7 @@ fn index(name: u64) -> usize {
 /// its names are lost with it, and then the floor cannot be closed any more; the names of other lanes stay as good as
 /// they were.
 ///
-/// Threads cannot share a lane:
-///
-/// ```compile_fail
-/// fn shared<T: Sync>() {}
-/// shared::<renamer::Lane>();
-/// ```
+/// Threads may share a lane to ask it, as for its [quota](Lane::quota); who names clients by it has it by `&mut`.
 pub struct Lane {
     raw: RawLane,
     /// One of as many as lanes of the floor are alive.

@@ -43,6 +43,7 @@ impl Quiet {
     /// assert!(lane.close()?.iter().eq([(0, 17), (1, 5)]));
     /// # Ok::<(), renamer::Error>(())
     /// ```
+    #[must_use]
     pub fn iter(&self) -> impl DoubleEndedIterator<Item = (usize, u64)> + ExactSizeIterator {
         self.holders().into_iter().enumerate()
     }

@@ -1,12 +1,11 @@
 //! The calls of the library, and all that is unsafe in this crate.
 //!
-//! The header leaves to the callers: no pointer is null, what a call writes overlaps nothing else that it is passed,
-//! calls on one handle do not overlap, and no handle is copied. Here each pointer is made from a reference, a slice or
-//! a cell, and a handle lies in a cell that is not `Sync`, so that one thread at a time can reach it.
+//! The header leaves to the callers: no pointer is null, what a call writes overlaps nothing else that it is passed, calls
+//! on one handle do not overlap but for those that only ask, and no handle is copied. Here each pointer is made from a
+//! reference or a slice, and a call that changes a handle has it by `&mut`.
 #![allow(unsafe_code)]
 
 use crate::{Client, Error, Grant, Moved, Place, Swept};
-use std::cell::UnsafeCell;
 use std::ffi::c_void;
 use std::ptr::null_mut;
 
@@ -48,22 +47,22 @@ extern "C" {
     fn renamer_enter(lane: *mut Handle, client: u64, entry: u64) -> u32;
     fn renamer_step(lane: *mut Handle, wire: u64, moved: *mut RawMoved) -> u32;
     fn renamer_sweep(lane: *mut Handle, wire: u64, swept: *mut RawSwept) -> u32;
-    fn renamer_lowest(lane: *mut Handle, wire: *mut u64) -> u32;
-    fn renamer_entered(lane: *mut Handle, entered: *mut u64) -> u32;
-    fn renamer_quota(lane: *mut Handle, quota: *mut u64) -> u32;
-    fn renamer_inside(lane: *mut Handle, inside: *mut u64) -> u32;
-    fn renamer_entries(lane: *mut Handle, entries: *mut u64) -> u32;
-    fn renamer_exits(lane: *mut Handle, exits: *mut u64) -> u32;
-    fn renamer_grant_count(lane: *mut Handle, count: *mut u64) -> u32;
-    fn renamer_grants(lane: *mut Handle, first: u64, grants: *mut Grant, size: usize) -> u32;
+    fn renamer_lowest(lane: *const Handle, wire: *mut u64) -> u32;
+    fn renamer_entered(lane: *const Handle, entered: *mut u64) -> u32;
+    fn renamer_quota(lane: *const Handle, quota: *mut u64) -> u32;
+    fn renamer_inside(lane: *const Handle, inside: *mut u64) -> u32;
+    fn renamer_entries(lane: *const Handle, entries: *mut u64) -> u32;
+    fn renamer_exits(lane: *const Handle, exits: *mut u64) -> u32;
+    fn renamer_grant_count(lane: *const Handle, count: *mut u64) -> u32;
+    fn renamer_grants(lane: *const Handle, first: u64, grants: *mut Grant, size: usize) -> u32;
     fn renamer_hand_back(lane: *mut Handle) -> u32;
     fn renamer_join(lane: *mut Handle) -> u32;
     fn renamer_close(lane: *mut Handle, quiet: *mut Handle) -> u32;
-    fn renamer_quiet_exits(quiet: *mut Handle, exits: *mut u64) -> u32;
-    fn renamer_quiet_clients(quiet: *mut Handle, clients: *mut u64) -> u32;
-    fn renamer_counts(quiet: *mut Handle, counts: *mut u64, size: usize) -> u32;
-    fn renamer_holders(quiet: *mut Handle, holders: *mut u64, size: usize) -> u32;
-    fn renamer_open_after(lane: *mut Handle, quiet: *mut Handle, quota: u64) -> u32;
+    fn renamer_quiet_exits(quiet: *const Handle, exits: *mut u64) -> u32;
+    fn renamer_quiet_clients(quiet: *const Handle, clients: *mut u64) -> u32;
+    fn renamer_counts(quiet: *const Handle, counts: *mut u64, size: usize) -> u32;
+    fn renamer_holders(quiet: *const Handle, holders: *mut u64, size: usize) -> u32;
+    fn renamer_open_after(lane: *mut Handle, quiet: *const Handle, quota: u64) -> u32;
     fn renamer_free(lane: *mut Handle);
     fn renamer_free_quiet(quiet: *mut Handle);
 }
@@ -91,11 +90,11 @@ fn done(status: u32) -> Result<(), Error> {
         .unwrap_or_else(|| panic!("the library returned the status {status}, which this crate does not know")))
 }
 
-/// A number that a call on a handle writes, and that is there as long as the handle is.
-fn number<N: Default>(call: unsafe extern "C" fn(*mut Handle, *mut N) -> u32, handle: &UnsafeCell<Handle>) -> N {
+/// A number that a call asks of a handle, and that is there as long as the handle is.
+fn number<N: Default>(call: unsafe extern "C" fn(*const Handle, *mut N) -> u32, handle: &Handle) -> N {
     let mut number = N::default();
-    // SAFETY: the number lies apart from the handle, whose cell is not `Sync`, so no other thread has it.
-    done(unsafe { call(handle.get(), &raw mut number) }).expect("a handle that is there has its numbers");
+    // SAFETY: the call only asks, and the number is a variable of its own.
+    done(unsafe { call(handle, &raw mut number) }).expect("a handle that is there has its numbers");
     number
 }
 
@@ -104,15 +103,18 @@ fn size(length: u64) -> usize {
     usize::try_from(length).expect("a list has at most 262,144 numbers")
 }
 
-fn none() -> UnsafeCell<Handle> {
-    UnsafeCell::new(Handle { at: null_mut() })
+fn none() -> Handle {
+    Handle { at: null_mut() }
 }
 
 /// A lane, or none.
-pub(crate) struct RawLane(UnsafeCell<Handle>);
+pub(crate) struct RawLane(Handle);
 
 // SAFETY: that what a lane owns may go to another thread is proved in the library, and only its owner reaches it.
 unsafe impl Send for RawLane {}
+
+// SAFETY: by `&` a lane is only asked, and such calls write nothing, as the header says and bindings/c/tests/asked.c shows.
+unsafe impl Sync for RawLane {}
 
 impl RawLane {
     /// The first lane of a floor. No other call is made before it, so an archive of another version, whose calls may take other
@@ -121,26 +123,26 @@ impl RawLane {
         assert_eq!(version(), own_version(), "librenamer.a has another version than the crate renamer");
         let mut lane = none();
         // SAFETY: the handle is new, and none.
-        done(unsafe { renamer_open(lane.get_mut(), kind, width, quota) })?;
+        done(unsafe { renamer_open(&raw mut lane, kind, width, quota) })?;
         Ok(RawLane(lane))
     }
 
     pub(crate) fn split(&mut self, quota: u64) -> Result<RawLane, Error> {
         let mut other = none();
         // SAFETY: the second handle is new, and none; `&mut` is the only way to the first.
-        done(unsafe { renamer_split(self.0.get_mut(), quota, other.get_mut()) })?;
+        done(unsafe { renamer_split(&raw mut self.0, quota, &raw mut other) })?;
         Ok(RawLane(other))
     }
 
     pub(crate) fn reserve(&mut self, clients: u64) -> Result<(), Error> {
         // SAFETY: `&mut` is the only way to the handle.
-        done(unsafe { renamer_reserve(self.0.get_mut(), clients) })
+        done(unsafe { renamer_reserve(&raw mut self.0, clients) })
     }
 
     pub(crate) fn name(&mut self, client: u64, entry: u64) -> Result<u64, Error> {
         let mut name = 0;
         // SAFETY: `&mut` is the only way to the handle, and the name is a variable of its own.
-        done(unsafe { renamer_name(self.0.get_mut(), client, entry, &raw mut name) })?;
+        done(unsafe { renamer_name(&raw mut self.0, client, entry, &raw mut name) })?;
         Ok(name)
     }
 
@@ -149,19 +151,19 @@ impl RawLane {
         // written.
         done(unsafe {
             let (from, to) = (clients.as_ptr(), grants.as_mut_ptr());
-            renamer_name_many(self.0.get_mut(), from, clients.len(), to, grants.len())
+            renamer_name_many(&raw mut self.0, from, clients.len(), to, grants.len())
         })
     }
 
     pub(crate) fn enter(&mut self, client: u64, entry: u64) -> Result<(), Error> {
         // SAFETY: `&mut` is the only way to the handle.
-        done(unsafe { renamer_enter(self.0.get_mut(), client, entry) })
+        done(unsafe { renamer_enter(&raw mut self.0, client, entry) })
     }
 
     pub(crate) fn step(&mut self, wire: u64) -> Result<Moved, Error> {
         let mut moved = RawMoved::default();
         // SAFETY: `&mut` is the only way to the handle, and what is written is a variable of its own.
-        done(unsafe { renamer_step(self.0.get_mut(), wire, &raw mut moved) })?;
+        done(unsafe { renamer_step(&raw mut self.0, wire, &raw mut moved) })?;
         let RawMoved { client, has_left, place, number, next } = moved;
         Ok(match Place::of(has_left == 1, place) {
             Place::Balancer(balancer) => Moved::On { client, balancer, number, wire: next },
@@ -172,15 +174,15 @@ impl RawLane {
     pub(crate) fn sweep(&mut self, wire: u64) -> Result<Swept, Error> {
         let mut swept = RawSwept::default();
         // SAFETY: as for a step.
-        done(unsafe { renamer_sweep(self.0.get_mut(), wire, &raw mut swept) })?;
+        done(unsafe { renamer_sweep(&raw mut self.0, wire, &raw mut swept) })?;
         let RawSwept { have_left, place, first, clients } = swept;
         Ok(Swept { place: Place::of(have_left == 1, place), first, clients })
     }
 
     pub(crate) fn lowest(&self) -> Result<u64, Error> {
         let mut wire = 0;
-        // SAFETY: the number lies apart from the handle, whose cell is not `Sync`, so no other thread has it.
-        done(unsafe { renamer_lowest(self.0.get(), &raw mut wire) })?;
+        // SAFETY: the call only asks, and the number is a variable of its own.
+        done(unsafe { renamer_lowest(&raw const self.0, &raw mut wire) })?;
         Ok(wire)
     }
 
@@ -209,26 +211,26 @@ impl RawLane {
     }
 
     pub(crate) fn grants(&self, first: u64, grants: &mut [Grant]) -> Result<(), Error> {
-        // SAFETY: the array is a slice of this size; the cell is not `Sync`, so no other thread has the handle.
-        done(unsafe { renamer_grants(self.0.get(), first, grants.as_mut_ptr(), grants.len()) })
+        // SAFETY: the call only asks, and the array is a slice of this size.
+        done(unsafe { renamer_grants(&raw const self.0, first, grants.as_mut_ptr(), grants.len()) })
     }
 
     /// Hands the lane back: it is none then.
     pub(crate) fn hand_back(&mut self) -> Result<(), Error> {
         // SAFETY: `&mut` is the only way to the handle.
-        done(unsafe { renamer_hand_back(self.0.get_mut()) })
+        done(unsafe { renamer_hand_back(&raw mut self.0) })
     }
 
     pub(crate) fn join(&mut self) -> Result<(), Error> {
         // SAFETY: `&mut` is the only way to the handle.
-        done(unsafe { renamer_join(self.0.get_mut()) })
+        done(unsafe { renamer_join(&raw mut self.0) })
     }
 
     /// Closes the floor: the lane is none then.
     pub(crate) fn close(&mut self) -> Result<RawQuiet, Error> {
         let mut quiet = none();
         // SAFETY: the second handle is new, and none; `&mut` is the only way to the first.
-        done(unsafe { renamer_close(self.0.get_mut(), quiet.get_mut()) })?;
+        done(unsafe { renamer_close(&raw mut self.0, &raw mut quiet) })?;
         Ok(RawQuiet(quiet))
     }
 }
@@ -236,15 +238,18 @@ impl RawLane {
 impl Drop for RawLane {
     fn drop(&mut self) {
         // SAFETY: `&mut` is the only way to the handle; one that is none may be freed.
-        unsafe { renamer_free(self.0.get_mut()) }
+        unsafe { renamer_free(&raw mut self.0) }
     }
 }
 
 /// A closed floor.
-pub(crate) struct RawQuiet(UnsafeCell<Handle>);
+pub(crate) struct RawQuiet(Handle);
 
 // SAFETY: as for a lane.
 unsafe impl Send for RawQuiet {}
+
+// SAFETY: as for a lane. A floor that goes on from it takes a share of the network by an atomic count.
+unsafe impl Sync for RawQuiet {}
 
 impl RawQuiet {
     pub(crate) fn clients(&self) -> usize {
@@ -253,8 +258,8 @@ impl RawQuiet {
 
     pub(crate) fn counts(&self) -> Vec<u64> {
         let mut counts = vec![0; size(number(renamer_quiet_exits, &self.0))];
-        // SAFETY: the array is a slice of this size; the cell is not `Sync`, so no other thread has the handle.
-        done(unsafe { renamer_counts(self.0.get(), counts.as_mut_ptr(), counts.len()) })
+        // SAFETY: the call only asks, and the array is a slice of this size.
+        done(unsafe { renamer_counts(&raw const self.0, counts.as_mut_ptr(), counts.len()) })
             .expect("the size is that of the counts");
         counts
     }
@@ -262,15 +267,15 @@ impl RawQuiet {
     pub(crate) fn holders(&self) -> Vec<u64> {
         let mut holders = vec![0; self.clients()];
         // SAFETY: as for the counts.
-        done(unsafe { renamer_holders(self.0.get(), holders.as_mut_ptr(), holders.len()) })
+        done(unsafe { renamer_holders(&raw const self.0, holders.as_mut_ptr(), holders.len()) })
             .expect("the size is that of the holders");
         holders
     }
 
     pub(crate) fn open_after(&self, quota: u64) -> Result<RawLane, Error> {
         let mut lane = none();
-        // SAFETY: the lane's handle is new, and none; no other thread has the cell of the other, which is not `Sync`.
-        done(unsafe { renamer_open_after(lane.get_mut(), self.0.get(), quota) })?;
+        // SAFETY: the lane's handle is new, and none; of the other the call only asks.
+        done(unsafe { renamer_open_after(&raw mut lane, &raw const self.0, quota) })?;
         Ok(RawLane(lane))
     }
 }
@@ -278,6 +283,6 @@ impl RawQuiet {
 impl Drop for RawQuiet {
     fn drop(&mut self) {
         // SAFETY: `&mut` is the only way to the handle.
-        unsafe { renamer_free_quiet(self.0.get_mut()) }
+        unsafe { renamer_free_quiet(&raw mut self.0) }
     }
 }

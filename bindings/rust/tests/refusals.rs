@@ -1,5 +1,5 @@
 //! Each cause for which a call is refused, and that a refused call changes nothing.
-use renamer::{Client, Error, Floor, Grant, Kind, Lane, Quiet};
+use renamer::{Client, Error, Floor, Grant, Kind, Lane, Quiet, Refused};
 
 fn floor(quota: u64) -> Floor {
     Floor::open(Kind::Bitonic, 4, quota).unwrap()
@@ -128,4 +128,35 @@ fn what_may_go_to_other_threads() {
     is_sent::<Quiet>();
     is_sent::<Floor>();
     is_shared::<Floor>();
+    is_shared::<Lane>();
+    is_shared::<Quiet>();
+}
+
+#[test]
+fn an_error_of_a_close_is_any_error() {
+    fn close(lane: Lane) -> Result<Quiet, Box<dyn std::error::Error + Send + Sync>> {
+        Ok(lane.close()?)
+    }
+    let floor = floor(2);
+    let _lane = floor.lane(1).unwrap();
+    let refused = close(floor.into_lane()).unwrap_err();
+    assert_eq!(refused.downcast_ref::<Refused<Lane>>().unwrap().error, Error::LanesMissing);
+}
+
+#[test]
+fn threads_ask_one_lane_and_one_closed_floor() {
+    let mut lane = floor(100).into_lane();
+    (0..60).for_each(|client| assert_eq!(lane.name(client, client % 4), Ok(client)));
+    (60..64).for_each(|client| lane.enter(client, 1).unwrap());
+    let asked = seen(&lane);
+    std::thread::scope(|scope| {
+        (0..4).for_each(|_| drop(scope.spawn(|| (0..1_000).for_each(|_| assert_eq!(seen(&lane), asked)))));
+    });
+    while let Ok(wire) = lane.lowest() {
+        lane.sweep(wire).unwrap();
+    }
+    let quiet = lane.close().unwrap();
+    std::thread::scope(|scope| {
+        (0..4).for_each(|_| drop(scope.spawn(|| (0..1_000).for_each(|_| assert_eq!(quiet.counts(), [16; 4])))));
+    });
 }

@@ -1,0 +1,113 @@
+/*
+ * Calls that only ask write nothing: four threads ask one lane and one closed floor at once, while the handles and all
+ * memory that the library took may only be read. A write ends the program by a signal.
+ */
+#define _DEFAULT_SOURCE
+#include "judge.h"
+#include <pthread.h>
+#include <string.h>
+#include <sys/mman.h>
+
+enum { ROOM = 1 << 22, HEAD = 16, NAMED = 60, INSIDE = 4, WIDTH = 4, THREADS = 4, ROUNDS = 1000 };
+
+/* The memory that the library takes, one block after another, each behind its size. None is used again. */
+static struct {
+    renamer_lane lane;
+    renamer_quiet quiet;
+    size_t used;
+    char room[ROOM];
+} *there;
+
+void *__wrap_malloc(size_t size);
+void *__wrap_calloc(size_t count, size_t size);
+void *__wrap_realloc(void *block, size_t size);
+void __wrap_free(void *block);
+
+void *__wrap_malloc(size_t size) {
+    size_t whole = HEAD + (size + HEAD - 1) / HEAD * HEAD;
+    if (there->used + whole > ROOM)
+        return NULL;
+    char *block = there->room + there->used;
+    there->used += whole;
+    memcpy(block, &size, sizeof size);
+    return block + HEAD;
+}
+
+void *__wrap_calloc(size_t count, size_t size) {
+    void *block = __wrap_malloc(count * size);
+    return block ? memset(block, 0, count * size) : NULL;
+}
+
+void *__wrap_realloc(void *block, size_t size) {
+    size_t old = 0;
+    void *grown = __wrap_malloc(size);
+    if (block && grown) {
+        memcpy(&old, (char *)block - HEAD, sizeof old);
+        memcpy(grown, block, old < size ? old : size);
+    }
+    return grown;
+}
+
+void __wrap_free(void *block) {
+    (void)block;
+}
+
+static void ask_lane(const renamer_lane *lane) {
+    uint64_t number;
+    renamer_grant grants[NAMED];
+    CHECK(renamer_quota(lane, &number) == RENAMER_DONE && number == 100 - NAMED - INSIDE);
+    CHECK(renamer_inside(lane, &number) == RENAMER_DONE && number == INSIDE);
+    CHECK(renamer_entered(lane, &number) == RENAMER_DONE && number == NAMED + INSIDE);
+    CHECK(renamer_entries(lane, &number) == RENAMER_DONE && number == WIDTH);
+    CHECK(renamer_exits(lane, &number) == RENAMER_DONE && number == WIDTH);
+    CHECK(renamer_grant_count(lane, &number) == RENAMER_DONE && number == NAMED);
+    CHECK(renamer_lowest(lane, &number) == RENAMER_DONE && number == 1);
+    CHECK(renamer_grants(lane, 0, grants, NAMED) == RENAMER_DONE && grants[NAMED - 1].client == NAMED - 1);
+    CHECK(renamer_grants(lane, 1, grants, NAMED) == RENAMER_SIZE);
+}
+
+static void ask_quiet(const renamer_quiet *quiet) {
+    uint64_t number, counts[WIDTH], holders[NAMED];
+    CHECK(renamer_quiet_exits(quiet, &number) == RENAMER_DONE && number == WIDTH);
+    CHECK(renamer_quiet_clients(quiet, &number) == RENAMER_DONE && number == NAMED);
+    CHECK(renamer_counts(quiet, counts, WIDTH) == RENAMER_DONE && counts[WIDTH - 1] == NAMED / WIDTH);
+    CHECK(renamer_holders(quiet, holders, NAMED) == RENAMER_DONE && holders[NAMED - 1] == NAMED - 1);
+    CHECK(renamer_holders(quiet, holders, 1) == RENAMER_SIZE);
+}
+
+static void *ask(void *argument) {
+    (void)argument;
+    for (int round = 0; round < ROUNDS; round++) {
+        ask_lane(&there->lane);
+        ask_quiet(&there->quiet);
+    }
+    return NULL;
+}
+
+/* Names clients on a floor over a bitonic network, one after another. */
+static void open_and_name(renamer_lane *lane) {
+    uint64_t name;
+    CHECK(renamer_open(lane, RENAMER_BITONIC, WIDTH, 100) == RENAMER_DONE);
+    for (uint64_t client = 0; client < NAMED; client++)
+        CHECK(renamer_name(lane, client, client % WIDTH, &name) == RENAMER_DONE && name == client);
+}
+
+int main(void) {
+    pthread_t threads[THREADS];
+    there = mmap(NULL, sizeof *there, PROT_READ | PROT_WRITE, MAP_PRIVATE | MAP_ANONYMOUS, -1, 0);
+    CHECK(there != MAP_FAILED);
+    open_and_name(&there->lane);
+    CHECK(renamer_close(&there->lane, &there->quiet) == RENAMER_DONE);
+    open_and_name(&there->lane);
+    for (uint64_t client = 0; client < INSIDE; client++)
+        CHECK(renamer_enter(&there->lane, NAMED + client, 1) == RENAMER_DONE);
+    CHECK(mprotect(there, sizeof *there, PROT_READ) == 0);
+    for (int t = 0; t < THREADS; t++)
+        CHECK(pthread_create(&threads[t], NULL, ask, NULL) == 0);
+    for (int t = 0; t < THREADS; t++)
+        CHECK(pthread_join(threads[t], NULL) == 0);
+    CHECK(mprotect(there, sizeof *there, PROT_READ | PROT_WRITE) == 0);
+    renamer_free(&there->lane);
+    renamer_free_quiet(&there->quiet);
+    return 0;
+}

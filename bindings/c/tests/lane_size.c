@@ -1,0 +1,80 @@
+/*
+ * What a lane takes of memory: under 1 kB on each network, until the first client comes in by renamer_enter or by a list
+ * that walks together. A single name takes only the room for its grant.
+ */
+#include "judge.h"
+#include <string.h>
+
+enum { HEAD = 16, MOST_BYTES = 1024, LANES = 100 };
+
+void *__real_malloc(size_t size);
+void *__real_realloc(void *block, size_t size);
+void __real_free(void *block);
+void *__wrap_malloc(size_t size);
+void *__wrap_calloc(size_t count, size_t size);
+void *__wrap_realloc(void *block, size_t size);
+void __wrap_free(void *block);
+
+/* How many bytes are there, in blocks of which each stands behind its size. */
+static size_t live;
+
+static void *sized(char *head, size_t size) {
+    if (!head)
+        return NULL;
+    memcpy(head, &size, sizeof size);
+    live += size;
+    return head + HEAD;
+}
+
+static char *unsized(void *block) {
+    size_t size;
+    if (!block)
+        return NULL;
+    memcpy(&size, (char *)block - HEAD, sizeof size);
+    live -= size;
+    return (char *)block - HEAD;
+}
+
+void *__wrap_malloc(size_t size) {
+    return sized(__real_malloc(HEAD + size), size);
+}
+
+void *__wrap_calloc(size_t count, size_t size) {
+    void *block = __wrap_malloc(count * size);
+    return block ? memset(block, 0, count * size) : NULL;
+}
+
+void *__wrap_realloc(void *block, size_t size) {
+    return sized(__real_realloc(unsized(block), HEAD + size), size);
+}
+
+void __wrap_free(void *block) {
+    __real_free(unsized(block));
+}
+
+/* Lanes that are there at once, of which each names a client. */
+static void small_lanes(uint32_t kind, uint32_t width) {
+    renamer_lane first = RENAMER_NO_LANE_YET, lanes[LANES];
+    uint64_t name;
+    CHECK(renamer_open(&first, kind, width, LANES) == RENAMER_DONE);
+    size_t before = live;
+    for (int lane = 0; lane < LANES; lane++) {
+        lanes[lane] = RENAMER_NO_LANE;
+        CHECK(renamer_split(&first, 1, &lanes[lane]) == RENAMER_DONE);
+    }
+    CHECK(live - before < (size_t)MOST_BYTES * LANES);
+    for (int lane = 0; lane < LANES; lane++)
+        CHECK(renamer_name(&lanes[lane], 17, 0, &name) == RENAMER_DONE && name == (uint64_t)lane);
+    CHECK(live - before < (size_t)MOST_BYTES * LANES);
+    for (int lane = 0; lane < LANES; lane++)
+        renamer_free(&lanes[lane]);
+    close_floor(&first, LANES);
+}
+
+int main(void) {
+    for (uint32_t kind = 0; kind < KINDS; kind++)
+        for (uint32_t level = 0; level < LEVELS; level++)
+            small_lanes(kind, (uint32_t)2 << level);
+    CHECK(live == 0);
+    return 0;
+}
