@@ -69,7 +69,7 @@ pub record WalkTogether (start : Start) (clients : List ℕ) (entry : ℕ) (v w 
   pub swept : SweptBy start wires (after_enter_all clients entry v) w
   pub steps : w.steps ≡ v.steps + 1 + length wires
 
--- the clients of a list came in by an entry and left: a grant more for each of them, and nobody is inside
+-- the clients of a list came in by an entry and left: a grant more for each of them, and the wires are as before
 pub record AreNamed (old new : LaneValue) (clients : List ℕ) (entry : ℕ) : Type 0 where
   pub home : new.home ≡ old.home
   pub walked : WalkTogether old.home.start clients entry old.view new.view
