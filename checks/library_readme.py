@@ -1,65 +1,78 @@
-"""The programs of the README's section on C, C++ and Rust, built by the commands that stand there."""
+"""The programs of README.md and of the pages of the bindings, built by the commands that stand there."""
+import dataclasses
 import re
 
 from library_programs import OUT, ROOT, RUST, STRICT, Wrong, run
 
-HEADING = "## From C, C++ and Rust"
 NAMED = re.compile(r"^client (\d+) has the name (\d+)$", re.M)
-# What each of the programs names.
-CLIENTS = [10, 11, 12, 20, 21, 22]
-# How a program is built, by the language of its block: its file, and the command's first word.
-BUILT = {"c": ("prog.c", "cc"), "cpp": ("prog.cpp", "c++")}
 
 
-def section():
-    found = re.search(rf"^{re.escape(HEADING)}$(.*?)^## ", (ROOT / "README.md").read_text(), re.M | re.S)
-    if not found:
-        raise Wrong(f"the README has no section {HEADING}")
-    return found[1]
+@dataclasses.dataclass
+class Shown:
+    """A program on a page: its language, and the clients that it names. One in C or C++ is kept in a file, and the
+    command that builds it has this first word."""
+
+    page: str
+    language: str
+    clients: list
+    file: str = ""
+    compiler: str = ""
+
+    def text(self):
+        return (ROOT / self.page).read_text()
+
+    def program(self):
+        """The one program of the page in this language."""
+        found = re.findall(rf"^```{self.language}\n(.*?)^```$", self.text(), re.M | re.S)
+        if len(found) != 1:
+            raise Wrong(f"{self.page} has {len(found)} programs in {self.language}")
+        return found[0]
+
+    def line(self, pattern, what):
+        """The one line of commands that a pattern finds."""
+        found = re.findall(rf"^    ({pattern})$", self.text(), re.M)
+        if len(found) != 1:
+            raise Wrong(f"{self.page} does not say {what}")
+        return found[0]
 
 
-def block(language):
-    """The one program in a language."""
-    found = re.findall(rf"^```{language}\n(.*?)^```$", section(), re.M | re.S)
-    if len(found) != 1:
-        raise Wrong(f"the README has {len(found)} programs in {language}")
-    return found[0]
+# The programs, by what their cases are named for. Each of two threads names three clients, but for that of README.md.
+THREADS = [10, 11, 12, 20, 21, 22]
+PROGRAMS = {
+    "README": Shown("README.md", "c", [10, 20], "prog.c", "cc"),
+    "c": Shown("bindings/c/README.md", "c", THREADS, "prog.c", "cc"),
+    "cpp": Shown("bindings/c/README.md", "cpp", THREADS, "prog.cpp", "c++"),
+    "rust": Shown("bindings/rust/README.md", "rust", THREADS),
+}
 
 
-def line(pattern, what):
-    """The one line of commands that a pattern finds."""
-    found = re.findall(rf"^    ({pattern})$", section(), re.M)
-    if len(found) != 1:
-        raise Wrong(f"the README does not say {what}")
-    return found[0]
-
-
-def run_rust(folder):
-    """The program, as one of a crate that depends on the Rust crate as the README says."""
-    depends = line(r'renamer = \{ path = ".*" \}', "how a crate depends on this one")
+def run_rust(shown, folder):
+    """The program, as one of a crate that depends on the Rust crate as the page says."""
+    depends = shown.line(r'renamer = \{ path = ".*" \}', "how a crate depends on this one")
     (folder / "src").mkdir()
-    (folder / "src" / "main.rs").write_text(block("rust"))
+    (folder / "src" / "main.rs").write_text(shown.program())
     (folder / "Cargo.toml").write_text('[package]\nname = "prog"\nedition = "2021"\n\n[dependencies]\n'
                                        + depends.replace("bindings/rust", str(RUST)) + "\n")
     return run(["cargo", "run", "--quiet", "--offline"], folder, CARGO_TARGET_DIR=str(folder / "target"))
 
 
-def run_compiled(language, folder):
+def run_compiled(shown, folder):
     """The program, in a folder in which out/ is what ./library made."""
-    name, compiler = BUILT[language]
-    command = line(rf"{re.escape(compiler)} .*\b{re.escape(name)} .*", f"how {name} is built")
-    (folder / name).write_text(block(language))
+    pattern = rf"{re.escape(shown.compiler)} .*\b{re.escape(shown.file)} -L.*"
+    command = shown.line(pattern, f"how {shown.file} is built")
+    (folder / shown.file).write_text(shown.program())
     (folder / "out").symlink_to(OUT)
     run([*command.split(), *STRICT], folder)
     return run([folder / "a.out"])
 
 
-def check(language, folder):
-    """Raises Wrong unless the program in this language names its clients 0 to 5."""
-    folder = folder / f"readme-{language}"
+def check(name, folder):
+    """Raises Wrong unless the program of this name gives its clients the names from 0 on."""
+    shown = PROGRAMS[name]
+    folder = folder / f"page-{name}"
     folder.mkdir()
-    printed = run_rust(folder) if language == "rust" else run_compiled(language, folder)
+    printed = run_rust(shown, folder) if shown.language == "rust" else run_compiled(shown, folder)
     found = NAMED.findall(printed)
     clients, names = sorted(int(client) for client, _ in found), sorted(int(name) for _, name in found)
-    if clients != CLIENTS or names != list(range(len(CLIENTS))):
+    if clients != shown.clients or names != list(range(len(shown.clients))):
         raise Wrong(f"it does not name its clients: {printed!r}")
