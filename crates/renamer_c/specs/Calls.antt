@@ -1,5 +1,6 @@
 -- What the calls make of lanes.
 use Rattle.std.specs.Prelude.{◌≡◌, ℕ, ◌≤◌, Option, Some}
+use Rattle.cn_spec.specs.declared.limits.TheConstants.{MOST_ROOM}
 use Rattle.cn_wiring.specs.declared.kind.Kind.{Kind}
 use Rattle.cn_wiring.specs.declared.kind.Kind.TheVariants.{Bitonic, Periodic, Tree}
 use Rattle.cn_cli.specs.Net.{IsNetworkOf}
@@ -76,4 +77,5 @@ OpensAfter closed new quota =
 
 -- a lane has room for so many clients at least
 abbrev pub Reserves : Option LaneValue → Option LaneValue → ℕ → Type 0
-Reserves old new clients = (l : LaneValue) × (old ≡ Some l) × (new ≡ Some (with_room clients l))
+Reserves old new clients =
+    (l : LaneValue) × (old ≡ Some l) × (new ≡ Some (with_room clients l)) × (clients ≤ MOST_ROOM)

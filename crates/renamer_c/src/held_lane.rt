@@ -6,7 +6,7 @@ mod returning;
 mod stepping;
 
 ghost use Rattle.std.specs.Prelude.{◌≡◌, ◌≤◌, Some, IfErr, IfOk, OnErr, OnOk};
-ghost use Rattle.cn_spec.specs.declared.limits.TheConstants.{MOST_CARRIED, MOST_CLIENTS};
+ghost use Rattle.cn_spec.specs.declared.limits.TheConstants.{MOST_CARRIED, MOST_CLIENTS, MOST_ROOM};
 ghost use Rattle.cn_floor.specs.Carried.{client_count, start_after};
 ghost use Rattle.cn_floor.specs.Lane.{empty_lane, with_room};
 ghost use Rattle.cn_floor.specs.Named.{IsNamed};
@@ -176,7 +176,7 @@ impl HeldLane {
     /// # Errors
     /// `Memory` if there is none, or if they are more than [`MOST_ROOM`]. Then nothing has changed.
     pub(crate) fn reserve(&mut self, clients: u64) -> Result<(), Refusal>
-        ensures ok { OnOk result (self.new ≡ with_room clients self.old) }
+        ensures ok { OnOk result ((self.new ≡ with_room clients self.old) × (clients ≤ MOST_ROOM)) }
         ensures err { OnErr result (self.new ≡ self.old) }
         ensures refused { IfErr result (NotReserved (Some self.old)) }
     {
