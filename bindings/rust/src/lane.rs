@@ -64,8 +64,8 @@ impl Lane {
 
     /// Names a client: lets it in by an entry and walks it out.
     ///
-    /// It takes memory only if the lane has no room. Identities are not compared: a client that is named twice gets two
-    /// names.
+    /// It takes memory only if the lane has no room, and then only for its grant. Identities are not compared: a client that
+    /// is named twice gets two names.
     ///
     /// Any entry below [`Lane::entries`] will do. If threads name clients at once on a bitonic network of width w, it is
     /// best that each lets its clients in by entries of its own, one after another: thread t of n, which is at most w, by
