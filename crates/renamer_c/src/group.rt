@@ -226,6 +226,9 @@ impl Group {
         }
         for _ in 0..MOST_ROUNDS {
             for place in &self.places {
+                if place.load() != FREE {
+                    continue;
+                }
                 let (found, claim) = place.turn(FREE, TAKEN);
                 if found == FREE {
                     let links = above(&self.floor, lane, room, None);
@@ -235,6 +238,9 @@ impl Group {
                 claim.done();
             }
             for place in &self.places {
+                if place.load() != PRESENT {
+                    continue;
+                }
                 let (found, claim) = place.turn(PRESENT, TAKEN);
                 if found == PRESENT {
                     let there = links_of(claim.put(None, MARKED));

@@ -31,18 +31,21 @@ pub extern "C" fn renamer_hand_back(alloc: Global, lane: &mut Handle) -> u32
     }
 }
 
-/// Takes in a lane of the same floor that was handed back.
+/// Takes in a lane of the same floor that was handed back. If none was, the lane stays where it is.
 #[unsafe(no_mangle)]
 pub extern "C" fn renamer_join(alloc: Global, lane: &mut Handle) -> u32
     ensures joined { result ≡ DONE → Joins (lane_in lane.old.held) (lane_in lane.new.held) }
     ensures kept { 0 < result → lane.new.held ≡ lane.old.held }
     ensures refused { 0 < result → IsRefusal (NotJoined (lane_in lane.old.held)) result }
 {
-    let (held, room) = match lane.take_lane(alloc) {
-        Ok(taken) => taken,
+    let (other, other_room) = match lane.take_back() {
+        Ok(back) => back,
         Err(refusal) => return refusal.status(),
     };
-    match held.join() {
+    let Ok((held, room)) = lane.take_lane(alloc) else {
+        unreachable!()
+    };
+    match held.join(other, other_room) {
         Ok(held) => {
             lane.put_lane(held, room);
             DONE

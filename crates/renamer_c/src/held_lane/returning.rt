@@ -1,13 +1,13 @@
 //! Lanes that are handed back, and taken into others.
 
 ghost use Rattle.std.specs.Prelude.{◌≡◌, Some, IfErr, IfOk, OnOk};
-ghost use Rattle.cn_floor.specs.Lane.{LaneValue};
 ghost use Rattle.renamer_c.specs.Refusals.{NotHandedBack, NotJoined};
 ghost use Rattle.renamer_c.specs.Returns.{IsBack, IsJoined};
 
 use super::HeldLane;
+use crate::link::Link;
 use crate::refusal::Refusal;
-use cn_floor::JoinFault;
+use cn_floor::{JoinFault, Lane};
 
 impl HeldLane {
     /// Hands the lane back to its floor. If no other lane is there, the floor is let go.
@@ -34,12 +34,28 @@ impl HeldLane {
         Ok(())
     }
 
+    /// Takes a lane out of those of the floor that were handed back, with its room.
+    ///
+    /// # Errors
+    /// `NothingBack` or `Busy`.
+    pub(crate) fn take_back(&self) -> Result<(Lane, Box<Link>), Refusal>
+        ensures ok { IfOk result (λ r. IsBack self.now.home r.0) }
+        ensures refused { IfErr result (NotJoined (Some self.now)) }
+    {
+        self.floor.take_back()
+    }
+
     /// Takes in a lane of the floor that was handed back.
     ///
     /// # Errors
-    /// The first that stands, with the lane as it was: `NothingBack` or `Busy`, `Memory`.
-    pub(crate) fn join(self) -> Result<HeldLane, (Refusal, HeldLane)>
-        ensures ok { IfOk result (λ r. (other : LaneValue) × IsJoined self r other) }
+    /// `Memory`, with the lane as it was: the other is handed back again, in this room.
+    pub(crate) fn join(
+        self,
+        other: Lane,
+        other_room: Box<Link>,
+    ) -> Result<HeldLane, (Refusal, HeldLane)>
+        requires { IsBack self.home other }
+        ensures ok { IfOk result (λ r. IsJoined self r other) }
         ensures err { IfErr result (λ r. r.1 ≡ self) }
         ensures refused { IfErr result (λ r. NotJoined (Some self) r.0) }
     {
@@ -49,10 +65,6 @@ impl HeldLane {
             most,
             room,
         } = self;
-        let (other, other_room) = match floor.take_back() {
-            Ok(taken) => taken,
-            Err(refusal) => return Err((refusal, HeldLane::of(floor, lane, most, room))),
-        };
         match floor.floor().join(lane, other) {
             Ok(lane) => Ok(HeldLane::of(floor, lane, most, room)),
             Err((JoinFault::Memory, lane, other)) => {
