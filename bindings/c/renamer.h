@@ -26,10 +26,11 @@
  *
  * THREADS. Calls on different handles may run at once in any threads, also on lanes of one floor. Calls on one handle may
  * not overlap, but for those that take it as `const`: they only ask, and write nothing to it, so any number of threads
- * may make them at once, while no other call on it is made. A handle may go to another thread by what orders memory: a
- * start or a join of a thread, a lock, an atomic. No call waits for another thread, and none starts one. No call may be
- * made from a signal handler, or in the child of a fork of a process with threads. A fork copies floors: parent and child
- * both give name 1, to two clients.
+ * may make them at once, while no other call on it is made. Nothing marks a handle as in use: what two calls do that
+ * overlap on one handle, is not defined. A handle may go to another thread by what orders memory: a start or a join of a
+ * thread, a lock, an atomic. No call waits for another thread, and none starts one. No call may be made from a signal
+ * handler, or in the child of a fork of a process with threads. A fork copies floors: parent and child both give name 1,
+ * to two clients.
  *
  * THE CALLER'S SIDE. What no call can check is the caller's: no pointer is NULL, also that of an array of size 0; an
  * array is as long as its size says; a number or an array that a call writes overlaps nothing else that is passed; two
@@ -168,17 +169,17 @@ uint32_t renamer_version(void);
 
 /* Opens a floor over a network. The lane has the whole quota: as many clients may come in, over all lanes. The handle must be
    none or have something: one that was never set holds a pointer to nowhere, which the call frees.
-   RENAMER_KIND, _WIDTH, _QUOTA, _MEMORY. */
+   RENAMER_KIND, _WIDTH, _QUOTA, _MEMORY. One thread at a time. */
 uint32_t renamer_open(renamer_lane *lane, uint32_t kind, uint32_t width, uint64_t quota);
 
 /* Splits off another lane of the same floor, with so much of the quota; the lane keeps all else. Other lanes may walk
    meanwhile, and the lane may have clients inside. On every network the other lane takes less than 1,000 bytes, until a
    client comes in by renamer_enter or renamer_name_many, or renamer_reserve makes room: then a list for each wire too.
-   RENAMER_NONE, _QUOTA_TOO_SMALL, _MEMORY. */
+   RENAMER_NONE, _QUOTA_TOO_SMALL, _MEMORY. One thread at a time. */
 uint32_t renamer_split(renamer_lane *lane, uint64_t quota, renamer_lane *other);
 
 /* Makes room for so many clients more: they come in, and get their names, without further memory. At most 1048576.
-   RENAMER_NONE, _MEMORY (also if it is more than that). */
+   RENAMER_NONE, _MEMORY (also if it is more than that). One thread at a time. */
 uint32_t renamer_reserve(renamer_lane *lane, uint64_t clients);
 
 /* Names a client: lets it in by an entry and walks it out. Takes memory only if the lane has no room, and then only for
@@ -188,7 +189,7 @@ uint32_t renamer_reserve(renamer_lane *lane, uint64_t clients);
    in by entries of its own, one after another: thread t of n, which is at most w, by those from t * w / n up to, not
    including, (t + 1) * w / n. That network is two of half the width, on the lower and the upper half of the entries, and a
    merger. So threads with halves or quarters of the entries meet only in mergers.
-   RENAMER_NONE, _STILL_WALKING, _NO_SUCH_ENTRY, _QUOTA_SPENT, _MEMORY. */
+   RENAMER_NONE, _STILL_WALKING, _NO_SUCH_ENTRY, _QUOTA_SPENT, _MEMORY. One thread at a time. */
 uint32_t renamer_name(renamer_lane *lane, uint64_t client, uint64_t entry, uint64_t *name);
 
 /* Names clients by one call. Those who follow one another in the list by one entry, up to 64 of them, come in by one atomic
@@ -197,7 +198,7 @@ uint32_t renamer_name(renamer_lane *lane, uint64_t client, uint64_t entry, uint6
    Copies their grants, in the order in which they left, which has not to be that of the clients; they are the lane's last
    ones too. Takes memory only if the lane has less room.
    RENAMER_NONE, _SIZE (there are not as many grants as clients), _STILL_WALKING, _NO_SUCH_ENTRY, _QUOTA_SPENT,
-   _MEMORY. */
+   _MEMORY. One thread at a time. */
 uint32_t renamer_name_many(renamer_lane *lane, const renamer_client *clients, size_t client_count, renamer_grant *grants,
                            size_t grant_count);
 
@@ -206,15 +207,15 @@ uint32_t renamer_name_many(renamer_lane *lane, const renamer_client *clients, si
    balancer, with a greater number than the wires that end there. So sweeping the lowest wire again and again lets all out.
 
    Lets a client in by an entry: it stands last on the wire with the entry's number. Takes memory only if the lane has no
-   room. RENAMER_NONE, _NO_SUCH_ENTRY, _QUOTA_SPENT, _MEMORY. */
+   room. RENAMER_NONE, _NO_SUCH_ENTRY, _QUOTA_SPENT, _MEMORY. One thread at a time. */
 uint32_t renamer_enter(renamer_lane *lane, uint64_t client, uint64_t entry);
 
 /* Lets the lane's first client on a wire go by the wire's end, through a balancer or out with its name, by one atomic add.
-   RENAMER_NONE, _NOBODY_THERE. */
+   RENAMER_NONE, _NOBODY_THERE. One thread at a time. */
 uint32_t renamer_step(renamer_lane *lane, uint64_t wire, renamer_moved *moved);
 
 /* Lets all of the lane's clients on a wire go by the wire's end, by one atomic add. If they left, the lane's last grants
-   are theirs, in their order. RENAMER_NONE, _NOBODY_THERE. */
+   are theirs, in their order. RENAMER_NONE, _NOBODY_THERE. One thread at a time. */
 uint32_t renamer_sweep(renamer_lane *lane, uint64_t wire, renamer_swept *swept);
 
 /* The least wire on which a client of the lane stands. RENAMER_NONE, _NOBODY_THERE (nobody of the lane is inside). */
@@ -245,12 +246,13 @@ uint32_t renamer_grants(const renamer_lane *lane, uint64_t first, renamer_grant 
 /* Hands the lane back to its floor, from any thread: its quota, its grants and all that it did. The lane is none then, and
    another lane of the floor may take it in by renamer_join. It takes no memory, and any number of lanes may be back. If it was
    the only lane, the floor is freed.
-   RENAMER_NONE, _STILL_WALKING. */
+   RENAMER_NONE, _STILL_WALKING. One thread at a time. */
 uint32_t renamer_hand_back(renamer_lane *lane);
 
 /* Takes one lane of the same floor in that was handed back: its quota is added, and its grants come after the lane's own.
    Which of several, is not said. Takes no memory if the lane has room for these grants, and has that much less room then.
-   RENAMER_NONE, _NOTHING_BACK, _BUSY (only while other threads hand lanes back or join them), _MEMORY. */
+   RENAMER_NONE, _NOTHING_BACK, _BUSY (only while other threads hand lanes back or join them), _MEMORY.
+   One thread at a time. */
 uint32_t renamer_join(renamer_lane *lane);
 
 /* Closes the floor. The lane must have all of it, and no other may be there: each that was split off was handed back or
@@ -259,7 +261,8 @@ uint32_t renamer_join(renamer_lane *lane);
        while (renamer_join(&lane) == RENAMER_DONE) {}
        renamer_close(&lane, &quiet);
 
-   closes it. The lane is none then. RENAMER_NONE, _STILL_WALKING, _LANES_MISSING, _MEMORY, _LANES_THERE. */
+   closes it. The lane is none then. RENAMER_NONE, _STILL_WALKING, _LANES_MISSING, _MEMORY, _LANES_THERE.
+   One thread at a time. */
 uint32_t renamer_close(renamer_lane *lane, renamer_quiet *quiet);
 
 /* How many clients left by each exit is a list of as many numbers as there are exits; who has which name is a list of as
@@ -275,11 +278,12 @@ uint32_t renamer_holders(const renamer_quiet *quiet, uint64_t *holders, size_t s
 
 /* Opens a floor that goes on from the counters of a closed one, over the same network; its names begin at 0 again. The
    closed floor stays as it is.
-   RENAMER_NONE, _CARRIED, _QUOTA, _MEMORY. */
+   RENAMER_NONE, _CARRIED, _QUOTA, _MEMORY. One thread at a time. */
 uint32_t renamer_open_after(renamer_lane *lane, const renamer_quiet *quiet, uint64_t quota);
 
 /* Frees what the handle has, if it has something. A lane is handed back, unless clients are inside: then its quota and names
-   are lost with it, and its floor cannot be closed any more; the names of other lanes stay as good as they were. */
+   are lost with it, and its floor cannot be closed any more; the names of other lanes stay as good as they were.
+   One thread at a time. */
 void renamer_free(renamer_lane *lane);
 void renamer_free_quiet(renamer_quiet *quiet);
 
