@@ -22,6 +22,7 @@ part-read remaining enough epochs old mid new (Some n) part heading entries at o
   late = λ more. rw gives.at late;
   many = λ more. rw gives.epochs many;
   entries = gives.entries ∙ entries;
+  onward = tt;
 }
 part-read remaining enough epochs old mid new None part heading entries at opened takes late many gives = record {
   ready = record { plain = rw gives.rows takes.plain; entries = rw (gives.entries, entries) opened.entries; few = rw (gives.at, at) opened.few };
@@ -30,4 +31,5 @@ part-read remaining enough epochs old mid new None part heading entries at opene
   late = λ more. cc (sym more ∙ gives.more);
   many = λ more. cc (sym more ∙ gives.more);
   entries = gives.entries ∙ entries;
+  onward = tt;
 }

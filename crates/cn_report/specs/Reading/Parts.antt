@@ -1,5 +1,5 @@
 -- A batch that is read in parts: which epochs were given out so far, and how far its reader has come.
-use Rattle.std.specs.Prelude.{ℕ, ◌≡◌, ◌+◌, ◌<◌, ◌≤◌, ◌++◌, List, Option, Result, MatchResult, IfOk, true, ⊤, drop, length}
+use Rattle.std.specs.Prelude.{ℕ, ◌≡◌, ◌+◌, ◌<◌, ◌≤◌, ◌++◌, List, Option, Result, MatchResult, IfErr, IfOk, true, ⊤, drop, length}
 use Rattle.std.specs.Bool.{MatchBool}
 use Rattle.cn_spec.specs.declared.limits.TheConstants.{MOST_RECORDS}
 use Rattle.cn_report.specs.Reading.Arrival.{arrivals_in}
@@ -69,7 +69,7 @@ AnswersPart remaining b text given result =
     (IsBatchFault b.entries (records_of text))
 
 -- what one reading of a part does, from one state of the reader to the next: a part that is not the last ends after more
--- than `enough` records, with `epochs` epochs at least
+-- than `enough` records, with `epochs` epochs at least; and a fault stands at no record that was taken before
 pub record ReadsPart {R : Type 0} (remaining : R → Option (List ℕ)) (enough epochs : ℕ) (old new : BatchReader R) (result : Result BatchPart BatchFault) : Type 0 where
   pub ready : IfOk result (λ part. IsOpen new)
   pub answer : (text : List ℕ) (given : List BatchEpoch) → HasGiven remaining old text given → AnswersPart remaining new text given result
@@ -78,3 +78,4 @@ pub record ReadsPart {R : Type 0} (remaining : R → Option (List ℕ)) (enough 
   pub late : IfOk result (λ part. part.more ≡ true → old.at + enough < new.at)
   pub many : IfOk result (λ part. part.more ≡ true → epochs ≤ length part.epochs.items)
   pub entries : new.entries ≡ old.entries
+  pub onward : IfErr result (λ fault. old.at ≤ fault.at)

@@ -1,5 +1,5 @@
 -- A stretch of a batch: arrivals that were read together, before they are gathered.
-use Rattle.std.specs.Prelude.{ℕ, ◌≡◌, ◌<◌, ◌≤◌, ◌+◌, ◌⊎◌, ◌++◌, ◌∷◌, [], Bool, List, Option, Result, MatchResult, IfOk, OnOk, Ok, Err, true, length, map}
+use Rattle.std.specs.Prelude.{ℕ, ◌≡◌, ◌<◌, ◌≤◌, ◌+◌, ◌⊎◌, ◌++◌, ◌∷◌, [], Bool, List, Option, Result, MatchResult, IfErr, IfOk, OnOk, Ok, Err, true, length, map}
 use Rattle.std.specs.Bool.{MatchBool}
 use Rattle.cn_spec.specs.declared.limits.TheConstants.{MOST_RECORDS}
 use Rattle.cn_report.specs.Reading.Arrival.{arrival_in}
@@ -45,6 +45,7 @@ pub record Gathers (entries from : ℕ) (arrivals : List Arrival) (old new : Gat
   pub over : OnOk result (length old.over.items ≤ length new.over.items)
   pub keeps : OnOk result ((given : List BatchEpoch) → StaysServable entries given old → StaysServable entries given new)
   pub count : OnOk result ((given : List BatchEpoch) → gathered given new ≡ gathered given old + length arrivals)
+  pub onward : IfErr result (λ fault. from ≤ fault.at)
   pub answer : (heading : Heading) (before rows later : List Record) (came : List Arrival) (given : List BatchEpoch) → AreTaken heading entries before came → IsGathered given old came
       → length before ≡ from → AreSpelled heading entries rows arrivals
       → MatchResult result (λ done. AreTaken heading entries (before ++ rows) (came ++ arrivals) × IsGathered given new (came ++ arrivals))

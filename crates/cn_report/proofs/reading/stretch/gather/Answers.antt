@@ -17,6 +17,7 @@ returns-in-Err c = record {
   over = tt;
   keeps = tt;
   count = tt;
+  onward = omega arith;
   answer = λ heading before rows later came given taken gathered size spelled.
       let at = c.loop-position.position in
       let xs = c.args.arrivals.now in
@@ -47,6 +48,7 @@ returns c = record {
   over = c.loop-position.invariant.over;
   keeps = c.loop-position.invariant.keeps;
   count = λ given. omega (arith, c.loop-position.invariant.count given, c.loop-position-test.false);
+  onward = tt;
   answer = λ heading before rows later came given taken gathered size spelled.
       all-gathered heading c.args.entries before rows came c.args.arrivals.now given spelled c.loop-position.gathering c.loop-position.position c.loop-position-test.false
       (c.loop-position.invariant.taken heading before rows came given taken gathered size spelled);

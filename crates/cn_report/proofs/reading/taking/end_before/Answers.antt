@@ -10,4 +10,5 @@ returns-in-Ok c = record {
     fits = c.in-Ok.ensures.fits entries given within.keeps;
     few = omega (arith, c.in-Ok.ensures.all given, within.count, within.few);
   };
+  onward = tt;
 }

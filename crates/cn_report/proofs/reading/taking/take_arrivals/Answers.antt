@@ -32,6 +32,7 @@ returns-in_err-gathered-clause-takes g c =
     rw (told.1, told.2) (record {
       plain = tt;
       few = tt;
+      onward = omega (arith, now.invariant.from, gathers.onward);
       answer = λ text given taken.
           stretch-fault g.I.Read.remaining c.args.heading c.args.entries text given now.rows now.at now.gathering c.gather_and_read-gathered.new.gathering now.stretch.items now.end
           (now.invariant.ahead text given taken) c.in_err-gathered.field-0.0 gathers;
@@ -46,6 +47,7 @@ returns-in_err-gather-clause-takes g c =
     rw (told.1, told.2) (record {
       plain = tt;
       few = tt;
+      onward = omega (arith, now.invariant.from, gathers.onward);
       answer = λ text given taken.
           stretch-fault g.I.Read.remaining c.args.heading c.args.entries text given now.rows now.at now.gathering c.gather.new.gathering now.stretch.items now.end
           (now.invariant.ahead text given taken) c.in_err-gather.field-0.0 gathers;
@@ -61,6 +63,7 @@ returns-in-Ok-true-clause-takes g c =
     record {
       plain = rw goes at now.invariant.plain;
       few = omega (arith, gathers.few, len);
+      onward = tt;
       answer = λ text given taken.
           rw len (goes-on g.I.Read.remaining c.args.heading c.args.entries text given now.rows now.at now.gathering c.gather.new.gathering now.stretch.items now.end
           (now.invariant.ahead text given taken) gathers goes);
@@ -79,6 +82,7 @@ returns-in_err-end_before-in-Ok-false-clause-takes g c =
     rw (told.1, told.2) (record {
       plain = tt;
       few = tt;
+      onward = omega (arith, now.invariant.from, c.in_err-end_before-in-Ok-false.ensures.onward);
       answer = λ text given taken.
           let ahead = now.invariant.ahead text given taken in
           let (all, taken, gathered, many) = at-end g.I.Read.remaining c.args.heading c.args.entries text given now.rows now.at now.gathering c.gather.new.gathering now.stretch.items now.end ahead gathers ends in
@@ -96,6 +100,7 @@ returns-in-Ok-false-clause-takes g c =
     record {
       plain = rw ends at now.invariant.plain;
       few = tt;
+      onward = tt;
       answer = λ text given taken.
           let ahead = now.invariant.ahead text given taken in
           let (all, taken, gathered, many) = at-end g.I.Read.remaining c.args.heading c.args.entries text given now.rows now.at now.gathering c.gather.new.gathering now.stretch.items now.end ahead gathers ends in
@@ -112,6 +117,7 @@ returns-clause-takes g c =
     record {
       plain = tt;
       few = tt;
+      onward = omega (arith, now.invariant.from);
       answer = λ text given taken.
           rw len (next-fault g.I.Read.remaining c.args.heading c.args.entries text given now.rows now.at now.gathering c.gather.new.gathering now.stretch.items now.end
           (now.invariant.ahead text given taken) gathers c.in-Err.cause c.in-Err.is);
