@@ -1,9 +1,9 @@
 """The callers that the pages of the crates show: blocks of Rust below a heading that begins with `## A caller`."""
 import dataclasses
+import pathlib
 import re
 
-import apart
-
+ROOT = pathlib.Path(__file__).resolve().parent.parent
 FENCE = "```"
 # What a page says after the code of a caller: the crate whose source it is.
 SAID = re.compile(r"\bIt is (?:a test of|proved in) `?(cn_\w+)")
@@ -40,7 +40,7 @@ def uses(code):
 
 
 def sources_of_tests():
-    return sorted(apart.ROOT.glob("crates/cn_rows*/src/**/*.rt"))
+    return sorted(ROOT.glob("crates/cn_rows*/src/**/*.rt"))
 
 
 def sections(page):
@@ -78,7 +78,7 @@ def wrong_below(heading, lines, shown):
 def find():
     """All callers of the pages, and what is wrong with them."""
     callers, wrong = [], []
-    for page in sorted(apart.ROOT.glob("crates/*/README.md")):
+    for page in sorted(ROOT.glob("crates/*/README.md")):
         crate, said = page.parent.name, 0
         for heading, lines in sections(page):
             shown = blocks(lines)
