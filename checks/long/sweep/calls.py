@@ -70,7 +70,8 @@ def floors(kind, width, count):
 
 
 def shared(kind, width, count):
-    made = {kind: 1, "Floor::open_shared": 1, "Floor::split_off": 1, "Floor::name": count, "Lane::reserve": 1}
+    made = {kind: 1, "Floor::open_shared": 1, "Floor::split_off": 1, "Lane::reserve": 1}
+    made |= {"Floor::name": (count + 1) // 2, "Floor::name_all": count // 2}
     made |= {"Floor::join": 2, "Floor::close_for": 1, "ClosedFloor::outcome_since": 1}
     made |= {"outcomes of closed floors are tight": 1, "Words::zero_shared": 1, "Floor::open_after": 1}
     made |= {"Floor::split": 1, "Floor::enter": count, "Floor::close": 1, "Quiet::holders": 1}
