@@ -6,7 +6,7 @@
 #include "judge.h"
 #include <pthread.h>
 
-enum { MOST_THREADS = 1000, STACK = 1 << 16 };
+enum { MOST_THREADS = 1000, STACK = 1 << 17 };
 
 struct thread {
     pthread_t id;
