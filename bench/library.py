@@ -6,7 +6,7 @@ threads; beside one atomic add on one word (`AtomicU64::fetch_add`), a table of
 clients behind a mutex (`Mutex<HashMap>`), a slab behind a mutex (`slab`) and one of shards (`sharded_slab`). Each gives
 distinct numbers; those of all but the last are dense. All but that begin with room for all clients. Each thread lets
 its clients in by entries of its own; for the bitonic networks there are rows beside that by which each takes all
-entries.
+entries. Rows `apart` are of floors whose words lie 128 bytes apart.
 
 One thread is compared by processor time, in uncontended adds, and on two networks to a walk in plain Rust, which makes as
 many adds as a name is, each on the word that the last one's number leads to; several by the clock, each way to the add by
@@ -26,6 +26,7 @@ ADDS = {"tree 64": 8, "bitonic 64": 23}
 SLABS = {"a mutex and slab": "slab", "a sharded slab": "sharded"}
 ALL_OVER = {f"{network} {width} by all entries": ["all-over", network, str(width)]
             for network, width in NETWORKS if network == "bitonic"}
+APART = {f"{network} {width} apart": ["apart", network, str(width)] for network, width in NETWORKS if width > 2}
 
 
 def ways(namers, slabs):
@@ -34,6 +35,7 @@ def ways(namers, slabs):
     for network, width in NETWORKS:
         found[f"{network} {width}"] = [namers, "name", network, str(width)]
         found[f"{network} {width} by lists of 64"] = [namers, "many", network, str(width)]
+    found |= {name: [namers, *words] for name, words in APART.items()}
     found |= {name: [slabs, word] for name, word in SLABS.items() if slabs}
     return found
 

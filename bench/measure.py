@@ -25,7 +25,7 @@ import time
 sys.dont_write_bytecode = True
 BENCH = pathlib.Path(__file__).resolve().parent
 ROOT = BENCH.parent
-sys.path.append(str(ROOT / "checks" / "long"))
+sys.path.append(str(ROOT / "tools"))
 import apart
 
 DEBIAN = "/usr/share/cargo/registry"

@@ -172,6 +172,12 @@ uint32_t renamer_version(void);
    RENAMER_KIND, _WIDTH, _QUOTA, _MEMORY. One thread at a time. */
 uint32_t renamer_open(renamer_lane *lane, uint32_t kind, uint32_t width, uint64_t quota);
 
+/* Opens a floor as renamer_open does, whose words lie 128 bytes apart in memory and not 8: so threads that go by two ends at
+   once do not wait for one cache line. That is for machines of many processors: the words take 16 times the memory, and with
+   few processors nothing is gained. The words of a floor that goes on from it lie apart too.
+   RENAMER_KIND, _WIDTH, _QUOTA, _MEMORY. One thread at a time. */
+uint32_t renamer_open_apart(renamer_lane *lane, uint32_t kind, uint32_t width, uint64_t quota);
+
 /* Splits off another lane of the same floor, with so much of the quota; the lane keeps all else. Other lanes may walk
    meanwhile, and the lane may have clients inside. On every network the other lane takes less than 1,000 bytes, until a
    client comes in by renamer_enter or renamer_name_many, or renamer_reserve makes room: then a list for each wire too.

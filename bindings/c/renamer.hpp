@@ -131,6 +131,9 @@ class lane {
     status open(kind kind, std::uint32_t width, std::uint64_t quota) noexcept {
         return status(renamer_open(&handle, static_cast<std::uint32_t>(kind), width, quota));
     }
+    status open_apart(kind kind, std::uint32_t width, std::uint64_t quota) noexcept {
+        return status(renamer_open_apart(&handle, static_cast<std::uint32_t>(kind), width, quota));
+    }
     status open_after(const quiet &closed, std::uint64_t quota) noexcept {
         return status(renamer_open_after(&handle, &closed.handle, quota));
     }

@@ -1,5 +1,5 @@
-//! Links the proved library: the archive `librenamer.a` of the folder that `RENAMER_LIB` names, or of `out/lib` of the
-//! repository, into which `./library` puts it; for ARM of `out/aarch64-unknown-linux-gnu/lib`.
+//! Links the proved library: the archive `librenamer.a` of the folder that `RENAMER_LIB` names; or of `out/lib` of the
+//! repository, into which `./library` puts it, for ARM of `out/aarch64-unknown-linux-gnu/lib`; or, in a release, of `lib`.
 use std::env;
 use std::path::PathBuf;
 use std::process;
@@ -9,10 +9,18 @@ fn main() {
     let target = env::var("TARGET").expect("cargo names the target");
     let folder = match env::var_os("RENAMER_LIB") {
         Some(folder) => PathBuf::from(folder),
-        None => PathBuf::from(env::var_os("CARGO_MANIFEST_DIR").expect("cargo names the crate's folder"))
-            .join("../../out")
-            .join(if target.starts_with("x86_64-") { "" } else { &target })
-            .join("lib"),
+        None => {
+            let own = PathBuf::from(env::var_os("CARGO_MANIFEST_DIR").expect("cargo names the crate's folder"));
+            let other = if target.starts_with("x86_64-") { "" } else { &target };
+            let built = own.join("../../out").join(other).join("lib");
+            let released = own.join("../../../lib");
+            let is_release = !built.is_dir() && released.join("librenamer.a").is_file();
+            if is_release {
+                released
+            } else {
+                built
+            }
+        }
     };
     let archive = folder.join("librenamer.a");
     if !archive.is_file() {

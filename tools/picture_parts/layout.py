@@ -1,6 +1,7 @@
 """Layouts: what stands at which place of a picture, in pixels."""
 import dataclasses
 import functools
+from collections.abc import Iterator, Mapping
 
 from picture_parts.wiring import Wiring
 
@@ -12,18 +13,17 @@ LETTER, BOLD = 0.6, 0.67
 SCALES = ((16, 11, 46), (64, 8, 28), (float("inf"), 5, 16))
 # The least distance of columns, in parts of the font's size: of a tree, and of a network whose wires are lines.
 TREE, LINES = 4.4, 3.1
-# How many times as wide columns are at most for tokens, and for how many tokens an entry is long enough.
-WIDENED, ON_ENTRY = 3, 12
+# How far the number of a wire is from its begin, and its letters' size, in parts of the font's size.
+WIRE_AWAY, WIRE_LETTER = 0.45, 0.9
 
 
 @dataclasses.dataclass(frozen=True)
 class Scale:
-    """The size of letters, the distance of rows and of columns, and the length of entries."""
+    """The size of letters, and the distance of rows and of columns."""
 
     font: float
     row: float
     column: float
-    entry: float
 
     @property
     def line_font(self) -> float:
@@ -56,42 +56,39 @@ class Scale:
 
 @dataclasses.dataclass(frozen=True)
 class Crowd:
-    """How many letters a token takes on a wire, and how many tokens at most stand on one entry and on one other wire."""
+    """How many letters a token takes on a wire, and how many tokens at most stand on each wire that has some."""
 
     letters: float = 0
-    on_entry: int = 0
-    inside: int = 0
+    most: Mapping[int, int] = dataclasses.field(default_factory=dict)
 
 
-def scale_for(wiring: Wiring, crowd: Crowd) -> Scale:
-    """Returns a scale: the wider the network, the smaller. Columns have room for the numbers of wires, and between levels
-    for tokens, though they are not much wider for them."""
+def scale_for(wiring: Wiring) -> Scale:
+    """Returns a scale: the wider the network, the smaller. Columns have room for the numbers of wires."""
     font, row = next((font, row) for most, font, row in SCALES if wiring.width <= most)
-    base = max((TREE if wiring.is_tree else LINES) * font, LETTER * font * (1 + len(str(len(wiring.ends)))))
-    token = (LETTER * crowd.letters + 1) * font
-    between = (crowd.inside * token + 2 * font) / (1 + LEVEL_GAP)
-    column = max(base, min(between, WIDENED * base))
-    return Scale(font, row, column, max(column, min(crowd.on_entry, ON_ENTRY) * token + font))
+    least = LETTER * font * (1 + len(str(len(wiring.ends))))
+    return Scale(font, row, max((TREE if wiring.is_tree else LINES) * font, least))
 
 
 @dataclasses.dataclass(frozen=True)
 class Layout:
-    """A network on its places. Rows go from top to bottom, columns from left to right."""
+    """A network on its places. Rows go from top to bottom. Between levels of balancers, before the first and behind the
+    last, there is a gap, from one place to another, in which tokens cover nothing."""
 
     wiring: Wiring
     scale: Scale
     rows: list[float]
-    columns: list[float]
+    bars: list[float]
+    gaps: list[tuple[float, float]]
 
     @functools.cached_property
     def left(self) -> float:
         """Where entries begin."""
-        return self.scale.room(f"entry {self.wiring.entries}") + 2 * self.scale.font
+        return left_of(self.wiring, self.scale)
 
     @functools.cached_property
     def right(self) -> float:
         """Where exits end."""
-        return self.left + self.scale.entry + self.scale.column * (max(self.columns, default=0) + 1 + LEVEL_GAP)
+        return self.gaps[-1][1]
 
     @functools.cached_property
     def after_exits(self) -> float:
@@ -122,7 +119,7 @@ class Layout:
 
     def balancer_x(self, balancer: int) -> float:
         """Returns how far to the right a balancer is."""
-        return self.left + self.scale.entry + self.scale.column * self.columns[balancer]
+        return self.bars[balancer]
 
     def wire_begin(self, wire: int) -> float:
         """Returns how far to the right a wire begins."""
@@ -133,6 +130,10 @@ class Layout:
         """Returns how far to the right a wire ends."""
         end = self.wiring.ends[wire]
         return self.right if end.is_exit else self.balancer_x(end.number)
+
+    def gap(self, wire: int) -> tuple[float, float]:
+        """Returns the gap before what a wire ends at."""
+        return self.gaps[gap_of(self.wiring, wire)]
 
     def bar(self, balancer: int) -> tuple[float, float]:
         """Returns the top and the bottom of a balancer's bar."""
@@ -145,10 +146,49 @@ class Layout:
         return (top + bottom) / 2 if self.wiring.is_tree else top + 0.42 * self.scale.row
 
 
+def left_of(wiring: Wiring, scale: Scale) -> float:
+    """Returns where entries begin."""
+    return scale.room(f"entry {wiring.entries}") + 2 * scale.font
+
+
+def gap_of(wiring: Wiring, wire: int) -> int:
+    """Returns the number of the gap before what a wire ends at."""
+    end = wiring.ends[wire]
+    return len(wiring.levels) if end.is_exit else wiring.level_of[end.number]
+
+
 def lay_out(wiring: Wiring, crowd: Crowd = Crowd()) -> Layout:
     """Lays a network out, with room for tokens."""
-    rows = rows_of_leaves(wiring) if wiring.is_tree else rows_of_lines(wiring)
-    return Layout(wiring, scale_for(wiring, crowd), rows, columns_of(wiring, rows))
+    scale, rows = scale_for(wiring), rows_of_leaves(wiring) if wiring.is_tree else rows_of_lines(wiring)
+    most = [0] * (len(wiring.levels) + 1)
+    for wire, count in crowd.most.items():
+        gap = gap_of(wiring, wire)
+        most[gap] = max(most[gap], count)
+    rooms = [count * token_width(scale, crowd.letters) for count in most]
+    return Layout(wiring, scale, rows, *places_of(wiring, scale, rows, rooms))
+
+
+def token_width(scale: Scale, letters: float) -> float:
+    """Returns how much of a wire a token takes."""
+    return (LETTER * letters + 1) * scale.font
+
+
+def places_of(wiring: Wiring, scale: Scale, rows: list[float], rooms: list[float]):
+    """Returns how far to the right each balancer is, and the gaps, each with so much room for tokens."""
+    box = scale.box_width(wiring.balancers - 1) / 2
+    number = (WIRE_AWAY + LETTER * WIRE_LETTER * len(str(len(wiring.ends)))) * scale.font
+    behind = box + number if wiring.is_tree else max(box, number)
+    bars, gaps, x = [0.0] * wiring.balancers, [], left_of(wiring, scale)
+    for at, level in enumerate([*wiring.levels, []]):
+        before = box if level else 0
+        least = scale.column * (1 if at == 0 else 1 + LEVEL_GAP)
+        width = max(least, behind + rooms[at] + before if rooms[at] else 0)
+        gaps.append((x + behind, x + width - before))
+        x += width
+        for column, balancer in columns_of(wiring, level, rows):
+            bars[balancer] = x + scale.column * column
+        x = max((bars[balancer] for balancer in level), default=x)
+    return bars, gaps
 
 
 def rows_of_lines(wiring: Wiring) -> list[float]:
@@ -177,16 +217,11 @@ def rows_of_leaves(wiring: Wiring) -> list[float]:
     return rows
 
 
-def columns_of(wiring: Wiring, rows: list[float]) -> list[float]:
-    """Returns the column of each balancer: behind the levels before, and so that no bar lies on another."""
-    columns, first = [0.0] * wiring.balancers, 0.0
-    for level in wiring.levels():
-        bars = sorted((*(rows[wire] for wire in wiring.outputs(balancer)), balancer) for balancer in level)
-        # For each column of the level where its last bar ends.
-        bottoms: list[float] = []
-        for top, bottom, balancer in bars:
-            column = next((at for at, low in enumerate(bottoms) if low < top), len(bottoms))
-            bottoms[column : column + 1] = [bottom]
-            columns[balancer] = first + column
-        first += len(bottoms) + LEVEL_GAP
-    return columns
+def columns_of(wiring: Wiring, level: list[int], rows: list[float]) -> Iterator[tuple[int, int]]:
+    """Yields the column of each balancer of a level, so that no bar lies on another."""
+    # For each column where its last bar ends.
+    bottoms: list[float] = []
+    for top, bottom, balancer in sorted((*(rows[wire] for wire in wiring.outputs(it)), it) for it in level):
+        column = next((at for at, low in enumerate(bottoms) if low < top), len(bottoms))
+        bottoms[column : column + 1] = [bottom]
+        yield column, balancer

@@ -1,13 +1,18 @@
 """The picture of a replay: tokens on a network, at one moment or as they move."""
 from picture_parts import network, svg
-from picture_parts.layout import Layout, lay_out
+from picture_parts.layout import Crowd, Layout, lay_out
 from picture_parts.replay import Replay
 from picture_parts.screen import NEVER, Moving, Still, Track, presence
 from picture_parts.slots import slots_of
-from picture_parts.stage import NUMBERED, Stage, crowd_of, during, notes_of, stay_inside
+from picture_parts.stage import NUMBERED, Stage, during, letters_of, notes_of, stay_inside
 from picture_parts.svg import BLUE, number
 
-COLOURS = ("#c2410c", "#15803d", "#7e22ce", "#a16207", "#be185d", "#0e7490", "#57534e", "#4338ca")
+# As far apart as colours can be on which white letters are read well.
+COLOURS = (
+    "#c2410c", "#15803d", "#7e22ce", "#a16207", "#be185d", "#0e7490", "#57534e", "#4338ca",
+    "#3c0054", "#003000", "#6c0000", "#cc18cc", "#000090", "#90609c", "#78186c", "#003c60",
+    "#006cfc", "#185400", "#903030", "#481890", "#0000fc", "#604890", "#3c2424", "#8454fc",
+)
 LEGEND = "The next token leaves a balancer by the output with the filled dot."
 
 Screen = Still | Moving
@@ -16,7 +21,7 @@ Screen = Still | Moving
 def draw_replay(replay: Replay, screen: Screen) -> str:
     """Draws a replay, as the screen shows what changes in it."""
     slots = slots_of(replay.walks)
-    layout = lay_out(replay.wiring, crowd_of(replay, slots))
+    layout = lay_out(replay.wiring, Crowd(letters_of(replay), slots.most))
     stage = Stage(layout, replay, slots)
     elements = [
         *network.network_elements(layout),

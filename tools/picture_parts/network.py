@@ -1,6 +1,6 @@
 """The picture of a network."""
 from picture_parts import svg
-from picture_parts.layout import LETTER, Layout, lay_out
+from picture_parts.layout import LETTER, WIRE_AWAY, Layout, lay_out
 from picture_parts.svg import number
 from picture_parts.wiring import Wiring
 
@@ -53,7 +53,7 @@ def wire_numbers(layout: Layout) -> list[str]:
     scale, wiring = layout.scale, layout.wiring
     box = scale.box_width(wiring.balancers - 1) / 2 if wiring.is_tree else 0
     return [
-        svg.text(layout.wire_begin(wire) + box + 0.45 * scale.font, layout.wire_y(wire) - 0.72 * scale.font, wire)
+        svg.text(layout.wire_begin(wire) + box + WIRE_AWAY * scale.font, layout.wire_y(wire) - 0.72 * scale.font, wire)
         for wire in range(len(wiring.ends))
     ]
 

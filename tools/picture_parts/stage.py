@@ -2,7 +2,7 @@
 import dataclasses
 import functools
 
-from picture_parts.layout import BOLD, LETTER, Crowd, Layout
+from picture_parts.layout import BOLD, LETTER, Layout, token_width
 from picture_parts.replay import Departure, Replay, Stop, Walk
 from picture_parts.screen import EVENT, NEVER, Track, presence
 from picture_parts.slots import Slots, Stay
@@ -28,13 +28,13 @@ class Stage:
     @functools.cached_property
     def standing_width(self) -> float:
         """The room of a token on a wire, with its note below it."""
-        return (LETTER * letters_of(self.replay) + 1) * self.layout.scale.font
+        return token_width(self.layout.scale, letters_of(self.replay))
 
     @functools.cached_property
     def visit_width(self) -> float:
         """From one token behind an exit to the next: each has its name below it."""
         names = (NOTE * len(name_note(walk.departure)) for walk in self.replay.walks if walk.departure)
-        return max(self.standing_width, (LETTER * max(names, default=0) + 1) * self.layout.scale.font)
+        return max(self.standing_width, token_width(self.layout.scale, max(names, default=0)))
 
     @functools.cached_property
     def right(self) -> float:
@@ -44,15 +44,13 @@ class Stage:
 
     def begin_place(self, walk: Walk) -> str:
         """Returns where a token comes from."""
-        return place(self.standing_width / 2, self.layout.wire_y(walk.stops[0].wire))
+        return place(self.layout.left, self.layout.wire_y(walk.stops[0].wire))
 
     def stop_place(self, stay: Stay, stop: Stop) -> str:
-        """Returns where a token stands on a wire: the first at its end, others behind it."""
-        half = self.standing_width / 2 + 2 * self.layout.scale.dot
-        first = self.layout.wire_begin(stop.wire) + half
-        last = max(self.layout.wire_end(stop.wire) - half, first)
-        gap = min(self.standing_width, (last - first) / max(self.slots.most[stop.wire] - 1, 1))
-        return place(last - gap * self.slots.places[stay], self.layout.wire_y(stop.wire))
+        """Returns where a token stands on a wire: the first at the end of its gap, others behind it."""
+        _, right = self.layout.gap(stop.wire)
+        x = right - (self.slots.places[stay] + 0.5) * self.standing_width
+        return place(x, self.layout.wire_y(stop.wire))
 
     def exit_place(self, departure: Departure) -> str:
         """Returns where a token stands behind its exit: each visit has a place of its own."""
@@ -93,14 +91,6 @@ def letters_of(replay: Replay) -> float:
     clients = (len(walk.client) * BOLD / LETTER for walk in replay.walks)
     numbers = (NOTE * len(number_note(stop)) for walk in replay.walks for stop in walk.stops[1:])
     return max((*clients, *numbers), default=0)
-
-
-def crowd_of(replay: Replay, slots: Slots) -> Crowd:
-    """Returns how much room the tokens of a replay take."""
-    entries = replay.wiring.entries
-    on_entry = max((most for wire, most in slots.most.items() if wire < entries), default=0)
-    inside = max((most for wire, most in slots.most.items() if wire >= entries), default=0)
-    return Crowd(letters_of(replay), on_entry, inside)
 
 
 def number_note(stop: Stop) -> str:

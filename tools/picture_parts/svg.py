@@ -1,5 +1,5 @@
 """SVG as text."""
-from picture_parts.layout import Scale
+from picture_parts.layout import WIRE_LETTER, Scale
 
 BLUE = "#0b4f8a"
 # The size of the note below a token, in parts of other letters.
@@ -41,7 +41,7 @@ text {{ font-family: "DejaVu Sans", Verdana, Arial, sans-serif; font-size: {numb
 .heading text, .caption text, .legend text {{ font-size: {number(scale.line_font)}px }}
 .entry text {{ text-anchor: end; fill: #1d2733 }}
 .exit text {{ fill: #1d2733 }}
-.wire text {{ font-size: {number(0.9 * font)}px }}
+.wire text {{ font-size: {number(WIRE_LETTER * font)}px }}
 .lines path {{ stroke: #3a4554; stroke-width: {number(0.11 * font)}; fill: none }}
 .bars path {{ stroke: {BLUE}; stroke-width: {number(0.23 * font)}; fill: none }}
 .dots, .boxes {{ stroke: {BLUE}; stroke-width: {number(0.2 * font)}; fill: white }}

@@ -1,5 +1,6 @@
 """Wirings: at what each wire of a network ends."""
 import dataclasses
+import functools
 import re
 
 from picture_parts.lines import Fault, Lines
@@ -51,15 +52,21 @@ class Wiring:
         """Returns the balancer that a wire comes from, or None for an entry."""
         return None if wire < self.entries else (wire - self.entries) // 2
 
+    @functools.cached_property
+    def level_of(self) -> list[int]:
+        """For each balancer how many others come before it on the longest way."""
+        levels: list[int] = []
+        for inputs in self.inputs:
+            sources = (self.source(wire) for wire in inputs)
+            levels.append(max((levels[source] + 1 for source in sources if source is not None), default=0))
+        return levels
+
+    @functools.cached_property
     def levels(self) -> list[list[int]]:
-        """Returns the balancers by how many others come before them on the longest way."""
-        levels, found = [0] * self.balancers, []
-        for balancer, inputs in enumerate(self.inputs):
-            sources = [self.source(wire) for wire in inputs]
-            levels[balancer] = max((levels[source] + 1 for source in sources if source is not None), default=0)
-            if levels[balancer] == len(found):
-                found.append([])
-            found[levels[balancer]].append(balancer)
+        """The balancers of each level."""
+        found: list[list[int]] = [[] for _ in range(max(self.level_of, default=-1) + 1)]
+        for balancer, level in enumerate(self.level_of):
+            found[level].append(balancer)
         return found
 
 

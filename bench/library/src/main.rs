@@ -3,12 +3,13 @@
 //!
 //!     namers add|table|refused THREADS ROUNDS
 //!     namers walk ADDS THREADS ROUNDS
-//!     namers name|many|all-over NETWORK WIDTH THREADS ROUNDS
+//!     namers name|apart|many|all-over NETWORK WIDTH THREADS ROUNDS
 //!
-//! By `name` and `many` each thread lets its clients in by entries of its own, by `all-over` each by all entries.
+//! By `name`, `apart` and `many` each thread lets its clients in by entries of its own, by `all-over` each by all entries.
+//! By `apart` the words of the floor lie apart.
 mod timing;
 
-use renamer::{Client, Floor, Grant, Kind, Lane};
+use renamer::{Client, Error, Floor, Grant, Kind, Lane};
 use std::collections::HashMap;
 use std::env;
 use std::hint::black_box;
@@ -81,8 +82,11 @@ fn entries(lane: &Lane, entering: Entering, thread: u64, threads: u64) -> impl I
     (from..to).cycle().map(move |entry| if entry < entries { entry } else { entry - entries })
 }
 
-fn name(kind: Kind, width: u32, entering: Entering, threads: u64) -> Spent {
-    let floor = Floor::open(kind, width, CLIENTS).expect("there is memory");
+/// A call that opens a floor.
+type Open = fn(Kind, u32, u64) -> Result<Floor, Error>;
+
+fn name(open: Open, kind: Kind, width: u32, entering: Entering, threads: u64) -> Spent {
+    let floor = open(kind, width, CLIENTS).expect("there is memory");
     let (spent, sum) = in_threads(lanes(&floor, threads), |(thread, lane)| {
         let entries = entries(lane, entering, *thread, threads);
         let mut sum = 0;
@@ -156,7 +160,7 @@ fn number<N: std::str::FromStr>(word: &str) -> N {
 
 fn usage() -> ! {
     eprintln!("namers: add|table|refused THREADS ROUNDS, walk ADDS THREADS ROUNDS, or");
-    eprintln!("        name|many|all-over bitonic|periodic|tree WIDTH THREADS ROUNDS");
+    eprintln!("        name|apart|many|all-over bitonic|periodic|tree WIDTH THREADS ROUNDS");
     process::exit(2)
 }
 
@@ -179,10 +183,13 @@ fn main() {
         ["refused", ..] => Box::new(refused),
         ["walk", adds, ..] => Box::new(move |threads| walk(number(adds), threads)),
         ["name", network, width, ..] => {
-            Box::new(move |threads| name(kind(network), number(width), Entering::Apart, threads))
+            Box::new(move |threads| name(Floor::open, kind(network), number(width), Entering::Apart, threads))
+        }
+        ["apart", network, width, ..] => {
+            Box::new(move |threads| name(Floor::open_apart, kind(network), number(width), Entering::Apart, threads))
         }
         ["all-over", network, width, ..] => {
-            Box::new(move |threads| name(kind(network), number(width), Entering::AllOver, threads))
+            Box::new(move |threads| name(Floor::open, kind(network), number(width), Entering::AllOver, threads))
         }
         ["many", network, width, ..] => Box::new(move |threads| many(kind(network), number(width), threads)),
         _ => usage(),

@@ -19,6 +19,7 @@ enum { LANES = 32, QUIETS = 8, STATUSES = RENAMER_LANES_THERE + 1, UNSET = 0xa5 
 #define CALLS(X)                                                                                                       \
     X(version, 0)                                                                                                      \
     X(open, STATUS(KIND) | STATUS(WIDTH) | STATUS(QUOTA) | STATUS(MEMORY))                                             \
+    X(open_apart, STATUS(KIND) | STATUS(WIDTH) | STATUS(QUOTA) | STATUS(MEMORY))                                       \
     X(split, STATUS(NONE) | STATUS(QUOTA_TOO_SMALL) | STATUS(MEMORY))                                                  \
     X(reserve, STATUS(NONE) | STATUS(MEMORY))                                                                          \
     X(name, STATUS(NONE) | STATUS(STILL_WALKING) | STATUS(NO_SUCH_ENTRY) | STATUS(QUOTA_SPENT) | STATUS(MEMORY))       \

@@ -21,6 +21,7 @@ void call_open(void) {
     uint32_t width = (uint32_t)(drawn(16) ? 2u << drawn(run.level) : odd_number());
     uint64_t quota = some_quota();
     const struct network *network = network_of(kind, width);
+    int is_apart = drawn(4) == 0;
     uint32_t status, wanted = RENAMER_DONE;
     if (kind >= KINDS)
         wanted = RENAMER_KIND;
@@ -29,8 +30,8 @@ void call_open(void) {
     else if (quota > RENAMER_MOST_CLIENTS)
         wanted = RENAMER_QUOTA;
     /* Growths are refused only if the handle is none: else that of the hand-back of its lane could be the one. */
-    begin_call(CALL_open, !handle->model);
-    status = end_call(renamer_open(&handle->lane, kind, width, quota));
+    begin_call(is_apart ? CALL_open_apart : CALL_open, !handle->model);
+    status = end_call((is_apart ? renamer_open_apart : renamer_open)(&handle->lane, kind, width, quota));
     show("kind %" PRIu32 ", width %" PRIu32 ", quota %" PRIu64, kind, width, quota);
     if (is_done(status, wanted, 0))
         put(handle, floor_open(network, NULL, quota));

@@ -1,11 +1,12 @@
 /*
  * What a lane takes of memory: under 1 kB on each network, until the first client comes in by renamer_enter or by a list
- * that walks together. A single name takes only the room for its grant.
+ * that walks together. A single name takes only the room for its grant. And what a floor takes whose words lie apart: 128
+ * bytes for each word in place of 8, and so does a floor that goes on from it.
  */
 #include "judge.h"
 #include <string.h>
 
-enum { HEAD = 16, MOST_BYTES = 1024, LANES = 100 };
+enum { HEAD = 16, MOST_BYTES = 1024, LANES = 100, LINE_PAIR = 128 };
 
 void *__real_malloc(size_t size);
 void *__real_realloc(void *block, size_t size);
@@ -71,10 +72,52 @@ static void small_lanes(uint32_t kind, uint32_t width) {
     close_floor(&first, LANES);
 }
 
+/* How many words a floor over a network has: one for the lanes, and one for each entry, balancer and exit. */
+static size_t word_count(uint32_t kind, uint32_t width) {
+    size_t level = 0, halves = width / 2;
+    while ((uint32_t)1 << level < width)
+        level++;
+    switch (kind) {
+    case RENAMER_BITONIC: return 1 + width + halves * level * (level + 1) / 2 + width;
+    case RENAMER_PERIODIC: return 1 + width + halves * level * level + width;
+    default: return 1 + 1 + (width - 1) + width;
+    }
+}
+
+/* How many bytes a floor takes that a call opens, and one that goes on from it. */
+struct sizes {
+    size_t first, next;
+};
+
+static struct sizes floor_sizes(uint32_t (*open)(renamer_lane *, uint32_t, uint32_t, uint64_t), uint32_t kind,
+                                uint32_t width) {
+    renamer_lane lane = RENAMER_NO_LANE_YET;
+    renamer_quiet quiet = RENAMER_NO_QUIET_YET;
+    struct sizes sizes;
+    size_t before = live;
+    CHECK(open(&lane, kind, width, 3) == RENAMER_DONE);
+    sizes.first = live - before;
+    CHECK(renamer_close(&lane, &quiet) == RENAMER_DONE);
+    before = live;
+    CHECK(renamer_open_after(&lane, &quiet, 3) == RENAMER_DONE);
+    sizes.next = live - before;
+    renamer_free(&lane);
+    renamer_free_quiet(&quiet);
+    return sizes;
+}
+
+static void large_floors(uint32_t kind, uint32_t width) {
+    struct sizes packed = floor_sizes(renamer_open, kind, width), apart = floor_sizes(renamer_open_apart, kind, width);
+    size_t more = (LINE_PAIR - sizeof(uint64_t)) * word_count(kind, width);
+    CHECK(apart.first == packed.first + more && apart.next == packed.next + more);
+}
+
 int main(void) {
     for (uint32_t kind = 0; kind < KINDS; kind++)
-        for (uint32_t level = 0; level < LEVELS; level++)
+        for (uint32_t level = 0; level < LEVELS; level++) {
             small_lanes(kind, (uint32_t)2 << level);
+            large_floors(kind, (uint32_t)2 << level);
+        }
     CHECK(live == 0);
     return 0;
 }

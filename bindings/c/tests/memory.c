@@ -52,6 +52,8 @@ static void open_one(renamer_lane *lane, uint32_t kind, uint32_t width, uint64_t
     long live = growths_live();
     EACH_GROWTH(renamer_open(lane, kind, width, quota), !lane->at && growths_live() == live);
     before = seen_of(lane), live = growths_live();
+    EACH_GROWTH(renamer_open_apart(lane, kind, width, quota), is_as(lane, &before) && growths_live() == live);
+    before = seen_of(lane), live = growths_live();
     EACH_GROWTH(renamer_open(lane, kind, width, quota), is_as(lane, &before) && growths_live() == live);
     open_with_one_refused(lane, kind, width, quota);
 }

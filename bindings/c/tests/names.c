@@ -1,6 +1,7 @@
 /*
  * Four threads name clients on each network of each width, and then on a floor that goes on from another: the names are 0
- * to k-1, each once, and each exit has its share. A floor that one lane has is closed, and has the counts and holders.
+ * to k-1, each once, and each exit has its share. A floor that one lane has is closed, and has the counts and holders. So it
+ * is on floors whose words lie side by side, and on floors whose words lie apart.
  */
 #include "judge.h"
 #include <pthread.h>
@@ -75,20 +76,27 @@ static void close_three(renamer_lane *lane, renamer_quiet *quiet, uint64_t width
         CHECK(counts[i] == share(3, width, i));
 }
 
-int main(void) {
+/* A call that opens a floor over a network. */
+typedef uint32_t opens(renamer_lane *lane, uint32_t kind, uint32_t width, uint64_t quota);
+
+static void run_network(opens *open, uint32_t kind, uint32_t width) {
     renamer_lane rest = RENAMER_NO_LANE_YET;
     renamer_quiet quiet = RENAMER_NO_QUIET_YET;
-    for (uint32_t kind = 0; kind < KINDS; kind++)
-        for (uint32_t level = 1; level <= LEVELS; level++) {
-            uint32_t width = (uint32_t)1 << level;
-            CHECK(renamer_open(&rest, kind, width, ALL) == RENAMER_DONE);
-            run_threads(&rest, width, 0);
-            CHECK(renamer_open(&rest, kind, width, 3) == RENAMER_DONE);
-            close_three(&rest, &quiet, width);
-            CHECK(renamer_open_after(&rest, &quiet, ALL) == RENAMER_DONE);
-            run_threads(&rest, width, 3);
-        }
+    CHECK(open(&rest, kind, width, ALL) == RENAMER_DONE);
+    run_threads(&rest, width, 0);
+    CHECK(open(&rest, kind, width, 3) == RENAMER_DONE);
+    close_three(&rest, &quiet, width);
+    CHECK(renamer_open_after(&rest, &quiet, ALL) == RENAMER_DONE);
+    run_threads(&rest, width, 3);
     renamer_free(&rest);
     renamer_free_quiet(&quiet);
+}
+
+int main(void) {
+    for (uint32_t kind = 0; kind < KINDS; kind++)
+        for (uint32_t level = 1; level <= LEVELS; level++) {
+            run_network(renamer_open, kind, (uint32_t)1 << level);
+            run_network(renamer_open_apart, kind, (uint32_t)1 << level);
+        }
     return 0;
 }

@@ -42,7 +42,8 @@ static void refused() {
     CHECK(quiet.holders(list) == status::none && list.size() == 3);
     CHECK(lane.open(kind::tree, 3, 4) == status::width);
     CHECK(lane.open(kind::tree, 2, 262145) == status::quota);
-    CHECK(lane.open(kind::bitonic, 4, 4) == status::done);
+    CHECK(lane.open_apart(kind::tree, 3, 4) == status::width);
+    CHECK(lane.open_apart(kind::bitonic, 4, 4) == status::done);
     CHECK(lane.name(17, 4, name) == status::no_such_entry);
     CHECK(lane.close(quiet) == status::done);
     CHECK(quiet.clients(name) == status::done && name == 0);

@@ -44,6 +44,19 @@ impl Floor {
         Ok(Floor::of(RawLane::open(kind as u32, width, quota)?))
     }
 
+    /// Opens a floor as [`Floor::open`] does, whose words lie 128 bytes apart in memory and not 8: so threads that go by two
+    /// ends at once do not wait for one cache line. That is for machines of many processors: the words take 16 times the
+    /// memory, and with few processors nothing is gained. The words of a floor that goes on from it lie apart too.
+    ///
+    /// # Errors
+    /// As those of [`Floor::open`].
+    ///
+    /// # Panics
+    /// As [`Floor::open`].
+    pub fn open_apart(kind: Kind, width: u32, quota: u64) -> Result<Floor, Error> {
+        Ok(Floor::of(RawLane::open_apart(kind as u32, width, quota)?))
+    }
+
     /// Opens a floor that goes on from the counters of a closed one, over the same network. Its names begin at 0 again.
     ///
     /// ```

@@ -40,6 +40,7 @@ pub(crate) struct RawSwept {
 extern "C" {
     fn renamer_version() -> u32;
     fn renamer_open(lane: *mut Handle, kind: u32, width: u32, quota: u64) -> u32;
+    fn renamer_open_apart(lane: *mut Handle, kind: u32, width: u32, quota: u64) -> u32;
     fn renamer_split(lane: *mut Handle, quota: u64, other: *mut Handle) -> u32;
     fn renamer_reserve(lane: *mut Handle, clients: u64) -> u32;
     fn renamer_name(lane: *mut Handle, client: u64, entry: u64, name: *mut u64) -> u32;
@@ -120,10 +121,24 @@ impl RawLane {
     /// The first lane of a floor. No other call is made before it, so an archive of another version, whose calls may take other
     /// things, is found here.
     pub(crate) fn open(kind: u32, width: u32, quota: u64) -> Result<RawLane, Error> {
+        RawLane::by(renamer_open, kind, width, quota)
+    }
+
+    /// The first lane of a floor whose words lie apart.
+    pub(crate) fn open_apart(kind: u32, width: u32, quota: u64) -> Result<RawLane, Error> {
+        RawLane::by(renamer_open_apart, kind, width, quota)
+    }
+
+    fn by(
+        open: unsafe extern "C" fn(*mut Handle, u32, u32, u64) -> u32,
+        kind: u32,
+        width: u32,
+        quota: u64,
+    ) -> Result<RawLane, Error> {
         assert_eq!(version(), own_version(), "librenamer.a has another version than the crate renamer");
         let mut lane = none();
         // SAFETY: the handle is new, and none.
-        done(unsafe { renamer_open(&raw mut lane, kind, width, quota) })?;
+        done(unsafe { open(&raw mut lane, kind, width, quota) })?;
         Ok(RawLane(lane))
     }
 

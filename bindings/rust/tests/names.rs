@@ -1,6 +1,6 @@
 //! Four threads name clients on each network of each width: the names are 0 to k-1, each once, and each exit has its
-//! share. So it is on a floor that goes on from another.
-use renamer::{Floor, Grant, Kind, Lane, Quiet};
+//! share. So it is on a floor that goes on from another, and on floors whose words lie apart.
+use renamer::{Error, Floor, Grant, Kind, Lane, Quiet};
 use std::thread;
 
 const THREADS: u64 = 4;
@@ -38,9 +38,12 @@ fn judge(floor: &Floor, width: u64, before: u64) {
     assert!(grants.iter().map(|grant| grant.client).eq(0..ALL));
 }
 
+/// A call that opens a floor.
+type Open = fn(Kind, u32, u64) -> Result<Floor, Error>;
+
 /// A floor on which one lane named three clients, closed.
-fn closed(kind: Kind, width: u32) -> Quiet {
-    let mut lane = Floor::open(kind, width, 3).unwrap().into_lane();
+fn closed(open: Open, kind: Kind, width: u32) -> Quiet {
+    let mut lane = open(kind, width, 3).unwrap().into_lane();
     for client in [17, 5, 99] {
         lane.name(client, 0).unwrap();
     }
@@ -55,8 +58,10 @@ fn names_are_tight_on_each_network() {
     for kind in [Kind::Bitonic, Kind::Periodic, Kind::Tree] {
         for level in 1..=8 {
             let width = 1 << level;
-            judge(&Floor::open(kind, width, ALL).unwrap(), width.into(), 0);
-            judge(&Floor::open_after(&closed(kind, width), ALL).unwrap(), width.into(), 3);
+            for open in [Floor::open as Open, Floor::open_apart] {
+                judge(&open(kind, width, ALL).unwrap(), width.into(), 0);
+                judge(&Floor::open_after(&closed(open, kind, width), ALL).unwrap(), width.into(), 3);
+            }
         }
     }
 }

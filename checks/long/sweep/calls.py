@@ -65,27 +65,26 @@ def epochs(kind, width, count):
 
 def floors(kind, width, count):
     made = {kind: 1, "Floor::open": 1, "Floor::open_after": 2, "Floor::enter": 3 * count, "Lane::reserve": 1}
-    made |= {"Floor::split": 2, "Floor::join": 2, "Floor::close": 3, "Quiet::holders": 3, "Words::zero": 1}
-    return made | {"closed floors are tight": 3}
+    made |= {"Floor::split": 2, "Floor::join": 2, "Floor::close": 4, "Quiet::holders": 4, "Words::zero": 1}
+    return made | {"Floor::open_apart": 1, "closed floors are tight": 4}
 
 
 def shared(kind, width, count):
     made = {kind: 1, "Floor::open_shared": 1, "Floor::split_off": 1, "Lane::reserve": 1}
     made |= {"Floor::name": (count + 1) // 2, "Floor::name_all": count // 2}
-    made |= {"Floor::join": 2, "Floor::close_for": 1, "ClosedFloor::outcome_since": 1}
-    made |= {"outcomes of closed floors are tight": 1, "Words::zero_shared": 1, "Floor::open_after": 1}
+    made |= {"Floor::join": 2, "Floor::close_for": 2, "ClosedFloor::outcome_since": 2, "Floor::open_shared_apart": 1}
+    made |= {"outcomes of closed floors are tight": 2, "Words::zero_shared": 1, "Floor::open_after": 1}
     made |= {"Floor::split": 1, "Floor::enter": count, "Floor::close": 1, "Quiet::holders": 1}
     return made | {"closed floors are tight": 1}
 
 
 def runs(kind, width, count):
     made = {kind: 1, "run_epoch": 1, "run_epoch_after": 2, "Quiet::holders": 3, "closed floors are tight": 3}
-    made |= {"Runner::run_into": 5, "holders that runners list are all": 5}
-    return made | {"Words::zero": 1, "Runner::new": 3, "Runner::run": 7, "epochs of runners are tight": 7}
+    return made | {"Words::zero": 1, "Runner::new": 2, "Runner::run": 7, "holders that runners list are all": 7}
 
 
 def carries(kind, width, count):
-    return {kind: 1, "Runner::new": 1, "Runner::run": count, "epochs of runners are tight": count}
+    return {kind: 1, "Runner::new": 1, "Runner::run": count, "holders that runners list are all": count}
 
 
 def texts(kind, width, count):

@@ -63,8 +63,8 @@ impl Balancer {
         self.arrivals[input] += 1;
     }
 
-    /// A token that waits passes the balancer, and leaves on the output whose turn it is. At least one token waits before
-    /// ([`Balancer::waiting`]).
+    /// A token that waits passes the balancer, and leaves on the output whose turn it is. At least one token waits
+    /// before ([`Balancer::waiting`]).
     pub fn pass(&mut self) -> Pass
         requires { self.old.passages < all_arrivals self.old }
         ensures number { result.number ≡ self.old.passages }

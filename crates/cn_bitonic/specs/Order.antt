@@ -1,13 +1,13 @@
--- The order in which the balancers of mergers and bitonic networks are made (Aspnes, Herlihy, Shavit, Counting Networks,
--- JACM 1994, section 3).
+-- The order in which the balancers of mergers and bitonic networks are made (Aspnes, Herlihy, Shavit, Counting
+-- Networks, JACM 1994, section 3).
 use Rattle.std.specs.Prelude.{ℕ, zero, suc, ◌^◌, List, take, drop}
 use Rattle.std.specs.List.{range_with_len}
 use Rattle.cn_spec.specs.Networks.{evens, odds}
 use Rattle.cn_wiring.specs.Made.{layer_made}
 use Rattle.cn_wiring.specs.Plan.{Plan, entries_alone}
 
--- the merger of two rows of wires of a level: that of the even wires of x and the odd ones of x2, that of the others, and
--- the last layer
+-- the merger of two rows of wires of a level: that of the even wires of x and the odd ones of x2, that of the others,
+-- and the last layer
 unfoldable pub merger_made : ℕ → Plan → List ℕ → List ℕ → Plan × List ℕ
 merger_made zero d x x2 = layer_made d x x2
 merger_made (suc level) d x x2 =

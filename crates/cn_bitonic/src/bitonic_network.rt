@@ -24,9 +24,9 @@ use std::alloc::{AllocError, Global};
 /// logarithm of `width` to base 2, and half of `width` times the depth balancers (Aspnes, Herlihy, Shavit 1994,
 /// section 3).
 ///
-/// Balancers are numbered in the order in which they are made: the network over the first half of the wires, that over the
-/// second half, and their merger. In a merger that of the even wires of the first list and the odd ones of the second
-/// comes first, then that of the other wires, and then the last layer. So a width has one bitonic network, by
+/// Balancers are numbered in the order in which they are made: the network over the first half of the wires, that over
+/// the second half, and their merger. In a merger that of the even wires of the first list and the odd ones of the
+/// second comes first, then that of the other wires, and then the last layer. So a width has one bitonic network, by
 /// [`cn_wiring::laws::tables_are_unique`].
 ///
 /// # Errors
@@ -55,8 +55,8 @@ pub fn bitonic(alloc: Global, width: u32) -> Result<Counting, BuildFault>
     Ok(draft.finish_counting(&exits, Kind::Bitonic, depth)?)
 }
 
-/// Adds the bitonic network over a list of wires to a draft, and gives its outputs: the networks over both halves of the
-/// list, and their merger. The list's length is a power of two.
+/// Adds the bitonic network over a list of wires to a draft, and gives its outputs: the networks over both halves of
+/// the list, and their merger. The list's length is a power of two.
 ///
 /// # Errors
 /// `AllocError` if a list gets no memory. The draft may have some of the balancers.

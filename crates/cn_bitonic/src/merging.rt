@@ -13,10 +13,10 @@ use std::alloc::{AllocError, Global};
 /// Adds the merger of two lists of wires to a draft, and gives its outputs. If the flows of both lists have the step
 /// property, so have the flows of the outputs (Aspnes, Herlihy, Shavit 1994, section 3).
 ///
-/// The lists have one length, which is a power of two and may be 1, and their wires are loose and all different. A merger
-/// of two lists of length `k` has `log2 k + 1` layers of `k` balancers, and the draft has at most [`MOST_BALANCERS`]
-/// balancers afterwards. Balancers are numbered in the order in which they are made: the merger of the even wires of `x`
-/// and the odd ones of `x2`, that of the other wires, and the last layer.
+/// The lists have one length, which is a power of two and may be 1, and their wires are loose and all different. A
+/// merger of two lists of length `k` has `log2 k + 1` layers of `k` balancers, and the draft has at most
+/// [`MOST_BALANCERS`] balancers afterwards. Balancers are numbered in the order in which they are made: the merger of
+/// the even wires of `x` and the odd ones of `x2`, that of the other wires, and the last layer.
 ///
 /// # Errors
 /// `AllocError` if a list gets no memory. The draft may have some of the balancers then, and should be dropped.

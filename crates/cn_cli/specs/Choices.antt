@@ -3,7 +3,7 @@ use Rattle.std.specs.Prelude.{◌≡◌, ◌<◌, ◌^◌, ℕ, Bool, true, fals
 use Rattle.clap.specs.Words.{Row, Text, first_of}
 use Rattle.cn_wiring.specs.Kinds.{kind_word}
 use Rattle.cn_wiring.specs.Widths.{IsWidth}
-use Rattle.cn_cli.specs.Net.{Description}
+use Rattle.cn_nets.specs.Net.{Description}
 use Rattle.cn_cli.specs.Options.{SettingsFit, Settings}
 use Rattle.cn_cli.specs.declared.options.Form.{Form}
 use Rattle.cn_cli.specs.declared.options.Form.TheVariants.{Report, Grants}

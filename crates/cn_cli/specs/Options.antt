@@ -2,11 +2,11 @@
 use Rattle.std.specs.Prelude.{ℕ, ◌≤◌, Bool}
 use Rattle.cn_spec.specs.declared.limits.TheConstants.{MOST_HAND, MOST_WORKERS}
 use Rattle.cn_wiring.specs.Widths.{IsWidth}
-use Rattle.cn_cli.specs.Net.{Description}
+use Rattle.cn_nets.specs.Net.{Description}
 use Rattle.cn_cli.specs.declared.options.Form.{Form}
 
--- a network, how many workers walk it, how many tokens each has in hand at most, what is written, and whether its counters
--- are carried from epoch to epoch
+-- a network, how many workers walk it, how many tokens each has in hand at most, what is written, and whether its
+-- counters are carried from epoch to epoch
 pub record Settings : Type 0 where
   pub net : Description
   pub workers : ℕ

@@ -12,9 +12,9 @@ ghost use Rattle.cn_cli.specs.Options.{SettingsFit};
 ghost use Rattle.cn_cli.specs.declared.choices.ChoiceFault.TheVariants as choice;
 ghost use Rattle.cn_cli.specs.declared.options.Form.{Form};
 
-use crate::net::{Net, NetFault};
 use crate::options::{Form, OptionFault, Options};
 use clap::ArgMatches;
+use cn_nets::{Net, NetFault};
 use cn_wiring::{Kind, is_width};
 use std::alloc::{AllocError, Global};
 use thiserror::Error;

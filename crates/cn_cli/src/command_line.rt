@@ -58,8 +58,8 @@ fn width_option<'a>(alloc: Global, help: &'a HelpTexts) -> Arg<'a>
     option(alloc, "width", "W", &help.width)
 }
 
-/// The command with one more argument, if it got its memory so far. It takes a draft, so that a caller that adds several
-/// has one end only.
+/// The command with one more argument, if it got its memory so far. It takes a draft, so that a caller that adds
+/// several has one end only.
 fn with_arg<'a>(command: Draft<'a>, arg: Arg<'a>) -> Draft<'a>
     requires { arg.global ≡ false }
     ensures { IfOk result (λ whole. IsOkAnd command.entry (λ before.

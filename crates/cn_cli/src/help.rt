@@ -1,6 +1,7 @@
 //! What the help says of the formats of each subcommand, its limits and its statuses.
 
-use crate::net::Widths;
+use crate::causes::{batch_causes, grant_causes, schedule_causes};
+use cn_nets::Widths;
 use cn_spec::limits::{MOST_CLIENTS, MOST_HAND, MOST_RECORDS, MOST_WORKERS};
 use std::alloc::{AllocError, Global};
 
@@ -66,6 +67,7 @@ Status:
 // ---- run
 
 fn run_help(alloc: Global) -> Result<String, AllocError> {
+    let causes = batch_causes(alloc)?;
     format!(in alloc;
         "\
 Input: a batch, as CSV on standard input. After the header, each record is a
@@ -82,7 +84,10 @@ record has no entry: client C comes to entry C modulo the number of entries.
     1,99,3
     1,23,3
     1,42,3
-{RUN_OUTPUT}"
+{RUN_OUTPUT}
+{causes}
+
+{RUN_STATUS}"
     )
 }
 
@@ -128,7 +133,9 @@ A batch is refused at its first wrong record, by a line on standard error:
     renamer: record 2: Duplicate
 
 Records count from 0: the header is record 0. An empty line has no number.
+";
 
+const RUN_STATUS: &str = "\
 Status:
   0  done
   1  the batch is refused
@@ -138,6 +145,7 @@ Status:
 // ---- replay
 
 fn replay_help(alloc: Global) -> Result<String, AllocError> {
+    let causes = schedule_causes(alloc)?;
     format!(in alloc;
         "\
 Input: a schedule, as CSV on standard input. After the header, each record is a
@@ -156,7 +164,10 @@ records besides the header.
     step,7,
     step,7,
     turn,,
-{REPLAY_OUTPUT}"
+{REPLAY_OUTPUT}
+{causes}
+
+{REPLAY_STATUS}"
     )
 }
 
@@ -183,13 +194,15 @@ A command that is refused changes nothing, and the output says why:
   HasName M    a step of a client that is out, and has name M
   NotQuiet S   a turn while S clients are inside
 
-The output is held whole before it is written. A schedule is refused at its
-first wrong record, by a line on standard error:
+A replay prints nothing before its last command is answered. A schedule is
+refused at its first wrong record, by a line on standard error:
 
     renamer: record 2: Op
 
 Records count from 0: the header is record 0. An empty line has no number.
+";
 
+const REPLAY_STATUS: &str = "\
 Status:
   0  done, also if commands are refused
   1  the schedule is refused
@@ -199,6 +212,7 @@ Status:
 // ---- check
 
 fn check_help(alloc: Global) -> Result<String, AllocError> {
+    let causes = grant_causes(alloc)?;
     format!(in alloc;
         "\
 Input: a grant list, as CSV on standard input. After the header, each record is
@@ -214,7 +228,10 @@ and the k grants have the names 0 to k-1.
     1,99,2
     1,23,3
     1,42,4
-{CHECK_OUTPUT}"
+{CHECK_OUTPUT}
+{causes}
+
+{CHECK_STATUS}"
     )
 }
 
@@ -237,7 +254,9 @@ A list is refused at its first record that is no grant in its place:
     renamer: record 2: Form
 
 Records count from 0: the header is record 0. An empty line has no number.
+";
 
+const CHECK_STATUS: &str = "\
 Status:
   0  the list is tight
   1  the list is refused

@@ -1,15 +1,14 @@
-//! What the program is asked for: networks by kind and width, and the command line.
+//! What the program is asked for: the command line, and the options of a run.
 #![tactic(auto)]
 
 mod brief;
+mod causes;
 mod choices;
 mod command_line;
 mod help;
-pub mod laws;
-mod net;
+mod operand;
 mod options;
 mod words;
 
-pub use net::{Net, NetFault};
 pub use options::{Form, OptionFault, Options};
 pub use words::{Job, WordsFault, parse_words};

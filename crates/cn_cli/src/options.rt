@@ -4,7 +4,7 @@ ghost use Rattle.std.specs.Prelude.{◌≡◌, ◌↔◌, IfOk, IsErrOf, false, 
 ghost use Rattle.cn_cli.specs.Choices.{form_word};
 ghost use Rattle.cn_cli.specs.Options.{HandFits, SettingsFit, Settings, WorkersFit};
 
-use crate::net::Net;
+use cn_nets::Net;
 use cn_spec::limits::{MOST_HAND, MOST_WORKERS};
 use std::marker::Model;
 use thiserror::Error;

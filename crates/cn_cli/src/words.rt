@@ -10,10 +10,11 @@ ghost use Rattle.cn_cli.specs.declared.words.WordsFault.TheVariants.{Memory};
 use crate::choices::{ChoiceFault, chosen_net, chosen_options, chosen_width};
 use crate::command_line::command;
 use crate::help::HelpTexts;
-use crate::net::Net;
+use crate::operand::with_hint;
 use crate::options::Options;
 use clap::error::ErrorKind;
 use clap::{ArgMatches, Command};
+use cn_nets::Net;
 use std::alloc::{AllocError, Global};
 use thiserror::Error;
 
@@ -65,13 +66,16 @@ impl WordsFault {
         }
     }
 
-    fn of_parse(alloc: Global, error: clap::Error) -> WordsFault
+    fn of_parse(alloc: Global, words: &[String], error: clap::Error) -> WordsFault
         ensures { IsFaultBy (kind_of error) result }
     {
         let kind = error.kind();
         match error.to_string(alloc) {
             Ok(text) if !error.use_stderr() => WordsFault::Help(text),
-            Ok(text) if kind != ErrorKind::OutOfMemory => WordsFault::Refused(text),
+            Ok(text) if kind != ErrorKind::OutOfMemory => match with_hint(alloc, words, text) {
+                Ok(text) => WordsFault::Refused(text),
+                Err(_) => WordsFault::Memory,
+            },
             _ => WordsFault::Memory,
         }
     }
@@ -124,7 +128,7 @@ fn read_words<'a>(
     let command: Command<'a> = command(alloc, help)?;
     match command.try_get_matches_from(words) {
         Ok(matches) => asked_job(alloc, &matches),
-        Err(error) => Err(WordsFault::of_parse(alloc, error)),
+        Err(error) => Err(WordsFault::of_parse(alloc, words, error)),
     }
 }
 

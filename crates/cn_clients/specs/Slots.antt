@@ -26,8 +26,8 @@ abbrev pub AreSlotsOf : List Named → List Filled → Type 0
 AreSlotsOf slots filled =
     All (λ f. (f.name < length slots) × (f.slot.now ≡ get_or slots f.name f.slot.now)) filled
 
--- a lane named these clients, and the slot of each name was filled with the client that got it: they are those of the lane's
--- newest grants, in their order, and its wires are as before
+-- a lane named these clients, and the slot of each name was filled with the client that got it: they are those of the
+-- lane's newest grants, in their order, and its wires are as before
 pub record FilledBy (slots : List Named) (old new : LaneValue) (clients : List ℕ) (filled : List Filled) : Type 0 where
   pub home : new.home ≡ old.home
   pub lists : new.yard.lists ≡ old.yard.lists

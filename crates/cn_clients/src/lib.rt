@@ -1,5 +1,5 @@
-//! Callers of a floor whose contracts say what a user wants: names that are all different while threads run, slots that no
-//! thread writes twice, and a table by name. Each is proved from public contracts only, and runs in threads.
+//! Callers of a floor whose contracts say what a user wants: names that are all different while threads run, slots that
+//! no thread writes twice, and a table by name. Each is proved from public contracts only, and runs in threads.
 #![tactic(auto)]
 
 mod filled;

@@ -1,5 +1,5 @@
-//! Slots that threads share: a thread takes a name for its client on a floor, and writes the client into the slot of that
-//! name, without a lock. No slot is written twice, and each holds the client whose name it is.
+//! Slots that threads share: a thread takes a name for its client on a floor, and writes the client into the slot of
+//! that name, without a lock. No slot is written twice, and each holds the client whose name it is.
 
 ghost use Rattle.std.specs.Prelude.{◌≡◌, ◌+◌, ◌≤◌, ◌++◌, [], IfSome, length};
 ghost use Rattle.cn_spec.specs.Step.{IsEachBelow};
@@ -82,24 +82,24 @@ impl<'a> Shared for Floor<'a> {
     }
 }
 
-/// Two threads fill slots at once, each by a lane of its own. `None` if a client is refused, a list gets no memory, or a slot
-/// was written before.
+/// Two threads fill slots at once, each by a lane of its own. `None` if a client is refused, a list gets no memory, or
+/// a slot was written before.
 fn fill_in_threads<'s, G: Shared + Sync, R: Threads>(
     rt: &R,
     alloc: Global,
     floor: &G,
-    lane: Lane,
-    other: Lane,
+    lanes: (Lane, Lane),
     first: &[u64],
     second: &[u64],
     slots: &'s [OnceLock<u64>],
 ) -> Option<(Lane, Lane, Vec<Filled<'s>>, Vec<Filled<'s>>)>
-    requires own { (lane.home ≡ G.home floor.now) × (other.home ≡ G.home floor.now) }
-    requires out { (tokens_in lane.yard.lists ≡ 0) × (tokens_in other.yard.lists ≡ 0) }
+    requires own { (lanes.0.home ≡ G.home floor.now) × (lanes.1.home ≡ G.home floor.now) }
+    requires out { (tokens_in lanes.0.yard.lists ≡ 0) × (tokens_in lanes.1.yard.lists ≡ 0) }
     requires slots { (G.home floor.now).start.quota ≤ length slots.now }
-    ensures { IfSome result (λ r. FilledBy slots.now lane r.0 first.now r.2.items
-        × FilledBy slots.now other r.1 second.now r.3.items) }
+    ensures { IfSome result (λ r. FilledBy slots.now lanes.0 r.0 first.now r.2.items
+        × FilledBy slots.now lanes.1 r.1 second.now r.3.items) }
 {
+    let (lane, other) = lanes;
     let (one, two) = thread::join(
         rt,
         move || -> Option<(Lane, Vec<Filled<'_>>)>
@@ -119,9 +119,10 @@ fn fill_in_threads<'s, G: Shared + Sync, R: Threads>(
     }
 }
 
-/// Two threads fill slots at once, on a floor that gave no name yet, and the floor is closed: the slots that each filled. The
-/// second thread has as many names as it has clients. Each client fills a slot, in the order of its list. The slots that were
-/// filled are the first ones, each once, and each holds the client whose name it is. `None` if a client is refused, a list gets no memory, or a slot was written before.
+/// Two threads fill slots at once, on a floor that gave no name yet, and the floor is closed: the slots that each
+/// filled. The second thread has as many names as it has clients. Each client fills a slot, in the order of its list.
+/// The slots that were filled are the first ones, each once, and each holds the client whose name it is. `None` if a
+/// client is refused, a list gets no memory, or a slot was written before.
 pub fn fill_by_two<'s, R: Threads>(
     rt: &R,
     alloc: Global,
@@ -144,7 +145,7 @@ pub fn fill_by_two<'s, R: Threads>(
     let Ok(other) = floor.split_off(&mut lane, second.len() as u64) else {
         return None;
     };
-    let filled = fill_in_threads(rt, alloc, &floor, lane, other, first, second, slots);
+    let filled = fill_in_threads(rt, alloc, &floor, (lane, other), first, second, slots);
     let Some((lane, other, one, two)) = filled else {
         return None;
     };

@@ -1,5 +1,5 @@
-//! A table by name: an epoch's clients are named by many workers, and each finds its name in an array, and each name its client
-//! in another.
+//! A table by name: an epoch's clients are named by many workers, and each finds its name in an array, and each name
+//! its client in another.
 
 ghost use Rattle.std.specs.Prelude.{◌≡◌, ◌+◌, ◌<◌, ◌≤◌, All, IfOk, IfSome, OnSome, length, map, slice_index, vec_len};
 ghost use Rattle.cn_spec.specs.Step.{IsEachBelow};

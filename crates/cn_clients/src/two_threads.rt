@@ -1,5 +1,5 @@
-//! Two threads name clients on one floor. Before it is closed each client has a name, no name is given twice, and each is below
-//! the number of clients that came in.
+//! Two threads name clients on one floor. Before it is closed each client has a name, no name is given twice, and each
+//! is below the number of clients that came in.
 
 ghost use Rattle.std.specs.Prelude.{◌≡◌, ◌<◌, ◌≤◌, All, IfSome, length};
 ghost use Rattle.cn_yard.specs.Lists.{tokens_in};
@@ -56,8 +56,8 @@ impl<'a> Shared for Floor<'a> {
     }
 }
 
-/// Two threads name their clients, each by a lane of its own: the lanes, and the names. `None` if a client is refused, or the
-/// lists get no memory.
+/// Two threads name their clients, each by a lane of its own: the lanes, and the names. `None` if a client is refused,
+/// or the lists get no memory.
 fn name_in_threads<G: Shared + Sync, R: Threads>(
     rt: &R,
     alloc: Global,
@@ -100,9 +100,9 @@ pub struct Named {
     pub entered: u64,
 }
 
-/// Two threads name clients at once, each by a lane of its own: the lanes, and what their clients were given. The floor is still
-/// open, and these lanes and others may go on; each later answer of either of how many came in is no less than `entered`.
-/// `None` if a client is refused, or memory.
+/// Two threads name clients at once, each by a lane of its own: the lanes, and what their clients were given. The floor
+/// is still open, and these lanes and others may go on; each later answer of either of how many came in is no less than
+/// `entered`. `None` if a client is refused, or memory.
 pub fn name_by_two<R: Threads>(
     rt: &R,
     alloc: Global,

@@ -36,7 +36,8 @@ EntersTo old client entry (StepRefused fault) new = ⊥
 abbrev pub StepsTo : State → ℕ → Reply → State → Type 0
 StepsTo old client (Stepped moved) new =
     (wire : ℕ) × (position_in old.clients client ≡ Some (On wire))
-    × (moved ≡ moved_past old.network.table old.base (end_of old.network.table wire) (past old (end_of old.network.table wire)))
+    × (moved ≡ moved_past old.network.table old.base (end_of old.network.table wire)
+    (past old (end_of old.network.table wire)))
     × (new ≡ after_step old client (end_of old.network.table wire))
 StepsTo old client (StepRefused Stranger) new = (position_in old.clients client ≡ None) × (new ≡ old)
 StepsTo old client (StepRefused (HasName name)) new = (position_in old.clients client ≡ Some (Holds name)) × (new ≡ old)
@@ -64,8 +65,8 @@ RunsByHistory old events replies new =
     → MayAnswerAll old.network.table history (carried_by old.network.table earlier) events replies
     × Agrees new (history_by history events replies) earlier
 
--- by every history and earlier epochs that the old state agrees with, the new one agrees with no event yet, after these epochs
--- and that of the history
+-- by every history and earlier epochs that the old state agrees with, the new one agrees with no event yet, after these
+-- epochs and that of the history
 abbrev pub CarriesByHistory : State → State → Type 0
 CarriesByHistory old new =
     (history : List Event) (earlier : List (List Event)) → Agrees old history earlier
@@ -75,13 +76,16 @@ CarriesByHistory old new =
 abbrev pub IsLedgerEvent : State → Event → Reply → State → Type 0
 IsLedgerEvent old (Enter client entry) Entered new =
     ByHistories old (λ history carried.
-    Enters old.network.table (ledger_of old history carried) (ledger_of new (Enter client entry ∷ history) carried) client entry)
+    Enters old.network.table (ledger_of old history carried)
+    (ledger_of new (Enter client entry ∷ history) carried) client entry)
 IsLedgerEvent old (Step client) (Stepped moved) new =
     ByHistories old (λ history carried.
-    IsMoveOf old.network.table old.base (ledger_of old history carried) (ledger_of new (Step client ∷ history) carried) client moved)
+    IsMoveOf old.network.table old.base (ledger_of old history carried)
+    (ledger_of new (Step client ∷ history) carried) client moved)
 IsLedgerEvent old event reply new = Unit {0}
 
--- events with these replies take the old state to the new one, one after another, each accepted one by one event on the ledger
+-- events with these replies take the old state to the new one, one after another, each accepted one by one event on the
+-- ledger
 abbrev pub RunsTo : State → List Event → List Reply → State → Type 0
 RunsTo old [] [] new = new ≡ old
 RunsTo old (event ∷ events) (reply ∷ replies) new =

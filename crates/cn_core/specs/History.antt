@@ -1,7 +1,7 @@
--- The answers of a core, by the events that it accepted since its counts were zero: the history of the epoch that stands open, and
--- those of the earlier epochs whose counts it carries. The newest event stands first, and so does the newest epoch. They are
--- one sequential execution of the network (Aspnes, Herlihy, Shavit, JACM 1994, section 2.1); this way to state it is
--- this project's own.
+-- The answers of a core, by the events that it accepted since its counts were zero: the history of the epoch that
+-- stands open, and those of the earlier epochs whose counts it carries. The newest event stands first, and so does the
+-- newest epoch. They are one sequential execution of the network (Aspnes, Herlihy, Shavit, JACM 1994, section 2.1);
+-- this way to state it is this project's own.
 use Rattle.std.specs.Prelude.{◌≡◌, ℕ, ◌+◌, ◌-◌, ◌%◌, ◌==◌, ◌&&◌, nat_le, Bool, true, false, List, ◌∷◌, [], Option, None, Some, is_some, slice_index, if◌then◌else◌, ◌⊎◌, length, count_by}
 use Rattle.std.specs.Map.{values_of}
 use Rattle.std.specs.Option.{option_map}
@@ -33,8 +33,8 @@ abbrev pub is_same_end : End → Option End → Bool
 is_same_end end None = false
 is_same_end end (Some other) = is_end end other
 
--- what the earlier epochs left: how many enters they have, how many of them on each entry, and how many steps from wires with
--- each end
+-- what the earlier epochs left: how many enters they have, how many of them on each entry, and how many steps from
+-- wires with each end
 pub record Carried : Type 0 where
   pub enters : ℕ
   pub entered : ℕ → ℕ
@@ -49,7 +49,8 @@ abbrev mutual
       if client == c then Some (On entry) else position_after table history carried client
   position_after table (Step c ∷ history) carried client =
       if client == c
-      then option_map (λ end. position_past table carried.enters end (steps_before table history carried end)) (end_at table (position_after table history carried c))
+      then option_map (λ end. position_past table carried.enters end (steps_before table history carried end))
+      (end_at table (position_after table history carried c))
       else position_after table history carried client
 
   -- how many steps of the earlier epochs and of the history were made from wires with this end
@@ -57,16 +58,18 @@ abbrev mutual
   steps_before table [] carried end = carried.steps end
   steps_before table (Enter c entry ∷ history) carried end = steps_before table history carried end
   steps_before table (Step c ∷ history) carried end =
-      steps_before table history carried end + (if is_same_end end (end_at table (position_after table history carried c)) then 1 else 0)
+      steps_before table history carried end
+      + (if is_same_end end (end_at table (position_after table history carried c)) then 1 else 0)
 
--- how often the steps of the history are passage n of balancer b: a step from a wire that ends at the balancer is a passage,
--- with the number that the history gives
+-- how often the steps of the history are passage n of balancer b: a step from a wire that ends at the balancer is a
+-- passage, with the number that the history gives
 abbrev pub times_passed : Table → List Event → Carried → ℕ → ℕ → ℕ
 times_passed table [] carried b n = 0
 times_passed table (Enter c entry ∷ history) carried b n = times_passed table history carried b n
 times_passed table (Step c ∷ history) carried b n =
     times_passed table history carried b n
-    + (if is_same_end (Balancer b) (end_at table (position_after table history carried c)) && (steps_before table history carried (Balancer b) == n) then 1 else 0)
+    + (if is_same_end (Balancer b) (end_at table (position_after table history carried c))
+    && (steps_before table history carried (Balancer b) == n) then 1 else 0)
 
 -- how many enters of the earlier epochs and of the history were on this entry
 abbrev pub enters_on : List Event → Carried → ℕ → ℕ
@@ -91,7 +94,8 @@ abbrev pub leaves_of : Table → List Event → Carried → ℕ
 leaves_of table [] carried = 0
 leaves_of table (Enter c entry ∷ history) carried = leaves_of table history carried
 leaves_of table (Step c ∷ history) carried =
-    leaves_of table history carried + (if is_leave (end_at table (position_after table history carried c)) then 1 else 0)
+    leaves_of table history carried
+    + (if is_leave (end_at table (position_after table history carried c)) then 1 else 0)
 
 -- how many clients of the history are inside: they entered and have not left
 abbrev pub inside_of : Table → List Event → Carried → ℕ
@@ -108,7 +112,8 @@ abbrev pub step_answer : Table → List Event → Carried → Option Position �
 step_answer table history carried None = StepRefused Stranger
 step_answer table history carried (Some (Holds name)) = StepRefused (HasName name)
 step_answer table history carried (Some (On wire)) =
-    Stepped (moved_past table carried.enters (end_of table wire) (steps_before table history carried (end_of table wire)))
+    Stepped (moved_past table carried.enters (end_of table wire)
+    (steps_before table history carried (end_of table wire)))
 
 -- the answer to an event after a history
 abbrev pub answer_to : Table → List Event → Carried → Event → Reply
@@ -117,7 +122,8 @@ answer_to table history carried (Enter client entry) =
     else if is_some (position_after table history carried client) then EnterRefused AlreadyIn
     else if nat_le MOST_CLIENTS (enters_of history) then EnterRefused EpochFull
     else Entered
-answer_to table history carried (Step client) = step_answer table history carried (position_after table history carried client)
+answer_to table history carried (Step client) =
+    step_answer table history carried (position_after table history carried client)
 
 -- was the event accepted?
 abbrev pub is_accepted : Reply → Bool
@@ -153,7 +159,8 @@ MayAnswer table history carried event reply =
 abbrev pub MayAnswerAll : Table → List Event → Carried → List Event → List Reply → Type 0
 MayAnswerAll table history carried [] [] = Unit {0}
 MayAnswerAll table history carried (event ∷ events) (reply ∷ replies) =
-    MayAnswer table history carried event reply × MayAnswerAll table (history_after history event reply) carried events replies
+    MayAnswer table history carried event reply
+    × MayAnswerAll table (history_after history event reply) carried events replies
 MayAnswerAll table history carried [] (reply ∷ replies) = ⊥
 MayAnswerAll table history carried (event ∷ events) [] = ⊥
 
@@ -189,7 +196,8 @@ AreEpochs table (epoch ∷ earlier) =
 pub record AgreesAfter (state : State) (history : List Event) (carried : Carried) : Type 0 where
   pub base : state.base ≡ carried.enters
   pub accepted : IsHistory state.network.table history carried
-  pub positions : (client : ℕ) → position_in state.clients client ≡ position_after state.network.table history carried client
+  pub positions : (client : ℕ) → position_in state.clients client
+      ≡ position_after state.network.table history carried client
   pub entered : (entry : ℕ) → slice_index state.entered entry ≡ enters_on history carried entry
   pub total : length state.clients ≡ enters_of history
   pub left : count_by is_named (values_of state.clients) ≡ leaves_of state.network.table history carried

@@ -1,5 +1,5 @@
--- What a core keeps, as contracts see it: the state of a balancing network whose tokens belong to clients (Aspnes, Herlihy,
--- Shavit, JACM 1994, section 2.1).
+-- What a core keeps, as contracts see it: the state of a balancing network whose tokens belong to clients (Aspnes,
+-- Herlihy, Shavit, JACM 1994, section 2.1).
 use Rattle.std.specs.Prelude.{◌≡◌, ℕ, ◌+◌, ◌-◌, ◌%◌, ◌<◌, ◌≤◌, Bool, true, false, nat_eq, List, ◌∷◌, [], ◌++◌, Option, None, Some, slice_index, length, count_by, replicate}
 use Rattle.std.specs.Map.{lookup, set_value, values_of}
 use Rattle.cn_spec.specs.Step.{name_of, share}
@@ -12,8 +12,8 @@ use Rattle.cn_wiring.specs.Network.{Network, IsNetwork}
 use Rattle.cn_core.specs.declared.position.Position.{Position}
 use Rattle.cn_core.specs.declared.position.Position.TheVariants.{On, Holds}
 
--- a network with its counts since they were zero, and the clients of the epoch that stands open in the order in which they
--- entered
+-- a network with its counts since they were zero, and the clients of the epoch that stands open in the order in which
+-- they entered
 pub record State : Type 0 where
   pub network : Network
   -- how many clients came in the earlier epochs whose counts are carried
@@ -61,7 +61,8 @@ after_step s client (Balancer b) = record {
   entered = s.entered;
   passes = one_more s.passes b;
   visits = s.visits;
-  clients = set_value (nat_eq client) s.clients (position_past s.network.table s.base (Balancer b) (slice_index s.passes b));
+  clients = set_value (nat_eq client) s.clients
+      (position_past s.network.table s.base (Balancer b) (slice_index s.passes b));
 }
 after_step s client (Exit i) = record {
   network = s.network;
@@ -69,7 +70,8 @@ after_step s client (Exit i) = record {
   entered = s.entered;
   passes = s.passes;
   visits = one_more s.visits i;
-  clients = set_value (nat_eq client) s.clients (position_past s.network.table s.base (Exit i) (slice_index s.visits i));
+  clients = set_value (nat_eq client) s.clients
+      (position_past s.network.table s.base (Exit i) (slice_index s.visits i));
 }
 
 -- a network that nobody has entered

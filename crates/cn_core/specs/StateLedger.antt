@@ -1,5 +1,5 @@
--- The ledger of a state: of all that came since the counts were zero. Of the clients that came in earlier epochs the state
--- keeps only the number: in the ledger client 0 stands for each of them.
+-- The ledger of a state: of all that came since the counts were zero. Of the clients that came in earlier epochs the
+-- state keeps only the number: in the ledger client 0 stands for each of them.
 use Rattle.std.specs.Prelude.{ℕ, ◌+◌, ◌==◌, ◌&&◌, Bool, false, nat_eq, nat_lt, List, slice_index, count_by}
 use Rattle.std.specs.Map.{values_of}
 use Rattle.cn_spec.specs.Step.{name_of, share}
@@ -23,20 +23,22 @@ abbrev pub holds : ℕ → ℕ → Position → Bool
 holds base name (On wire) = false
 holds base name (Holds other) = other + base == name
 
--- how often a number was given: a passage's in earlier epochs and in the history; a visit's in earlier epochs, which gave
--- each exit its share of the base, and to the clients that hold its name
+-- how often a number was given: a passage's in earlier epochs and in the history; a visit's in earlier epochs, which
+-- gave each exit its share of the base, and to the clients that hold its name
 abbrev pub given_in : State → List Event → Carried → End → ℕ → ℕ
 given_in s history carried (Balancer b) n =
     once_below (carried.steps (Balancer b)) n + times_passed s.network.table history carried b n
 given_in s history carried (Exit i) v =
     when (nat_lt i s.network.table.width)
-    (once_below (share s.base s.network.table.width i) v + count_by (holds s.base (name_of s.network.table.width i v)) (values_of s.clients))
+    (once_below (share s.base s.network.table.width i) v
+    + count_by (holds s.base (name_of s.network.table.width i v)) (values_of s.clients))
 
 -- how often a client was granted a visit of an exit and its name
 abbrev pub granted_in : State → ℕ → ℕ → ℕ → ℕ → ℕ
 granted_in s c i v name =
     when (nat_lt i s.network.table.width && (name_of s.network.table.width i v == name))
-    (when (0 == c) (once_below (share s.base s.network.table.width i) v) + count_by (λ e. nat_eq c e.0 && holds s.base name e.1) s.clients)
+    (when (0 == c) (once_below (share s.base s.network.table.width i) v)
+    + count_by (λ e. nat_eq c e.0 && holds s.base name e.1) s.clients)
 
 -- the ledger of a state, with the passages of a history after what is carried
 abbrev pub ledger_of : State → List Event → Carried → Ledger

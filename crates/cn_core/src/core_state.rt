@@ -20,10 +20,10 @@ use std::alloc::{AllocError, Global};
 use std::hash::RandomState;
 use std::marker::Model;
 
-/// The running network of one epoch: its counts, and its clients with their positions. One event is one atomic step of the
-/// network. The next epoch begins with no counts ([`Core::clear`]), or goes on from these ([`Core::carry`]).
+/// The running network of one epoch: its counts, and its clients with their positions. One event is one atomic step of
+/// the network. The next epoch begins with no counts ([`Core::clear`]), or goes on from these ([`Core::carry`]).
 ///
-/// An enter and a step make at most two hash look-ups each, and relink one record of the yard, however many tokens are inside.
+/// With any number of tokens inside, an enter or a step makes at most two hash look-ups and relinks one record.
 #[derive(Drop)]
 pub struct Core<'a> {
     alloc: Global,
@@ -95,7 +95,7 @@ impl<'a> Core<'a> {
         })
     }
 
-    /// How many clients entered: at most [`MOST_CLIENTS`] ([`Core::state_laws`]). Those of earlier epochs are not among them.
+    /// How many clients entered in this epoch: at most [`MOST_CLIENTS`] ([`Core::state_laws`]).
     pub fn entered(&self) -> u64
         ensures value { result ≡ length self.now.clients }
         ensures by_history { ByHistories self.now (λ history carried. result ≡ enters_of history) }
@@ -103,8 +103,8 @@ impl<'a> Core<'a> {
         self.clients.len() as u64
     }
 
-    /// How many clients entered in the earlier epochs whose counts are carried ([`Core::carry`]): at most [`MOST_CARRIED`].
-    /// Each name that the epoch gives is that of its exit and visit minus this number. It takes no memory.
+    /// How many clients entered in the earlier epochs whose counts are carried ([`Core::carry`]): at most
+    /// [`MOST_CARRIED`]. Each name that the epoch gives is that of its exit and visit minus this number.
     pub fn base(&self) -> u64
         ensures value { result ≡ self.now.base }
         ensures by_history { ByHistories self.now (λ history carried. result ≡ carried.enters) }
@@ -113,10 +113,10 @@ impl<'a> Core<'a> {
         self.base
     }
 
-    /// What holds in every state, a law: clients, carried ones too, are few, and all came in by entries; each exit has a
-    /// count; some history leads to it, and by each that does its ledger is sound, and what is carried by each exit is its
-    /// share of the carried clients; no count is more than what came in, and no exit has let out more than its share of that,
-    /// nor less than its share of the carried clients; the names differ and are below the number of the clients.
+    /// What holds in every state, a law: clients, carried ones too, are few, and all came in by entries; each exit has
+    /// a count; some history leads to it, and by each that does its ledger is sound, and what is carried by each exit
+    /// is its share of the carried clients; no count is more than what came in, and no exit has let out more than its
+    /// share of that, nor less than its share of the carried clients; names differ, and are below their number.
     pub fn state_laws(&self)
         ensures few { length self.now.clients ≤ MOST_CLIENTS }
         ensures carried { self.now.base ≤ MOST_CARRIED }
@@ -143,7 +143,7 @@ impl<'a> Core<'a> {
         u64::from(self.clients.inside())
     }
 
-    /// Whether nobody is inside. Then each exit has let out its share of the clients that came in, the carried ones too, and
+    /// Whether nobody is inside. Then each exit has let out its share of all that came in, the carried ones too, and
     /// those that entered hold the names below their number, each once.
     pub fn is_quiet(&self) -> bool
         ensures value { IsTrue result ↔ (inside_in self.now ≡ 0) }
@@ -152,8 +152,8 @@ impl<'a> Core<'a> {
         self.clients.inside() == 0
     }
 
-    /// How many tokens passed a balancer below [`Counting::balancers`] since the counts were zero: at most what the full flow
-    /// of all that came in brings there.
+    /// How many tokens passed a balancer below [`Counting::balancers`] since the counts were zero: at most what the
+    /// full flow of all that came in brings there.
     pub fn balancer_count(&self, balancer: u32) -> u64
         requires { balancer < self.now.network.table.balancers }
         ensures value { result ≡ slice_index self.now.passes balancer }
@@ -164,8 +164,7 @@ impl<'a> Core<'a> {
         count_at(&self.passes, balancer as usize)
     }
 
-    /// How many tokens left by an exit below [`Counting::width`] since the counts were zero: at most its share of all that
-    /// came in.
+    /// How many tokens left by an exit below [`Counting::width`] since the counts were zero: at most its share.
     pub fn exit_count(&self, exit: u32) -> u64
         requires { exit < self.now.network.table.width }
         ensures value { result ≡ slice_index self.now.visits exit }
@@ -175,7 +174,7 @@ impl<'a> Core<'a> {
         self.exits.count(exit)
     }
 
-    /// The name of a client, if it holds one. It is below the number of clients that entered, and no other client holds it.
+    /// The name of a client, if it holds one: below the number of clients that entered, and of no other client.
     pub fn name(&self, client: u64) -> Option<u64>
         ensures value { result ≡ name_in self.now client }
         ensures below { IfSome result (λ name. name < length self.now.clients) }
@@ -235,7 +234,7 @@ impl<'a> Core<'a> {
     /// ledger; a refused one changes nothing.
     ///
     /// # Errors
-    /// The first that stands: `NoSuchEntry`, `AlreadyIn` (the client is inside, or holds a name), `EpochFull`, `Memory`.
+    /// The first that stands: `NoSuchEntry`, `AlreadyIn` (it is inside, or holds a name), `EpochFull`, `Memory`.
     pub fn enter(&mut self, client: u64, entry: u64) -> Result<(), EnterFault>
         ensures event { EntersTo self.old client entry (entered_reply result) self.new }
         ensures history { AnswersByHistory self.old (Enter client entry)

@@ -12,8 +12,8 @@ ghost use Rattle.cn_ledger.specs.declared.moved.Moved.TheVariants.{On as Passed,
 ghost use Rattle.cn_record.specs.declared.reply.Reply.TheVariants.{Entered, EnterRefused, StepRefused, Stepped};
 ghost use Rattle.cn_record.specs.declared.reply.StepFault.TheVariants.{HasName, Stranger};
 
-/// After any history two clients that hold one name are one client. The earlier epochs, if there are any, were accepted, and
-/// have no more clients than may be carried.
+/// After any history two clients that hold one name are one client. The earlier epochs, if there are any, were
+/// accepted, and have no more clients than may be carried.
 pub fn a_name_has_one_holder()
     ensures { (network : Network) (history : List Event) (earlier : List (List Event))
         → IsNetwork network → AreEpochs network.table earlier

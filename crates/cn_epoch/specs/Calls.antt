@@ -47,8 +47,8 @@ RepliesTo old event (Replied reply) new =
 RepliesTo old event (Turned r) new = ⊥
 RepliesTo old event (TurnRefused fault) new = ⊥
 
--- by every number of turns, history and earlier epochs that the old epochs agree with this is a reply to the event, and the
--- new epochs agree with those after it: no epoch ends
+-- by every number of turns, history and earlier epochs that the old epochs agree with this is a reply to the event, and
+-- the new epochs agree with those after it: no epoch ends
 abbrev pub RepliesByHistory : Epochs → Event → Reply → Epochs → Type 0
 RepliesByHistory old event reply new =
     (turns : ℕ) (history : List Event) (kept : Option (List (List Event))) → Agrees old turns history kept
@@ -68,12 +68,13 @@ TakesTo old (Enter client entry) answer new = RepliesTo old (EnterEvent client e
 TakesTo old (Step client) answer new = RepliesTo old (StepEvent client) answer new
 TakesTo old Turn answer new = TurnsTo old answer new
 
--- by every number of turns, history and earlier epochs that the old epochs agree with this is an answer to the command, and
--- the new epochs agree with those after it
+-- by every number of turns, history and earlier epochs that the old epochs agree with this is an answer to the command,
+-- and the new epochs agree with those after it
 abbrev pub AnswersByHistory : Epochs → Command → Answer → Epochs → Type 0
 AnswersByHistory old command answer new =
     (turns : ℕ) (history : List Event) (kept : Option (List (List Event))) → Agrees old turns history kept
-    → MayAnswer old.core.network.table turns history (carried_by old.core.network.table (earlier_in kept)) command answer
+    → MayAnswer old.core.network.table turns history (carried_by old.core.network.table (earlier_in kept))
+    command answer
     × Agrees new (turns_after turns answer) (history_after history command answer) (kept_after kept history answer)
 
 -- commands with these answers take the old epochs to the new ones, one after another
@@ -84,8 +85,8 @@ RunsTo old (command ∷ commands) (answer ∷ answers) new =
 RunsTo old [] (answer ∷ answers) new = ⊥
 RunsTo old (command ∷ commands) [] new = ⊥
 
--- by every number of turns, history and earlier epochs that the old epochs agree with these are answers to the commands, and
--- the new epochs agree with those after them
+-- by every number of turns, history and earlier epochs that the old epochs agree with these are answers to the
+-- commands, and the new epochs agree with those after them
 abbrev pub RunsByHistory : Epochs → List Command → List Answer → Epochs → Type 0
 RunsByHistory old commands answers new =
     (turns : ℕ) (history : List Event) (kept : Option (List (List Event))) → Agrees old turns history kept

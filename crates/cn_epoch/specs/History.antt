@@ -1,5 +1,5 @@
--- The answers of epochs, by the number of turns done, the history since the last of them, the newest event first, and the
--- earlier epochs since the counts were zero.
+-- The answers of epochs, by the number of turns done, the history since the last of them, the newest event first, and
+-- the earlier epochs since the counts were zero.
 use Rattle.std.specs.Prelude.{◌≡◌, ℕ, ◌+◌, ◌<◌, ◌≤◌, Bool, true, false, List, [], ◌∷◌, Option, None, Some, is_some, length, slice_index}
 use Rattle.std.specs.Option.{option_map}
 use Rattle.cn_wiring.specs.Table.{Table}
@@ -17,8 +17,8 @@ use Rattle.cn_record.specs.declared.command.Command.{Command}
 use Rattle.cn_record.specs.declared.command.Command.TheVariants.{Enter, Step, Turn}
 use Rattle.cn_record.specs.declared.record.EpochRecord.{EpochRecord}
 
--- epochs as contracts see them: how many have ended, whether a turn carries the counts on, and the state of the epoch that
--- stands open
+-- epochs as contracts see them: how many have ended, whether a turn carries the counts on, and the state of the epoch
+-- that stands open
 pub record Epochs : Type 0 where
   pub number : ℕ
   pub carries : Bool
@@ -35,7 +35,8 @@ earlier_in None = []
 earlier_in (Some earlier) = earlier
 
 -- epochs agree with a number of turns done, the history since the last of them and, if turns carry, the earlier epochs
-pub record Agrees (epochs : Epochs) (turns : ℕ) (history : List Event) (kept : Option (List (List Event))) : Type 0 where
+pub record Agrees (epochs : Epochs) (turns : ℕ) (history : List Event)
+    (kept : Option (List (List Event))) : Type 0 where
   pub number : epochs.number ≡ turns
   pub carries : epochs.carries ≡ is_some kept
   pub core : core.Agrees epochs.core history (earlier_in kept)
@@ -47,7 +48,8 @@ ByHistories epochs P =
     → P turns history (carried_by epochs.core.network.table (earlier_in kept))
 
 -- the record of a history: its enters, its leaves by exit, and the client of each name
-pub record IsRecordOf (table : Table) (turns : ℕ) (history : List Event) (carried : Carried) (r : EpochRecord) : Type 0 where
+pub record IsRecordOf (table : Table) (turns : ℕ) (history : List Event) (carried : Carried)
+    (r : EpochRecord) : Type 0 where
   pub number : r.number ≡ turns
   pub clients : r.clients ≡ enters_of history
   pub exits : length r.counts.items ≡ table.width
@@ -74,7 +76,8 @@ MayReply table history carried event (TurnRefused fault) = ⊥
 
 -- the answers that a command may have
 abbrev pub MayAnswer : Table → ℕ → List Event → Carried → Command → Answer → Type 0
-MayAnswer table turns history carried (Enter client entry) answer = MayReply table history carried (EnterEvent client entry) answer
+MayAnswer table turns history carried (Enter client entry) answer =
+    MayReply table history carried (EnterEvent client entry) answer
 MayAnswer table turns history carried (Step client) answer = MayReply table history carried (StepEvent client) answer
 MayAnswer table turns history carried Turn answer = MayTurn table turns history carried answer
 
@@ -117,7 +120,8 @@ abbrev pub MayAnswerAll : Table → ℕ → List Event → Option (List (List Ev
 MayAnswerAll table turns history kept [] [] = Unit {0}
 MayAnswerAll table turns history kept (command ∷ commands) (answer ∷ answers) =
     MayAnswer table turns history (carried_by table (earlier_in kept)) command answer
-    × MayAnswerAll table (turns_after turns answer) (history_after history command answer) (kept_after kept history answer) commands answers
+    × MayAnswerAll table (turns_after turns answer) (history_after history command answer)
+    (kept_after kept history answer) commands answers
 MayAnswerAll table turns history kept [] (answer ∷ answers) = ⊥
 MayAnswerAll table turns history kept (command ∷ commands) [] = ⊥
 
@@ -130,7 +134,8 @@ turns_by turns (answer ∷ answers) = turns_by (turns_after turns answer) answer
 abbrev pub history_by : List Event → List Command → List Answer → List Event
 history_by history [] answers = history
 history_by history (command ∷ commands) [] = history
-history_by history (command ∷ commands) (answer ∷ answers) = history_by (history_after history command answer) commands answers
+history_by history (command ∷ commands) (answer ∷ answers) =
+    history_by (history_after history command answer) commands answers
 
 -- the earlier epochs then, if turns carry
 abbrev pub earlier_by : List (List Event) → List Event → List Command → List Answer → List (List Event)

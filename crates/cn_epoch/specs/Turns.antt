@@ -12,8 +12,8 @@ use Rattle.cn_record.specs.declared.record.EpochRecord.{EpochRecord}
 use Rattle.cn_record.specs.Answers.{HadMemory, IsSameAnswer, IsSameRecord}
 use Rattle.cn_epoch.specs.History.{IsRecordOf, MayAnswerAll, kept_by, earlier_in}
 
--- what a record says is tight after so many clients: each exit has let out what its share has grown by, and each name below
--- the number of clients has a holder of its own
+-- what a record says is tight after so many clients: each exit has let out what its share has grown by, and each name
+-- below the number of clients has a holder of its own
 pub record IsTightRecord (width base : ℕ) (r : EpochRecord) : Type 0 where
   pub exits : length r.counts.items ≡ width
   pub counts : (i : ℕ) → i < width
@@ -28,8 +28,8 @@ HasOneRecord table turns history carried =
     (r s : EpochRecord) → IsRecordOf table turns history carried r → IsRecordOf table turns history carried s
     → IsSameRecord r s
 
--- apart from want of memory, the answers that these commands may have are the same: the epochs that end by them, and the
--- earlier ones, have no more clients than may be carried
+-- apart from want of memory, the answers that these commands may have are the same: the epochs that end by them, and
+-- the earlier ones, have no more clients than may be carried
 abbrev pub HaveOneAnswer : Table → ℕ → List Event → Option (List (List Event)) → List Command → Type 0
 HaveOneAnswer table turns history kept commands =
     (answers others : List Answer) → All HadMemory answers → All HadMemory others

@@ -23,8 +23,8 @@ use std::alloc::{AllocError, Global};
 use std::hash::RandomState;
 use std::marker::Model;
 
-/// One network in epochs: each gives its clients the names from 0 up, and ends when nobody is inside. The counts are cleared
-/// at the end of each ([`Epochs::new`]), or carried on ([`Epochs::carrying`]).
+/// One network in epochs: each gives its clients the names from 0 up, and ends when nobody is inside. The counts are
+/// cleared at the end of each ([`Epochs::new`]), or carried on ([`Epochs::carrying`]).
 #[derive(Drop)]
 pub struct Epochs<'a> {
     alloc: Global,
@@ -87,8 +87,8 @@ impl<'a> Epochs<'a> {
         })
     }
 
-    /// The first epoch of a network, that nobody has entered. Each turn clears the counts. The table of its clients hashes by
-    /// `state`.
+    /// The first epoch of a network, that nobody has entered. Each turn clears the counts. The table of its clients
+    /// hashes by `state`.
     ///
     /// # Errors
     /// `AllocError` if the counts or the wires get no memory.
@@ -133,8 +133,8 @@ impl<'a> Epochs<'a> {
         self.core.entered()
     }
 
-    /// How many clients entered in the earlier epochs whose counts are carried: 0 for epochs made by [`Epochs::new`], and at
-    /// most [`MOST_CARRIED`]. It takes no memory.
+    /// How many clients entered in the earlier epochs whose counts are carried: 0 for epochs made by [`Epochs::new`],
+    /// and at most [`MOST_CARRIED`]. It takes no memory.
     pub fn base(&self) -> u64
         ensures value { result ≡ self.now.core.base }
         ensures by_history { ByHistories self.now (λ turns history carried. result
@@ -145,9 +145,9 @@ impl<'a> Epochs<'a> {
         self.core.base()
     }
 
-    /// What holds of the epoch that stands open, as by [`Core::state_laws`]: some history since the last turn leads to it,
-    /// and by each that does its ledger is sound, and what is carried by each exit is its share of the carried clients; no
-    /// count is more than what came in.
+    /// What holds of the epoch that stands open, as by [`Core::state_laws`]: some history since the last turn leads to
+    /// it, and by each that does its ledger is sound, and what is carried by each exit is its share of the carried
+    /// clients; no count is more than what came in.
     ///
     /// It does nothing: its contract is the law.
     pub fn state_laws(&self)

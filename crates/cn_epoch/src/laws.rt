@@ -9,8 +9,8 @@ ghost use Rattle.cn_record.specs.declared.command.Command.{Command};
 ghost use Rattle.cn_epoch.specs.History.{earlier_in};
 ghost use Rattle.cn_epoch.specs.Turns.{HasOneRecord, HaveOneAnswer};
 
-/// A history has one record: it fixes each count, and the holder of each name. The earlier epochs whose counts are carried, if
-/// there are any, were accepted, and have no more clients than may be carried.
+/// A history has one record: it fixes each count, and the holder of each name. The earlier epochs whose counts are
+/// carried, if there are any, were accepted, and have no more clients than may be carried.
 pub fn a_history_has_one_record()
     ensures { (network : Network) (turns : ℕ) (history : List Event) (earlier : List (List Event))
         → IsNetwork network → AreEpochs network.table earlier
@@ -18,8 +18,8 @@ pub fn a_history_has_one_record()
         → HasOneRecord network.table turns history (carried_by network.table earlier) }
 {}
 
-/// Apart from want of memory, commands have one list of answers, if turns clear and if they carry. The history and the earlier
-/// epochs were accepted.
+/// Apart from want of memory, commands have one list of answers, if turns clear and if they carry. The history and the
+/// earlier epochs were accepted.
 pub fn commands_have_one_list_of_answers()
     ensures { (network : Network) (turns : ℕ) (history : List Event)
         (kept : Option (List (List Event))) (commands : List Command)

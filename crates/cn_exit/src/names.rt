@@ -14,7 +14,8 @@ pub struct Place {
     pub visit: u64,
 }
 
-/// The name that `exit` of `width` gives out at this visit of it: `exit + width * visit`. Exits and visits count from 0.
+/// The name that `exit` of `width` gives out at this visit of it: `exit + width * visit`. Exits and visits count from
+/// 0.
 ///
 /// `width` is at most [`MOST_ENDS`], `exit` below it, and `visit` at most [`MOST_ARRIVALS`]. Aspnes, Herlihy, Shavit
 /// 1994, section 2.

@@ -1,5 +1,8 @@
 -- Between two atomic steps: what keeps the rule.
 pub mod Places
+pub mod Spreads
+pub mod Placed
+pub mod Laid
 pub mod Totals
 pub mod Raised
 pub mod Ledgers

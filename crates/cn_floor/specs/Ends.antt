@@ -38,7 +38,8 @@ pub record HasRisen (start : Start) (words risen : List ℕ) : Type 0 where
   pub count : length risen ≡ word_count start.network.table
   pub each : (end : End) → Stands start.network.table end
       → slice_index risen (end_word start.network.table end)
-      ≡ slice_index words (end_word start.network.table end) - slice_index start.words (end_word start.network.table end)
+      ≡ slice_index words (end_word start.network.table end) - slice_index start.words
+      (end_word start.network.table end)
 
 -- a closed floor as contracts see it: what it began with, what its lane did, and the words
 pub record QuietValue : Type 0 where
@@ -62,7 +63,8 @@ pub record IsClosedFloor (start : Start) (v : View) (words : List ℕ) : Type 0 
   pub numbered : (end : End) (n : ℕ) → Stands start.network.table end
       → once_below (count_in start.network.table start.words end) n + given_in end n v
       ≡ once_below (count_in start.network.table words end) n
-  -- so the visits on an exit are those from its share of the clients that came before up to, not including, its share of all
+  -- so the visits on an exit are those from its share of the clients that came before up to, not including, its share
+  -- of all
   pub visits : (i n : ℕ) → i < start.network.table.width
       → once_below (share (base start) start.network.table.width i) n + given_in (Exit i) n v
       ≡ once_below (share (base start + length v.grants) start.network.table.width i) n

@@ -8,8 +8,8 @@ use Rattle.cn_floor.specs.declared.view.View.{View}
 use Rattle.cn_floor.specs.Steps.{IsAtomicStep}
 use Rattle.cn_floor.specs.Views.{after_enter, no_start}
 
--- so many clients of a list, from a place on, come in by an entry one after the other; each one's token has the number of
--- its place
+-- so many clients of a list, from a place on, come in by an entry one after the other; each one's token has the number
+-- of its place
 unfoldable pub after_enters : List ℕ → ℕ → ℕ → ℕ → View → View
 after_enters clients entry place zero v = v
 after_enters clients entry place (suc n) v =

@@ -58,7 +58,8 @@ pub record LetsIn (old new : LaneValue) (token client entry : ℕ) : Type 0 wher
 
 -- a token that goes by an end with number n stands last on the balancer's output, or is gone
 abbrev pub PutsOn : Start → End → ℕ → Yard → Yard → ℕ → ℕ → Type 0
-PutsOn start (Balancer b) n old new token client = Moves old new token client (output_wire start.network.table b (n % 2))
+PutsOn start (Balancer b) n old new token client =
+    Moves old new token client (output_wire start.network.table b (n % 2))
 PutsOn start (Exit i) n old new token client = Releases old new token
 
 -- a client's token goes by the end of its wire, with the number that it finds there

@@ -1,6 +1,7 @@
 pub mod Words
 pub mod Views
 pub mod Rule
+pub mod Spread
 pub mod Carried
 pub mod InsideNetworkRef
 pub mod InsideWords

@@ -12,8 +12,8 @@ use Rattle.cn_floor.specs.EntersAll.{EnterInRow, after_enter_all}
 use Rattle.cn_floor.specs.Steps.{HasMoment, IsAtomicStep}
 use Rattle.cn_floor.specs.Sweeps.{SweptBy}
 
--- of a list's clients those at the places first, first + stride and so on, so many; each is a token with the number of its
--- place
+-- of a list's clients those at the places first, first + stride and so on, so many; each is a token with the number of
+-- its place
 unfoldable pub placed : List ℕ → ℕ → ℕ → ℕ → List (ℕ × ℕ)
 placed clients first stride zero = []
 placed clients first stride (suc n) = (first, slice_index clients first) ∷ placed clients (first + stride) stride n

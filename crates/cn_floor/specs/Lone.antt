@@ -14,14 +14,15 @@ pub record IsAlone (lists : Lists) (token client wire : ℕ) : Type 0 where
   pub inside : wire < length lists
   pub only : (u : ℕ) → on lists u ≡ last_on token client wire u
 
--- a client's token passes one balancer after the other from a wire on, by one event each, until it stands on a wire: at each
--- it finds the next of these numbers
+-- a client's token passes one balancer after the other from a wire on, by one event each, until it stands on a wire: at
+-- each it finds the next of these numbers
 unfoldable pub PassesOn : Start → ℕ → ℕ → List ℕ → ℕ → View → ℕ → View → Type 0
 PassesOn start token client [] wire v to w = (to ≡ wire) × (w ≡ v)
 PassesOn start token client (n ∷ rest) wire v to w =
     (b : ℕ) × (end_of start.network.table wire ≡ Balancer b)
     × IsLetBy start v (after_step token client (Balancer b) n v) client (Balancer b) n
-    × PassesOn start token client rest (output_wire start.network.table b (n % 2)) (after_step token client (Balancer b) n v) to w
+    × PassesOn start token client rest (output_wire start.network.table b (n % 2))
+    (after_step token client (Balancer b) n v) to w
 
 -- a lane passed balancers, and did nothing else
 pub record OnlyPassed (old new : View) : Type 0 where

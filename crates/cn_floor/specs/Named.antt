@@ -34,7 +34,8 @@ pub record IsNamed (old new : LaneValue) (client entry name : ℕ) : Type 0 wher
   pub walked : WalksThrough old.home.start client entry exit visit old.view new.view
   pub quota : new.view.quota + 1 ≡ old.view.quota
   pub entries : new.view.entries ≡ old.view.entries ++ entry ∷ []
-  pub grants : new.view.grants ≡ old.view.grants ++ record { client = client; exit = exit; visit = visit; name = name } ∷ []
+  pub grants : new.view.grants
+      ≡ old.view.grants ++ record { client = client; exit = exit; visit = visit; name = name } ∷ []
   pub seen : new.view.seen ≡ old.view.seen
   -- the name is below what the floor may let in, and the lane stands at some moment
   pub low : name < old.home.start.quota

@@ -44,7 +44,8 @@ nobody_goes = record { start = no_start; token = 0; client = 0; wire = 0; end = 
 -- a client goes by an end, and gets the number n
 pub record IsLetBy (start : Start) (v w : View) (client : ℕ) (end : End) (n : ℕ) : Type 0 where
   -- it is one event
-  pub step : IsAtomicStep start v w (λ old new. IsMoveOf start.network.table (base start) old new client (answer_at start end n))
+  pub step : IsAtomicStep start v w
+      (λ old new. IsMoveOf start.network.table (base start) old new client (answer_at start end n))
   pub few : n ≤ base start + start.quota
   -- a lane with the whole quota is given the count of its own
   pub sole : v.quota + length v.entries ≡ start.quota

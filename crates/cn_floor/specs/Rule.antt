@@ -54,7 +54,8 @@ pub record IsAccounted (network : Network) (v : View) : Type 0 where
   pub walked : (level : ℕ → ℕ) → IsLevel network.table network.depth level
       → length v.passages ≡ network.depth * length v.grants + levels_in level v
 
--- a bound on what a lane's loads add up to: the words that it has loaded so far, and those of the other entries as they are
+-- a bound on what a lane's loads add up to: the words that it has loaded so far, and those of the other entries as they
+-- are
 abbrev pub load_bound : Table → List ℕ → List ℕ → ℕ
 load_bound t words loads = sum_below t.entries (λ u. slice_index_or loads u (entered_in t words u))
 

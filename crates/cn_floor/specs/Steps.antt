@@ -24,8 +24,8 @@ pub record IsMoment (start : Start) (v : View) (s : FloorState) : Type 0 where
 abbrev pub HasMoment : Start → View → Type 0
 HasMoment start v = (s : FloorState) × IsMoment start v s
 
--- At a moment of the floor one view becomes another and no other changes, and that is this event on the ledger; the rule
--- holds before it and after.
+-- At a moment of the floor one view becomes another and no other changes, and that is this event on the ledger; the
+-- rule holds before it and after.
 pub record IsAtomicStep (start : Start) (v w : View) (event : Ledger → Ledger → Type 0) : Type 0 where
   pub old : FloorState
   pub new : FloorState

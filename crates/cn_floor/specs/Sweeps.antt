@@ -36,7 +36,8 @@ GoesFrom t old new client wire (Exit i) = Leaves t old new client wire i
 unfoldable pub GoInRow : Table → ℕ → End → ℕ → List (ℕ × ℕ) → Ledger → Ledger → Type 0
 GoInRow t wire end n [] old new = old ≡ new
 GoInRow t wire end n (e ∷ rest) old new =
-    (between : Ledger) × GoesFrom t old between e.1 wire end × (old.count end ≡ n) × GoInRow t wire end (n + 1) rest between new
+    (between : Ledger) × GoesFrom t old between e.1 wire end × (old.count end ≡ n)
+    × GoInRow t wire end (n + 1) rest between new
 
 -- whose sweep of which wire, on which floor
 pub record Sweeping : Type 0 where

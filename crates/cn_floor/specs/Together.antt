@@ -51,8 +51,8 @@ StoodAsOne start v w answer = (steps : ℕ) × HasMoment start (record (both_of 
 abbrev pub after_looks : ℕ → View → View
 after_looks n v = record v { steps = v.steps + n }
 
--- what two lanes are after a look at both, which gives this answer of how many came in: the first loads the word of each
--- entry once
+-- what two lanes are after a look at both, which gives this answer of how many came in: the first loads the word of
+-- each entry once
 abbrev pub first_after : Start → ℕ → View → View
 first_after start entered v = after_looks 3 (after_entered start entered v)
 

@@ -47,7 +47,8 @@ given_in (Exit i) n v = count_by (λ g. (i == g.exit) && (g.visit == n)) v.grant
 
 -- how often it has this grant; its name here is that of the ledger of all clients, m more than the lane's
 abbrev pub granted_in : ℕ → ℕ → ℕ → ℕ → ℕ → View → ℕ
-granted_in m c i v name view = count_by (λ g. (g.client == c) && ((g.exit == i) && ((g.visit == v) && (g.name + m == name)))) view.grants
+granted_in m c i v name view =
+    count_by (λ g. (g.client == c) && ((g.exit == i) && ((g.visit == v) && (g.name + m == name)))) view.grants
 
 -- how often it went by or left at an end
 abbrev pub own_count : End → View → ℕ
@@ -73,14 +74,20 @@ after_enter token client entry v = record v {
 -- gone with a grant
 abbrev pub after_step : ℕ → ℕ → End → ℕ → View → View
 after_step token client (Balancer b) n v = record v {
-  tokens = map (λ u. without token (on v.tokens u) ++ last_on token client (output_wire v.start.network.table b (n % 2)) u)
+  tokens = map
+      (λ u. without token (on v.tokens u) ++ last_on token client (output_wire v.start.network.table b (n % 2)) u)
       (range_with_len 0 (length v.tokens));
   passages = v.passages ++ record { balancer = b; number = n } ∷ [];
   steps = v.steps + 1;
 }
 after_step token client (Exit i) n v = record v {
   tokens = map (λ u. without token (on v.tokens u) ++ []) (range_with_len 0 (length v.tokens));
-  grants = v.grants ++ record { client = client; exit = i; visit = n; name = name_of v.start.network.table.width i n - base v.start } ∷ [];
+  grants = v.grants ++ record {
+    client = client;
+    exit = i;
+    visit = n;
+    name = name_of v.start.network.table.width i n - base v.start;
+  } ∷ [];
   steps = v.steps + 1;
 }
 
@@ -91,7 +98,8 @@ after_load_by false start ls v = record v { loads = ls; steps = v.steps + 1 }
 
 -- the number n is loaded from the word of the next entry, of which the last one gives the answer
 abbrev pub after_load : Start → ℕ → View → View
-after_load start n v = after_load_by (nat_eq (length v.loads + 1) start.network.table.entries) start (v.loads ++ n ∷ []) v
+after_load start n v =
+    after_load_by (nat_eq (length v.loads + 1) start.network.table.entries) start (v.loads ++ n ∷ []) v
 
 -- a lane got an answer, for which it loaded the word of each entry once
 abbrev pub after_entered : Start → ℕ → View → View
@@ -122,7 +130,15 @@ after_join v w = record v {
 
 -- a view that no lane has now
 abbrev pub no_start : Start
-no_start = record { network = record { table = record { entries = 0; width = 0; balancers = 0; ends = [] }; kind = Tree; depth = 0 }; quota = 0; words = [] }
+no_start = record {
+  network = record {
+    table = record { entries = 0; width = 0; balancers = 0; ends = [] };
+    kind = Tree;
+    depth = 0;
+  };
+  quota = 0;
+  words = [];
+}
 
 -- the view that is left where one was taken into another
 abbrev pub nobody : View

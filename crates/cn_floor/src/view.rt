@@ -90,4 +90,6 @@ pub struct Opening {
     pub quota: u64,
     /// The words of earlier floors.
     pub words: Snapshot<Vec<u64>>,
+    /// How far apart two neighbours lie in the table.
+    pub stride: usize,
 }

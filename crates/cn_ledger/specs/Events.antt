@@ -33,7 +33,8 @@ pub record Goes (t : Table) (old new : Ledger) (c u : ℕ) (end : End) (to : ℕ
   pub standing : (wire d : ℕ) → new.standing wire d + when ((u == wire) && (c == d)) 1
       ≡ old.standing wire d + when (c == d) (to wire)
   -- the count is the number that is given
-  pub given : (other : End) (n : ℕ) → new.given other n ≡ old.given other n + when (is_end end other && (old.count end == n)) 1
+  pub given : (other : End) (n : ℕ) → new.given other n
+      ≡ old.given other n + when (is_end end other && (old.count end == n)) 1
 
 -- client c passes balancer b from wire u, and stands on the balancer's next output
 pub record Passes (t : Table) (old new : Ledger) (c u b : ℕ) : Type 0 where
@@ -45,4 +46,5 @@ pub record Leaves (t : Table) (old new : Ledger) (c u i : ℕ) : Type 0 where
   pub goes : Goes t old new c u (Exit i) (λ _. 0)
   pub granted : (d j v name : ℕ) → new.granted d j v name
       ≡ old.granted d j v name
-      + when ((c == d) && ((i == j) && ((old.count (Exit i) == v) && (name_of t.width i (old.count (Exit i)) == name)))) 1
+      + when ((c == d) && ((i == j) && ((old.count (Exit i) == v)
+      && (name_of t.width i (old.count (Exit i)) == name)))) 1

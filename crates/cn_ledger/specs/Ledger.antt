@@ -74,8 +74,8 @@ pub record IsBounded (t : Table) (l : Ledger) : Type 0 where
 abbrev pub times_given : Table → Ledger → ℕ → ℕ
 times_given t l name = l.given (Exit (name % t.width)) (name / t.width)
 
--- the counts and the names are exactly those of what entered (tightness is this project's own; renaming is that of Attiya,
--- Bar-Noy, Dolev, Peleg, Reischuk, JACM 1990)
+-- the counts and the names are exactly those of what entered (tightness is this project's own; renaming is that of
+-- Attiya, Bar-Noy, Dolev, Peleg, Reischuk, JACM 1990)
 pub record IsTight (t : Table) (l : Ledger) : Type 0 where
   -- each exit's count is its share of what entered
   pub counts : (i : ℕ) → i < t.width → l.count (Exit i) ≡ share (all_entered t l) t.width i

@@ -1,5 +1,5 @@
--- The order in which the balancers of blocks and periodic networks are made (Aspnes, Herlihy, Shavit, Counting Networks,
--- JACM 1994, section 4).
+-- The order in which the balancers of blocks and periodic networks are made (Aspnes, Herlihy, Shavit, Counting
+-- Networks, JACM 1994, section 4).
 use Rattle.std.specs.Prelude.{ℕ, zero, suc, ◌^◌, List}
 use Rattle.std.specs.List.{range_with_len}
 use Rattle.cn_spec.specs.Networks.{a_cochain, b_cochain}

@@ -1,5 +1,5 @@
--- How large a block and the periodic network over 2 ^ level wires are (Aspnes, Herlihy, Shavit, Counting Networks, JACM 1994,
--- section 4).
+-- How large a block and the periodic network over 2 ^ level wires are (Aspnes, Herlihy, Shavit, Counting Networks, JACM
+-- 1994, section 4).
 use Rattle.std.specs.Prelude.{ℕ, ◌*◌, ◌/◌, ◌^◌}
 
 -- the balancers of a block, whose depth is the level: one for each two wires, level times

@@ -16,9 +16,9 @@ use std::alloc::{AllocError, Global};
 /// 1994, section 4).
 ///
 /// The list's length is a power of two from 2 upward, and its wires are loose and all different. A block over `n` wires
-/// has `log2 n` layers of `n / 2` balancers, and the draft has at most [`MOST_BALANCERS`] balancers afterwards. Balancers
-/// are numbered in the order in which they are made: the block over the A-cochain, that over the B-cochain, and the last
-/// layer.
+/// has `log2 n` layers of `n / 2` balancers, and the draft has at most [`MOST_BALANCERS`] balancers afterwards.
+/// Balancers are numbered in the order in which they are made: the block over the A-cochain, that over the B-cochain,
+/// and the last layer.
 ///
 /// # Errors
 /// `AllocError` if a list gets no memory. The draft may have some of the balancers then, and should be dropped.

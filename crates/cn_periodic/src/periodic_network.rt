@@ -23,9 +23,9 @@ use std::alloc::{AllocError, Global};
 /// The periodic counting network of this width: `width` entries and exits, depth `L * L`, where `L` is the logarithm of
 /// `width` to base 2, and half of `width` times the depth balancers (Aspnes, Herlihy, Shavit 1994, section 4).
 ///
-/// It is `L` blocks in series, and balancers are numbered in the order in which they are made: one block after the other.
-/// In a block that over the A-cochain comes first, then that over the B-cochain, and then the last layer. So a width has
-/// one periodic network, by [`cn_wiring::laws::tables_are_unique`].
+/// It is `L` blocks in series, and balancers are numbered in the order in which they are made: one block after the
+/// other. In a block that over the A-cochain comes first, then that over the B-cochain, and then the last layer. So a
+/// width has one periodic network, by [`cn_wiring::laws::tables_are_unique`].
 ///
 /// # Errors
 /// [`BuildFault::Width`] if networks of this width are not built, and [`BuildFault::Memory`] if the network gets no
@@ -53,8 +53,8 @@ pub fn periodic(alloc: Global, width: u32) -> Result<Counting, BuildFault>
     Ok(draft.finish_counting(&exits, Kind::Periodic, depth)?)
 }
 
-/// Adds the periodic network over a list of `2 ^ level` wires to a draft, and gives its outputs: `level` blocks, each over
-/// the outputs of the one before.
+/// Adds the periodic network over a list of `2 ^ level` wires to a draft, and gives its outputs: `level` blocks, each
+/// over the outputs of the one before.
 ///
 /// # Errors
 /// `AllocError` if a list gets no memory. The draft may have some of the balancers.

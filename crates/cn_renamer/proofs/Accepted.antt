@@ -13,8 +13,8 @@ use Rattle.cn_report.specs.Reading.Records.{records_of}
 use Rattle.cn_report.specs.Reading.Told.{names_in, told_epochs}
 use Rattle.cn_report.specs.Writing.Grants.{AreRisingRecords, AreTightRecords, HasOwnNames, checked_epoch}
 use Rattle.cn_report.specs.Writing.Report.{clients_of_records}
-use Rattle.cn_report.specs.declared.reading.gathering.BatchEpoch.{BatchEpoch}
-use Rattle.cn_cli.specs.Net.{Description, entries_of}
+use Rattle.cn_report.specs.declared.reading.batch.BatchEpoch.{BatchEpoch}
+use Rattle.cn_nets.specs.Net.{Description, entries_of}
 use Rattle.cn_cli.specs.declared.options.Form.TheVariants.{Grants}
 use Rattle.cn_renamer.specs.Headline.{IsRunOf, IsServed, served_epoch}
 use Rattle.cn_renamer.proofs.Headline.{AfterSome, as-many, each-served}

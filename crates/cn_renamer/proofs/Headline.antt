@@ -11,10 +11,10 @@ use Rattle.cn_ledger.specs.declared.client.Client.{Client}
 use Rattle.cn_record.specs.declared.record.EpochRecord.{EpochRecord}
 use Rattle.cn_report.specs.Reading.Batch.{IsBatch, clients_of_epochs}
 use Rattle.cn_report.specs.Reading.Records.{records_of}
-use Rattle.cn_report.specs.declared.reading.gathering.BatchEpoch.{BatchEpoch}
+use Rattle.cn_report.specs.declared.reading.batch.BatchEpoch.{BatchEpoch}
 use Rattle.cn_report.proofs.CallerLemmas.{known-map}
 use Rattle.cn_report.specs.Writing.Written.{HasWritten, First, Nothing, Whole, Written}
-use Rattle.cn_cli.specs.Net.{Description, IsNetworkOf}
+use Rattle.cn_nets.specs.Net.{Description, IsNetworkOf}
 use Rattle.cn_cli.specs.declared.options.Form.{Form}
 use Rattle.cn_renamer.specs.Headline.{AreServed, IsRunOf, IsRunOfKnown, IsServed, after, text_in}
 

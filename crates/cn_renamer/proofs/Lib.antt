@@ -1,8 +1,9 @@
 pub mod Accepted
 pub mod Built
 pub mod Headline
-pub mod InParts
+pub mod Kept
 pub mod OneText
+pub mod Refused
 pub mod Replies
 pub mod Running
 pub mod Served

@@ -10,8 +10,8 @@ use Rattle.cn_report.proofs.CallerLemmas.{lines-same}
 use Rattle.cn_report.specs.Writing.Text.{heading}
 use Rattle.cn_report.proofs.CallerLemmas.{one-schedule}
 use Rattle.cn_report.specs.Writing.Wiring.{wiring_text}
-use Rattle.cn_cli.specs.Net.{Description}
-use Rattle.cn_cli.proofs.CallerLemmas.{one-network}
+use Rattle.cn_nets.specs.Net.{Description}
+use Rattle.cn_nets.proofs.CallerLemmas.{one-network}
 use Rattle.cn_renamer.specs.Replay.{IsReplayOf, IsReplayOfCommands, IsReplayText}
 use Rattle.cn_renamer.specs.Show.{IsWiringOf}
 

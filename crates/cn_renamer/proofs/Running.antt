@@ -1,5 +1,5 @@
 -- The epochs of a batch that were run.
-use Rattle.std.proofs.Common.{◌≡◌, ℕ, ◌+◌, ◌<◌, All, Bool, false, Option, List, [], ◌∷◌, ◌++◌, drop, length, take, refl, subst, sym, arith, append-nil, ◌∙◌}
+use Rattle.std.proofs.Common.{◌≡◌, ℕ, ◌+◌, ◌<◌, ◌≤◌, All, Bool, false, Option, List, [], ◌∷◌, ◌++◌, drop, length, take, refl, subst, sym, arith, append-nil, ◌∙◌}
 use Rattle.std.specs.Prelude.{IfSome}
 use Rattle.std.specs.List.{flat_map}
 use Rattle.std.proofs.lemmas.List.{drop_at, take_at}
@@ -7,14 +7,15 @@ use Rattle.std.proofs.lemmas.List.Concat.{flat_map-append}
 use Rattle.std.proofs.lemmas.List.Elements.{All-drop, All-head, All-take}
 use Rattle.std.proofs.lemmas.List.Sums.{sum_by-cons, sum_by-take-drop}
 use Rattle.cn_spec.specs.Sums.{when}
+use Rattle.cn_spec.specs.declared.limits.TheConstants.{MOST_RECORDS}
 use Rattle.cn_wiring.specs.Network.{Network}
 use Rattle.cn_record.specs.declared.record.EpochRecord.{EpochRecord}
-use Rattle.cn_report.specs.Reading.Batch.{IsBatch, MayCome, clients_of_epochs}
+use Rattle.cn_report.specs.Reading.Batch.{AreServable, IsBatch, MayCome, clients_of_epochs}
 use Rattle.cn_report.specs.Reading.Records.{records_of}
-use Rattle.cn_report.specs.declared.reading.gathering.BatchEpoch.{BatchEpoch}
+use Rattle.cn_report.specs.declared.reading.batch.BatchEpoch.{BatchEpoch}
 use Rattle.cn_report.specs.Writing.Records.{AreRecordsOf}
 use Rattle.cn_report.specs.Writing.Written.{HasWritten, Written}
-use Rattle.cn_cli.specs.Net.{Description, IsNetworkOf}
+use Rattle.cn_nets.specs.Net.{Description, IsNetworkOf}
 use Rattle.cn_cli.specs.declared.options.Form.{Form}
 use Rattle.cn_renamer.specs.Headline.{AreServed, IsRunOfKnown, IsServed, text_in}
 use Rattle.cn_renamer.specs.Running.{AreHoldersOf, MayRunAll}
@@ -41,6 +42,10 @@ listed-both w epochs first second xs ys both a b = record {
   served = subst (λ (es : List BatchEpoch). AreServed false w 0 es (a.records ++ b.records)) (sym both) (served-both w first a.records second b.records a.served b.served);
   listed = (λ i. a.listed i ++ b.listed i) ∙ sym (flat_map-append (λ (s : EpochRecord). s.holders.items) a.records b.records);
 }
+
+-- epochs that can be served may be run
+pub may-run : (entries : ℕ) (epochs : List BatchEpoch) → AreServable entries epochs → clients_of_epochs epochs ≤ MOST_RECORDS → MayRunAll entries epochs (clients_of_epochs epochs)
+may-run entries epochs fits few = record { come = fits.come; some = fits.some; few = few; all = refl }
 
 -- epochs that each have some client have some client
 pub some-client : (epochs : List BatchEpoch) → 0 < length epochs → All (λ (e : BatchEpoch). 0 < length e.clients.items) epochs → 0 < clients_of_epochs epochs

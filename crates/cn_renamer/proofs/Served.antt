@@ -16,7 +16,7 @@ use Rattle.cn_floor.specs.Ends.{IsOutcomeOf, ListsHolders, OutcomeValue, QuietVa
 use Rattle.cn_walk.specs.Runs.{IsRunAfter}
 use Rattle.cn_walk.specs.Walks.{AreFor}
 use Rattle.cn_report.specs.Reading.Batch.{MayCome}
-use Rattle.cn_report.specs.declared.reading.gathering.BatchEpoch.{BatchEpoch}
+use Rattle.cn_report.specs.declared.reading.batch.BatchEpoch.{BatchEpoch}
 use Rattle.cn_renamer.specs.Headline.{IsServed}
 use Rattle.cn_renamer.specs.Running.{AreHoldersOfOne}
 

@@ -2,10 +2,10 @@
 use Rattle.std.specs.Prelude.{ℕ, ◌≡◌, ◌≢◌, IfSome, List, Option, map}
 use Rattle.cn_report.specs.Reading.Grants.{IsFlaw, IsOutside, IsTightList}
 use Rattle.cn_report.specs.Reading.Records.{records_of}
-use Rattle.cn_report.specs.Reading.Told.{plain_tight, told_epochs}
+use Rattle.cn_report.specs.Reading.Told.{told_epochs, with_shares}
 use Rattle.cn_report.specs.declared.reading.grant.Flaw.TheVariants as flaw
 use Rattle.cn_report.specs.declared.reading.grant.Flaw.{Flaw}
-use Rattle.cn_report.specs.declared.reading.granting.TightEpoch.{TightEpoch}
+use Rattle.cn_report.specs.declared.reading.granting.NamedEpoch.{NamedEpoch}
 use Rattle.cn_report.specs.Writing.Tight.{tight_text}
 use Rattle.cn_report.specs.Writing.Written.{Written, First, Nothing}
 use Rattle.cn_renamer.specs.declared.checking.CheckFault.{CheckFault}
@@ -13,9 +13,9 @@ use Rattle.cn_renamer.specs.declared.checking.CheckFault.TheVariants as fault
 use Rattle.cn_renamer.specs.declared.output_fault.OutputFault.{OutputFault}
 use Rattle.cn_renamer.specs.declared.output_fault.OutputFault.TheVariants as output
 
--- this is the text of these epochs
-abbrev pub IsTightTextOf : List TightEpoch → List ℕ → Type 0
-IsTightTextOf epochs text = text ≡ tight_text (map plain_tight epochs)
+-- this is the text of these epochs, each with its share of each exit
+abbrev pub IsTightTextOf : ℕ → List NamedEpoch → List ℕ → Type 0
+IsTightTextOf width epochs text = text ≡ tight_text (map (with_shares width) epochs)
 
 -- the bytes that were read are a tight list of grants, and this is the text of its epochs, with the names of each
 -- counted by their remainders

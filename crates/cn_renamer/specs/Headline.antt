@@ -1,8 +1,8 @@
 -- The headline: for every accepted batch, each of the three networks, every number of workers and every interleaving of
--- their steps, what a run writes gives, for each epoch of k clients, exit i the count ceiling((k - i) / w) and its clients
--- the names 0 to k-1, each once. If counters are carried: for each epoch of k clients after m, exit i has its share of
--- m+k clients minus its share of m. Without carry m is 0, and both are one. (At every moment before that the rule of
--- the floor holds: `cn_floor`'s `KeepsRule`.)
+-- their steps, what a run writes gives, for each epoch of k clients, exit i the count ceiling((k - i) / w) and its
+-- clients the names 0 to k-1, each once. If counters are carried: for each epoch of k clients after m, exit i has its
+-- share of m+k clients minus its share of m. Without carry m is 0, and both are one. (At every moment before that the
+-- rule of the floor holds: `cn_floor`'s `KeepsRule`.)
 use Rattle.std.specs.Prelude.{ℕ, ◌≡◌, ◌+◌, ◌≤◌, [], ◌∷◌, Bool, IfSome, List, Option, length, map, ⊤}
 use Rattle.std.specs.List.Sorted.{IsPermutation}
 use Rattle.cn_spec.specs.Step.{shares, shares_after}
@@ -11,10 +11,10 @@ use Rattle.cn_wiring.specs.Network.{Network}
 use Rattle.cn_record.specs.declared.record.EpochRecord.{EpochRecord}
 use Rattle.cn_report.specs.Reading.Batch.{IsBatch}
 use Rattle.cn_report.specs.Reading.Records.{records_of}
-use Rattle.cn_report.specs.declared.reading.gathering.BatchEpoch.{BatchEpoch}
+use Rattle.cn_report.specs.declared.reading.batch.BatchEpoch.{BatchEpoch}
 use Rattle.cn_report.specs.Writing.Grants.{grants_text}
 use Rattle.cn_report.specs.Writing.Report.{report_text}
-use Rattle.cn_cli.specs.Net.{Description, IsNetworkOf, entries_of}
+use Rattle.cn_nets.specs.Net.{Description, IsNetworkOf, entries_of}
 use Rattle.cn_cli.specs.declared.options.Form.{Form}
 use Rattle.cn_cli.specs.declared.options.Form.TheVariants.{Report, Grants}
 
@@ -27,7 +27,8 @@ pub record IsServed (w m : ℕ) (epoch : BatchEpoch) (r : EpochRecord) : Type 0 
   pub holders : IsPermutation (map (λ c. c.id) epoch.clients.items) r.holders.items
   pub once : (client : ℕ) → times client r.holders.items ≤ 1
 
--- how many clients come before the epoch after one of k clients that come after m: with carry all of them, without it none
+-- how many clients come before the epoch after one of k clients that come after m: with carry all of them, without it
+-- none
 abbrev pub after : Bool → ℕ → ℕ → ℕ
 after carry m k = when carry (m + k)
 

@@ -1,6 +1,5 @@
 pub mod Check
 pub mod Headline
-pub mod InParts
 pub mod Outputs
 pub mod Performing
 pub mod Replay

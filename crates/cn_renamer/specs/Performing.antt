@@ -71,14 +71,15 @@ MayEndAsked (Err (words.Refused why)) known fault = fault ≡ Refused why
 MayEndAsked (Err words.Memory) known fault = fault ≡ Output output.Memory
 
 -- the words were read, and what they ask for was done, or its fault says why not
-pub record HasRun {U W : Type 0} (texts : List Text) (known : Option (List ℕ)) (contents : W → Option (List ℕ)) (old new : W) (answer : Result U Fault) : Type 0 where
+pub record HasRun {U W : Type 0} (texts : List Text) (known : Option (List ℕ)) (contents : W → Option (List ℕ))
+    (old new : W) (answer : Result U Fault) : Type 0 where
   pub asked : Result Job WordsFault
   pub read : MatchResult asked (IsJobOf texts) (IsFaultOf texts)
   pub written : HasWritten contents (IsTextAsked asked known) (written_by until_fault answer) old new
   pub ends : IfErr answer (MayEndAsked asked known)
 
--- the status that a fault ends the program with: input that is refused 1, words that are refused 2, what could not be done 3,
--- a list that is not tight 4
+-- the status that a fault ends the program with: input that is refused 1, words that are refused 2, what could not be
+-- done 3, a list that is not tight 4
 abbrev pub status_of : Fault → ℕ
 status_of (Refused text) = 2
 status_of (Runtime fault) = 3

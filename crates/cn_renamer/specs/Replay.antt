@@ -1,32 +1,61 @@
 -- The text of a replay, and which fault is given if it is not written.
 use Rattle.std.specs.Prelude.{ℕ, ◌≡◌, ◌≢◌, All, IfSome, List, [], None, Option}
+use Rattle.std.specs.List.{AllZip}
 use Rattle.cn_wiring.specs.Network.{Network}
 use Rattle.cn_core.specs.History.{carried_by, enters_of, inside_of}
 use Rattle.cn_record.specs.declared.answer.Answer.{Answer}
+use Rattle.cn_record.specs.declared.answer.Answer.TheVariants.{Replied, Turned, TurnRefused}
 use Rattle.cn_record.specs.declared.command.Command.{Command}
-use Rattle.cn_epoch.specs.History.{MayAnswerAll, history_by, turns_by}
+use Rattle.cn_epoch.specs.Calls.{AnswersByHistory, RunsByHistory}
+use Rattle.cn_epoch.specs.History.{Epochs, MayAnswerAll, history_by, turns_by}
 use Rattle.cn_record.specs.Answers.{HadMemory}
 use Rattle.cn_report.specs.Reading.Records.{records_of}
-use Rattle.cn_report.specs.Writing.Replay.{replay_text}
+use Rattle.cn_report.specs.Writing.Replay.{IsKept, IsWholeKept, replay_text}
 use Rattle.cn_report.specs.Reading.Schedule.{IsSchedule, IsScheduleFault}
 use Rattle.cn_report.specs.declared.reading.schedule_fault.ScheduleCause.{ScheduleCause}
 use Rattle.cn_report.specs.declared.reading.schedule_fault.ScheduleCause.TheVariants as cause
 use Rattle.cn_report.specs.declared.reading.schedule_fault.ScheduleFault.{ScheduleFault}
 use Rattle.cn_report.specs.Writing.Written.{Written, First, Nothing}
-use Rattle.cn_cli.specs.Net.{Description, IsNetworkOf}
+use Rattle.cn_nets.specs.Net.{Description, IsNetworkOf}
 use Rattle.cn_renamer.specs.declared.output_fault.OutputFault.{OutputFault}
 use Rattle.cn_renamer.specs.declared.output_fault.OutputFault.TheVariants as output
 use Rattle.cn_renamer.specs.declared.replaying.ReplayFault.{ReplayFault}
 use Rattle.cn_renamer.specs.declared.replaying.ReplayFault.TheVariants.{Schedule, Memory, Write}
 
--- this text is that of a replay of the commands on epochs that nobody has entered: their answers by history, none of them
--- want of memory
+-- the same answer, whose record has no counts if it is of a turn
+abbrev pub IsWithoutCounts : Answer → Answer → Type 0
+IsWithoutCounts (Replied reply) kept = kept ≡ Replied reply
+IsWithoutCounts (TurnRefused fault) kept = kept ≡ TurnRefused fault
+IsWithoutCounts (Turned r) (Turned kept) =
+    (kept.number ≡ r.number) × (kept.clients ≡ r.clients) × (kept.counts.items ≡ []) × (kept.holders ≡ r.holders)
+IsWithoutCounts (Turned r) (Replied reply) = ⊥
+IsWithoutCounts (Turned r) (TurnRefused fault) = ⊥
+
+-- the command has an answer by history, which is not want of memory, and this is kept of it
+pub record IsAnsweredAs (old : Epochs) (command : Command) (answer kept : Answer) (new : Epochs) : Type 0 where
+  pub by_history : AnswersByHistory old command answer new
+  pub memory : HadMemory answer
+  pub same : IsKept old.core.network.table.width answer kept
+  pub whole : IsWholeKept old.core.network.table.width kept
+
+-- so have the commands, one after another
+pub record AreAnsweredAs (old : Epochs) (commands : List Command) (answers kept : List Answer)
+    (new : Epochs) : Type 0 where
+  pub by_history : RunsByHistory old commands answers new
+  pub memory : All HadMemory answers
+  pub same : AllZip (IsKept old.core.network.table.width) answers kept
+  pub whole : All (IsWholeKept old.core.network.table.width) kept
+
+-- this text is that of a replay of the commands on epochs that nobody has entered: their answers by history, none of
+-- them want of memory
 pub record IsReplayText (network : Network) (commands : List Command) (text : List ℕ) : Type 0 where
   pub answers : List Answer
   pub by_history : MayAnswerAll network.table 0 [] None commands answers
   pub memory : All HadMemory answers
   -- the end line gives the number of epochs that ended, and how many entered the open one and are inside
-  pub replayed : text ≡ replay_text network commands answers (turns_by 0 answers) (enters_of (history_by [] commands answers)) (inside_of network.table (history_by [] commands answers) (carried_by network.table []))
+  pub replayed : text
+      ≡ replay_text network commands answers (turns_by 0 answers) (enters_of (history_by [] commands answers))
+      (inside_of network.table (history_by [] commands answers) (carried_by network.table []))
 
 -- this text is that of a replay of the commands on a network of this kind and width
 pub record IsReplayOfCommands (net : Description) (commands : List Command) (text : List ℕ) : Type 0 where

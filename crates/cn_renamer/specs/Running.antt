@@ -1,19 +1,11 @@
 -- The epochs of a batch that were run: who has which name, in one list.
-use Rattle.std.specs.Prelude.{◌≡◌, ℕ, ◌+◌, ◌<◌, ◌≤◌, All, Bool, List, length}
+use Rattle.std.specs.Prelude.{◌≡◌, ℕ, ◌<◌, ◌≤◌, All, Bool, List, length}
 use Rattle.std.specs.List.{flat_map}
-use Rattle.cn_spec.specs.declared.limits.TheConstants.{MOST_RECORDS, MOST_WORKERS}
-use Rattle.cn_cli.specs.Options.{HandFits}
+use Rattle.cn_spec.specs.declared.limits.TheConstants.{MOST_RECORDS}
 use Rattle.cn_record.specs.declared.record.EpochRecord.{EpochRecord}
 use Rattle.cn_report.specs.Reading.Batch.{MayCome, clients_of_epochs}
-use Rattle.cn_report.specs.declared.reading.gathering.BatchEpoch.{BatchEpoch}
-use Rattle.cn_renamer.specs.declared.crew.Crew.{Crew}
+use Rattle.cn_report.specs.declared.reading.batch.BatchEpoch.{BatchEpoch}
 use Rattle.cn_renamer.specs.Headline.{AreServed, IsServed}
-
--- some worker is there, none has a number that no worker may have, and each may have so many clients in hand
-pub record IsCrew (crew : Crew) : Type 0 where
-  pub some : 0 < crew.workers
-  pub within : crew.first + crew.workers ≤ MOST_WORKERS
-  pub hand : HandFits crew.hand
 
 -- these epochs may be run on a network with so many entries, each on a floor of its own, and there is a place for each
 -- client: the clients of each may come, and each has some

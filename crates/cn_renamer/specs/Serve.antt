@@ -6,7 +6,7 @@ use Rattle.cn_report.specs.declared.reading.batch_fault.BatchCause.{BatchCause}
 use Rattle.cn_report.specs.declared.reading.batch_fault.BatchCause.TheVariants as cause
 use Rattle.cn_report.specs.declared.reading.batch_fault.BatchFault.{BatchFault}
 use Rattle.cn_report.specs.Writing.Written.{Written, First, Nothing}
-use Rattle.cn_cli.specs.Net.{Description, entries_of}
+use Rattle.cn_nets.specs.Net.{Description, entries_of}
 use Rattle.cn_renamer.specs.declared.serve_fault.ServeFault.{ServeFault}
 use Rattle.cn_renamer.specs.declared.serve_fault.ServeFault.TheVariants.{Batch, Memory, Write}
 
@@ -16,16 +16,11 @@ until_serve (Batch fault) = Nothing
 until_serve Memory = Nothing
 until_serve (Write written) = First written
 
--- the fault that keeps the epochs of a batch from being run on a network with so many entries: the batch's own, which is
--- never want of memory, or want of memory
-abbrev pub IsRunFault : ℕ → Option (List ℕ) → ServeFault → Type 0
-IsRunFault entries known (Batch fault) = (fault.cause ≢ cause.Memory) × IfSome known (λ bytes. IsBatchFault entries (records_of bytes) fault)
-IsRunFault entries known Memory = Unit {0}
-IsRunFault entries known (Write written) = ⊥
-
 -- a batch that is refused has its own fault, which is never want of memory
 abbrev pub IsServeFault : Description → Option (List ℕ) → ServeFault → Type 0
-IsServeFault net known (Batch fault) = IsRunFault (entries_of net.kind net.width) known (Batch fault)
+IsServeFault net known (Batch fault) =
+    (fault.cause ≢ cause.Memory)
+    × IfSome known (λ bytes. IsBatchFault (entries_of net.kind net.width) (records_of bytes) fault)
 IsServeFault net known Memory = Unit {0}
 IsServeFault net known (Write written) = Unit {0}
 

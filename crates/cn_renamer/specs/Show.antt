@@ -2,7 +2,7 @@
 use Rattle.std.specs.Prelude.{ℕ, ◌≡◌, List}
 use Rattle.cn_wiring.specs.Network.{Network}
 use Rattle.cn_report.specs.Writing.Wiring.{wiring_text}
-use Rattle.cn_cli.specs.Net.{Description, IsNetworkOf}
+use Rattle.cn_nets.specs.Net.{Description, IsNetworkOf}
 
 -- this is the text of the wiring of a network of this kind and width
 abbrev pub IsWiringOf : Description → List ℕ → Type 0

@@ -7,8 +7,7 @@ ghost use Rattle.cn_renamer.specs.Check.{IsCheckFault, IsCheckOfKnown, IsTightTe
 ghost use Rattle.cn_renamer.specs.Outputs.{until_output};
 
 use crate::output_fault::OutputFault;
-use crate::writing::write_text;
-use cn_report::{Flaw, Tight, check_grants, render_tight};
+use cn_report::{Flaw, NamedEpoch, Pieces, named_grants, write_tight};
 use std::alloc::Global;
 use std::fmt;
 use std::io::{Read, Write};
@@ -52,8 +51,8 @@ impl fmt::Display for FlawLine {
 }
 
 impl CheckFault {
-    /// The status with which the program ends: 1 for input that is no list of grants, 3 for want of memory and for a write
-    /// that failed, 4 for a list that is not tight.
+    /// The status with which the program ends: 1 for input that is no list of grants, 3 for want of memory and for a
+    /// write that failed, 4 for a list that is not tight.
     pub fn status(&self) -> u8
         ensures { result ≡ status_of_check self.now }
     {
@@ -90,24 +89,33 @@ impl From<OutputFault> for CheckFault {
     }
 }
 
-/// Writes the text of the epochs of a tight list.
-fn write_tight<W: Write>(alloc: Global, writer: &mut W, tight: &Tight) -> Result<(), OutputFault>
-    ensures { HasWritten W.contents (IsTightTextOf tight.now.epochs.items)
+/// Writes the text of the epochs of a tight list, each with its share of each exit.
+fn write_epochs<W: Write>(
+    alloc: Global,
+    writer: &mut W,
+    width: u32,
+    epochs: &[NamedEpoch],
+) -> Result<(), OutputFault>
+    requires { IsWidth width }
+    ensures { HasWritten W.contents (IsTightTextOf width epochs.now)
         (written_by until_output result) writer.old writer.new }
 {
-    let text = render_tight(alloc, tight)?;
-    write_text(writer, &text)
+    let pieces = Pieces::new(alloc)?;
+    write_tight(writer, pieces, width, epochs)?;
+    Ok(())
 }
 
 /// Reads a list of grants, and if it is tight writes what it has: each epoch's number and its number of clients, how
 /// many of its names are `i` modulo the width, for each `i` below it, and how many epochs and grants there are.
 ///
-/// The width is one of the widths of networks ([`cn_wiring::is_width`]). Nothing is written before the whole list is judged.
+/// The width is one of the widths of networks ([`cn_wiring::is_width`]). Nothing is written before the whole list is
+/// judged.
 ///
 /// # Errors
 /// `Flaw` with the first record that has a flaw, or the first gap; `Memory` if any growth was refused; `Write` if a
 /// write or the flush at the end failed, with the number of bytes that were written: they are the first of the text. On
 /// any other fault nothing was written.
+#[inline(never)]
 pub fn check<R: Read + Drop, W: Write>(
     alloc: Global,
     reader: R,
@@ -119,7 +127,7 @@ pub fn check<R: Read + Drop, W: Write>(
         HasWritten W.contents Is (written_by until_check result) writer.old writer.new }
     ensures flawed { IfErr result (IsCheckFault (R.remaining reader)) }
 {
-    let tight = check_grants(alloc, reader, width)?;
-    write_tight(alloc, writer, &tight)?;
+    let epochs = named_grants(alloc, reader)?;
+    write_epochs(alloc, writer, width, &epochs)?;
     Ok(())
 }

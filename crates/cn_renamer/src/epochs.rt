@@ -5,20 +5,36 @@ ghost use Rattle.cn_spec.specs.declared.limits.TheConstants.{MOST_CARRIED, MOST_
 ghost use Rattle.cn_spec.specs.Sums.{when};
 ghost use Rattle.cn_floor.specs.Carried.{client_count};
 ghost use Rattle.cn_report.specs.Reading.Batch.{MayCome, clients_of_epochs};
-ghost use Rattle.cn_renamer.specs.Running.{AreHoldersOf, AreHoldersOfOne, IsCrew, MayRunAll};
+ghost use Rattle.cn_renamer.specs.Running.{AreHoldersOf, AreHoldersOfOne, MayRunAll};
+ghost use Rattle.cn_walk.specs.Crew.{IsCrew};
 ghost use denote.Param.Send.{IsSync};
 
-use crate::crew::{Crew, CrewGate};
 use cn_cli::Options;
 use cn_report::BatchEpoch;
-use cn_walk::{Gate, RunFault, Runner};
+use cn_walk::{Crew, Gate, RunFault, Runner};
 use cn_wiring::Counting;
 use std::alloc::{AllocError, Global};
 use std::sync::Wait;
 use std::thread::{Threads, join_mut};
 
+/// An epoch of fewer clients is over before threads have started for it.
+const FEW: usize = 128;
+
+/// Who of a crew run an epoch of so many clients, one of so many that run one after another: if there are others, and
+/// it has few clients, the first worker; else all.
+fn crew_for(crew: Crew, epochs: usize, clients: usize) -> Crew
+    requires { IsCrew crew }
+    ensures { IsCrew result }
+{
+    if epochs > 1 && clients < FEW {
+        Crew { workers: 1, ..crew }
+    } else {
+        crew
+    }
+}
+
 /// Runs the next epoch of a batch by a crew, and writes who has which name: the runner for the epoch after it.
-fn run_next<'n, G: Gate + Sync, R: Threads + Wait + Sync>(
+fn serve_epoch<'n, G: Gate + Sync, R: Threads + Wait + Sync>(
     rt: &R,
     alloc: Global,
     runner: Runner<'n>,
@@ -31,7 +47,8 @@ fn run_next<'n, G: Gate + Sync, R: Threads + Wait + Sync>(
     requires few { client_count runner.words ≤ MOST_CARRIED }
     requires crew { IsCrew crew }
     requires places { length holders.old ≡ length epoch.now.clients.items }
-    ensures served { OnOk result (AreHoldersOfOne runner.entry.words.network.table.width (client_count runner.entry.words)
+    ensures served { OnOk result
+        (AreHoldersOfOne runner.entry.words.network.table.width (client_count runner.entry.words)
         epoch.now holders.new) }
     ensures network { IfOk result (λ r. r.words.network ≡ runner.entry.words.network) }
     ensures carries { IfOk result (λ r. r.carries ≡ runner.entry.carries) }
@@ -39,19 +56,7 @@ fn run_next<'n, G: Gate + Sync, R: Threads + Wait + Sync>(
         ≡ client_count runner.entry.words + when runner.entry.carries (length epoch.now.clients.items)) }
 {
     runner.words().words_laws();
-    let gate = CrewGate {
-        gate,
-        first: crew.first,
-    };
-    let (runner, ended) = runner.run_into(
-        rt,
-        alloc,
-        &epoch.clients,
-        crew.workers,
-        crew.hand,
-        &gate,
-        holders,
-    );
+    let (runner, ended) = runner.run(rt, alloc, &epoch.clients, crew, gate, holders);
     match ended {
         Ok(_listed) => Ok(runner),
         Err(fault) => {
@@ -62,28 +67,30 @@ fn run_next<'n, G: Gate + Sync, R: Threads + Wait + Sync>(
     }
 }
 
-/// Runs epochs one after another by a crew, and writes who has which name. Each epoch begins with counters of 0 or, if they
-/// are carried, with those of the one before.
-fn run_in_turn<G: Gate + Sync, R: Threads + Wait + Sync>(
+/// Runs epochs one after another by a crew, and writes who has which name. Each begins with the words of the runner, by
+/// which nobody came, or if it carries with those of the one before.
+fn run_in_turn<'n, G: Gate + Sync, R: Threads + Wait + Sync>(
     rt: &R,
     alloc: Global,
-    network: &Counting,
-    carries: bool,
+    first: Runner<'n>,
     epochs: &[BatchEpoch],
     crew: Crew,
     gate: &G,
     holders: &mut [u64],
 ) -> Result<(), AllocError>
-    requires epochs { MayRunAll network.now.table.entries epochs.now (length holders.old) }
+    requires nobody { client_count first.words ≡ 0 }
+    requires epochs { MayRunAll first.words.network.table.entries epochs.now (length holders.old) }
     requires crew { IsCrew crew }
-    ensures { OnOk result (AreHoldersOf carries network.now.table.width epochs.now holders.new) }
+    ensures { OnOk result (AreHoldersOf first.entry.carries first.entry.words.network.table.width
+        epochs.now holders.new) }
 {
-    let mut runner = Runner::new(alloc, network, carries)?;
+    let mut runner = first;
     let mut at = 0;
     for epoch in epochs {
         let end = at + epoch.clients.len();
+        let workers = crew_for(crew, epochs.len(), end - at);
         let own = &mut holders[at..end];
-        let next = run_next(rt, alloc, runner, epoch, crew, gate, own)?;
+        let next = serve_epoch(rt, alloc, runner, epoch, workers, gate, own)?;
         runner = next;
         at = end;
     }
@@ -117,9 +124,9 @@ fn cut(epochs: &[BatchEpoch], wanted: usize) -> (usize, usize)
     (at, clients)
 }
 
-/// Runs epochs that carry nothing by a crew, and writes who has which name: two parts of the epochs beside each other, each
-/// by a part of the crew, and so on in each. One worker runs its epochs one after another, and one epoch is run by the whole
-/// crew. If no thread can be had the parts are run one after the other.
+/// Runs epochs that carry nothing by a crew, and writes who has which name: two parts of the epochs beside each other,
+/// each by a part of the crew, and so on in each. One worker runs its epochs one after another, and one epoch is run by
+/// the whole crew. If no thread can be had the parts are run one after the other.
 fn run_beside<G: Gate + Sync, R: Threads + Wait + Sync>(
     rt: &R,
     alloc: Global,
@@ -134,7 +141,8 @@ fn run_beside<G: Gate + Sync, R: Threads + Wait + Sync>(
     ensures { OnOk result (AreHoldersOf false network.now.table.width epochs.now holders.new) }
 {
     if epochs.len() < 2 || crew.workers < 2 {
-        return run_in_turn(rt, alloc, network, false, epochs, crew, gate, holders);
+        let runner = Runner::new(alloc, network, false)?;
+        return run_in_turn(rt, alloc, runner, epochs, crew, gate, holders);
     }
     let clients = holders.len();
     // The first part is to have the clients of half the crew, of an odd one the smaller half.
@@ -163,7 +171,7 @@ fn run_beside<G: Gate + Sync, R: Threads + Wait + Sync>(
 
 /// Runs the epochs of a batch on a network, as the options say: who has which name, epoch after epoch, each by rising
 /// name. Epochs that carry counters run one after another, others beside one another.
-pub(crate) fn run_all<G: Gate + Sync, R: Threads + Wait + Sync>(
+pub(crate) fn run_epochs<G: Gate + Sync, R: Threads + Wait + Sync>(
     rt: &R,
     alloc: Global,
     network: &Counting,
@@ -183,7 +191,8 @@ pub(crate) fn run_all<G: Gate + Sync, R: Threads + Wait + Sync>(
         hand: options.hand(),
     };
     if options.carries() {
-        run_in_turn(rt, alloc, network, true, epochs, crew, gate, &mut holders)?;
+        let runner = Runner::new(alloc, network, true)?;
+        run_in_turn(rt, alloc, runner, epochs, crew, gate, &mut holders)?;
     } else {
         run_beside(rt, alloc, network, epochs, crew, gate, &mut holders)?;
     }

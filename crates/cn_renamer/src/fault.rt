@@ -40,8 +40,8 @@ pub enum Fault {
 
 impl Fault {
     /// The status with which the program ends: 1 for input that is refused, 2 for words that are refused, 3 for want of
-    /// memory, a runtime that refuses what the program needs, and a write that failed, 4 for a grant list that is not tight.
-    /// It is never 0.
+    /// memory, a runtime that refuses what the program needs, and a write that failed, 4 for a grant list that is not
+    /// tight. It is never 0.
     pub fn status(&self) -> u8
         ensures { result ≡ status_of self.now }
     {
@@ -116,8 +116,8 @@ fn tell<E: Write>(errors: &mut E, fault: &Fault) -> io::Result<()> {
     }
 }
 
-/// Ends the program: writes what is printed of its fault, if it met one, to standard error, and answers its status, which
-/// is 0 exactly if all is done. A write to standard error that fails leaves the status as it is.
+/// Ends the program: writes what is printed of its fault, if it met one, to standard error, and answers its status,
+/// which is 0 exactly if all is done. A write to standard error that fails leaves the status as it is.
 pub fn end<E: Write>(done: &Result<(), Fault>, errors: &mut E) -> u8
     ensures status { result ≡ status_by done.now }
     ensures zero { (result ≡ 0) ↔ (is_ok done.now ≡ true) }

@@ -9,8 +9,8 @@ ghost use Rattle.cn_report.specs.Reading.Batch.{IsBatch};
 ghost use Rattle.cn_report.specs.Reading.Grants.{IsTightList};
 ghost use Rattle.cn_report.specs.Reading.Records.{records_of};
 ghost use Rattle.cn_report.specs.Reading.Told.{names_in, told_epochs};
-ghost use Rattle.cn_report.specs.declared.reading.gathering.BatchEpoch.{BatchEpoch};
-ghost use Rattle.cn_cli.specs.Net.{Description, entries_of};
+ghost use Rattle.cn_report.specs.declared.reading.batch.BatchEpoch.{BatchEpoch};
+ghost use Rattle.cn_nets.specs.Net.{Description, entries_of};
 ghost use Rattle.cn_cli.specs.declared.options.Form.TheVariants.{Grants};
 ghost use Rattle.cn_renamer.specs.Headline.{IsRunOf, IsServed, served_epoch};
 ghost use Rattle.cn_renamer.specs.Replay.{IsReplayOf, IsReplayOfCommands, IsReplayText};
@@ -45,9 +45,9 @@ pub fn counts_are_shares()
     first_shares_are_shares();
 }
 
-/// What a run writes in the grants form, with carry or without, is a list that a check takes for tight; and a check by any
-/// width w reports the epochs of the batch, with as many names `n` of `n mod w = i` as the share of exit i. Of the k
-/// names of an epoch that comes after m clients as many have `(m + n) mod w = i` as the share of exit i in m + k
+/// What a run writes in the grants form, with carry or without, is a list that a check takes for tight; and a check by
+/// any width w reports the epochs of the batch, with as many names `n` of `n mod w = i` as the share of exit i. Of the
+/// k names of an epoch that comes after m clients as many have `(m + n) mod w = i` as the share of exit i in m + k
 /// clients minus that in m: with carry this is the exit's count.
 pub fn written_grants_are_accepted()
     ensures tight { (net : Description) (carry : Bool) (bytes text : List ℕ)

@@ -2,14 +2,11 @@
 #![tactic(auto)]
 
 mod checking;
-mod crew;
 mod epochs;
 mod fault;
-mod in_parts;
 pub mod laws;
 mod output_fault;
 mod performing;
-mod ran;
 mod replaying;
 mod runtime;
 mod serve_fault;
@@ -18,7 +15,8 @@ mod showing;
 mod writing;
 
 pub use checking::{CheckFault, check};
-pub use cn_cli::{Form, Job, Net, NetFault, OptionFault, Options, WordsFault, parse_words};
+pub use cn_cli::{Form, Job, OptionFault, Options, WordsFault, parse_words};
+pub use cn_nets::{Net, NetFault};
 pub use cn_report::{BatchCause, BatchFault, Flaw, ScheduleCause, ScheduleFault};
 pub use fault::{Fault, end};
 pub use output_fault::OutputFault;

@@ -1,20 +1,19 @@
 //! A schedule, replayed.
 
-ghost use Rattle.std.specs.Prelude.{◌≡◌, ◌↔◌, [], false, IfErr, IfOk, IsTrue, None};
-ghost use Rattle.std.specs.List.{All};
+ghost use Rattle.std.specs.Prelude.{◌≡◌, ◌↔◌, ◌+◌, ◌<◌, ◌≤◌, ◌^◌, [], false, IfErr, IfOk, IsTrue, List, None, length};
 ghost use Rattle.cn_core.specs.State.{start};
 ghost use Rattle.cn_epoch.specs.History.{Agrees};
 ghost use Rattle.cn_record.specs.Answers.{HadMemory};
+ghost use Rattle.cn_record.specs.declared.answer.Answer.{Answer};
 ghost use Rattle.cn_report.specs.Writing.Written.{HasWritten, written_by};
 ghost use Rattle.cn_renamer.specs.Outputs.{until_output};
-ghost use Rattle.cn_renamer.specs.Replay.{IsReplayFault, IsReplayOfCommands, IsReplayOfKnown, IsReplayText, fault_of_output, fault_of_schedule, status_of_replay, until_replay};
+ghost use Rattle.cn_renamer.specs.Replay.{AreAnsweredAs, IsAnsweredAs, IsReplayFault, IsReplayOfCommands, IsReplayOfKnown, IsReplayText, IsWithoutCounts, fault_of_output, fault_of_schedule, status_of_replay, until_replay};
 
 use crate::output_fault::OutputFault;
-use crate::writing::write_text;
-use cn_cli::Net;
 use cn_core::{EnterFault, Reply};
 use cn_epoch::{Answer, Command, Epochs, TurnFault};
-use cn_report::{ScheduleCause, ScheduleFault, read_schedule, render_replay};
+use cn_nets::Net;
+use cn_report::{OpenEpoch, Pieces, ScheduleCause, ScheduleFault, read_schedule, write_replay};
 use cn_wiring::Counting;
 use std::alloc::Global;
 use std::hash::RandomState;
@@ -39,8 +38,8 @@ pub enum ReplayFault {
 }
 
 impl ReplayFault {
-    /// The status with which the program ends: 1 for a schedule that is refused, 3 for want of memory and for a write that
-    /// failed.
+    /// The status with which the program ends: 1 for a schedule that is refused, 3 for want of memory and for a write
+    /// that failed.
     pub fn status(&self) -> u8
         ensures { result ≡ status_of_replay self.now }
     {
@@ -84,53 +83,87 @@ fn had_memory(answer: &Answer) -> bool
     )
 }
 
-/// Whether no answer is want of memory.
-fn all_had_memory(answers: &[Answer]) -> bool
-    ensures { IsTrue result ↔ All HadMemory answers.now }
+/// An answer without the counts of its record, if it has one.
+fn without_counts(alloc: Global, answer: Answer) -> Answer
+    ensures { IsWithoutCounts answer result }
 {
-    answers.iter().all(had_memory)
+    match answer {
+        Answer::Turned(ended) => {
+            let mut ended = ended;
+            ended.counts = Vec::new(alloc);
+            Answer::Turned(ended)
+        }
+        other => other,
+    }
 }
 
-/// The text of the replay of commands on epochs that nobody has entered.
-fn applied(
+/// What is kept of the answer to one command: all but the counts of a turn's record, which are shares.
+fn kept_answer(
     alloc: Global,
+    epochs: &mut Epochs<'_>,
+    command: Command,
+) -> Result<Answer, OutputFault>
+    requires number { epochs.old.number + 1 < 2 ^ 64 }
+    requires clears { epochs.old.carries ≡ false }
+    ensures answered { IfOk result (λ kept. (answer : Answer)
+        × IsAnsweredAs epochs.old command answer kept epochs.new) }
+    ensures memory { IfErr result (λ fault. fault ≡ OutputFault.Memory) }
+    ensures network { epochs.new.core.network ≡ epochs.old.core.network }
+    ensures number { epochs.new.number ≤ epochs.old.number + 1 }
+    ensures clears { epochs.new.carries ≡ false }
+{
+    epochs.state_laws();
+    let _ = epochs.base();
+    let answer = epochs.answer(command);
+    if !had_memory(&answer) {
+        return Err(OutputFault::Memory);
+    }
+    Ok(without_counts(alloc, answer))
+}
+
+/// What is kept of the answers to commands.
+fn kept_answers(
+    alloc: Global,
+    epochs: &mut Epochs<'_>,
+    commands: &[Command],
+) -> Result<Vec<Answer>, OutputFault>
+    requires number { epochs.old.number + length commands.now < 2 ^ 64 }
+    requires clears { epochs.old.carries ≡ false }
+    ensures answered { IfOk result (λ kept. (answers : List Answer)
+        × AreAnsweredAs epochs.old commands.now answers kept.items epochs.new) }
+    ensures memory { IfErr result (λ fault. fault ≡ OutputFault.Memory) }
+    ensures network { epochs.new.core.network ≡ epochs.old.core.network }
+{
+    let mut answers = Vec::with_capacity(alloc, commands.len())?;
+    for command in commands {
+        let kept = kept_answer(alloc, epochs, *command)?;
+        answers.push_reserved(kept);
+    }
+    Ok(answers)
+}
+
+/// Writes the text of the replay of commands on epochs that nobody has entered.
+fn write_replayed<W: Write>(
+    alloc: Global,
+    writer: &mut W,
     network: &Counting,
     epochs: &mut Epochs<'_>,
     commands: &[Command],
-) -> Result<Vec<u8>, OutputFault>
+) -> Result<(), OutputFault>
     requires begun { epochs.old ≡ record { number = 0; carries = false; core = start network.now } }
     requires agrees { Agrees epochs.old 0 [] None }
-    ensures text { IfOk result (λ text. IsReplayText network.now commands.now text.items) }
-    ensures memory { IfErr result (λ fault. fault ≡ OutputFault.Memory) }
+    ensures { HasWritten W.contents (IsReplayText network.now commands.now)
+        (written_by until_output result) writer.old writer.new }
 {
-    let answers = epochs.run(commands)?;
-    if !all_had_memory(&answers) {
-        return Err(OutputFault::Memory);
-    }
-    let text = render_replay(
-        alloc,
-        network,
-        commands,
-        &answers,
-        epochs.number(),
-        epochs.entered(),
-        epochs.inside(),
-    )?;
-    Ok(text)
-}
-
-/// The text of the replay of commands on a network that nobody has entered.
-fn replayed(
-    alloc: Global,
-    network: &Counting,
-    commands: &[Command],
-    state: RandomState,
-) -> Result<Vec<u8>, OutputFault>
-    ensures text { IfOk result (λ text. IsReplayText network.now commands.now text.items) }
-    ensures memory { IfErr result (λ fault. fault ≡ OutputFault.Memory) }
-{
-    let mut epochs = Epochs::new(alloc, network, state)?;
-    applied(alloc, network, &mut epochs, commands)
+    let kept = kept_answers(alloc, epochs, commands)?;
+    let pieces = Pieces::new(alloc)?;
+    let last = OpenEpoch {
+        number: epochs.number(),
+        entered: epochs.entered(),
+        inside: epochs.inside(),
+    };
+    write_replay(writer, pieces, network, commands, &kept, last)?;
+    Ok(())
 }
 
 /// Writes the text of the replay of commands.
@@ -145,13 +178,13 @@ fn replay_commands<W: Write>(
         (written_by until_output result) writer.old writer.new }
 {
     let network = net.build(alloc)?;
-    let text = replayed(alloc, &network, commands, state)?;
-    write_text(writer, &text)
+    let mut epochs = Epochs::new(alloc, &network, state)?;
+    write_replayed(alloc, writer, &network, &mut epochs, commands)
 }
 
-/// Reads a schedule, applies its commands to epochs of the network, and writes the text of the replay: the network, each
-/// command with its answer, how many epochs ended, and how many clients of the open one entered and are inside. A refused
-/// command is part of the text.
+/// Reads a schedule, applies its commands to epochs of the network, and writes the text of the replay: the network,
+/// each command with its answer, how many epochs ended, and how many clients of the open one entered and are inside. A
+/// refused command is part of the text.
 ///
 /// The random state is for the table of clients. Nothing is written before every command has its answer.
 ///
@@ -159,6 +192,7 @@ fn replay_commands<W: Write>(
 /// `Schedule` with the first record that has a cause, and its first cause; `Memory` if any growth was refused; `Write`
 /// if a write or the flush at the end failed, with the number of bytes that were written: they are the first of the
 /// text. On any other fault nothing was written.
+#[inline(never)]
 pub fn replay<R: Read + Drop, W: Write>(
     alloc: Global,
     reader: R,

@@ -1,19 +1,23 @@
 //! A batch, served by many workers.
 
-ghost use Rattle.std.specs.Prelude.{◌≡◌, ◌≤◌, IfErr, List, length};
+ghost use Rattle.std.specs.Prelude.{◌≡◌, ◌≤◌, IfErr, IfOk, IfSome, List, length};
 ghost use Rattle.cn_spec.specs.declared.limits.TheConstants.{MOST_RECORDS};
 ghost use Rattle.cn_record.specs.declared.record.EpochRecord.{EpochRecord};
-ghost use Rattle.cn_report.specs.Reading.Batch.{AreServable, clients_of_epochs};
+ghost use Rattle.cn_report.specs.Reading.Batch.{AnswersBatch, AreServable, clients_of_epochs};
+ghost use Rattle.cn_report.specs.Reading.Records.{records_of};
 ghost use Rattle.cn_report.specs.Writing.Pieces.{nothing_put};
 ghost use Rattle.cn_report.specs.Writing.Records.{AreRecordsOf};
 ghost use Rattle.cn_report.specs.Writing.Written.{First, HasWritten, written_by};
 ghost use Rattle.cn_renamer.specs.Headline.{IsRunOfKnown, text_in};
 ghost use Rattle.cn_renamer.specs.Serve.{IsServeFault, until_serve};
 
-use crate::in_parts::run_batch;
+use crate::epochs::run_epochs;
 use crate::serve_fault::ServeFault;
 use cn_cli::{Form, Options};
-use cn_report::{BatchEpoch, EmitFault, Pieces, write_grants, write_report};
+use cn_report::{
+    Batch, BatchEpoch, BatchFault, EmitFault, Pieces, read_batch, read_batch_by_two, write_grants,
+    write_report,
+};
 use cn_walk::Gate;
 use cn_wiring::Counting;
 use std::alloc::Global;
@@ -21,6 +25,30 @@ use std::hash::RandomState;
 use std::io::{Read, Write};
 use std::sync::Wait;
 use std::thread::Threads;
+
+/// Reads the batch of a run: by one thread if there is one worker, and else by two.
+///
+/// # Errors
+/// Those of [`read_batch`].
+fn read<I: Read + Drop, R: Threads + Wait + Sync>(
+    rt: &R,
+    alloc: Global,
+    reader: I,
+    network: &Counting,
+    options: &Options,
+    state: RandomState,
+) -> Result<Batch, BatchFault>
+    ensures answer { IfSome (I.remaining reader) (λ text.
+        AnswersBatch network.now.table.entries (records_of text) result) }
+    ensures fits { IfOk result (λ batch. AreServable network.now.table.entries batch.epochs.items) }
+    ensures few { IfOk result (λ batch. clients_of_epochs batch.epochs.items ≤ MOST_RECORDS) }
+{
+    if options.workers() < 2 {
+        read_batch(alloc, reader, network.entries(), state)
+    } else {
+        read_batch_by_two(rt, alloc, reader, network.entries(), state)
+    }
+}
 
 /// Writes the text of epochs that were run, in the options' form.
 ///
@@ -35,7 +63,6 @@ fn write_epochs<W: Write>(
     holders: &[u64],
 ) -> Result<(), EmitFault>
     requires fresh { pieces ≡ nothing_put }
-    requires servable { AreServable network.now.table.entries epochs.now }
     requires as_many { clients_of_epochs epochs.now ≡ length holders.now }
     requires few { clients_of_epochs epochs.now ≤ MOST_RECORDS }
     ensures { (records : List EpochRecord)
@@ -50,37 +77,36 @@ fn write_epochs<W: Write>(
     }
 }
 
-/// Reads a batch, runs its epochs, and writes what came of them in the options' form: the report, which has the network,
-/// each epoch's number and its number of clients, how many left by each exit, who holds which name, and how many epochs
-/// and grants there are; or the grant list, which `check` takes ([`crate::laws::written_grants_are_accepted`]).
+/// Reads a batch, runs its epochs, and writes what came of them in the options' form: the report, which has the
+/// network, each epoch's number and its number of clients, how many left by each exit, who holds which name, and how
+/// many epochs and grants there are; or the grant list, which `check` takes
+/// ([`crate::laws::written_grants_are_accepted`]).
 ///
-/// As many workers run them as the options have, each with so many clients in hand, each epoch as [`cn_walk::Runner::run`]
-/// does. If the options carry counters, the epochs run one after another, each by all workers. Else each has a floor of its
-/// own, and they run beside one another: with several workers and epochs these are cut in two parts, and the workers by the
-/// clients of each, and so on in each part, so that a worker has epochs that it runs one after another, or an epoch several
-/// workers.
+/// As many workers run them as the options have, each with so many clients in hand, each epoch as
+/// [`cn_walk::Runner::run`] does. If the options carry counters, the epochs run one after another, each by all workers,
+/// but if there are several those of fewer than 128 clients by one. Else each has a floor of its own, and they run
+/// beside one another: with several workers and epochs these are cut in two parts, and the workers by the clients of
+/// each, and so on in each part, so that a worker has epochs that it runs one after another, or an epoch several
+/// workers. With several workers two threads read the batch.
 ///
-/// One worker runs the epochs once the batch is read, and so do workers who carry counters. Otherwise, when more than 262,144
-/// records were read and an epoch for each worker is over, those that are over are run while more is read, and so on. So
-/// workers may have walked when a later record is refused.
-///
-/// **The headline.** Of each epoch of k clients exit i of w has the count ceiling((k - i) / w), and the clients have the
-/// names 0 to k-1, each once (Aspnes, Herlihy, Shavit, *Counting Networks*, JACM 1994, section 2; renaming by Attiya,
-/// Bar-Noy, Dolev, Peleg, Reischuk, JACM 1990). It holds of every interleaving of the workers' steps; which client holds
-/// which name is theirs to settle.
+/// **The headline.** Of each epoch of k clients exit i of w has the count ceiling((k - i) / w), and the clients have
+/// the names 0 to k-1, each once (Aspnes, Herlihy, Shavit, *Counting Networks*, JACM 1994, section 2; renaming by
+/// Attiya, Bar-Noy, Dolev, Peleg, Reischuk, JACM 1990). It holds of every interleaving of the workers' steps; which
+/// client holds which name is theirs to settle.
 ///
 /// If the options carry counters, no word is cleared between epochs. Then in each epoch of k clients after m the count
 /// of exit i is its share of m + k clients minus its share of m. The names are still 0 to k-1, each below the number of
 /// clients that entered in the epoch.
 ///
-/// The gate is asked before each step, by workers whose numbers begin at 0, and `serve` returns only if it lets each worker
-/// on. The random state is for the clients of a batch's epoch as they are read. Nothing is written before every epoch has
-/// ended.
+/// The gate is asked before each step, by workers whose numbers begin at 0, and `serve` returns only if it lets each
+/// worker on. The random state is for the clients of a batch's epoch as they are read. Nothing is written before every
+/// epoch has ended.
 ///
 /// # Errors
 /// `Batch` with the first record that has a cause, and its first cause; `Memory` if any growth was refused; `Write` if
 /// a write or the flush at the end failed, with the number of bytes that were written: they are the first of the text.
 /// On any other fault nothing was written.
+#[inline(never)]
 pub fn serve<I: Read + Drop, W: Write, G: Gate + Sync, R: Threads + Wait + Sync>(
     rt: &R,
     alloc: Global,
@@ -95,8 +121,9 @@ pub fn serve<I: Read + Drop, W: Write, G: Gate + Sync, R: Threads + Wait + Sync>
     ensures refused { IfErr result (IsServeFault options.now.net (I.remaining reader)) }
 {
     let network = options.net().build(alloc)?;
-    let ran = run_batch(rt, alloc, &network, reader, options, state, gate)?;
+    let batch = read(rt, alloc, reader, &network, options, state)?;
+    let holders = run_epochs(rt, alloc, &network, options, &batch.epochs, gate)?;
     let pieces = Pieces::new(alloc)?;
-    write_epochs(writer, pieces, &network, options, &ran.epochs, &ran.holders)?;
+    write_epochs(writer, pieces, &network, options, &batch.epochs, &holders)?;
     Ok(())
 }

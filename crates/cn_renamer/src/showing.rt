@@ -5,9 +5,8 @@ ghost use Rattle.cn_renamer.specs.Outputs.{until_output};
 ghost use Rattle.cn_renamer.specs.Show.{IsWiringOf};
 
 use crate::output_fault::OutputFault;
-use crate::writing::write_text;
-use cn_cli::Net;
-use cn_report::render_wiring;
+use cn_nets::Net;
+use cn_report::{Pieces, write_wiring};
 use std::alloc::Global;
 use std::io::Write;
 
@@ -19,10 +18,12 @@ pub type ShowFault = OutputFault;
 /// # Errors
 /// `Memory` if any growth was refused, and then nothing was written; `Write` if a write or the flush at the end failed,
 /// with the number of bytes that were written: they are the first of the text.
+#[inline(never)]
 pub fn show<W: Write>(alloc: Global, writer: &mut W, net: &Net) -> Result<(), ShowFault>
     ensures { HasWritten W.contents (IsWiringOf net.now) (written_by until_output result) writer.old writer.new }
 {
     let network = net.build(alloc)?;
-    let text = render_wiring(alloc, &network)?;
-    write_text(writer, &text)
+    let pieces = Pieces::new(alloc)?;
+    write_wiring(writer, pieces, &network)?;
+    Ok(())
 }

@@ -9,7 +9,6 @@ pub mod GatheredEpochs
 pub mod GrantFields
 pub mod GrantRecords
 pub mod OneSchedule
-pub mod PartsRead
 pub mod RecordFields
 pub mod RecordLists
 pub mod Results

@@ -1,8 +1,6 @@
 -- Lemmas on what is written.
 pub mod Appending
-pub mod Lengths
 pub mod LineEnds
-pub mod Lines
 pub mod Pieces
 pub mod Records
 pub mod SameLines

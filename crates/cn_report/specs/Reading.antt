@@ -1,4 +1,5 @@
--- What is read: the records of a text, their numbers, and the schedule, the batch or the list of grants that they spell.
+-- What is read: the records of a text, their numbers, and the schedule, the batch or the list of grants that they
+-- spell.
 pub mod Arrival
 pub mod Heading
 pub mod Batch
@@ -11,10 +12,8 @@ pub mod Grants
 pub mod Marks
 pub mod Number
 pub mod Numbers
-pub mod Parts
 pub mod Records
 pub mod Scatter
 pub mod Schedule
 pub mod Stretch
-pub mod Taking
 pub mod Told

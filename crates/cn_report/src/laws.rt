@@ -2,7 +2,7 @@
 
 ghost use Rattle.std.specs.Prelude.{◌≡◌, ◌<◌, ℕ, List, map};
 ghost use Rattle.std.specs.List.{AllByRecursion};
-ghost use Rattle.cn_report.specs.declared.reading.gathering.BatchEpoch.{BatchEpoch};
+ghost use Rattle.cn_report.specs.declared.reading.batch.BatchEpoch.{BatchEpoch};
 ghost use Rattle.cn_report.specs.Reading.Batch.{IsBatch, plain_epoch};
 ghost use Rattle.cn_record.specs.declared.record.EpochRecord.{EpochRecord};
 ghost use Rattle.cn_report.specs.Reading.Grants.{IsTightList};

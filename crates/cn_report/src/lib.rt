@@ -7,10 +7,10 @@ mod reading;
 mod writing;
 
 pub use reading::{
-    Batch, BatchCause, BatchEpoch, BatchFault, BatchPart, BatchReader, Flaw, ScheduleCause,
-    ScheduleFault, Tight, TightEpoch, check_grants, read_batch, read_schedule,
+    Batch, BatchCause, BatchEpoch, BatchFault, Flaw, NamedEpoch, ScheduleCause, ScheduleFault,
+    Tight, TightEpoch, check_grants, named_grants, read_batch, read_batch_by_two, read_schedule,
 };
 pub use writing::{
-    EmitFault, Pieces, emit, render_grants, render_replay, render_report, render_tight,
-    render_wiring, write_grants, write_report,
+    EmitFault, OpenEpoch, Pieces, emit, render_grants, render_replay, render_report, render_tight,
+    render_wiring, write_grants, write_replay, write_report, write_tight, write_wiring,
 };

@@ -1,5 +1,5 @@
 //! Hostile inputs and stalled workers: a batch cut at each of its bytes, reads that fail after many records, texts of as
-//! many records as may be and one more, one that is read in parts, long ones that are flushed once, and workers that are
+//! many records as may be and one more, one that two threads read, long ones that are flushed once, and workers that are
 //! held before each of their moments.
 
 mod batch_cuts;
@@ -7,6 +7,6 @@ mod computed;
 mod failed_reads;
 mod limits;
 mod long_texts;
-mod parts;
 mod runs;
 mod stalling;
+mod two_threads;

@@ -10,6 +10,7 @@ pub mod of_epoch;
 pub mod of_exit;
 pub mod of_ledger;
 pub mod of_names;
+pub mod of_nets;
 pub mod of_periodic;
 pub mod of_record;
 pub mod of_renamer;

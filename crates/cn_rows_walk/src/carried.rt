@@ -91,9 +91,9 @@ fn walked<'a>(alloc: Global, words: &Words<'a>) -> Option<(Told, Words<'a>)> {
     }
 }
 
-/// A floor from these words, and another that goes on from it.
-fn twice_from(alloc: Global, words: &Words<'_>) -> Option<[Told; 2]> {
-    match walked(alloc, words) {
+/// What the first floor answered, and what one that goes on from it does.
+fn and_next(alloc: Global, first: Option<(Told, Words<'_>)>) -> Option<[Told; 2]> {
+    match first {
         Some((first, words)) => Some([first, next(alloc, &words)?]),
         None => None,
     }
@@ -116,7 +116,22 @@ fn twice(alloc: Global) -> Option<[Told; 2]> {
 
 fn twice_on(alloc: Global, network: &Counting) -> Option<[Told; 2]> {
     match Words::zero(alloc, network) {
-        Ok(zero) => twice_from(alloc, &zero),
+        Ok(zero) => and_next(alloc, walked(alloc, &zero)),
+        Err(_) => None,
+    }
+}
+
+/// The same of floors whose words lie apart.
+fn twice_apart(alloc: Global) -> Option<[Told; 2]> {
+    match bitonic(alloc, 2) {
+        Ok(network) => twice_apart_on(alloc, &network),
+        Err(_) => None,
+    }
+}
+
+fn twice_apart_on(alloc: Global, network: &Counting) -> Option<[Told; 2]> {
+    match Floor::open_apart(alloc, network, 1) {
+        Ok((floor, lane)) => and_next(alloc, seven(floor, lane)),
         Err(_) => None,
     }
 }
@@ -155,6 +170,7 @@ fn carried_twice(rt: HostRuntime) -> Result<(), Fail> {
         clients: 2,
     };
     assert_eq!(rt; twice(rt.alloc()), Some([first, second]));
+    assert_eq!(rt; twice_apart(rt.alloc()), Some([first, second]));
     Ok(())
 }
 

@@ -3,23 +3,20 @@
 use cn_bitonic::bitonic;
 use cn_core::Client;
 use cn_spec::limits::MOST_CARRIED;
-use cn_walk::{OpenGate, Outcome, RunFault, Runner};
+use cn_walk::{Crew, OpenGate, RunFault, Runner};
 use std::alloc::Global;
 use std::sync::Wait;
 use std::thread::Threads;
 
-/// An epoch on bitonic 2: how many left by each exit, and how many came by the words with which the next begins.
-type Told = ([u64; 2], u64);
+/// One worker, who has one client in hand.
+const ONE: Crew = Crew {
+    first: 0,
+    workers: 1,
+    hand: 1,
+};
 
-/// How many left by each exit, if only client 7 has a name.
-fn counts_of(ended: Result<Outcome, RunFault>) -> Option<[u64; 2]> {
-    let outcome = ended.ok()?;
-    let [first, second] = outcome.counts() else {
-        return None;
-    };
-    let counts = [*first, *second];
-    (outcome.holders() == [7].as_slice()).then_some(counts)
-}
+/// An epoch on bitonic 2: how many left by each exit of the words with which the next begins, and how many came by them.
+type Told = ([u64; 2], u64);
 
 /// An epoch of only client 7, who gets its one name.
 fn next<'a, R: Threads + Wait + Sync>(
@@ -31,10 +28,18 @@ fn next<'a, R: Threads + Wait + Sync>(
         return None;
     }
     let clients = [Client { id: 7, entry: 0 }];
-    let (runner, ended) = runner.run(rt, alloc, &clients, 1, 1, &OpenGate);
-    let counts = counts_of(ended)?;
-    let came = runner.words().clients();
-    Some(((counts, came), runner))
+    let mut holders = [0];
+    let (runner, ended) = runner.run(rt, alloc, &clients, ONE, &OpenGate, &mut holders);
+    let _listed = ended.ok()?;
+    if holders != [7] {
+        return None;
+    }
+    let words = runner.words();
+    if words.network().width() != 2 {
+        return None;
+    }
+    let told = ([words.exit_count(0), words.exit_count(1)], words.clients());
+    Some((told, runner))
 }
 
 /// Two epochs.
@@ -50,7 +55,7 @@ fn two<R: Threads + Wait + Sync>(rt: &R, alloc: Global, carries: bool) -> Option
 fn runners_clear(rt: HostRuntime) {
     assert_eq!(rt;
         two(&rt, rt.alloc(), false),
-        Some([([1, 0], 0), ([1, 0], 0)])
+        Some([([0, 0], 0), ([0, 0], 0)])
     );
 }
 
@@ -58,7 +63,7 @@ fn runners_clear(rt: HostRuntime) {
 fn runners_carry(rt: HostRuntime) {
     assert_eq!(rt;
         two(&rt, rt.alloc(), true),
-        Some([([1, 0], 1), ([0, 1], 2)])
+        Some([([1, 0], 1), ([1, 1], 2)])
     );
 }
 
@@ -70,7 +75,8 @@ fn refused<R: Threads + Wait + Sync>(rt: &R, alloc: Global) -> Option<(Option<Ru
     if runner.words().clients() > MOST_CARRIED {
         return None;
     }
-    let (runner, ended) = runner.run(rt, alloc, &[], 0, 1, &OpenGate);
+    let nobody = Crew { workers: 0, ..ONE };
+    let (runner, ended) = runner.run(rt, alloc, &[], nobody, &OpenGate, &mut []);
     Some((ended.err(), runner.words().clients()))
 }
 
@@ -88,7 +94,7 @@ fn listed<R: Threads + Wait + Sync>(rt: &R, alloc: Global) -> Option<([u64; 2], 
     let runner = Runner::new(alloc, &network, true).ok()?;
     let clients = [Client { id: 7, entry: 0 }, Client { id: 9, entry: 1 }];
     let mut holders = [0; 2];
-    let (runner, ended) = runner.run_into(rt, alloc, &clients, 1, 1, &OpenGate, &mut holders);
+    let (runner, ended) = runner.run(rt, alloc, &clients, ONE, &OpenGate, &mut holders);
     let _listed = ended.ok()?;
     Some((holders, runner.words().clients()))
 }

@@ -1,6 +1,6 @@
--- What the networks make of the counts of their inputs: mergers, bitonic networks, blocks and periodic networks are those
--- of Aspnes, Herlihy, Shavit, Counting Networks, JACM 1994, sections 3 and 4; trees those of Shavit, Zemach, Diffracting
--- Trees, ACM TOCS 1996, section 2.
+-- What the networks make of the counts of their inputs: mergers, bitonic networks, blocks and periodic networks are
+-- those of Aspnes, Herlihy, Shavit, Counting Networks, JACM 1994, sections 3 and 4; trees those of Shavit, Zemach,
+-- Diffracting Trees, ACM TOCS 1996, section 2.
 use Rattle.std.specs.Prelude.{◌≡◌, ℕ, zero, suc, ◌+◌, ◌-◌, ◌*◌, ◌/◌, ◌%◌, ◌^◌, ◌<◌, List, [], ◌∷◌, length, map, take, drop, slice_index}
 use Rattle.std.specs.List.{range_with_len}
 use Rattle.cn_spec.specs.Step.{half, IsStep}

@@ -19,8 +19,8 @@ use std::alloc::{AllocError, Global};
 /// The counting tree of this width: one entry and `width` exits, depth `L`, where `L` is the logarithm of `width` to
 /// base 2, and `width - 1` balancers (Shavit, Zemach 1996, section 2).
 ///
-/// Balancers are numbered in the order in which they are made, which is preorder: the root, the tree on its output 0, and
-/// then that on its output 1. So a width has one tree, by [`cn_wiring::laws::tables_are_unique`].
+/// Balancers are numbered in the order in which they are made, which is preorder: the root, the tree on its output 0,
+/// and then that on its output 1. So a width has one tree, by [`cn_wiring::laws::tables_are_unique`].
 ///
 /// # Errors
 /// [`BuildFault::Width`] if networks of this width are not built, and [`BuildFault::Memory`] if the network gets no
@@ -45,8 +45,8 @@ pub fn tree(alloc: Global, width: u32) -> Result<Counting, BuildFault>
     Ok(draft.finish_counting(&exits, Kind::Tree, level)?)
 }
 
-/// Adds the counting tree of `2 ^ level` exits on a wire to a draft, and gives its outputs, from exit 0 up: the trees on
-/// both outputs of the root, interleaved.
+/// Adds the counting tree of `2 ^ level` exits on a wire to a draft, and gives its outputs, from exit 0 up: the trees
+/// on both outputs of the root, interleaved.
 ///
 /// # Errors
 /// `AllocError` if a list gets no memory. The draft may have some of the balancers.

@@ -43,8 +43,8 @@ AreReady home clients (Halves' at p left q right) =
     IsReady home clients (together (whole left) (whole right)) × (at ≤ clients)
     × AreReady home at left × AreReady home (clients - at) right
 
--- they are the lanes of the workers from `from` up to, not including, `to` of w: a single lane is that of one of them, who has
--- all their clients; and the clients that are counted for each half are those of its workers among k
+-- they are the lanes of the workers from `from` up to, not including, `to` of w: a single lane is that of one of them,
+-- who has all their clients; and the clients that are counted for each half are those of its workers among k
 abbrev pub AreOf : ℕ → ℕ → ℕ → ℕ → Lanes → Type 0
 AreOf k w from to (One lane worker) =
     (from ≤ worker) × (worker < to)
@@ -64,5 +64,6 @@ pub record IsPair (at : ℕ) (left right lanes : Lanes) : Type 0 where
   pub ready : (home : FloorValue) (n : ℕ) → IsReady home n (together (whole left) (whole right)) → at ≤ n
       → AreReady home at left → AreReady home (n - at) right → AreReady home n lanes
   -- and if the halves are of workers that follow one another, the lanes are of all these
-  pub of : (k w from middle to : ℕ) → from < middle → middle < to → at ≡ first_position k w middle - first_position k w from
+  pub of : (k w from middle to : ℕ) → from < middle → middle < to
+      → at ≡ first_position k w middle - first_position k w from
       → AreOf k w from middle left → AreOf k w middle to right → AreOf k w from to lanes

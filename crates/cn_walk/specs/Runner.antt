@@ -3,10 +3,11 @@ use Rattle.std.specs.Prelude.{◌≡◌, ℕ, Bool, true, false, List}
 use Rattle.cn_ledger.specs.declared.client.Client.{Client}
 use Rattle.cn_floor.specs.declared.view.Grant.{Grant}
 use Rattle.cn_floor.specs.Carried.{WordsValue}
-use Rattle.cn_floor.specs.Ends.{IsOutcomeOf, ListsHolders, OutcomeValue, QuietValue, words_after}
+use Rattle.cn_floor.specs.Ends.{ListsHolders, QuietValue, words_after}
 use Rattle.cn_walk.specs.Runs.{IsRunAfter}
 
--- a runner of epochs as contracts see it: the words with which the next begins, and whether later ones go on from its own
+-- a runner of epochs as contracts see it: the words with which the next begins, and whether later ones go on from its
+-- own
 pub record RunnerValue : Type 0 where
   pub words : WordsValue
   pub carries : Bool
@@ -16,15 +17,10 @@ abbrev pub next_words : Bool → WordsValue → QuietValue → WordsValue
 next_words true words quiet = words_after quiet
 next_words false words quiet = words
 
--- an epoch was run from a runner's words, and the next begins as the runner has it
-pub record RunsNext (old new : RunnerValue) (clients : List Client) (outcome : OutcomeValue) : Type 0 where
-  pub quiet : QuietValue
-  pub run : IsRunAfter old.words clients quiet
-  pub came : IsOutcomeOf quiet outcome
-  pub next : new ≡ record { words = next_words old.carries old.words quiet; carries = old.carries }
-
--- the same, with the grants of the floor and the clients by rising name in place of an outcome
-pub record RunsInto (old new : RunnerValue) (clients : List Client) (grants : List Grant) (holders : List ℕ) : Type 0 where
+-- an epoch was run from a runner's words, these are the grants of its floor and its clients by rising name, and the
+-- next begins as the runner has it
+pub record RunsNext (old new : RunnerValue) (clients : List Client) (grants : List Grant)
+    (holders : List ℕ) : Type 0 where
   pub quiet : QuietValue
   pub run : IsRunAfter old.words clients quiet
   pub given : quiet.did.grants ≡ grants

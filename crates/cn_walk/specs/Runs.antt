@@ -55,7 +55,8 @@ pub record IsRunAfter (before : WordsValue) (clients : List Client) (quiet : Qui
   -- they came after the clients of the words
   pub came : clients_in before.network.table quiet.words ≡ client_count before + length clients
   -- each exit let out its share of all minus its share of those that came before
-  pub counts : counts_by_exit quiet.start quiet.words ≡ shares_after (client_count before) (length clients) before.network.table.width
+  pub counts : counts_by_exit quiet.start quiet.words
+      ≡ shares_after (client_count before) (length clients) before.network.table.width
   -- each balancer passed what the full flow of all entries brings there, minus what passed before
   pub passes : (f : ℕ → ℕ) → IsFullFlow before.network.table f
       → ((u : ℕ) → u < before.network.table.entries
@@ -79,9 +80,11 @@ pub record IsRun (network : Network) (clients : List Client) (quiet : QuietValue
   -- each balancer passed what the full flow of their entries brings there
   pub passes : (f : ℕ → ℕ) → IsFullFlow network.table f
       → ((u : ℕ) → u < network.table.entries → f u ≡ times u (map (λ c. c.entry) clients))
-      → passes_of quiet.start quiet.words ≡ map (λ b. sum_at network.table (Balancer b) f) (range_with_len 0 network.table.balancers)
+      → passes_of quiet.start quiet.words
+      ≡ map (λ b. sum_at network.table (Balancer b) f) (range_with_len 0 network.table.balancers)
   -- the names are those below their number, each once, and each is that of its grant's exit and visit
   pub names : IsEachBelow (length clients) (map (λ g. g.name) quiet.did.grants)
-  pub named : All (λ g. (g.exit < network.table.width) × (g.name ≡ name_of network.table.width g.exit g.visit)) quiet.did.grants
+  pub named : All
+      (λ g. (g.exit < network.table.width) × (g.name ≡ name_of network.table.width g.exit g.visit)) quiet.did.grants
   -- and the grants are theirs, to each client as often as it is among them
   pub theirs : AreFor clients quiet.did.grants

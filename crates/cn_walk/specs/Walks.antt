@@ -41,4 +41,5 @@ pub record Walks (old new : LaneValue) (clients : List Client) : Type 0 where
   pub entries : new.view.entries ≡ old.view.entries ++ map (λ c. c.entry) clients
   pub seen : new.view.seen ≡ old.view.seen
   pub grants : (more : List Grant) × (new.view.grants ≡ old.view.grants ++ more)
-      × ((f : ℕ → ℕ) → sum_by (λ g. f g.client) more + inside_by f new.view ≡ inside_by f old.view + sum_by (λ c. f c.id) clients)
+      × ((f : ℕ → ℕ)
+      → sum_by (λ g. f g.client) more + inside_by f new.view ≡ inside_by f old.view + sum_by (λ c. f c.id) clients)

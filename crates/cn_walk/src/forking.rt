@@ -7,6 +7,7 @@ ghost use Rattle.cn_walk.specs.Halves.{AreOf, AreReady, HasNothing, IsPair, IsRe
 ghost use Rattle.cn_walk.specs.Walks.{WalksAll};
 ghost use denote.Param.Send.{IsSync};
 
+use crate::crew::Crew;
 use crate::walking::walk_all;
 use cn_floor::{Floor, Gate, JoinFault, Lane};
 use cn_ledger::Client;
@@ -24,8 +25,9 @@ pub(crate) enum Lanes {
     Halves(u32, Box<Lanes>, Box<Lanes>),
 }
 
-/// What walks clients through lanes, and joins the lanes. A closure that captures a `&Floor<'a>` itself promises nothing
-/// when threads join. So the recursion is over a type parameter, and [`Floor`] is the one type that it stands for.
+/// What walks clients through lanes, and joins the lanes. A closure that captures a `&Floor<'a>` itself promises
+/// nothing when threads join. So the recursion is over a type parameter, and [`Floor`] is the one type that it stands
+/// for.
 pub(crate) trait LaneWalker {
     ghost use Rattle.cn_floor.specs.Lane.{FloorValue};
 
@@ -38,7 +40,7 @@ pub(crate) trait LaneWalker {
         clients: &[Client],
         hand: u32,
         gate: &G,
-        worker: u32,
+        number: u32,
     ) -> Lane
         requires ready { IsReady (Self.home self.now) (length clients.now) lane }
         requires entries { All (λ c.
@@ -63,9 +65,9 @@ impl<'a> LaneWalker for Floor<'a> {
         clients: &[Client],
         hand: u32,
         gate: &G,
-        worker: u32,
+        number: u32,
     ) -> Lane {
-        walk_all(rt, self, lane, clients, hand, gate, worker)
+        walk_all(rt, self, lane, clients, hand, gate, number)
     }
 
     fn join(&self, lane: Lane, other: Lane) -> Lane {
@@ -86,9 +88,9 @@ fn first_position(clients: u32, workers: u32, worker: u32) -> u32
     (u64::from(worker) * u64::from(clients) / u64::from(workers)) as u32
 }
 
-/// Makes the lanes of the workers from `from` up to, not including, `to`, out of one, and reserves their memory: each has
-/// quota and room for its own clients, and the first lane of each half has room for the grants of both. Workers without
-/// clients get no lane; if none of these has clients, the first one has the lane. `None` if memory is refused.
+/// Makes the lanes of the workers from `from` up to, not including, `to`, out of one, and reserves their memory: each
+/// has quota and room for its own clients, and the first lane of each half has room for the grants of both. Workers
+/// without clients get no lane; if none of these has clients, the first one has the lane. `None` if memory is refused.
 pub(crate) fn make_lanes<'a>(
     alloc: Global,
     floor: &Floor<'a>,
@@ -148,17 +150,20 @@ pub(crate) fn walk_lanes<F: LaneWalker + Sync, G: Gate + Sync, R: Threads + Wait
     floor: &F,
     lanes: Lanes,
     clients: &[Client],
-    hand: u32,
+    crew: Crew,
     gate: &G,
 ) -> Lane
     requires ready { AreReady (F.home floor.now) (length clients.now) lanes }
     requires entries { All (λ c.
         c.entry < (F.home floor.now).start.network.table.entries) clients.now }
-    requires hand { 0 < hand }
+    requires hand { 0 < crew.hand }
     ensures { WalksAll (whole lanes) result clients.now }
 {
     match lanes {
-        Lanes::One(lane, worker) => floor.walk(rt, lane, clients, hand, gate, worker),
+        Lanes::One(lane, worker) => {
+            let number = crew.first.wrapping_add(worker);
+            floor.walk(rt, lane, clients, crew.hand, gate, number)
+        }
         Lanes::Halves(at, left, right) => {
             let left = Box::into_inner(left);
             let right = Box::into_inner(right);
@@ -167,14 +172,14 @@ pub(crate) fn walk_lanes<F: LaneWalker + Sync, G: Gate + Sync, R: Threads + Wait
                 rt,
                 move || -> Lane
                     requires { IsSync R.row × IsSync F.row × IsSync G.row
-                        × MayWalk (F.home floor.now) first.now hand left }
+                        × MayWalk (F.home floor.now) first.now crew.hand left }
                     ensures { WalksAll (whole left) result first.entry.now }
-                { walk_lanes(rt, floor, left, first, hand, gate) },
+                { walk_lanes(rt, floor, left, first, crew, gate) },
                 move || -> Lane
                     requires { IsSync R.row × IsSync F.row × IsSync G.row
-                        × MayWalk (F.home floor.now) second.now hand right }
+                        × MayWalk (F.home floor.now) second.now crew.hand right }
                     ensures { WalksAll (whole right) result second.entry.now }
-                { walk_lanes(rt, floor, right, second, hand, gate) },
+                { walk_lanes(rt, floor, right, second, crew, gate) },
             );
             floor.join(lane, other)
         }

@@ -1,6 +1,7 @@
 //! Walks of clients over a floor, by many workers, and the epochs that they run.
 #![tactic(auto)]
 
+mod crew;
 mod forking;
 mod runner;
 mod running;
@@ -11,6 +12,7 @@ pub use cn_floor::{
     Leftovers, Moment, OpenFault, OpenGate, Opening, Outcome, Passage, Quiet, SplitFault, Start,
     Sweep, View, Words,
 };
+pub use crew::Crew;
 pub use runner::Runner;
 pub use running::{RunFault, run_epoch, run_epoch_after};
 pub use walking::walk_all;

@@ -6,6 +6,7 @@ ghost use Rattle.cn_floor.specs.Carried.{client_count, words_before, zero_words}
 ghost use Rattle.cn_floor.specs.Lane.{IsIdle, empty_lane};
 ghost use Rattle.cn_walk.specs.Runs.{IsRefused, IsRun, IsRunAfter, MayRun};
 
+use crate::crew::Crew;
 use crate::forking::{make_lanes, walk_lanes};
 use cn_floor::{CloseFault, ClosedFloor, Floor, Gate, Lane, Leftovers, Quiet, Words};
 use cn_ledger::Client;
@@ -59,32 +60,31 @@ pub(crate) fn may_run(
     Ok(())
 }
 
-/// Runs these clients on a floor that was opened for them, and closes it. If memory is refused, what is left of it has the
-/// words with which it began, as it has after it is closed.
-pub(crate) fn run_on<'a, G: Gate + Sync, R: Threads + Wait + Sync>(
+/// Walks these clients over a floor that was opened for them, and closes it. If memory is refused, what is left of it
+/// has the words with which it began, as it has after it is closed.
+pub(crate) fn walk_floor<'a, G: Gate + Sync, R: Threads + Wait + Sync>(
     rt: &R,
     alloc: Global,
     floor: Floor<'a>,
     lane: Lane,
     clients: &[Client],
-    workers: u32,
-    hand: u32,
+    crew: Crew,
     gate: &G,
 ) -> Result<(ClosedFloor<'a>, Leftovers<'a>), Leftovers<'a>>
     requires lane { lane ≡ record (empty_lane floor (length clients.now)) { yard = lane.yard } }
     requires idle { IsIdle floor.start.network lane.yard.lists }
     requires quota { floor.start.quota ≡ length clients.now }
-    requires allowed { MayRun floor.start.network.table.entries clients.now workers hand }
+    requires allowed { MayRun floor.start.network.table.entries clients.now crew.workers crew.hand }
     ensures run { IfOk result (λ r. IsRunAfter (words_before floor.entry.start) clients.now r.0) }
     ensures began { IfOk result (λ r. words_before r.0.start ≡ words_before floor.entry.start) }
     ensures leftovers { IfOk result (λ r. r.1 ≡ words_before floor.entry.start) }
     ensures back { IfErr result (λ back. back ≡ words_before floor.entry.start) }
 {
-    let many = clients.len() as u32;
+    let (many, workers) = (clients.len() as u32, crew.workers);
     let Some(lanes) = make_lanes(alloc, &floor, lane, many, workers, 0, workers) else {
         return Err(floor.give_up());
     };
-    let lane = walk_lanes(rt, &floor, lanes, clients, hand, gate);
+    let lane = walk_lanes(rt, &floor, lanes, clients, crew, gate);
     match floor.close_for(lane) {
         Ok((closed, leftovers)) => {
             closed.closed_laws();
@@ -102,28 +102,27 @@ pub(crate) fn run_on<'a, G: Gate + Sync, R: Threads + Wait + Sync>(
     }
 }
 
-/// Runs these clients on a floor that was opened for them: the closed floor.
+/// Walks these clients over a floor that was opened for them: the closed floor.
 ///
 /// # Errors
 /// `Memory`.
-fn run_whole<'a, G: Gate + Sync, R: Threads + Wait + Sync>(
+fn walk_to_quiet<'a, G: Gate + Sync, R: Threads + Wait + Sync>(
     rt: &R,
     alloc: Global,
     floor: Floor<'a>,
     lane: Lane,
     clients: &[Client],
-    workers: u32,
-    hand: u32,
+    crew: Crew,
     gate: &G,
 ) -> Result<Quiet<'a>, RunFault>
     requires lane { lane ≡ empty_lane floor (length clients.now) }
     requires quota { floor.start.quota ≡ length clients.now }
-    requires allowed { MayRun floor.start.network.table.entries clients.now workers hand }
+    requires allowed { MayRun floor.start.network.table.entries clients.now crew.workers crew.hand }
     ensures run { IfOk result (λ quiet.
         IsRunAfter (words_before floor.entry.start) clients.now quiet) }
     ensures refused { IfErr result (λ fault. fault ≡ RunFault.Memory) }
 {
-    match run_on(rt, alloc, floor, lane, clients, workers, hand, gate) {
+    match walk_floor(rt, alloc, floor, lane, clients, crew, gate) {
         Ok((closed, leftovers)) => match closed.into_quiet(leftovers) {
             Ok(quiet) => Ok(quiet),
             Err(_memory) => Err(RunFault::Memory),
@@ -134,9 +133,9 @@ fn run_whole<'a, G: Gate + Sync, R: Threads + Wait + Sync>(
 
 /// Runs an epoch of these clients over the network, by so many workers, each with so many clients in hand
 /// ([`crate::walk_all`]). Of k clients, worker j of n has those at the positions from `j * k / n` up to, not including,
-/// `(j + 1) * k / n`, both rounded down; one that has none gets no lane and no thread. All lanes are made, and their memory
-/// is reserved, before the first worker starts.
-/// One worker starts no thread, and a fork that gets no thread has its halves walk one after the other.
+/// `(j + 1) * k / n`, both rounded down; one that has none gets no lane and no thread. All lanes are made, and their
+/// memory is reserved, before the first worker starts. One worker starts no thread, and a fork that gets no thread has
+/// its halves walk one after the other.
 ///
 /// It returns only if the gate lets each worker on. A gate that waits for another worker may never do so, if that
 /// worker gets no thread. It is [`run_epoch_after`] of words that are all 0.
@@ -162,12 +161,17 @@ pub fn run_epoch<'a, G: Gate + Sync, R: Threads + Wait + Sync>(
     let Ok((floor, lane)) = Floor::open(alloc, network, clients.len() as u64) else {
         return Err(RunFault::Memory);
     };
-    run_whole(rt, alloc, floor, lane, clients, workers, hand, gate)
+    let crew = Crew {
+        first: 0,
+        workers,
+        hand,
+    };
+    walk_to_quiet(rt, alloc, floor, lane, clients, crew, gate)
 }
 
-/// Runs an epoch of these clients as [`run_epoch`] does, on a floor that goes on from the words of earlier ones, and leaves
-/// the words as they were. Its counts and passes are those of this epoch, and its names are those below the number of its
-/// clients. The words of its [`Quiet`] can be gone on from in turn.
+/// Runs an epoch of these clients as [`run_epoch`] does, on a floor that goes on from the words of earlier ones, and
+/// leaves the words as they were. Its counts and passes are those of this epoch, and its names are those below the
+/// number of its clients. The words of its [`Quiet`] can be gone on from in turn.
 ///
 /// # Errors
 /// As those of [`run_epoch`], in its order.
@@ -190,5 +194,10 @@ pub fn run_epoch_after<'a, G: Gate + Sync, R: Threads + Wait + Sync>(
     let Ok((floor, lane)) = Floor::open_after(alloc, words, clients.len() as u64) else {
         return Err(RunFault::Memory);
     };
-    run_whole(rt, alloc, floor, lane, clients, workers, hand, gate)
+    let crew = Crew {
+        first: 0,
+        workers,
+        hand,
+    };
+    walk_to_quiet(rt, alloc, floor, lane, clients, crew, gate)
 }

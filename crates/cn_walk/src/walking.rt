@@ -61,8 +61,8 @@ fn bring_on<'a, G: Gate, R: Wait>(
     }
 }
 
-/// Sweeps the lowest wire that has a token, until nobody is inside. Tokens go on to greater wires, so none stands below the
-/// wire that was swept last.
+/// Sweeps the lowest wire that has a token, until nobody is inside. Tokens go on to greater wires, so none stands below
+/// the wire that was swept last.
 fn walk_out<'a, G: Gate, R: Wait>(rt: &R, floor: &Floor<'a>, lane: &mut Lane, gate: &G, worker: u32)
     requires own { lane.old.home ≡ floor.now }
     ensures walked { Walks lane.old lane.new [] }
@@ -86,11 +86,12 @@ fn walk_out<'a, G: Gate, R: Wait>(rt: &R, floor: &Floor<'a>, lane: &mut Lane, ga
 }
 
 /// Walks all clients through the lane, in order: the next come in until `hand` are inside or none is left; then, until
-/// nobody is inside, all tokens on the lowest wire that has one go by its end in a sweep; and so on until no client is left.
-/// It asks the gate before each of its atomic steps, in the worker's name.
+/// nobody is inside, all tokens on the lowest wire that has one go by its end in a sweep; and so on until no client is
+/// left. It asks the gate before each of its atomic steps, in the worker's name.
 ///
 /// Nobody is inside before; the lane's room and quota are at least the number of clients, each entry is one of the
-/// network's, and `hand` is at least 1. It takes no memory and refuses nothing, but returns only if the gate lets it on.
+/// network's, and `hand` is at least 1. It takes no memory and refuses nothing, but returns only if the gate lets it
+/// on.
 pub fn walk_all<'a, G: Gate, R: Wait>(
     rt: &R,
     floor: &Floor<'a>,

@@ -48,7 +48,8 @@ with_balancer d ws = record {
 -- f gives each output of each balancer its half of the balancer's passages
 abbrev pub IsFlow : Plan → (ℕ → ℕ) → Type 0
 IsFlow d f =
-    (b : ℕ) → b < d.balancers → (f (output d b 0) ≡ half (passages d b f) 0) × (f (output d b 1) ≡ half (passages d b f) 1)
+    (b : ℕ) → b < d.balancers → (f (output d b 0) ≡ half (passages d b f) 0)
+    × (f (output d b 1) ≡ half (passages d b f) 1)
 
 -- 1 if wire w is loose, and otherwise 0
 abbrev pub loose : Plan → ℕ → ℕ

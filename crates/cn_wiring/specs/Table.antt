@@ -49,7 +49,8 @@ abbrev pub LeadsOn : Table → ℕ → End → Type 0
 LeadsOn t u (Balancer b) = u < t.entries + 2 * b
 LeadsOn t u (Exit i) = Unit {0}
 
--- a network of balancers: within the limits, each wire leads on, one or two wires end at each balancer, one at each exit
+-- a network of balancers: within the limits, each wire leads on, one or two wires end at each balancer, one at each
+-- exit
 pub record IsWellFormed (t : Table) : Type 0 where
   pub entries : (1 ≤ t.entries) × (t.entries ≤ MOST_ENDS)
   pub width : (1 ≤ t.width) × (t.width ≤ MOST_ENDS)

@@ -13,8 +13,8 @@ use crate::kind::Kind;
 use crate::wiring::Wiring;
 use std::marker::Model;
 
-/// A counting network: every full flow gives its exits counts with the step property, and every path from an entry to an
-/// exit passes the same number of balancers.
+/// A counting network: every full flow gives its exits counts with the step property, and every path from an entry to
+/// an exit passes the same number of balancers.
 ///
 /// Aspnes, Herlihy, Shavit 1994, section 2.2.
 #[derive(Drop)]
@@ -101,8 +101,9 @@ impl Counting {
         self.wiring.end(wire)
     }
 
-    /// The full flows of the table: one exists for all inputs, and only one. They are the flows of the table's draft. A full
-    /// flow keeps the sum, and brings each balancer and each exit at most what entered. Each wire has a path from an entry.
+    /// The full flows of the table: one exists for all inputs, and only one. They are the flows of the table's draft. A
+    /// full flow keeps the sum, and brings each balancer and each exit at most what entered. Each wire has a path from
+    /// an entry.
     ///
     /// It does nothing: its contract is the law.
     pub fn full_flow_laws(&self)

@@ -22,8 +22,8 @@ use std::marker::Model;
 
 /// A network that is being built. Each of its wires ends at a balancer, or is loose.
 ///
-/// Wires 0 to `entries - 1` are the entries, and wire `entries + 2 * b + p` is output `p` of balancer `b`. Balancers are
-/// numbered from 0 in the order in which they are made.
+/// Wires 0 to `entries - 1` are the entries, and wire `entries + 2 * b + p` is output `p` of balancer `b`. Balancers
+/// are numbered from 0 in the order in which they are made.
 #[derive(Drop)]
 pub struct Draft {
     alloc: Global,
@@ -95,8 +95,8 @@ impl Draft {
         let _ = &self.entries;
     }
 
-    /// Makes room for so many more balancers: until they are made, the draft's list of wires grows no more. There are at
-    /// most [`MOST_BALANCERS`] balancers with them. It only serves speed, so the contract says nothing of the room.
+    /// Makes room for so many more balancers: until they are made, the draft's list of wires grows no more. There are
+    /// at most [`MOST_BALANCERS`] balancers with them. It only serves speed, so the contract says nothing of the room.
     ///
     /// # Errors
     /// `AllocError` if the list of wires gets no memory. The draft is as it was.
@@ -169,8 +169,8 @@ impl Draft {
         Ok((first, first + 1))
     }
 
-    /// Joins the wires of two lists pairwise, and gives the outputs in order: the two of the first balancer, then those of
-    /// the next. The lists have one length, and their wires are loose and all different. There are at most
+    /// Joins the wires of two lists pairwise, and gives the outputs in order: the two of the first balancer, then those
+    /// of the next. The lists have one length, and their wires are loose and all different. There are at most
     /// [`MOST_BALANCERS`] balancers afterwards.
     ///
     /// # Errors
@@ -196,8 +196,8 @@ impl Draft {
         Ok(outs)
     }
 
-    /// The finished wiring, in which wire `exits[i]` ends at exit `i`. There are 1 to [`MOST_ENDS`] exits, and they name
-    /// each loose wire once.
+    /// The finished wiring, in which wire `exits[i]` ends at exit `i`. There are 1 to [`MOST_ENDS`] exits, and they
+    /// name each loose wire once.
     ///
     /// # Errors
     /// `AllocError` if the list of ends gets no memory. The draft is handed back.
@@ -219,9 +219,9 @@ impl Draft {
         }
     }
 
-    /// The finished counting network, in which wire `exits[i]` ends at exit `i`, and every path from an entry to an exit
-    /// passes `depth` balancers. There are 1 to [`MOST_ENDS`] exits, which name each loose wire once. In each flow of the
-    /// draft their counts have the step property (Aspnes, Herlihy, Shavit 1994, section 2.2).
+    /// The finished counting network, in which wire `exits[i]` ends at exit `i`, and every path from an entry to an
+    /// exit passes `depth` balancers. There are 1 to [`MOST_ENDS`] exits, which name each loose wire once. In each flow
+    /// of the draft their counts have the step property (Aspnes, Herlihy, Shavit 1994, section 2.2).
     ///
     /// # Errors
     /// `AllocError` if the list of ends gets no memory. The draft is handed back.

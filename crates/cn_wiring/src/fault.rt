@@ -13,8 +13,8 @@ use std::alloc::{AllocError, Global};
 /// Why a list of ends is no wiring.
 #[derive(Clone, Copy, Debug, PartialEq, Eq)]
 pub enum WiringFault {
-    /// There are not 1 to [`MOST_ENDS`] entries, 1 to [`MOST_ENDS`] exits and at most [`MOST_BALANCERS`] balancers, or the
-    /// list has not an end for each of the `entries + 2 * balancers` wires.
+    /// There are not 1 to [`MOST_ENDS`] entries, 1 to [`MOST_ENDS`] exits and at most [`MOST_BALANCERS`] balancers, or
+    /// the list has not an end for each of the `entries + 2 * balancers` wires.
     Length,
     /// This wire ends at a balancer or an exit that there is not.
     NoSuchEnd(u32),

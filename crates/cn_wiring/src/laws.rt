@@ -7,8 +7,9 @@ ghost use Rattle.cn_wiring.specs.Network.{IsNetwork, Network};
 ghost use Rattle.cn_wiring.specs.Plan.{Plan};
 ghost use Rattle.cn_wiring.specs.Table.{IsWellFormed, Table};
 
-/// Each wire of a counting network has one level: 0 for an entry, one more than the inputs of its balancer for an output,
-/// and the depth of the network for the wire of each exit. Each path to a wire passes as many balancers as its level.
+/// Each wire of a counting network has one level: 0 for an entry, one more than the inputs of its balancer for an
+/// output, and the depth of the network for the wire of each exit. Each path to a wire passes as many balancers as its
+/// level.
 pub fn wires_have_levels()
     ensures { (network : Network) → IsNetwork network
         → (level : ℕ → ℕ) × IsLevel network.table network.depth level × CountsPaths network.table level }

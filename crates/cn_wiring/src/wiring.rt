@@ -112,8 +112,9 @@ impl Wiring {
         self.ends[wire as usize]
     }
 
-    /// The full flows of the table: one exists for all inputs, and only one. They are the flows of the table's draft. A full
-    /// flow keeps the sum, and brings each balancer and each exit at most what entered. Each wire has a path from an entry.
+    /// The full flows of the table: one exists for all inputs, and only one. They are the flows of the table's draft. A
+    /// full flow keeps the sum, and brings each balancer and each exit at most what entered. Each wire has a path from
+    /// an entry.
     ///
     /// It does nothing: its contract is the law.
     pub fn full_flow_laws(&self)

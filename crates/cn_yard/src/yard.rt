@@ -15,10 +15,10 @@ use std::marker::Model;
 
 /// Per wire a list of tokens from first to last, each with its client, and a number of free records.
 ///
-/// Only [`Yard::reserve`] and [`Yard::admit`] take memory, and the first that makes a record takes that for the wires too.
-/// The tokens are records that are linked by their numbers, and the free records stand on a line of their own, so an admit,
-/// a move, a release and most looks take a few steps; [`Yard::lowest`] and [`Yard::lowest_from`] look at one bit per wire,
-/// 64 at a time, and [`Yard::deal`] moves one token after another.
+/// Only [`Yard::reserve`] and [`Yard::admit`] take memory, and the first that makes a record takes that for the wires
+/// too. The tokens are records that are linked by their numbers, and the free records stand on a line of their own, so
+/// an admit, a move, a release and most looks take a few steps; [`Yard::lowest`] and [`Yard::lowest_from`] look at one
+/// bit per wire, 64 at a time, and [`Yard::deal`] moves one token after another.
 #[derive(Drop)]
 pub struct Yard {
     wires: u32,
@@ -41,7 +41,8 @@ impl Model for Yard {
 }
 
 impl Yard {
-    /// A yard of `wires` wires, numbered from 0, with nobody on them and no record. It takes no memory, and does not fail.
+    /// A yard of `wires` wires, numbered from 0, with nobody on them and no record. It takes no memory, and does not
+    /// fail.
     pub fn new(alloc: Global, wires: u32) -> Result<Self, AllocError>
         ensures yard { IfOk result (λ yard. yard ≡ empty wires) }
         ensures nobody { IfOk result (λ yard. tokens_in yard.lists ≡ 0) }

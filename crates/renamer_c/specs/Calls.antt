@@ -3,7 +3,7 @@ use Rattle.std.specs.Prelude.{◌≡◌, ℕ, ◌≤◌, Option, Some}
 use Rattle.cn_spec.specs.declared.limits.TheConstants.{MOST_ROOM}
 use Rattle.cn_wiring.specs.declared.kind.Kind.{Kind}
 use Rattle.cn_wiring.specs.declared.kind.Kind.TheVariants.{Bitonic, Periodic, Tree}
-use Rattle.cn_cli.specs.Net.{IsNetworkOf}
+use Rattle.cn_nets.specs.Net.{IsNetworkOf}
 use Rattle.cn_floor.specs.Carried.{start_after}
 use Rattle.cn_floor.specs.Ends.{IsClosedFloor, ListsHolders, counts_by_exit}
 use Rattle.cn_floor.specs.Lane.{LaneValue, empty_lane, with_room}
@@ -57,8 +57,8 @@ Opens new kind width quota =
     (l : LaneValue) × (k : Kind) × (new ≡ Some l) × (number_of k ≡ kind) × IsOpened l quota
     × IsNetworkOf (record { kind = k; width = width }) l.home.start.network
 
--- a floor was closed by its lane: nobody is inside, the names are those below the number of clients, each once, and this is
--- what it leaves
+-- a floor was closed by its lane: nobody is inside, the names are those below the number of clients, each once, and
+-- this is what it leaves
 pub record IsClosedBy (l : LaneValue) (r : RecordValue) : Type 0 where
   pub closed : IsClosedFloor l.home.start l.view r.words.words
   pub network : r.words.network ≡ l.home.start.network

@@ -22,4 +22,5 @@ copy_of g = record { client = g.client; exit = g.exit; visit = g.visit; name = g
 -- some grants of a list, from this one on
 pub record AreGrantsFrom (grants : List floor.Grant) (first : ℕ) (copies : List Grant) : Type 0 where
   pub there : first + length copies ≤ length grants
-  pub each : (k : ℕ) (d : Grant) (e : floor.Grant) → k < length copies → get_or copies k d ≡ copy_of (get_or grants (first + k) e)
+  pub each : (k : ℕ) (d : Grant) (e : floor.Grant) → k < length copies
+      → get_or copies k d ≡ copy_of (get_or grants (first + k) e)

@@ -60,8 +60,8 @@ impl Fits for Returned {
     ghost fits = { λ floor r. AreBack floor r.links.value };
 }
 
-/// A floor with places for lanes that are handed back, of which there are none before its first split. To contracts it is the
-/// floor.
+/// A floor with places for lanes that are handed back, of which there are none before its first split. To contracts it
+/// is the floor.
 #[derive(Drop)]
 pub(crate) struct Group {
     floor: Floor<'static>,
@@ -194,8 +194,8 @@ impl Group {
         &self.floor
     }
 
-    /// Closes the floor by a lane that has the whole of its quota, spent or not, and nobody inside. Lanes that were handed back
-    /// have nothing of it, and are let go.
+    /// Closes the floor by a lane that has the whole of its quota, spent or not, and nobody inside. Lanes that were
+    /// handed back have nothing of it, and are let go.
     ///
     /// # Errors
     /// All as it was, if there is no memory.
@@ -216,8 +216,9 @@ impl Group {
         }
     }
 
-    /// Hands a lane back, in the room that was made for it: into a free place, or else above the lanes at a place where no
-    /// other thread is. It goes round only while as many other threads as there are places are in the midst of a call.
+    /// Hands a lane back, in the room that was made for it: into a free place, or else above the lanes at a place where
+    /// no other thread is. It goes round only while as many other threads as there are places are in the midst of a
+    /// call.
     pub(crate) fn hand_back(&self, lane: Lane, room: Box<Link>)
         requires { IsBack self.now lane }
     {
@@ -260,7 +261,8 @@ impl Group {
     /// Takes a lane that was handed back, with its room.
     ///
     /// # Errors
-    /// `NothingBack` if each place was empty when it was looked at, `Busy` if other threads were at the others all the time.
+    /// `NothingBack` if each place was empty when it was looked at, `Busy` if other threads were at the others all the
+    /// time.
     pub(crate) fn take_back(&self) -> Result<(Lane, Box<Link>), Refusal>
         ensures ok { IfOk result (λ r. IsBack self.now r.0) }
         ensures refused { IfErr result NobodyBack }

@@ -5,13 +5,14 @@ mod naming_many;
 mod returning;
 mod stepping;
 
+ghost use Rattle.std.specs.Arc.{arc_value};
 ghost use Rattle.std.specs.Prelude.{◌≡◌, ◌≤◌, Some, IfErr, IfOk, OnErr, OnOk};
 ghost use Rattle.cn_spec.specs.declared.limits.TheConstants.{MOST_CARRIED, MOST_CLIENTS, MOST_ROOM};
 ghost use Rattle.cn_floor.specs.Carried.{client_count, start_after};
 ghost use Rattle.cn_floor.specs.Lane.{empty_lane, with_room};
 ghost use Rattle.cn_floor.specs.Named.{IsNamed};
 ghost use Rattle.cn_floor.specs.Steps.{HasMoment, IsAnswer};
-ghost use Rattle.cn_floor.specs.Views.{after_entered};
+ghost use Rattle.cn_floor.specs.Views.{after_entered, base};
 ghost use Rattle.renamer_c.specs.Calls.{IsOpened, IsSplit};
 ghost use Rattle.renamer_c.specs.Questions.{number_asked};
 ghost use Rattle.renamer_c.specs.Refusals.{NotNamed, NotReserved};
@@ -21,7 +22,7 @@ use crate::group::Group;
 use crate::link::Link;
 use crate::question::Question;
 use crate::refusal::Refusal;
-use cn_floor::{Floor, Lane, LaneFault, Words};
+use cn_floor::{Floor, Lane, LaneFault, OpenFault, Words};
 use cn_spec::limits::MOST_ROOM;
 use cn_wiring::Counting;
 use std::alloc::Global;
@@ -49,6 +50,27 @@ impl Model for HeldLane {
     ghost invariant = { IsHeldLane };
 }
 
+/// A floor over a network, whose words lie apart or not, and its first lane.
+///
+/// # Errors
+/// The first that stands: `Quota`, `Memory`.
+fn floor_over(
+    alloc: Global,
+    network: &Arc<Counting, Global>,
+    quota: u64,
+    apart: bool,
+) -> Result<(Floor<'static>, Lane), OpenFault>
+    ensures start { IfOk result (λ r. (r.0.start.network ≡ arc_value network.now)
+        × (r.0.start.quota ≡ quota) × (base r.0.start ≡ 0)) }
+    ensures lane { IfOk result (λ r. r.1 ≡ empty_lane r.0 quota) }
+{
+    if apart {
+        Floor::open_shared_apart(alloc, network, quota)
+    } else {
+        Floor::open_shared(alloc, network, quota)
+    }
+}
+
 impl HeldLane {
     /// A lane with its share of its floor.
     fn of(floor: FloorShare, lane: Lane, most: u64, room: Box<Link>) -> HeldLane
@@ -64,11 +86,16 @@ impl HeldLane {
         }
     }
 
-    /// A floor over a network, and its first lane.
+    /// A floor over a network, whose words lie apart or not, and its first lane.
     ///
     /// # Errors
     /// `Memory`.
-    pub(crate) fn open(alloc: Global, network: Counting, quota: u64) -> Result<HeldLane, Refusal>
+    pub(crate) fn open(
+        alloc: Global,
+        network: Counting,
+        quota: u64,
+        apart: bool,
+    ) -> Result<HeldLane, Refusal>
         requires { quota ≤ MOST_CLIENTS }
         ensures opened { IfOk result (λ lane. IsOpened lane quota
             × (lane.home.start.network ≡ network)) }
@@ -80,7 +107,7 @@ impl HeldLane {
         let Ok(room) = Box::new(alloc, Link::Empty) else {
             return Err(Refusal::Memory);
         };
-        match Floor::open_shared(alloc, &network, quota) {
+        match floor_over(alloc, &network, quota, apart) {
             Ok((floor, lane)) => Ok(HeldLane::of(
                 FloorShare::of(Group::of(alloc, floor)),
                 lane,

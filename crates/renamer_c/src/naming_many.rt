@@ -12,7 +12,8 @@ use crate::granting::Grant;
 use crate::handle::Handle;
 use crate::refusal::Refusal;
 
-/// Names clients, those who follow one another by one entry together. Copies their grants, in the order in which they left.
+/// Names clients, those who follow one another by one entry together. Copies their grants, in the order in which they
+/// left.
 #[unsafe(no_mangle)]
 pub extern "C" fn renamer_name_many(
     lane: &mut Handle,

@@ -12,7 +12,7 @@ use crate::handle::Handle;
 use crate::held::Held;
 use crate::held_lane::HeldLane;
 use crate::refusal::{DONE, Refusal};
-use cn_cli::Net;
+use cn_nets::Net;
 use cn_spec::limits::MOST_CLIENTS;
 use cn_wiring::Kind;
 use std::alloc::Global;
@@ -49,11 +49,11 @@ fn asked(kind: u32, width: u32, quota: u64) -> Result<Net, Refusal>
     Ok(net)
 }
 
-/// A floor over the network of this kind and width, and its first lane, in a box.
+/// A floor over the network of this kind and width, whose words lie apart or not, and its first lane, in a box.
 ///
 /// # Errors
 /// The first that stands: `Kind`, `Width`, `Quota`, `Memory`.
-fn open(alloc: Global, kind: u32, width: u32, quota: u64) -> Result<Box<Held>, Refusal>
+fn open(alloc: Global, kind: u32, width: u32, quota: u64, apart: bool) -> Result<Box<Held>, Refusal>
     ensures ok { IfOk result (λ b. Opens (lane_held b.value) kind width quota) }
     ensures err { IfErr result (NotOpened kind width quota) }
 {
@@ -61,7 +61,7 @@ fn open(alloc: Global, kind: u32, width: u32, quota: u64) -> Result<Box<Held>, R
     let Ok(network) = net.build(alloc) else {
         return Err(Refusal::Memory);
     };
-    let lane = HeldLane::open(alloc, network, quota)?;
+    let lane = HeldLane::open(alloc, network, quota, apart)?;
     match Box::new(alloc, Held::Lane(lane)) {
         Ok(held) => Ok(held),
         Err(_) => Err(Refusal::Memory),
@@ -81,7 +81,29 @@ pub extern "C" fn renamer_open(
     ensures kept { 0 < result → lane.new.held ≡ lane.old.held }
     ensures refused { 0 < result → IsRefusal (NotOpened kind width quota) result }
 {
-    match open(alloc, kind, width, quota) {
+    match open(alloc, kind, width, quota, false) {
+        Ok(held) => {
+            lane.put(held);
+            DONE
+        }
+        Err(refusal) => refusal.status(),
+    }
+}
+
+/// Opens such a floor, whose words lie apart in memory.
+#[unsafe(no_mangle)]
+pub extern "C" fn renamer_open_apart(
+    alloc: Global,
+    lane: &mut Handle,
+    kind: u32,
+    width: u32,
+    quota: u64,
+) -> u32
+    ensures opened { result ≡ DONE → Opens (lane_in lane.new.held) kind width quota }
+    ensures kept { 0 < result → lane.new.held ≡ lane.old.held }
+    ensures refused { 0 < result → IsRefusal (NotOpened kind width quota) result }
+{
+    match open(alloc, kind, width, quota, true) {
         Ok(held) => {
             lane.put(held);
             DONE

@@ -22,8 +22,8 @@ impl<'a> Core<'a> {
         }
     }
 
-    /// One event after another, as by [`Core::enter`] and [`Core::step`], and their replies. The room for the replies is
-    /// taken first.
+    /// One event after another, as by [`Core::enter`] and [`Core::step`], and their replies. The room for the replies
+    /// is taken first.
     ///
     /// # Errors
     /// `AllocError` if the replies get no room; then no event has been applied. An enter that meets want of memory is a

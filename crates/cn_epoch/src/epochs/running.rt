@@ -9,8 +9,9 @@ use cn_record::{Answer, Command};
 use std::alloc::AllocError;
 
 impl<'a> Epochs<'a> {
-    /// The answer to one command.
-    fn answer(&mut self, command: Command) -> Answer
+    /// The answer to one command, as by [`Epochs::enter`], [`Epochs::step`] or [`Epochs::turn`], under the conditions
+    /// of a turn.
+    pub fn answer(&mut self, command: Command) -> Answer
         requires number { self.old.number + 1 < 2 ^ 64 }
         requires carried { self.old.carries ≡ true
             → self.old.core.base + length self.old.core.clients ≤ MOST_CARRIED }
@@ -31,8 +32,8 @@ impl<'a> Epochs<'a> {
         }
     }
 
-    /// One command after another, as by [`Epochs::enter`], [`Epochs::step`] and [`Epochs::turn`], and their answers. The
-    /// room for the answers is taken first.
+    /// One command after another, as by [`Epochs::enter`], [`Epochs::step`] and [`Epochs::turn`], and their answers.
+    /// The room for the answers is taken first.
     ///
     /// [`Epochs::number`] and the number of commands together are below 2^64. If turns carry ([`Epochs::carrying`]),
     /// the carried clients ([`Epochs::base`]), those that entered and the number of commands are together at most

@@ -121,8 +121,8 @@ impl<'a> ClosedFloor<'a> {
         zeros(self.alloc, self.network.get())
     }
 
-    /// The same closed floor, with its words in a list, and with how much each has risen since it began: what is left of it
-    /// has these words.
+    /// The same closed floor, with its words in a list, and with how much each has risen since it began: what is left
+    /// of it has these words.
     ///
     /// # Errors
     /// `AllocError` if the list gets no memory.
@@ -134,8 +134,8 @@ impl<'a> ClosedFloor<'a> {
         Ok(self.quiet_in(leftovers.into_words(), room))
     }
 
-    /// The same closed floor as [`ClosedFloor::into_quiet`] makes of it, in a list with a place for each word, by the words
-    /// with which it began.
+    /// The same closed floor as [`ClosedFloor::into_quiet`] makes of it, in a list with a place for each word, by the
+    /// words with which it began.
     pub(super) fn quiet_in(self, before: Words<'a>, room: Vec<u64>) -> Quiet<'a>
         requires before { before ≡ words_before self.start }
         requires room { length room.items ≡ word_count self.start.network.table }
@@ -151,11 +151,12 @@ impl<'a> ClosedFloor<'a> {
         } = self;
         let mut list = room;
         words.copy_over(&mut list);
+        let spacing = before.spacing;
         let risen = before.risen_to(&list);
         Quiet {
             alloc,
             lane,
-            words: Words::closed(network, list, clients),
+            words: Words::closed(network, list, clients, spacing),
             grants,
             risen,
         }

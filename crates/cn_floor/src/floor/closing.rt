@@ -39,8 +39,8 @@ impl<'a> Floor<'a> {
     /// Ends the floor. Its lane must have the grants of all that came in.
     ///
     /// # Errors
-    /// The first that stands: `StillWalking` (the lane has tokens) and `Memory` give floor and lane back; `LanesMissing`
-    /// if the lane's grants are fewer than those that came in. Then the floor is spent.
+    /// The first that stands: `StillWalking` (the lane has tokens) and `Memory` give floor and lane back;
+    /// `LanesMissing` if the lane's grants are fewer than those that came in. Then the floor is spent.
     pub fn close(self, lane: Lane) -> Result<Quiet<'a>, CloseFault<'a>>
         requires own { lane.home ≡ self }
         ensures quiet { IfOk result (λ q. (q.start ≡ self.entry.start) × (q.did ≡ lane.view)) }
@@ -93,8 +93,8 @@ impl<'a> Floor<'a> {
         }
     }
 
-    /// Ends the floor as [`Floor::close`] does, and leaves what the next one may take: the words with which it began, and the
-    /// yard of its lane.
+    /// Ends the floor as [`Floor::close`] does, and leaves what the next one may take: the words with which it began,
+    /// and the yard of its lane.
     ///
     /// # Errors
     /// As those of [`Floor::close`].

@@ -1,18 +1,21 @@
-//! The shared words of a floor, and the atomic steps on them. No other module reaches the table: each step of a lane on the
-//! word of an entry, a balancer or an exit is a call of a function of this folder, and the lane's view counts it.
+//! The shared words of a floor, and the atomic steps on them. No other module reaches the table: each step of a lane on
+//! the word of an entry, a balancer or an exit is a call of a function of this folder, and the lane's view counts it.
 
 mod looking;
+mod spreading;
 
-ghost use Rattle.std.specs.Prelude.{◌≡◌, ◌+◌, ◌<◌, ◌≤◌, ℕ, [], length, IfOk};
+ghost use Rattle.std.specs.Prelude.{◌≡◌, ◌+◌, ◌*◌, ◌^◌, ◌<◌, ◌≤◌, ℕ, [], length, IfOk};
 ghost use Rattle.cn_wiring.specs.Table.{Stands, end_of};
 ghost use Rattle.cn_yard.specs.Lists.{IsThere, on, times_in};
 ghost use Rattle.cn_floor.specs.Closing.{IsEnding};
 ghost use Rattle.cn_floor.specs.EntersAll.{AllComeIn};
 ghost use Rattle.cn_floor.specs.Plays.{ComesIn, GoesOn};
 ghost use Rattle.cn_floor.specs.Rule.{IsStart};
+ghost use Rattle.cn_floor.specs.Spread.{IsStride};
 ghost use Rattle.cn_floor.specs.Sweeps.{AllGoOn};
 ghost use Rattle.cn_floor.specs.Views.{after_join, after_split, empty_view, on_in, split_off};
 ghost use Rattle.cn_floor.specs.Words.{end_word, word_count};
+ghost use Rattle.cn_floor.specs.declared.floor.counters.TheConstants.{MOST_STRIDE};
 
 use super::end_words::EndWords;
 use super::plays::{
@@ -23,15 +26,30 @@ use crate::view::{Opening, View};
 use atomic_table::{Seat, Table};
 use cn_wiring::{Counting, End};
 use cn_yard::Token;
+use spreading::table_of;
 use std::alloc::{AllocError, Global};
 use std::marker::Model;
 use std::snapshot::Snapshot;
+
+/// How far apart two neighbours of the words lie in the table, at most.
+pub(super) const MOST_STRIDE: usize = 16;
+
+/// The place in the table of a word.
+fn place_of(stride: usize, word: usize) -> usize
+    requires stride { stride ≤ MOST_STRIDE }
+    requires word { word < 2 ^ 40 }
+    ensures { result ≡ stride * word }
+{
+    stride * word
+}
 
 /// One word for the lanes, and then one for each entry, each balancer and each exit.
 #[derive(Drop)]
 pub(super) struct Counters {
     entries: u32,
     balancers: u32,
+    /// How far apart neighbours lie.
+    stride: usize,
     table: Table<(), View, Opening, FloorRule, Global>,
 }
 
@@ -56,8 +74,10 @@ impl Counters {
         network: &Counting,
         quota: u64,
         words: &Vec<u64>,
+        stride: usize,
     ) -> Result<(Counters, Seat<(), View>), AllocError>
-        requires { IsStart (record { network = network.now; quota = quota; words = words.now.items }) }
+        requires began { IsStart (record { network = network.now; quota = quota; words = words.now.items }) }
+        requires stride { IsStride stride }
         ensures start { IfOk result (λ r. r.0.start
             ≡ record { network = network.now; quota = quota; words = words.now.items }) }
         ensures seat { IfOk result (λ r. (r.1.table_id ≡ r.0.table)
@@ -67,11 +87,13 @@ impl Counters {
             network: Snapshot::of(network),
             quota,
             words: Snapshot::of(words),
+            stride,
         };
-        let (table, seat) = Table::of_words(alloc, words.as_slice(), &about)?;
+        let (table, seat) = table_of(alloc, words.as_slice(), &about)?;
         let counters = Counters {
             entries: network.entries(),
             balancers: network.balancers(),
+            stride,
             table,
         };
         Ok((counters, seat))
@@ -80,7 +102,8 @@ impl Counters {
     /// The word of an end.
     fn word_of(&self, end: End) -> usize
         requires { Stands self.now.start.network.table end }
-        ensures { result ≡ end_word self.now.start.network.table end }
+        ensures word { result ≡ end_word self.now.start.network.table end }
+        ensures low { result < 2 ^ 40 }
     {
         let entries = self.entries as usize;
         match end {
@@ -111,11 +134,11 @@ impl Counters {
     {
         self.table
             .shared
-            .fetch_add::<EnterPlay<T>>(seat, 1 + entry as usize, 1);
+            .fetch_add::<EnterPlay<T>>(seat, place_of(self.stride, 1 + entry as usize), 1);
     }
 
-    /// The clients of a list come in by the entry, in one atomic step: an add of their number on the entry's word. Each one's
-    /// token has the number of its place in the list, which is only for the proof.
+    /// The clients of a list come in by the entry, in one atomic step: an add of their number on the entry's word. Each
+    /// one's token has the number of its place in the list, which is only for the proof.
     pub(super) fn enter_all<T: EnterAllOf>(
         &self,
         seat: &mut Seat<(), View>,
@@ -137,7 +160,7 @@ impl Counters {
     {
         self.table
             .shared
-            .fetch_add::<EnterAllPlay<T>>(seat, 1 + entry as usize, count);
+            .fetch_add::<EnterAllPlay<T>>(seat, place_of(self.stride, 1 + entry as usize), count);
     }
 
     /// The token goes by the end of its wire, in one atomic step: an add on the end's word, which gives its number. The
@@ -162,12 +185,12 @@ impl Counters {
         ensures seat { (seat.new.table_id ≡ seat.old.table_id) × (seat.new.me.1 ≡ []) }
         ensures went { GoesOn T.going seat.old.me.0 result seat.new.me.0 }
     {
-        let word = self.word_of(end);
-        self.table.shared.fetch_add::<StepPlay<T>>(seat, word, 1)
+        let place = place_of(self.stride, self.word_of(end));
+        self.table.shared.fetch_add::<StepPlay<T>>(seat, place, 1)
     }
 
-    /// The tokens of a wire go by its end, in one atomic step: an add of their number on the end's word, which gives the
-    /// number of the first. The wire is only for the proof.
+    /// The tokens of a wire go by its end, in one atomic step: an add of their number on the end's word, which gives
+    /// the number of the first. The wire is only for the proof.
     pub(super) fn sweep<T: SweepOf>(
         &self,
         seat: &mut Seat<(), View>,
@@ -189,10 +212,10 @@ impl Counters {
         ensures seat { (seat.new.table_id ≡ seat.old.table_id) × (seat.new.me.1 ≡ []) }
         ensures went { AllGoOn T.sweeping seat.old.me.0 result seat.new.me.0 }
     {
-        let word = self.word_of(end);
+        let place = place_of(self.stride, self.word_of(end));
         self.table
             .shared
-            .fetch_add::<SweepPlay<T>>(seat, word, tokens)
+            .fetch_add::<SweepPlay<T>>(seat, place, tokens)
     }
 
     /// The seat's view is cut in two. The quota is only for the proof.
@@ -226,6 +249,7 @@ impl Counters {
         requires own { seat.table_id ≡ self.table }
         ensures { IsEnding self.start seat.me.0 result }
     {
-        EndWords::of(self.table.close_with(seat))
+        let stride = self.stride;
+        EndWords::of(self.table.close_with(seat), stride)
     }
 }

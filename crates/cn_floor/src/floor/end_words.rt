@@ -1,7 +1,8 @@
 //! The words of a closed floor, where its lanes left them.
 
-ghost use Rattle.std.specs.Prelude.{◌≡◌, ◌<◌, length, slice_index};
+ghost use Rattle.std.specs.Prelude.{◌≡◌, ◌<◌, ◌≤◌, length, slice_index};
 ghost use Rattle.std.specs.Mem.Slots.{slots_items, slots_len, IsFull};
+ghost use Rattle.cn_floor.specs.Spread.{picked, spread};
 
 use atomic_table::Closed;
 use std::alloc::Global;
@@ -11,6 +12,8 @@ use std::marker::Model;
 /// few of them. To contracts they are the list of them.
 pub(super) struct EndWords {
     closed: Closed<(), Global>,
+    /// How far apart neighbours lie.
+    stride: usize,
 }
 
 impl Model for EndWords {
@@ -26,12 +29,15 @@ impl Model for EndWords {
 
 impl EndWords {
     /// The words of a closed table, which has no slots.
-    pub(super) fn of(closed: Closed<(), Global>) -> EndWords
+    pub(super) fn of(closed: Closed<(), Global>, stride: usize) -> EndWords
         requires full { IsFull closed.words }
         requires none { slots_len closed.slots ≡ 0 }
-        ensures { result ≡ slots_items closed.words }
+        requires stride { 1 ≤ stride }
+        requires apart { slots_items closed.words
+            ≡ spread stride (picked stride 0 (slots_items closed.words)) }
+        ensures { result ≡ picked stride 0 (slots_items closed.words) }
     {
-        EndWords { closed }
+        EndWords { closed, stride }
     }
 
     /// The word at a place.
@@ -39,7 +45,7 @@ impl EndWords {
         requires { place < length self.now }
         ensures { result ≡ slice_index self.now place }
     {
-        self.closed.word(place)
+        self.closed.word(self.stride * place)
     }
 
     /// Copies all of them over a list of as many.
@@ -64,7 +70,10 @@ impl EndWords {
 
 impl Drop for EndWords {
     fn drop(self) {
-        let EndWords { closed } = self;
+        let EndWords {
+            closed,
+            stride: _stride,
+        } = self;
         closed.free();
     }
 }

@@ -81,8 +81,8 @@ impl Lane {
     }
 
     /// What holds of each lane: its yard has the tokens of its view, wire by wire, and it has a wire for each of the
-    /// network; those inside and its quota are at most [`MOST_CLIENTS`] together; no token stands there twice, and one that
-    /// does stands on one wire, for one client.
+    /// network; those inside and its quota are at most [`MOST_CLIENTS`] together; no token stands there twice, and one
+    /// that does stands on one wire, for one client.
     ///
     /// It does nothing: its contract is the law.
     pub fn lane_laws(&self)
@@ -98,8 +98,8 @@ impl Lane {
         self.yard.yard_laws();
     }
 
-    /// Makes room for so many clients, at most [`MOST_ROOM`]: as many can come in, and get their grants, with no further
-    /// memory.
+    /// Makes room for so many clients, at most [`MOST_ROOM`]: as many can come in, and get their grants, with no
+    /// further memory.
     ///
     /// # Errors
     /// `AllocError` if there is less room and the rest gets no memory. Then nothing has changed.

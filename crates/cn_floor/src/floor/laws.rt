@@ -1,5 +1,5 @@
-//! The laws of a floor. Each function does nothing: its contract is the law, and a caller opens it by a call. They speak of
-//! each state that keeps the floor's rule, and each step of a lane is from such a state to such a state.
+//! The laws of a floor. Each function does nothing: its contract is the law, and a caller opens it by a call. They
+//! speak of each state that keeps the floor's rule, and each step of a lane is from such a state to such a state.
 
 ghost use Rattle.std.specs.Prelude.{◌+◌, ◌≤◌};
 ghost use Rattle.cn_spec.specs.declared.limits.TheConstants.{MOST_CARRIED, MOST_CLIENTS};
@@ -13,8 +13,8 @@ ghost use Rattle.cn_floor.specs.Views.{base};
 use super::Floor;
 
 impl<'a> Floor<'a> {
-    /// What a floor began with: a counting network, a quota of at most [`cn_spec::limits::MOST_CLIENTS`], and the words of a
-    /// sound ledger with nobody inside, which count at most [`cn_spec::limits::MOST_CARRIED`] clients.
+    /// What a floor began with: a counting network, a quota of at most [`cn_spec::limits::MOST_CLIENTS`], and the words
+    /// of a sound ledger with nobody inside, which count at most [`cn_spec::limits::MOST_CARRIED`] clients.
     pub fn start_laws(&self)
         ensures { IsStart self.now.start }
     {
@@ -22,16 +22,16 @@ impl<'a> Floor<'a> {
         let _ = &self.counters;
     }
 
-    /// No name stands twice in a lane: a lane that was joined of others has the names of all, each once. Each is below the
-    /// number of clients that came in since the floor began.
+    /// No name stands twice in a lane: a lane that was joined of others has the names of all, each once. Each is below
+    /// the number of clients that came in since the floor began.
     pub fn names_are_once(&self)
         ensures once { InEachView self.now.start NamesOnce }
         ensures low { InEachView self.now.start HoldsLowNames }
     {}
 
-    /// No name is granted twice, by any lanes: two grants of one name are of one client, by one exit, with one visit, and no
-    /// grant is made twice. Each name is below the number that came in. If the floor went on from others, each name is that
-    /// of the ledger minus the number that came before, and is below the number that came in since.
+    /// No name is granted twice, by any lanes: two grants of one name are of one client, by one exit, with one visit,
+    /// and no grant is made twice. Each name is below the number that came in. If the floor went on from others, each
+    /// name is that of the ledger minus the number that came before, and is below the number that came in since.
     pub fn names_differ_and_are_low(&self)
         ensures differ { AtEachMoment self.now.start (λ start s. NamesDiffer (ledger_at start s)) }
         ensures once { AtEachMoment self.now.start (λ start s. GrantsOnce (ledger_at start s)) }
@@ -53,8 +53,8 @@ impl<'a> Floor<'a> {
         self.start_laws();
     }
 
-    /// No count wraps: each is at most the number that ever came, and that is at most those before and the quota, which are
-    /// few.
+    /// No count wraps: each is at most the number that ever came, and that is at most those before and the quota, which
+    /// are few.
     pub fn words_are_few(&self)
         ensures counts { AtEachMoment self.now.start HasFewWords }
         ensures came { AtEachMoment self.now.start (λ start s. entered_at start s ≤ base start + start.quota) }
@@ -63,8 +63,9 @@ impl<'a> Floor<'a> {
         self.start_laws();
     }
 
-    /// In each view, also that of a lane that was dropped, the passages are as many as the network is deep for each grant, and
-    /// as each token inside is deep. So each token takes part in as many atomic steps as the network is deep, and two.
+    /// In each view, also that of a lane that was dropped, the passages are as many as the network is deep for each
+    /// grant, and as each token inside is deep. So each token takes part in as many atomic steps as the network is
+    /// deep, and two.
     pub fn tokens_take_their_steps(&self)
         ensures walked { InEachView self.now.start (λ start s v. HasWalked start v) }
         ensures steps { InEachView self.now.start (λ start s v. TakesItsSteps start v) }
@@ -77,8 +78,8 @@ impl<'a> Floor<'a> {
         ensures { InEachView self.now.start (λ start s v. base start + v.seen ≤ entered_at start s) }
     {}
 
-    /// If nobody is inside, the ledger of all that ever came is tight: each exit has let out its share, and the names are
-    /// those below the number that came in, each granted once.
+    /// If nobody is inside, the ledger of all that ever came is tight: each exit has let out its share, and the names
+    /// are those below the number that came in, each granted once.
     pub fn floors_end_tight(&self)
         ensures { AtEachMoment self.now.start (λ start s. NobodyInside start s.views
             → IsTight start.network.table (ledger_at start s)) }

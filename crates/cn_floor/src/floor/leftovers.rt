@@ -13,8 +13,8 @@ use cn_yard::Yard;
 use std::alloc::{AllocError, Global};
 use std::marker::Model;
 
-/// What a floor leaves for the next one over its network ([`super::Floor::open_on`]): the words with which that begins, and
-/// the yard of a lane, in which nobody is.
+/// What a floor leaves for the next one over its network ([`super::Floor::open_on`]): the words with which that begins,
+/// and the yard of a lane, in which nobody is.
 pub struct Leftovers<'a> {
     pub(super) words: Words<'a>,
     /// None if it was lost with a floor that was not closed.

@@ -69,8 +69,8 @@ impl Group {
     }
 }
 
-/// Appends a grant for each of a group, who leave by an exit with the visits from `first` on. From each name the number of
-/// clients is taken that came before the floor began.
+/// Appends a grant for each of a group, who leave by an exit with the visits from `first` on. From each name the number
+/// of clients is taken that came before the floor began.
 fn grant_all(
     grants: &mut Vec<Grant>,
     clients: &[u64],
@@ -116,8 +116,8 @@ impl<'a> Floor<'a> {
             .enter_all::<Brand>(seat, clients, entry, clients.len() as u64);
     }
 
-    /// Lets the clients of a list in by one entry, in one atomic step, by a view with nobody inside. Each one's token has the
-    /// number of its place in the list.
+    /// Lets the clients of a list in by one entry, in one atomic step, by a view with nobody inside. Each one's token
+    /// has the number of its place in the list.
     fn come_in(&self, seat: &mut Seat<(), View>, clients: &[u64], entry: u32)
         requires own { (seat.old.table_id ≡ self.now.table)
             × (seat.old.me.0.start ≡ self.now.start) }
@@ -134,7 +134,8 @@ impl<'a> Floor<'a> {
         self.enter_list(seat, clients, entry);
     }
 
-    /// Lets all tokens of a wire, as many as `tokens`, go by its end in one atomic step: the end, and the number of the first.
+    /// Lets all tokens of a wire, as many as `tokens`, go by its end in one atomic step: the end, and the number of the
+    /// first.
     fn let_by(
         &self,
         network: &Counting,
@@ -162,8 +163,8 @@ impl<'a> Floor<'a> {
         (end, number)
     }
 
-    /// Lets a group that stands on a wire pass its end together, and then each half, until all have left. Nobody stands on
-    /// a greater wire: those who go on to the greater of two wires leave first.
+    /// Lets a group that stands on a wire pass its end together, and then each half, until all have left. Nobody stands
+    /// on a greater wire: those who go on to the greater of two wires leave first.
     fn pass_all(
         &self,
         network: &Counting,
@@ -214,14 +215,14 @@ impl<'a> Floor<'a> {
         }
     }
 
-    /// Lets the clients of a list in by one entry and walks them out, all who stand on a wire by one atomic step: a step
-    /// by which they come in, and one for each sweep of a wire, on which some of them stand. Nobody of the lane is
+    /// Lets the clients of a list in by one entry and walks them out, all who stand on a wire by one atomic step: a
+    /// step by which they come in, and one for each sweep of a wire, on which some of them stand. Nobody of the lane is
     /// inside. Where they stand is in locals, and not in the lane's yard. It waits for nobody, and takes memory only if
     /// the lane lacks room, and then only for their grants.
     ///
     /// # Errors
-    /// The first that stands: `NoSuchEntry`, `QuotaSpent` (there are more clients than quota), `Memory` (the lane has less
-    /// room, and gets no memory). Then nothing has changed.
+    /// The first that stands: `NoSuchEntry`, `QuotaSpent` (there are more clients than quota), `Memory` (the lane has
+    /// less room, and gets no memory). Then nothing has changed.
     pub fn name_all(&self, lane: &mut Lane, clients: &[u64], entry: u64) -> Result<(), LaneFault>
         requires own { lane.old.home ≡ self.now }
         requires out { tokens_in lane.old.yard.lists ≡ 0 }

@@ -17,8 +17,8 @@ use std::marker::Brand;
 use std::sync::Wait;
 
 impl<'a> Floor<'a> {
-    /// Lets a token that stands alone in a view pass one balancer after the other, until its wire ends at an exit. Gives
-    /// this wire.
+    /// Lets a token that stands alone in a view pass one balancer after the other, until its wire ends at an exit.
+    /// Gives this wire.
     pub(super) fn pass_on<P: Pause>(
         &self,
         seat: &mut Seat<(), View>,
@@ -52,9 +52,10 @@ impl<'a> Floor<'a> {
     }
 }
 
-/// Lets the lane's only token, which stands on this wire, pass one balancer after the other, in one atomic step each, until
-/// its wire ends at an exit. Gives this wire. Only the final position is written to the yard. The gate is asked before each
-/// step, in the worker's name. It takes no memory, and refuses nothing, but returns only if the gate lets it.
+/// Lets the lane's only token, which stands on this wire, pass one balancer after the other, in one atomic step each,
+/// until its wire ends at an exit. Gives this wire. Only the final position is written to the yard. The gate is asked
+/// before each step, in the worker's name. It takes no memory, and refuses nothing, but returns only if the gate lets
+/// it.
 pub fn pass_alone<'a, G: Gate, R: Wait>(
     rt: &R,
     floor: &Floor<'a>,

@@ -9,12 +9,13 @@ use super::lane::Lane;
 use std::marker::Brand;
 
 impl<'a> Floor<'a> {
-    /// Looks at two lanes at one moment, and gives them back, with how many clients came in since the floor began, as far as
-    /// one lane can see. No name of one lane is a name of the other, and none stands twice; each is below that answer, and so
-    /// below every later one of either lane ([`Floor::entered`]). It takes no memory, and loads the word of each entry once
-    /// and the lanes' word, which nobody changes, four times.
+    /// Looks at two lanes at one moment, and gives them back, with how many clients came in since the floor began, as
+    /// far as one lane can see. No name of one lane is a name of the other, and none stands twice; each is below that
+    /// answer, and so below every later one of either lane ([`Floor::entered`]). It takes no memory, and loads the word
+    /// of each entry once and the lanes' word, which nobody changes, four times.
     ///
-    /// Both lanes are taken into one seat for a moment, so it wants both; threads that walk other lanes go on meanwhile.
+    /// Both lanes are taken into one seat for a moment, so it wants both; threads that walk other lanes go on
+    /// meanwhile.
     pub fn look_at_both(&self, mut lane: Lane, other: Lane) -> (Lane, Lane, u64)
         requires own { (lane.home ≡ self.now) × (other.home ≡ self.now) }
         ensures first { result.0

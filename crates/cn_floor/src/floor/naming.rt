@@ -16,13 +16,13 @@ use cn_yard::Token;
 use std::marker::Brand;
 
 impl<'a> Floor<'a> {
-    /// Lets a client in by an entry and walks it out, in one atomic step for the entry, for each balancer on its way and for
-    /// the exit: its name. Nobody of the lane is inside. The client's place is in a local, and not in the lane's yard. It
-    /// waits for nobody, and takes memory only if the lane has no room, and then only for its grant.
+    /// Lets a client in by an entry and walks it out, in one atomic step for the entry, for each balancer on its way
+    /// and for the exit: its name. Nobody of the lane is inside. The client's place is in a local, and not in the
+    /// lane's yard. It waits for nobody, and takes memory only if the lane has no room, and then only for its grant.
     ///
     /// # Errors
-    /// The first that stands: `NoSuchEntry`, `QuotaSpent`, `Memory` (the lane has no room, and gets no memory). Then nothing
-    /// has changed.
+    /// The first that stands: `NoSuchEntry`, `QuotaSpent`, `Memory` (the lane has no room, and gets no memory). Then
+    /// nothing has changed.
     pub fn name(&self, lane: &mut Lane, client: u64, entry: u64) -> Result<u64, LaneFault>
         requires own { lane.old.home ≡ self.now }
         requires out { tokens_in lane.old.yard.lists ≡ 0 }
@@ -58,7 +58,8 @@ impl<'a> Floor<'a> {
         Ok(name)
     }
 
-    /// Lets a client in by an entry and walks it out, by a view with nobody inside: the exit by which it left, and its visit.
+    /// Lets a client in by an entry and walks it out, by a view with nobody inside: the exit by which it left, and its
+    /// visit.
     fn walk_through(&self, seat: &mut Seat<(), View>, client: u64, entry: u32) -> (u32, u64)
         requires own { (seat.old.table_id ≡ self.now.table)
             × (seat.old.me.0.start ≡ self.now.start) }

@@ -77,8 +77,8 @@ impl<'a> NetworkRef<'a> {
     }
 }
 
-// By hand: a derived drop of a type with a lifetime is walked field by field wherever a value is dropped, and this one is a
-// call there.
+// By hand: a derived drop of a type with a lifetime is walked field by field wherever a value is dropped, and this one
+// is a call there.
 impl Drop for NetworkRef<'_> {
     fn drop(self) {
         let NetworkRef { holding: _holding } = self;

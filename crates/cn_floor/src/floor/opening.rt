@@ -125,9 +125,55 @@ impl<'a> Floor<'a> {
         Floor::open_words(alloc, words, quota)
     }
 
-    /// A floor over the network of these words, which goes on from them: its numbers and visits begin with theirs, and its
-    /// names are those of its own clients. It has one lane with the whole quota. Over words that are all 0 it is that of
-    /// [`Floor::open`]. They count at most [`cn_spec::limits::MOST_CARRIED`] clients.
+    /// A floor as [`Floor::open`] opens it, whose words lie 128 bytes apart in memory, with zeros between: two threads
+    /// that step on two of them never wait for one cache line. It takes 16 times the memory for its words. So does each
+    /// floor that goes on from it.
+    ///
+    /// # Errors
+    /// The first that stands: `Quota` (more than [`MOST_CLIENTS`]), `Memory`.
+    pub fn open_apart(
+        alloc: Global,
+        network: &'a Counting,
+        quota: u64,
+    ) -> Result<(Floor<'a>, Lane), OpenFault>
+        ensures floor { IfOk result (λ r. (r.0.start.network ≡ network.now)
+            × (r.0.start.quota ≡ quota)) }
+        ensures zero { IfOk result (λ r. r.0.start.words
+            ≡ replicate (word_count network.now.table) 0) }
+        ensures base { IfOk result (λ r. base r.0.start ≡ 0) }
+        ensures lane { IfOk result (λ r. r.1 ≡ empty_lane r.0 quota) }
+        ensures quota { IsErrOf result OpenFault.Quota ↔ (MOST_CLIENTS < quota) }
+    {
+        quota_fits(quota)?;
+        let words = Words::zero(alloc, network)?.apart();
+        Floor::open_words(alloc, words, quota)
+    }
+
+    /// A floor as [`Floor::open_shared`] opens it, whose words lie as those of [`Floor::open_apart`].
+    ///
+    /// # Errors
+    /// The first that stands: `Quota` (more than [`MOST_CLIENTS`]), `Memory`.
+    pub fn open_shared_apart(
+        alloc: Global,
+        network: &Arc<Counting, Global>,
+        quota: u64,
+    ) -> Result<(Floor<'a>, Lane), OpenFault>
+        ensures floor { IfOk result (λ r. (r.0.start.network ≡ arc_value network.now)
+            × (r.0.start.quota ≡ quota)) }
+        ensures zero { IfOk result (λ r. r.0.start.words
+            ≡ replicate (word_count (arc_value network.now).table) 0) }
+        ensures base { IfOk result (λ r. base r.0.start ≡ 0) }
+        ensures lane { IfOk result (λ r. r.1 ≡ empty_lane r.0 quota) }
+        ensures quota { IsErrOf result OpenFault.Quota ↔ (MOST_CLIENTS < quota) }
+    {
+        quota_fits(quota)?;
+        let words = Words::zero_shared(alloc, network)?.apart();
+        Floor::open_words(alloc, words, quota)
+    }
+
+    /// A floor over the network of these words, which goes on from them: its numbers and visits begin with theirs, and
+    /// its names are those of its own clients. It has one lane with the whole quota. Over words that are all 0 it is
+    /// that of [`Floor::open`]. They count at most [`cn_spec::limits::MOST_CARRIED`] clients.
     ///
     /// # Errors
     /// The first that stands: `Quota` (more than [`MOST_CLIENTS`]), `Memory`.
@@ -147,9 +193,9 @@ impl<'a> Floor<'a> {
     }
 
     /// A floor that goes on from what another left, and takes the words and the yard of that. Over leftovers of nobody
-    /// ([`Leftovers::new`]) it is that of [`Floor::open`], over those of a closed floor that of [`Floor::open_after`], and its
-    /// lane may have spare records. They count at most [`cn_spec::limits::MOST_CARRIED`] clients, and the quota is at
-    /// most [`MOST_CLIENTS`].
+    /// ([`Leftovers::new`]) it is that of [`Floor::open`], over those of a closed floor that of [`Floor::open_after`],
+    /// and its lane may have spare records. They count at most [`cn_spec::limits::MOST_CARRIED`] clients, and the quota
+    /// is at most [`MOST_CLIENTS`].
     ///
     /// # Errors
     /// The leftovers, if a growth was refused. Their words are as they were.
@@ -206,7 +252,8 @@ impl<'a> Floor<'a> {
         ensures lane { IfOk result (λ r. r.1 ≡ record (empty_lane r.0 quota) { yard = yard }) }
         ensures back { IfErr result (λ back. back ≡ words.entry) }
     {
-        let made = Counters::new(alloc, words.network(), quota, &words.words);
+        let stride = words.spacing.stride();
+        let made = Counters::new(alloc, words.network(), quota, &words.words, stride);
         let Ok((counters, seat)) = made else {
             return Err(words);
         };

@@ -9,9 +9,10 @@ pub struct FloorRule;
 
 impl TableRule<(), View, Opening> for FloorRule {
     ghost use Rattle.cn_floor.specs.Rule.{HoldsAt, start_of};
+    ghost use Rattle.cn_floor.specs.Spread.{HoldsSpread};
     ghost use Rattle.cn_floor.specs.Views.{empty_view};
 
-    ghost holds = { λ key s. HoldsAt (start_of key) s };
+    ghost holds = { λ key s. HoldsSpread key.stride (HoldsAt (start_of key)) s };
 
     ghost first = { λ key. empty_view (start_of key) key.quota };
 }

@@ -34,8 +34,8 @@ impl<'a> Model for Quiet<'a> {
 }
 
 impl<'a> Quiet<'a> {
-    /// What holds of each closed floor: nobody is inside, the counts are the shares of all that came in, and the names are
-    /// those below their number, each once.
+    /// What holds of each closed floor: nobody is inside, the counts are the shares of all that came in, and the names
+    /// are those below their number, each once.
     ///
     /// It does nothing: its contract is the law.
     pub fn quiet_laws(&self)

@@ -25,8 +25,8 @@ fn append(to: &mut Vec<Grant>, from: &[Grant])
 }
 
 impl<'a> Floor<'a> {
-    /// Splits off a lane with some of the quota; the lane keeps all else. Each of both lanes then looks once. It takes no
-    /// memory.
+    /// Splits off a lane with some of the quota; the lane keeps all else. Each of both lanes then looks once. It takes
+    /// no memory.
     ///
     /// # Errors
     /// `QuotaTooSmall`. Then nothing has changed.
@@ -105,8 +105,8 @@ impl<'a> Floor<'a> {
     /// no memory, and its room falls by their number.
     ///
     /// # Errors
-    /// The first that stands, with both lanes: `StillWalking` (the second has tokens), `Memory` (the first has no room for
-    /// the second's grants, and gets no memory).
+    /// The first that stands, with both lanes: `StillWalking` (the second has tokens), `Memory` (the first has no room
+    /// for the second's grants, and gets no memory).
     pub fn join(&self, mut lane: Lane, other: Lane) -> Result<Lane, (JoinFault, Lane, Lane)>
         requires own { (lane.home ≡ self.now) × (other.home ≡ self.now) }
         ensures ok { IfOk result (λ r. r ≡ record lane {

@@ -18,8 +18,8 @@ use cn_yard::Token;
 use std::marker::Brand;
 
 impl<'a> Floor<'a> {
-    /// Lets a client in by an entry, in one atomic step; a refusal takes none. Its token stands last on the entry's wire.
-    /// It lowers the lane's quota by one, and its room if there is some. Identities are not compared.
+    /// Lets a client in by an entry, in one atomic step; a refusal takes none. Its token stands last on the entry's
+    /// wire. It lowers the lane's quota by one, and its room if there is some. Identities are not compared.
     ///
     /// # Errors
     /// The first that stands: `NoSuchEntry`, `QuotaSpent`, `Memory` (if the lane has no room, and gets no memory). Then
@@ -54,8 +54,8 @@ impl<'a> Floor<'a> {
         Ok(token)
     }
 
-    /// Lets a live token of the lane ([`Lane::is_live`]) go by the end of its wire, in one atomic step: it stands last on
-    /// the balancer's next output, or leaves with a name. It takes no memory, and refuses nothing.
+    /// Lets a live token of the lane ([`Lane::is_live`]) go by the end of its wire, in one atomic step: it stands last
+    /// on the balancer's next output, or leaves with a name. It takes no memory, and refuses nothing.
     pub fn step(&self, lane: &mut Lane, token: Token) -> Moved
         requires own { lane.old.home ≡ self.now }
         requires live { IsSome (standing lane.old.yard.lists token) }

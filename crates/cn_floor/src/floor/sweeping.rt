@@ -15,8 +15,8 @@ use cn_wiring::End;
 use cn_yard::Yard;
 use std::marker::Brand;
 
-/// Releases the tokens of a wire, first to last, with a grant for each: the exit's visits from `first` on, and their names
-/// minus the number of clients that came before the floor began.
+/// Releases the tokens of a wire, first to last, with a grant for each: the exit's visits from `first` on, and their
+/// names minus the number of clients that came before the floor began.
 fn leave_all(
     yard: &mut Yard,
     grants: &mut Vec<Grant>,
@@ -53,9 +53,9 @@ fn leave_all(
 }
 
 impl<'a> Floor<'a> {
-    /// Lets all of the lane's tokens on a wire go by its end, first to last, in one atomic step: an add of as many as they
-    /// are, of which there is at least one. They stand last on the balancer's outputs by turns, or leave with their names.
-    /// It takes no memory, and refuses nothing.
+    /// Lets all of the lane's tokens on a wire go by its end, first to last, in one atomic step: an add of as many as
+    /// they are, of which there is at least one. They stand last on the balancer's outputs by turns, or leave with
+    /// their names. It takes no memory, and refuses nothing.
     ///
     /// A sweep of c tokens is c events in a row: each has the number or visit after that of the token before it.
     pub fn sweep(&self, lane: &mut Lane, wire: u32) -> Sweep

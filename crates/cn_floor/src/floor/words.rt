@@ -9,20 +9,23 @@ ghost use Rattle.cn_floor.specs.Words.{IsDifference, NoneWent, count_in, entered
 use super::end_words::EndWords;
 use super::network_ref::NetworkRef;
 use super::reading::rise;
+use super::spacing::Spacing;
 use super::zeros;
 use cn_wiring::Counting;
 use std::alloc::{AllocError, Global};
 use std::marker::Model;
 use std::sync::Arc;
 
-/// The words of closed floors over a network: how many clients came in by each entry, passed each balancer and left by each
-/// exit since each word was 0. Another floor may go on from them ([`super::Floor::open_after`]).
+/// The words of closed floors over a network: how many clients came in by each entry, passed each balancer and left by
+/// each exit since each word was 0. Another floor may go on from them ([`super::Floor::open_after`]).
 ///
 /// Only [`Words::zero`], [`Words::zero_shared`] and the close of a floor make them. No reader takes memory.
 pub struct Words<'a> {
     pub(super) network: NetworkRef<'a>,
     pub(super) words: Vec<u64>,
     pub(super) clients: u64,
+    /// How the words of a floor that goes on from them lie in memory.
+    pub(super) spacing: Spacing,
 }
 
 impl<'a> Model for Words<'a> {
@@ -75,11 +78,35 @@ impl<'a> Words<'a> {
             network,
             words,
             clients: 0,
+            spacing: Spacing::Packed,
         })
     }
 
-    /// Those of a floor that is closed, with the number of all their clients.
-    pub(super) fn closed(network: NetworkRef<'a>, words: Vec<u64>, clients: u64) -> Words<'a>
+    /// The same words; those of a floor that goes on from them lie apart.
+    pub(super) fn apart(self) -> Words<'a>
+        ensures { result ≡ self.entry }
+    {
+        let Words {
+            network,
+            words,
+            clients,
+            spacing: _spacing,
+        } = self;
+        Words {
+            network,
+            words,
+            clients,
+            spacing: Spacing::Apart,
+        }
+    }
+
+    /// Those of a floor that is closed, with the number of all their clients, and how they lay.
+    pub(super) fn closed(
+        network: NetworkRef<'a>,
+        words: Vec<u64>,
+        clients: u64,
+        spacing: Spacing,
+    ) -> Words<'a>
         requires closed { IsClosed (record { network = network; words = words.items }) }
         requires clients { clients
             ≡ client_count (record { network = network; words = words.items }) }
@@ -89,6 +116,7 @@ impl<'a> Words<'a> {
             network,
             words,
             clients,
+            spacing,
         }
     }
 
@@ -105,9 +133,10 @@ impl<'a> Words<'a> {
             network,
             words: mut list,
             clients: _clients,
+            spacing,
         } = self;
         words.copy_over(&mut list);
-        Words::closed(network, list, clients)
+        Words::closed(network, list, clients, spacing)
     }
 
     /// The same words once more.
@@ -121,6 +150,7 @@ impl<'a> Words<'a> {
             network: self.network.share()?,
             words: Vec::from_slice(alloc, self.words.as_slice())?,
             clients: self.clients,
+            spacing: self.spacing,
         })
     }
 
@@ -139,13 +169,14 @@ impl<'a> Words<'a> {
             network: _network,
             words: mut list,
             clients: _clients,
+            spacing: _spacing,
         } = self;
         rise(&mut list, later);
         Some(list)
     }
 
-    /// What holds of all closed words: they are those of a sound ledger with nobody inside. So each exit has let out its
-    /// share of their clients, and the first visit on an exit of a floor that goes on from them is this share.
+    /// What holds of all closed words: they are those of a sound ledger with nobody inside. So each exit has let out
+    /// its share of their clients, and the first visit on an exit of a floor that goes on from them is this share.
     ///
     /// It does nothing: its contract is the law.
     pub fn words_laws(&self)
@@ -214,6 +245,7 @@ impl Drop for Words<'_> {
             network: _network,
             words: _words,
             clients: _clients,
+            spacing: _spacing,
         } = self;
     }
 }

@@ -13,14 +13,14 @@ use Rattle.cn_ledger.specs.declared.client.Client.{Client}
 use Rattle.cn_report.specs.Reading.Arrival.{arrival_cause, arrival_in, arrivals_in, arriving, entry_by_rule, ruled_arrival, spelled_cause, told_arrival}
 use Rattle.cn_report.specs.Reading.Batch.{IsBatch, arrivals_of, batch_cause, header_cause, record_cause}
 use Rattle.cn_report.specs.Reading.Heading.{heading_in}
-use Rattle.cn_report.specs.declared.reading.heading.Heading.{Heading}
-use Rattle.cn_report.specs.declared.reading.heading.Heading.TheVariants.{Told, ByRule}
+use Rattle.cn_report.specs.declared.reading.batch.heading.Heading.{Heading}
+use Rattle.cn_report.specs.declared.reading.batch.heading.Heading.TheVariants.{Told, ByRule}
 use Rattle.cn_report.specs.Reading.Faults.{IsClean}
 use Rattle.cn_report.specs.Reading.Number.{number_in}
 use Rattle.cn_report.specs.Reading.Records.{Record}
-use Rattle.cn_report.specs.declared.reading.arrival.Arrival.{Arrival}
+use Rattle.cn_report.specs.declared.reading.batch.arrival.Arrival.{Arrival}
 use Rattle.cn_report.specs.declared.reading.batch_fault.BatchCause.{BatchCause}
-use Rattle.cn_report.specs.declared.reading.gathering.BatchEpoch.{BatchEpoch}
+use Rattle.cn_report.specs.declared.reading.batch.BatchEpoch.{BatchEpoch}
 use Rattle.cn_report.proofs.ReadingLemmas.FirstFaults.{cause_later}
 
 -- ---- numbers

@@ -1,23 +1,18 @@
 -- The records of a batch that were taken so far.
-use Rattle.std.proofs.Common.{◌≡◌, ℕ, List, ◌∷◌, [], ◌++◌, Option, Some, None, drop, refl, arith, ap, ◌∙◌, length-append}
+use Rattle.std.proofs.Common.{◌≡◌, ℕ, List, ◌∷◌, [], ◌++◌, Some, None, drop, refl, arith, ap, ◌∙◌, length-append}
 use Rattle.std.specs.Prelude.{Ok}
 use Rattle.std.proofs.lemmas.List.Elements.{filter_map-append}
 use Rattle.std.specs.Result.{result_ok}
 use Rattle.cn_report.specs.Reading.Arrival.{arrival_cause, arrival_in, arrivals_in, spelled_cause}
 use Rattle.cn_report.specs.Reading.Batch.{IsBatch, AreEpochsOf, cause_of_heading, header_cause, record_cause}
 use Rattle.cn_report.specs.Reading.Heading.{heading_in, heading_of, heading_or}
-use Rattle.cn_report.specs.Reading.Gathered.{ended}
-use Rattle.cn_report.specs.Reading.Parts.{AreTaken, AreWithin, HasTaken, StaysWithin}
+use Rattle.cn_report.specs.Reading.Stretch.{AreTaken}
 use Rattle.cn_report.specs.Reading.Records.{Record}
-use Rattle.cn_report.specs.declared.reading.arrival.Arrival.{Arrival}
+use Rattle.cn_report.specs.declared.reading.batch.arrival.Arrival.{Arrival}
 use Rattle.cn_report.specs.declared.reading.batch_fault.BatchCause.{BatchCause}
-use Rattle.cn_report.specs.declared.reading.gathering.BatchEpoch.{BatchEpoch}
-use Rattle.cn_report.specs.declared.reading.gathering.Gathering.{Gathering}
-use Rattle.cn_report.specs.declared.reading.heading.Heading.{Heading}
-use Rattle.csv.specs.declared.reader.Reader.{Reader}
+use Rattle.cn_report.specs.declared.reading.batch.BatchEpoch.{BatchEpoch}
+use Rattle.cn_report.specs.declared.reading.batch.heading.Heading.{Heading}
 use Rattle.cn_report.proofs.ReadingLemmas.FirstFaults.{AreClean, clean-all, clean-header, clean-more}
-use Rattle.cn_report.proofs.ReadingLemmas.GatheredEpochs.{given-out, same-ended}
-use Rattle.cn_report.proofs.ReadingLemmas.ServableEpochs.{keeps-given}
 
 -- such records as lemmas on first faults take them
 pub clean-of : (heading : Heading) (entries : ℕ) (rows : List Record) (arrivals : List Arrival) → AreTaken heading entries rows arrivals → AreClean header_cause (record_cause entries) rows
@@ -59,30 +54,6 @@ taken-next heading entries (r ∷ rows) arrivals fields arrival t is none = reco
   spells = arrivals-next heading entries rows fields arrival is ∙ ap (λ (l : List Arrival). l ++ arrival ∷ []) t.spells;
   counted = omega (arith, t.counted, length-append arrivals (arrival ∷ []), length-append (r ∷ rows) (fields ∷ []));
 }
-
--- what holds whatever was read, of a gathering with so many clients
-pub within-all : (entries at : ℕ) (g : Gathering) (given : List BatchEpoch) → StaysWithin entries at g given → AreWithin entries (ended given g)
-within-all entries at g given within = record { fits = within.keeps.over; few = omega (arith, within.few, within.count) }
-
--- and the epochs that are over were given out
-module _ (given : List BatchEpoch) (g h : Gathering) (none : h.over.items ≡ []) (latest : h.latest ≡ g.latest) (standing : h.standing ≡ g.standing) where
-  pub taken-given : {R : Type 0} (remaining : R → Option (List ℕ)) (reader : Reader R) (heading : Heading) (entries at : ℕ) (text : List ℕ) → HasTaken remaining reader heading entries at g text given
-      → HasTaken remaining reader heading entries at h text (ended given g)
-  taken-given remaining reader heading entries at text t = record {
-    rows = t.rows;
-    arrivals = t.arrivals;
-    read = t.read;
-    many = t.many;
-    taken = t.taken;
-    gathered = given-out given g h none latest standing t.arrivals t.gathered;
-  }
-
-  pub within-given : (entries at : ℕ) → StaysWithin entries at g given → StaysWithin entries at h (ended given g)
-  within-given entries at within = record {
-    few = within.few;
-    keeps = keeps-given given g h entries none latest standing within.keeps;
-    count = rw (same-ended given g h none latest standing, latest) within.count;
-  }
 
 pub taken_all : (heading : Heading) (entries : ℕ) (all rows : List Record) (arrivals : List Arrival) (epochs : List BatchEpoch) → AreTaken heading entries rows arrivals → all ≡ rows
     → AreEpochsOf epochs arrivals → IsBatch entries all epochs

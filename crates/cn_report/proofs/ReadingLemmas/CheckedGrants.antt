@@ -1,7 +1,6 @@
 -- The grants that were seen so far.
 use Rattle.std.proofs.Common.{◌≡◌, ◌<◌, ◌≤◌, ◌+◌, ℕ, Bool, List, [], ◌∷◌, ◌++◌, true, false, Option, Some, None, length, refl, arith, suc, sym, ap, ◌∙◌, inl, inr, map, subst, length-append, if◌then◌else◌}
 use Rattle.std.specs.Prelude.{◌==◌, ◌||◌, ◌⊎◌, nat_eq}
-use Rattle.cn_spec.specs.Step.{shares}
 use Rattle.std.specs.List.{AllByRecursion, list_any}
 use Rattle.std.proofs.lemmas.List.{append-nil, map-append}
 use Rattle.std.proofs.lemmas.List.Elements.{filter-append}
@@ -11,7 +10,7 @@ use Rattle.std.proofs.lemmas.Bool.Decides.{leb_tells}
 use Rattle.std.proofs.Math.Dec.{leb}
 use Rattle.cn_spec.specs.declared.limits.TheConstants.{MOST_RECORDS}
 use Rattle.cn_report.specs.Reading.Checked.{AreTold, HoldsGrants, IsChecked, IsGapBelow, Tells, joining_cause, latest_number, latest_told}
-use Rattle.cn_report.specs.Reading.Told.{epoch_numbers, plain_tight, shared_epoch, with_number}
+use Rattle.cn_report.specs.Reading.Told.{epoch_numbers, named_epoch, plain_named, with_number}
 use Rattle.cn_report.specs.Reading.Granted.{form_cause, first_cause, has_client, has_name, last_epoch, of_epoch, twice_cause}
 use Rattle.cn_report.specs.Reading.Grants.{Lacks}
 use Rattle.cn_report.specs.Reading.Numbers.{has}
@@ -129,26 +128,26 @@ gap-more before grant (Some gap) least = record {
 }
 
 -- what is found of the epochs that are over, once the latest is over too
-told-all : (k n : ℕ) (over : List (ℕ × ℕ × List ℕ)) → k < n → AllByRecursion (λ p. p.0 < k) over → AllByRecursion (λ p. p.0 < n) over
+told-all : (k n : ℕ) (over : List (ℕ × ℕ)) → k < n → AllByRecursion (λ p. p.0 < k) over → AllByRecursion (λ p. p.0 < n) over
 told-all k n [] h all = tt
 told-all k n (p ∷ over) h all = (omega (arith, h, all.0), told-all k n over h all.1)
 
-told-last : (n : ℕ) (over : List (ℕ × ℕ × List ℕ)) (p : ℕ × ℕ × List ℕ) → AllByRecursion (λ p. p.0 < n) over → p.0 < n → AllByRecursion (λ p. p.0 < n) (over ++ p ∷ [])
+told-last : (n : ℕ) (over : List (ℕ × ℕ)) (p : ℕ × ℕ) → AllByRecursion (λ p. p.0 < n) over → p.0 < n → AllByRecursion (λ p. p.0 < n) (over ++ p ∷ [])
 told-last n [] p all h = (h, tt)
 told-last n (x ∷ over) p all h = (all.0, told-last n over p all.1 h)
 
-pub told-turn : (width : ℕ) (over : List (ℕ × ℕ × List ℕ)) (latest count next : ℕ) (grants : List Granted) → AreTold width over latest count grants → count ≡ length (of_epoch latest grants) → latest < next
-    → AreTold width (over ++ latest_told width latest count) next 0 grants
-told-turn width over latest count next grants t size h = each (leb_tells 1 count)
+pub told-turn : (over : List (ℕ × ℕ)) (latest count next : ℕ) (grants : List Granted) → AreTold over latest count grants → count ≡ length (of_epoch latest grants) → latest < next
+    → AreTold (over ++ latest_told latest count) next 0 grants
+told-turn over latest count next grants t size h = each (leb_tells 1 count)
   where
-    each : ((leb 1 count ≡ true) × (1 ≤ count)) ⊎ ((leb 1 count ≡ false) × (count < 1)) → AreTold width (over ++ latest_told width latest count) next 0 grants
+    each : ((leb 1 count ≡ true) × (1 ≤ count)) ⊎ ((leb 1 count ≡ false) × (count < 1)) → AreTold (over ++ latest_told latest count) next 0 grants
     each (inl w) = rw w.0 (record {
-      numbers = (rw w.0 at t.numbers) ∙ sym (append-nil (map (λ (p : ℕ × ℕ × List ℕ). p.0) over ++ latest ∷ []))
-          ∙ ap (λ (l : List ℕ). l ++ []) (sym (map-append (λ (p : ℕ × ℕ × List ℕ). p.0) over ((latest, count, shares count width) ∷ [])));
-      told = (λ i. t.told i ++ (latest, size i, shares (size i) width) ∷ [])
-          ∙ sym (map-append (shared_epoch width grants) (map (λ (p : ℕ × ℕ × List ℕ). p.0) over) (latest ∷ []))
-          ∙ ap (map (shared_epoch width grants)) (sym (map-append (λ (p : ℕ × ℕ × List ℕ). p.0) over ((latest, count, shares count width) ∷ [])));
-      below = told-last next over (latest, count, shares count width) (told-all latest next over h t.below) h;
+      numbers = (rw w.0 at t.numbers) ∙ sym (append-nil (map (λ (p : ℕ × ℕ). p.0) over ++ latest ∷ []))
+          ∙ ap (λ (l : List ℕ). l ++ []) (sym (map-append (λ (p : ℕ × ℕ). p.0) over ((latest, count) ∷ [])));
+      told = (λ i. t.told i ++ (latest, size i) ∷ [])
+          ∙ sym (map-append (named_epoch grants) (map (λ (p : ℕ × ℕ). p.0) over) (latest ∷ []))
+          ∙ ap (map (named_epoch grants)) (sym (map-append (λ (p : ℕ × ℕ). p.0) over ((latest, count) ∷ [])));
+      below = told-last next over (latest, count) (told-all latest next over h t.below) h;
     })
     each (inr w) = rw (w.0, append-nil over) (record {
       numbers = rw w.0 at t.numbers;
@@ -156,14 +155,14 @@ told-turn width over latest count next grants t size h = each (leb_tells 1 count
       below = told-all latest next over h t.below;
     })
 
-shared_same : (width : ℕ) (latest : ℕ) (over : List (ℕ × ℕ × List ℕ)) (grants : List Granted) (g : Granted) → g.epoch ≡ latest → AllByRecursion (λ p. p.0 < latest) over
-    → map (shared_epoch width grants) (map (λ p. p.0) over) ≡ map (shared_epoch width (grants ++ g ∷ [])) (map (λ p. p.0) over)
-shared_same width latest [] grants g here all = refl
-shared_same width latest (p ∷ over) grants g here all =
+shared_same : (latest : ℕ) (over : List (ℕ × ℕ)) (grants : List Granted) (g : Granted) → g.epoch ≡ latest → AllByRecursion (λ p. p.0 < latest) over
+    → map (named_epoch grants) (map (λ p. p.0) over) ≡ map (named_epoch (grants ++ g ∷ [])) (map (λ p. p.0) over)
+shared_same latest [] grants g here all = refl
+shared_same latest (p ∷ over) grants g here all =
     let same : of_epoch p.0 grants ≡ of_epoch p.0 (grants ++ g ∷ []) = sym (of-other grants g p.0 (λ x. omega (arith, x, here, all.0))) in
-    λ i. (p.0, length (same i), shares (length (same i)) width) ∷ shared_same width latest over grants g here all.1 i
+    λ i. (p.0, length (same i)) ∷ shared_same latest over grants g here all.1 i
 
-number-last : (n : ℕ) (over : List (ℕ × ℕ × List ℕ)) → list_any (nat_eq n) (map (λ p. p.0) over ++ n ∷ []) ≡ true
+number-last : (n : ℕ) (over : List (ℕ × ℕ)) → list_any (nat_eq n) (map (λ p. p.0) over ++ n ∷ []) ≡ true
 number-last n [] = rw (eq-eqb n n refl) refl
 number-last n (p ∷ over) = ap (λ b. nat_eq n p.0 || b) (number-last n over) ∙ or_true (nat_eq n p.0)
   where
@@ -171,37 +170,37 @@ number-last n (p ∷ over) = ap (λ b. nat_eq n p.0 || b) (number-last n over) �
     or_true true = refl
     or_true false = refl
 
-number-new : (n : ℕ) (over : List (ℕ × ℕ × List ℕ)) → AllByRecursion (λ p. p.0 < n) over → list_any (nat_eq n) (map (λ p. p.0) over) ≡ false
+number-new : (n : ℕ) (over : List (ℕ × ℕ)) → AllByRecursion (λ p. p.0 < n) over → list_any (nat_eq n) (map (λ p. p.0) over) ≡ false
 number-new n [] all = refl
 number-new n (p ∷ over) all = rw (ne_eqb n p.0 (λ x. omega (arith, x, all.0))) (number-new n over all.1)
 
-told-more : (width : ℕ) (over : List (ℕ × ℕ × List ℕ)) (latest count : ℕ) (grants : List Granted) (g : Granted) → AreTold width over latest count grants → g.epoch ≡ latest
-    → AreTold width over latest (count + 1) (grants ++ g ∷ [])
-told-more width over latest count grants g t here = record {
+told-more : (over : List (ℕ × ℕ)) (latest count : ℕ) (grants : List Granted) (g : Granted) → AreTold over latest count grants → g.epoch ≡ latest
+    → AreTold over latest (count + 1) (grants ++ g ∷ [])
+told-more over latest count grants g t here = record {
   numbers = fold-append (λ (numbers : List ℕ) (x : Granted). with_number numbers x.epoch) [] grants (g ∷ []) ∙ (λ i. with_number (t.numbers i) (here i)) ∙ each (leb_tells 1 count)
-      ∙ ap (λ b. map (λ (p : ℕ × ℕ × List ℕ). p.0) over ++ (if b then latest ∷ [] else [])) (sym (lt-ltb 0 (count + 1) (omega arith)));
-  told = t.told ∙ shared_same width latest over grants g here t.below;
+      ∙ ap (λ b. map (λ (p : ℕ × ℕ). p.0) over ++ (if b then latest ∷ [] else [])) (sym (lt-ltb 0 (count + 1) (omega arith)));
+  told = t.told ∙ shared_same latest over grants g here t.below;
   below = t.below;
 }
   where
     each : ((leb 1 count ≡ true) × (1 ≤ count)) ⊎ ((leb 1 count ≡ false) × (count < 1)) → with_number (map (λ p. p.0) over ++ latest_number latest count) latest ≡ map (λ p. p.0) over ++ latest ∷ []
     each (inl w) = rw w.0 (rw (number-last latest over) refl)
-    each (inr w) = rw (w.0, append-nil (map (λ (p : ℕ × ℕ × List ℕ). p.0) over)) (rw (number-new latest over t.below) refl)
+    each (inr w) = rw (w.0, append-nil (map (λ (p : ℕ × ℕ). p.0) over)) (rw (number-new latest over t.below) refl)
 
-told-joined : (width : ℕ) (old new : Granting) (before : List Granted) (grant : Granted) → old.latest ≡ grant.epoch → new.over ≡ old.over → new.latest ≡ old.latest → new.count ≡ old.count + 1
-    → AreTold width (map plain_tight old.over.items) old.latest old.count before → AreTold width (map plain_tight new.over.items) new.latest new.count (before ++ grant ∷ [])
-told-joined width old new before grant here over latest count t =
-    rw (over, latest, count) (told-more width (map plain_tight old.over.items) old.latest old.count before grant t (sym here))
+told-joined : (old new : Granting) (before : List Granted) (grant : Granted) → old.latest ≡ grant.epoch → new.over ≡ old.over → new.latest ≡ old.latest → new.count ≡ old.count + 1
+    → AreTold (map plain_named old.over.items) old.latest old.count before → AreTold (map plain_named new.over.items) new.latest new.count (before ++ grant ∷ [])
+told-joined old new before grant here over latest count t =
+    rw (over, latest, count) (told-more (map plain_named old.over.items) old.latest old.count before grant t (sym here))
 
 -- what is found at the end
-pub told-end : (width : ℕ) (over : List (ℕ × ℕ × List ℕ)) (next : ℕ) (grants : List Granted) → AreTold width over next 0 grants → over ≡ map (shared_epoch width grants) (epoch_numbers grants)
-told-end width over next grants t = t.told ∙ ap (map (shared_epoch width grants)) (sym (t.numbers ∙ append-nil (map (λ (p : ℕ × ℕ × List ℕ). p.0) over)))
+pub told-end : (over : List (ℕ × ℕ)) (next : ℕ) (grants : List Granted) → AreTold over next 0 grants → over ≡ map (named_epoch grants) (epoch_numbers grants)
+told-end over next grants t = t.told ∙ ap (map (named_epoch grants)) (sym (t.numbers ∙ append-nil (map (λ (p : ℕ × ℕ). p.0) over)))
 
 -- one more grant of the latest epoch
-pub joined : (width : ℕ) (old new : Granting) (before : List Granted) (grant : Granted) → HoldsGrants old before → Tells width old before → old.latest ≡ grant.epoch → new.over ≡ old.over → new.gap ≡ old.gap → new.latest ≡ old.latest
+pub joined : (old new : Granting) (before : List Granted) (grant : Granted) → HoldsGrants old before → Tells old before → old.latest ≡ grant.epoch → new.over ≡ old.over → new.gap ≡ old.gap → new.latest ≡ old.latest
     → new.count ≡ old.count + 1 → ((n : ℕ) → has new.clients n ≡ ((n == grant.client) || has old.clients n)) → ((n : ℕ) → has new.names n ≡ ((n == grant.name) || has old.names n))
-    → IsChecked width new (before ++ grant ∷ [])
-joined width old new before grant held tells here over gap latest count clients names =
+    → IsChecked new (before ++ grant ∷ [])
+joined old new before grant held tells here over gap latest count clients names =
     let same = of_same before grant new.latest (sym here ∙ sym latest) in record {
       holds = record {
         below = rw latest (all_more old.latest before grant held.below (omega (arith, here)));
@@ -214,7 +213,7 @@ joined width old new before grant held tells here over gap latest count clients 
             (rw gap (gap-more before grant old.gap (subst (λ (e : ℕ). IsGapBelow e before old.gap) here held.gap)));
       };
       last = fold-append (λ (epoch : ℕ) (g : Granted). g.epoch) 0 before (grant ∷ []) ∙ sym (latest ∙ here);
-      tells = λ none. told-joined width old new before grant here over latest count (tells (sym gap ∙ none));
+      tells = λ none. told-joined old new before grant here over latest count (tells (sym gap ∙ none));
     }
 
 pub no_gap : (g : Granting) (grants : List Granted) → HoldsGrants g grants → IsGapBelow (g.latest + 1) grants None → (e n : ℕ) → Lacks grants e n → ⊥

@@ -12,12 +12,12 @@ use Rattle.std.proofs.Math.Dec.{eqb, leb}
 use Rattle.cn_ledger.specs.declared.client.Client.{Client}
 use Rattle.cn_spec.specs.declared.limits.TheConstants.{MOST_RECORDS}
 use Rattle.cn_report.specs.declared.reading.batch_fault.BatchCause.TheVariants.{EpochBackwards, EntryRange}
-use Rattle.cn_report.specs.declared.reading.arrival.Arrival.{Arrival}
-use Rattle.cn_report.specs.declared.reading.gathering.BatchEpoch.{BatchEpoch}
-use Rattle.cn_report.specs.declared.reading.gathering.Gathering.{Gathering}
+use Rattle.cn_report.specs.declared.reading.batch.arrival.Arrival.{Arrival}
+use Rattle.cn_report.specs.declared.reading.batch.BatchEpoch.{BatchEpoch}
+use Rattle.cn_report.specs.declared.reading.batch.gathering.Gathering.{Gathering}
 use Rattle.cn_report.specs.Reading.Arrival.{arrival_cause, last_epoch, of_epoch}
 use Rattle.cn_report.specs.Reading.Batch.{AreEpochsOf, AreRising, arrivals_of}
-use Rattle.cn_report.specs.Reading.Gathered.{HoldsArrivals, IsGathered, ended, joining_cause, over_after}
+use Rattle.cn_report.specs.Reading.Gathered.{HoldsArrivals, IsGathered, ended_after, joining_cause}
 
 -- an arrival of this client
 abbrev pub arrival_at : ℕ → Client → Arrival
@@ -55,20 +55,20 @@ pub out_of_range : (entries : ℕ) (before : List Arrival) (a : Arrival) → las
 unfolding arrival_cause
 out_of_range entries before a h out = rw (le-ltb a.epoch (last_epoch before) h, le-leb entries a.entry out) refl
 
-module _ (given : List BatchEpoch) (g : Gathering) (before : List Arrival) (held : HoldsArrivals given g before) where
+module _ (g : Gathering) (before : List Arrival) (held : HoldsArrivals g before) where
   -- the arrivals of the latest epoch
   latest-only : of_epoch g.latest.number before ≡ arrivals_of g.latest
   latest-only =
       ap (of_epoch g.latest.number) (sym held.spells)
-      ∙ filter-append (λ (a : Arrival). a.epoch == g.latest.number) (flat_map arrivals_of (ended given g)) (arrivals_of g.latest)
-      ∙ ap (λ (l : List Arrival). l ++ of_epoch g.latest.number (arrivals_of g.latest)) (below-epoch g.latest.number g.latest.number (ended given g) (omega arith) held.below)
+      ∙ filter-append (λ (a : Arrival). a.epoch == g.latest.number) (flat_map arrivals_of g.ended.items) (arrivals_of g.latest)
+      ∙ ap (λ (l : List Arrival). l ++ of_epoch g.latest.number (arrivals_of g.latest)) (below-epoch g.latest.number g.latest.number g.ended.items (omega arith) held.below)
       ∙ same-epoch g.latest.number g.latest.clients.items
 
   -- the cause reported of a client of the latest epoch is that of the arrival
-  pub told : (entries at : ℕ) (c : Client) → last_epoch before ≤ g.latest.number → c.entry < entries → length before + 1 ≡ at
-      → joining_cause at g c ≡ arrival_cause entries before (arrival_at g.latest.number c)
+  pub told : (entries : ℕ) (c : Client) → last_epoch before ≤ g.latest.number → c.entry < entries → length before + 1 ≡ g.next
+      → joining_cause g c ≡ arrival_cause entries before (arrival_at g.latest.number c)
   unfolding arrival_cause
-  told entries at c last within size =
+  told entries c last within size =
       rw (
         le-ltb g.latest.number (last_epoch before) last,
         lt-leb entries c.entry within,
@@ -100,82 +100,76 @@ below_more : (k n : ℕ) (es : List BatchEpoch) → k < n → AllByRecursion (λ
 below_more k n [] h all = tt
 below_more k n (x ∷ es) h all = (omega (arith, h, all.0), below_more k n es h all.1)
 
--- to end the latest epoch loses none that is over
-pub over-grows : (g h : Gathering) → ended [] h ≡ over_after [] g → length g.over.items ≤ length h.over.items
-over-grows g h over = by g.latest.clients.items refl
+-- the epochs are those of the arrivals once the latest has ended
+pub ended-epochs : (g : Gathering) (arrivals : List Arrival) → HoldsArrivals g arrivals → AreEpochsOf (ended_after g) arrivals
+ended-epochs g arrivals held = by g.latest.clients.items refl
   where
-    by : (cs : List Client) → g.latest.clients.items ≡ cs → length g.over.items ≤ length h.over.items
-    by [] e = omega (arith, ap length (rw (le-ltb 0 (length g.latest.clients.items) (omega (arith, ap length e))) at over))
-    by (c ∷ cs) e = omega (arith, ap length (rw (lt-ltb 0 (length g.latest.clients.items) (omega (arith, ap length e))) at over), length-append g.over.items (g.latest ∷ []))
-
--- the epochs are those of the arrivals once the latest is over
-pub over-epochs : (given : List BatchEpoch) (g : Gathering) (arrivals : List Arrival) → HoldsArrivals given g arrivals → AreEpochsOf (over_after given g) arrivals
-over-epochs given g arrivals held = by g.latest.clients.items refl
-  where
-    by : (cs : List Client) → g.latest.clients.items ≡ cs → AreEpochsOf (over_after given g) arrivals
+    by : (cs : List Client) → g.latest.clients.items ≡ cs → AreEpochsOf (ended_after g) arrivals
     by [] e = rw (le-ltb 0 (length g.latest.clients.items) (omega (arith, ap length e))) (record {
       rising = held.rising;
       some = held.some;
-      spells = sym (append-nil (flat_map arrivals_of (ended given g))) ∙ (λ i. flat_map arrivals_of (ended given g) ++ map (arrival_at g.latest.number) (sym e i)) ∙ held.spells;
+      spells = sym (append-nil (flat_map arrivals_of g.ended.items)) ∙ (λ i. flat_map arrivals_of g.ended.items ++ map (arrival_at g.latest.number) (sym e i)) ∙ held.spells;
     })
     by (c ∷ cs) e = rw (lt-ltb 0 (length g.latest.clients.items) (omega (arith, ap length e))) (record {
-      rising = rising_more (ended given g) g.latest held.rising held.below;
-      some = all_more (λ x. 0 < length x.clients.items) (ended given g) g.latest held.some (omega (arith, ap length e));
-      spells = flat_map-append arrivals_of (ended given g) (g.latest ∷ []) ∙ ap (λ (l : List Arrival). flat_map arrivals_of (ended given g) ++ l) (append-nil (arrivals_of g.latest)) ∙ held.spells;
+      rising = rising_more g.ended.items g.latest held.rising held.below;
+      some = all_more (λ x. 0 < length x.clients.items) g.ended.items g.latest held.some (omega (arith, ap length e));
+      spells = flat_map-append arrivals_of g.ended.items (g.latest ∷ []) ∙ ap (λ (l : List Arrival). flat_map arrivals_of g.ended.items ++ l) (append-nil (arrivals_of g.latest)) ∙ held.spells;
     })
 
 -- all of them are below a greater number
-pub over_below : (given : List BatchEpoch) (g : Gathering) (n : ℕ) → g.latest.number < n → AllByRecursion (λ x. x.number < g.latest.number) (ended given g) → AllByRecursion (λ x. x.number < n) (over_after given g)
-over_below given g n h below = by (leb_tells 1 (length g.latest.clients.items))
+pub ended-below : (g : Gathering) (n : ℕ) → g.latest.number < n → AllByRecursion (λ x. x.number < g.latest.number) g.ended.items → AllByRecursion (λ x. x.number < n) (ended_after g)
+ended-below g n h below = by (leb_tells 1 (length g.latest.clients.items))
   where
     by : ((leb 1 (length g.latest.clients.items) ≡ true) × (1 ≤ length g.latest.clients.items)) ⊎ ((leb 1 (length g.latest.clients.items) ≡ false) × (length g.latest.clients.items < 1))
-        → AllByRecursion (λ x. x.number < n) (over_after given g)
-    by (inl w) = rw w.0 (all_more (λ x. x.number < n) (ended given g) g.latest (below_more g.latest.number n (ended given g) h below) h)
-    by (inr w) = rw w.0 (below_more g.latest.number n (ended given g) h below)
+        → AllByRecursion (λ x. x.number < n) (ended_after g)
+    by (inl w) = rw w.0 (all_more (λ x. x.number < n) g.ended.items g.latest (below_more g.latest.number n g.ended.items h below) h)
+    by (inr w) = rw w.0 (below_more g.latest.number n g.ended.items h below)
 
 -- a gathering that has come to a later epoch holds the same arrivals
-pub turned : (given : List BatchEpoch) (old new : Gathering) (n : ℕ) (before : List Arrival) → old.latest.number < n → ended given new ≡ over_after given old → new.latest.number ≡ n
-    → new.latest.clients.items ≡ [] → new.standing.keys ≡ [] → HoldsArrivals given old before → HoldsArrivals given new before
-turned given old new n before h over number clients keys held =
-    let epochs = over-epochs given old before held in record {
-      spells = (λ i. flat_map arrivals_of (over i) ++ map (arrival_at new.latest.number) (clients i)) ∙ append-nil (flat_map arrivals_of (over_after given old)) ∙ epochs.spells;
-      rising = rw over epochs.rising;
-      some = rw over epochs.some;
-      below = rw (over, number) (over_below given old n h held.below);
+pub turned : (old new : Gathering) (n : ℕ) (before : List Arrival) → old.latest.number < n → new.ended.items ≡ ended_after old → new.latest.number ≡ n
+    → new.latest.clients.items ≡ [] → new.standing.keys ≡ [] → HoldsArrivals old before → HoldsArrivals new before
+turned old new n before h ended number clients keys held =
+    let epochs = ended-epochs old before held in record {
+      spells = (λ i. flat_map arrivals_of (ended i) ++ map (arrival_at new.latest.number) (clients i)) ∙ append-nil (flat_map arrivals_of (ended_after old)) ∙ epochs.spells;
+      rising = rw ended epochs.rising;
+      some = rw ended epochs.some;
+      below = rw (ended, number) (ended-below old n h held.below);
       standing = keys ∙ ap (map (λ (c : Client). c.id)) (sym clients);
     }
 
 -- a client more of the latest epoch
-pub joined : (given : List BatchEpoch) (old new : Gathering) (before : List Arrival) (c : Client) → HoldsArrivals given old before → new.over ≡ old.over → new.latest.number ≡ old.latest.number
-    → new.latest.clients.items ≡ old.latest.clients.items ++ c ∷ [] → new.standing.keys ≡ old.standing.keys ++ c.id ∷ []
-    → IsGathered given new (before ++ arrival_at old.latest.number c ∷ [])
-joined given old new before c held over number clients keys = record {
+pub joined : (old new : Gathering) (before : List Arrival) (c : Client) → HoldsArrivals old before → new.ended ≡ old.ended → new.latest.number ≡ old.latest.number
+    → new.latest.clients.items ≡ old.latest.clients.items ++ c ∷ [] → new.standing.keys ≡ old.standing.keys ++ c.id ∷ [] → new.next ≡ length before + 2
+    → IsGathered new (before ++ arrival_at old.latest.number c ∷ [])
+joined old new before c held ended number clients keys next = record {
   holds = record {
     spells =
-        (λ i. flat_map arrivals_of (given ++ (over i).items) ++ map (arrival_at (number i)) (clients i))
-        ∙ ap (λ (l : List Arrival). flat_map arrivals_of (ended given old) ++ l) (map-append (arrival_at old.latest.number) old.latest.clients.items (c ∷ []))
-        ∙ sym (append_assoc (flat_map arrivals_of (ended given old)) (arrivals_of old.latest) (arrival_at old.latest.number c ∷ []))
+        (λ i. flat_map arrivals_of (ended i).items ++ map (arrival_at (number i)) (clients i))
+        ∙ ap (λ (l : List Arrival). flat_map arrivals_of old.ended.items ++ l) (map-append (arrival_at old.latest.number) old.latest.clients.items (c ∷ []))
+        ∙ sym (append_assoc (flat_map arrivals_of old.ended.items) (arrivals_of old.latest) (arrival_at old.latest.number c ∷ []))
         ∙ ap (λ (l : List Arrival). l ++ arrival_at old.latest.number c ∷ []) held.spells;
-    rising = rw over held.rising;
-    some = rw over held.some;
-    below = rw (over, number) held.below;
+    rising = rw ended held.rising;
+    some = rw ended held.some;
+    below = rw (ended, number) held.below;
     standing = keys ∙ ap (λ (l : List ℕ). l ++ c.id ∷ []) held.standing ∙ sym (map-append (λ (c : Client). c.id) old.latest.clients.items (c ∷ [])) ∙ ap (map (λ (c : Client). c.id)) (sym clients);
   };
   last = fold-append (λ (epoch : ℕ) (a : Arrival). a.epoch) 0 before (arrival_at old.latest.number c ∷ []) ∙ sym number;
+  next = omega (arith, next, length-append before (arrival_at old.latest.number c ∷ []));
 }
 
 -- at the start there is none
-pub none-gathered : (g : Gathering) → g.over.items ≡ [] → g.latest.clients.items ≡ [] → g.latest.number ≡ 0 → g.standing.keys ≡ [] → IsGathered [] g []
+pub none-gathered : (g : Gathering) → g.ended.items ≡ [] → g.latest.clients.items ≡ [] → g.latest.number ≡ 0 → g.standing.keys ≡ [] → g.next ≡ 1 → IsGathered g []
 unfolding AreRising
-none-gathered g over clients number keys = record {
+none-gathered g ended clients number keys next = record {
   holds = record {
-    spells = rw (over, clients) refl;
-    rising = rw over tt;
-    some = rw over tt;
-    below = rw over tt;
+    spells = rw (ended, clients) refl;
+    rising = rw ended tt;
+    some = rw ended tt;
+    below = rw ended tt;
     standing = rw (keys, clients) refl;
   };
   last = sym number;
+  next = sym next;
 }
 
 -- the client of an arrival
@@ -186,31 +180,13 @@ as-arrival : (n : ℕ) (a : Arrival) → n ≡ a.epoch → arrival_at n (client_
 as-arrival n a e = λ i. record { epoch = e i; client = a.client; entry = a.entry }
 
 -- the cause of an arrival in whose epoch the gathering has come
-pub told_of : (given : List BatchEpoch) (g : Gathering) (before : List Arrival) (entries at : ℕ) (a : Arrival) → HoldsArrivals given g before → g.latest.number ≡ a.epoch → last_epoch before ≤ a.epoch → a.entry < entries
-    → length before + 1 ≡ at → joining_cause at g (client_of a) ≡ arrival_cause entries before a
-told_of given g before entries at a held number last within size =
-    told given g before held entries at (client_of a) (omega (arith, number, last)) within size ∙ ap (arrival_cause entries before) (as-arrival g.latest.number a number)
+pub told_of : (g : Gathering) (before : List Arrival) (entries : ℕ) (a : Arrival) → HoldsArrivals g before → g.latest.number ≡ a.epoch → last_epoch before ≤ a.epoch → a.entry < entries
+    → length before + 1 ≡ g.next → joining_cause g (client_of a) ≡ arrival_cause entries before a
+told_of g before entries a held number last within size =
+    told g before held entries (client_of a) (omega (arith, number, last)) within size ∙ ap (arrival_cause entries before) (as-arrival g.latest.number a number)
 
 -- that arrival more
-pub taken_of : (given : List BatchEpoch) (old new : Gathering) (before : List Arrival) (a : Arrival) → HoldsArrivals given old before → old.latest.number ≡ a.epoch → new.over ≡ old.over → new.latest.number ≡ old.latest.number
-    → new.latest.clients.items ≡ old.latest.clients.items ++ client_of a ∷ [] → new.standing.keys ≡ old.standing.keys ++ a.client ∷ [] → IsGathered given new (before ++ a ∷ [])
-taken_of given old new before a held here over number clients keys =
-    subst (λ (x : Arrival). IsGathered given new (before ++ x ∷ [])) (as-arrival old.latest.number a here) (joined given old new before (client_of a) held over number clients keys)
-
--- what is held once the epochs that are over were given out
-module _ (given : List BatchEpoch) (old new : Gathering) (none : new.over.items ≡ []) (latest : new.latest ≡ old.latest) (standing : new.standing ≡ old.standing) where
-  -- the same epochs are over
-  pub same-ended : ended (ended given old) new ≡ ended given old
-  same-ended = ap (λ (es : List BatchEpoch). ended given old ++ es) none ∙ append-nil (ended given old)
-
-  pub given-out : (arrivals : List Arrival) → IsGathered given old arrivals → IsGathered (ended given old) new arrivals
-  given-out arrivals gathered = record {
-    holds = record {
-      spells = rw (same-ended, latest) gathered.holds.spells;
-      rising = rw same-ended gathered.holds.rising;
-      some = rw same-ended gathered.holds.some;
-      below = rw (same-ended, latest) gathered.holds.below;
-      standing = rw (standing, latest) gathered.holds.standing;
-    };
-    last = rw latest gathered.last;
-  }
+pub taken_of : (old new : Gathering) (before : List Arrival) (a : Arrival) → HoldsArrivals old before → old.latest.number ≡ a.epoch → new.ended ≡ old.ended → new.latest.number ≡ old.latest.number
+    → new.latest.clients.items ≡ old.latest.clients.items ++ client_of a ∷ [] → new.standing.keys ≡ old.standing.keys ++ a.client ∷ [] → new.next ≡ length before + 2 → IsGathered new (before ++ a ∷ [])
+taken_of old new before a held here ended number clients keys next =
+    subst (λ (x : Arrival). IsGathered new (before ++ x ∷ [])) (as-arrival old.latest.number a here) (joined old new before (client_of a) held ended number clients keys next)

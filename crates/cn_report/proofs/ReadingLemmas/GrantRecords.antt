@@ -5,8 +5,8 @@ use Rattle.cn_report.specs.Reading.Granted.{grant_spelled, grants_spelled, of_ep
 use Rattle.cn_report.specs.Reading.Grants.{header_cause, record_cause}
 use Rattle.std.specs.Prelude.{IfOk, MatchResult, Ok, Err, Result, map}
 use Rattle.cn_spec.specs.Step.{counts_of, shares}
-use Rattle.cn_report.specs.Reading.Told.{IsTold, epoch_numbers, plain_tight, shared_epoch, told_epoch}
-use Rattle.cn_report.specs.declared.reading.granting.Tight.{Tight}
+use Rattle.cn_report.specs.Reading.Told.{IsNamedList, epoch_numbers, named_epoch, plain_named, told_epoch, with_shares}
+use Rattle.cn_report.specs.declared.reading.granting.NamedEpoch.{NamedEpoch}
 use Rattle.cn_spec.proofs.CallerLemmas.{counts-shares}
 use Rattle.cn_report.specs.declared.reading.grant.GrantCause.TheVariants as cause
 use Rattle.cn_report.specs.Reading.Records.{Record}
@@ -64,26 +64,32 @@ taken-gap all rows grants (DuplicateClient at) t e gap = absurd gap
 taken-gap all rows grants (DuplicateName at) t e gap = absurd gap
 
 -- the shares of a tight epoch are its counts
-shared-told : (width : ℕ) (grants : List Granted) (numbers : List ℕ) → ((e : ℕ) → AreTightGrants (of_epoch e grants)) → map (shared_epoch width grants) numbers ≡ map (told_epoch width grants) numbers
+shared-told : (width : ℕ) (grants : List Granted) (numbers : List ℕ) → ((e : ℕ) → AreTightGrants (of_epoch e grants)) → map (λ (p : ℕ × ℕ). (p.0, p.1, shares p.1 width)) (map (named_epoch grants) numbers) ≡ map (told_epoch width grants) numbers
 shared-told width grants [] tight = refl
 shared-told width grants (e ∷ numbers) tight =
     let counts : counts_of width (map (λ (g : Granted). g.name) (of_epoch e grants)) ≡ shares (length (of_epoch e grants)) width =
     counts-shares width (length (of_epoch e grants)) (map (λ (g : Granted). g.name) (of_epoch e grants)) (tight e).names in
     λ i. (e, length (of_epoch e grants), sym counts i) ∷ shared-told width grants numbers tight i
 
+-- the epochs with their shares
+with-shares : (width : ℕ) (epochs : List NamedEpoch) → map (with_shares width) epochs ≡ map (λ (p : ℕ × ℕ). (p.0, p.1, shares p.1 width)) (map plain_named epochs)
+with-shares width [] = refl
+with-shares width (e ∷ epochs) = ap (λ (l : List (ℕ × ℕ × List ℕ)). with_shares width e ∷ l) (with-shares width epochs)
+
 -- what the end gives
-pub taken-end : (width : ℕ) (all rows : List Record) (grants : List Granted) (result : Result Tight Flaw) → AreTaken rows grants → all ≡ rows
+pub taken-end : {V : Type 0} (items : V → List NamedEpoch) (all rows : List Record) (grants : List Granted) (result : Result V Flaw) → AreTaken rows grants → all ≡ rows
     → MatchResult result (λ _. (e n : ℕ) → Lacks grants e n → ⊥) (IsEndFlaw grants)
-    → IfOk result (λ tight. map plain_tight tight.epochs.items ≡ map (shared_epoch width grants) (epoch_numbers grants))
-    → MatchResult result (λ tight. IsTightList all × IsTold width all tight.epochs.items) (IsFlaw all)
-taken-end width all rows grants (Ok tight) t e full told =
+    → IfOk result (λ epochs. map plain_named (items epochs) ≡ map (named_epoch grants) (epoch_numbers grants))
+    → MatchResult result (λ epochs. IsNamedList all (items epochs)) (IsFlaw all)
+taken-end items all rows grants (Ok epochs) t e full told =
     let list = taken_all all rows grants t e full in
-    let spells : grants_spelled (drop 1 all) ≡ grants = ap (λ (l : List Record). grants_spelled (drop 1 l)) e ∙ t.spells in (
-      list,
-      told ∙ (λ i. map (shared_epoch width (sym spells i)) (epoch_numbers (sym spells i)))
-          ∙ shared-told width (grants_spelled (drop 1 all)) (epoch_numbers (grants_spelled (drop 1 all))) list.tight,
-    )
-taken-end width all rows grants (Err flaw) t e gap told = taken-gap all rows grants flaw t e gap
+    let spells : grants_spelled (drop 1 all) ≡ grants = ap (λ (l : List Record). grants_spelled (drop 1 l)) e ∙ t.spells in
+    record {
+      tight = list;
+      told = λ width. with-shares width (items epochs) ∙ ap (map (λ (p : ℕ × ℕ). (p.0, p.1, shares p.1 width))) (told ∙ (λ i. map (named_epoch (sym spells i)) (epoch_numbers (sym spells i))))
+          ∙ shared-told width (grants_spelled (drop 1 all)) (epoch_numbers (grants_spelled (drop 1 all))) list.tight;
+    }
+taken-end items all rows grants (Err flaw) t e gap told = taken-gap all rows grants flaw t e gap
 
 -- a record's cause is the flaw's
 pub first-flaw : (rows : List Record) (at : ℕ) (why : GrantCause) → IsFirstWithCause rows at why → IsFlaw rows (flaw_of at why)

@@ -1,6 +1,6 @@
 -- The epochs that were gathered can be served, whatever was read.
-use Rattle.std.proofs.Common.{◌≡◌, ◌<◌, ◌≤◌, ℕ, List, [], ◌∷◌, ◌++◌, Bool, true, false, cond, None, length, map, refl, arith, sym, ap, ◌∙◌, length-append}
-use Rattle.std.specs.Prelude.{◌||◌, nat_eq, nat_le}
+use Rattle.std.proofs.Common.{◌≡◌, ◌<◌, ◌≤◌, ◌+◌, ℕ, List, [], ◌∷◌, ◌++◌, Bool, true, false, cond, None, length, map, refl, arith, sym, ap, ◌∙◌, length-append}
+use Rattle.std.specs.Prelude.{◌||◌, nat_eq, nat_le, nat_lt}
 use Rattle.std.specs.List.{list_any}
 use Rattle.std.proofs.lemmas.List.{map-append}
 use Rattle.std.proofs.lemmas.List.Elements.{All-nil, All-push}
@@ -10,57 +10,61 @@ use Rattle.std.proofs.lemmas.Bool.Decides.{nat_tests}
 use Rattle.std.proofs.Math.Dec.{eqb, leb}
 use Rattle.cn_ledger.specs.declared.client.Client.{Client}
 use Rattle.cn_spec.specs.Sums.{times}
-use Rattle.cn_spec.specs.declared.limits.TheConstants.{MOST_CLIENTS}
+use Rattle.cn_spec.specs.declared.limits.TheConstants.{MOST_CLIENTS, MOST_RECORDS}
 use Rattle.cn_spec.proofs.CallerLemmas.{times-append, times-cons, times-nil}
-use Rattle.cn_report.specs.declared.reading.gathering.BatchEpoch.{BatchEpoch}
-use Rattle.cn_report.specs.declared.reading.gathering.Gathering.{Gathering}
+use Rattle.cn_report.specs.declared.reading.batch.BatchEpoch.{BatchEpoch}
+use Rattle.cn_report.specs.declared.reading.batch.gathering.Gathering.{Gathering}
 use Rattle.cn_report.specs.Reading.Batch.{AreRising, AreServable, MayCome, clients_of_epochs}
-use Rattle.cn_report.specs.Reading.Gathered.{StaysServable, ended, gathered, joining_cause, over_after}
-use Rattle.cn_report.proofs.ReadingLemmas.GatheredEpochs.{over_below, rising_more, same-ended}
+use Rattle.cn_report.specs.Reading.Gathered.{StaysServable, ended_after, joining_cause}
+use Rattle.cn_report.proofs.ReadingLemmas.GatheredEpochs.{ended-below, rising_more}
 
 -- no client is few
 none-come : (entries : ℕ) → MayCome entries []
 none-come entries = record { few = omega arith; within = All-nil (λ (c : Client). c.entry < entries); once = λ client. omega (arith, times-nil client) }
 
 -- at the start
-pub none_kept : (g : Gathering) (entries : ℕ) → g.over.items ≡ [] → g.latest.clients.items ≡ [] → g.standing.keys ≡ [] → StaysServable entries [] g
+pub none_kept : (g : Gathering) (entries : ℕ) → g.ended.items ≡ [] → g.latest.clients.items ≡ [] → g.standing.keys ≡ [] → g.next ≡ 1 → StaysServable entries g
 unfolding AreRising
-none_kept g entries over clients keys = record {
-  over = rw over (record { rising = tt; some = All-nil (λ (e : BatchEpoch). 0 < length e.clients.items); come = All-nil (λ (e : BatchEpoch). MayCome entries e.clients.items) });
-  below = rw over tt;
+none_kept g entries ended clients keys next = record {
+  ended = rw ended (record { rising = tt; some = All-nil (λ (e : BatchEpoch). 0 < length e.clients.items); come = All-nil (λ (e : BatchEpoch). MayCome entries e.clients.items) });
+  below = rw ended tt;
   latest = rw clients (none-come entries);
   standing = rw (keys, clients) refl;
+  count = omega (arith, next, ap clients_of_epochs ended, ap length clients);
+  few = omega (arith, next);
 }
 
--- once the latest epoch is over
-pub over-servable : (given : List BatchEpoch) (g : Gathering) (entries : ℕ) → StaysServable entries given g → AreServable entries (over_after given g)
-over-servable given g entries keeps = by g.latest.clients.items refl
+-- once the latest epoch has ended
+pub ended-servable : (g : Gathering) (entries : ℕ) → StaysServable entries g → AreServable entries (ended_after g)
+ended-servable g entries keeps = by g.latest.clients.items refl
   where
-    by : (cs : List Client) → g.latest.clients.items ≡ cs → AreServable entries (over_after given g)
-    by [] e = rw (le-ltb 0 (length g.latest.clients.items) (omega (arith, ap length e))) keeps.over
+    by : (cs : List Client) → g.latest.clients.items ≡ cs → AreServable entries (ended_after g)
+    by [] e = rw (le-ltb 0 (length g.latest.clients.items) (omega (arith, ap length e))) keeps.ended
     by (c ∷ cs) e = rw (lt-ltb 0 (length g.latest.clients.items) (omega (arith, ap length e))) (record {
-      rising = rising_more (ended given g) g.latest keeps.over.rising keeps.below;
-      some = All-push (λ (x : BatchEpoch). 0 < length x.clients.items) (ended given g) g.latest keeps.over.some (omega (arith, ap length e));
-      come = All-push (λ (x : BatchEpoch). MayCome entries x.clients.items) (ended given g) g.latest keeps.over.come keeps.latest;
+      rising = rising_more g.ended.items g.latest keeps.ended.rising keeps.below;
+      some = All-push (λ (x : BatchEpoch). 0 < length x.clients.items) g.ended.items g.latest keeps.ended.some (omega (arith, ap length e));
+      come = All-push (λ (x : BatchEpoch). MayCome entries x.clients.items) g.ended.items g.latest keeps.ended.come keeps.latest;
     })
 
 -- and has the clients of all
-pub all-over : (given : List BatchEpoch) (g : Gathering) → clients_of_epochs (over_after given g) ≡ gathered given g
-all-over given g = by g.latest.clients.items refl
+pub all-ended : (g : Gathering) → clients_of_epochs (ended_after g) ≡ clients_of_epochs g.ended.items + length g.latest.clients.items
+all-ended g = by g.latest.clients.items refl
   where
-    by : (cs : List Client) → g.latest.clients.items ≡ cs → clients_of_epochs (over_after given g) ≡ gathered given g
+    by : (cs : List Client) → g.latest.clients.items ≡ cs → clients_of_epochs (ended_after g) ≡ clients_of_epochs g.ended.items + length g.latest.clients.items
     by [] e = rw (le-ltb 0 (length g.latest.clients.items) (omega (arith, ap length e))) (omega (arith, ap length e))
     by (c ∷ cs) e =
-        rw (lt-ltb 0 (length g.latest.clients.items) (omega (arith, ap length e))) (sum_by_push (λ (x : BatchEpoch). length x.clients.items) (ended given g) g.latest)
+        rw (lt-ltb 0 (length g.latest.clients.items) (omega (arith, ap length e))) (sum_by_push (λ (x : BatchEpoch). length x.clients.items) g.ended.items g.latest)
 
 -- once it has come to a later epoch
-pub turned-keeps : (given : List BatchEpoch) (old new : Gathering) (n entries : ℕ) → old.latest.number < n → ended given new ≡ over_after given old → new.latest.number ≡ n
-    → new.latest.clients.items ≡ [] → new.standing.keys ≡ [] → StaysServable entries given old → StaysServable entries given new
-turned-keeps given old new n entries h over number clients keys keeps = record {
-  over = rw over (over-servable given old entries keeps);
-  below = rw (over, number) (over_below given old n h keeps.below);
+pub turned-keeps : (old new : Gathering) (n entries : ℕ) → old.latest.number < n → new.ended.items ≡ ended_after old → new.latest.number ≡ n
+    → new.latest.clients.items ≡ [] → new.standing.keys ≡ [] → new.next ≡ old.next → StaysServable entries old → StaysServable entries new
+turned-keeps old new n entries h ended number clients keys next keeps = record {
+  ended = rw ended (ended-servable old entries keeps);
+  below = rw (ended, number) (ended-below old n h keeps.below);
   latest = rw clients (none-come entries);
   standing = rw (keys, clients) refl;
+  count = omega (arith, ap clients_of_epochs ended, ap length clients, all-ended old, next, keeps.count);
+  few = omega (arith, next, keeps.few);
 }
 
 -- a client that stands in no list
@@ -75,32 +79,36 @@ absent x (y ∷ ids) e = by (nat_eq x y) refl e (λ rest. absent x ids rest)
         omega (arith, times-cons x y ids, rest e, other)
 
 -- what is known of a client of the latest epoch that has no cause
-new-and-few : (at : ℕ) (g : Gathering) (c : Client) → joining_cause at g c ≡ None → (list_any (nat_eq c.id) g.standing.keys ≡ false) × (length g.latest.clients.items < MOST_CLIENTS)
-new-and-few at g c none = by (list_any (nat_eq c.id) g.standing.keys) refl (nat_le MOST_CLIENTS (length g.latest.clients.items)) refl none
+new-and-few : (g : Gathering) (c : Client) → joining_cause g c ≡ None
+    → (list_any (nat_eq c.id) g.standing.keys ≡ false) × (length g.latest.clients.items < MOST_CLIENTS) × (g.next ≤ MOST_RECORDS)
+new-and-few g c none = by (list_any (nat_eq c.id) g.standing.keys) refl (nat_le MOST_CLIENTS (length g.latest.clients.items)) refl (nat_lt MOST_RECORDS g.next) refl none
   where
-    by : (stands : Bool) → list_any (nat_eq c.id) g.standing.keys ≡ stands → (full : Bool) → nat_le MOST_CLIENTS (length g.latest.clients.items) ≡ full
-        → joining_cause at g c ≡ None → (list_any (nat_eq c.id) g.standing.keys ≡ false) × (length g.latest.clients.items < MOST_CLIENTS)
-    by true is full e none = let it = rw is at none in cc
-    by false is true e none = let it = rw (is, e) at none in cc
-    by false is false e none = (is, grind (arith, nat_tests, e))
+    by : (stands : Bool) → list_any (nat_eq c.id) g.standing.keys ≡ stands → (full : Bool) → nat_le MOST_CLIENTS (length g.latest.clients.items) ≡ full → (late : Bool) → nat_lt MOST_RECORDS g.next ≡ late
+        → joining_cause g c ≡ None → (list_any (nat_eq c.id) g.standing.keys ≡ false) × (length g.latest.clients.items < MOST_CLIENTS) × (g.next ≤ MOST_RECORDS)
+    by true is full e late l none = let it = rw is at none in cc
+    by false is true e late l none = let it = rw (is, e) at none in cc
+    by false is false e true l none = let it = rw (is, e, l) at none in cc
+    by false is false e false l none = (is, grind (arith, nat_tests, e), grind (arith, nat_tests, l))
 
 -- a client more of the latest epoch
-pub joined-keeps : (given : List BatchEpoch) (old new : Gathering) (at entries : ℕ) (c : Client) → joining_cause at old c ≡ None → c.entry < entries → new.over ≡ old.over
+pub joined-keeps : (old new : Gathering) (entries : ℕ) (c : Client) → joining_cause old c ≡ None → c.entry < entries → new.ended ≡ old.ended
     → new.latest.number ≡ old.latest.number → new.latest.clients.items ≡ old.latest.clients.items ++ c ∷ []
-    → new.standing.keys ≡ old.standing.keys ++ c.id ∷ [] → StaysServable entries given old → StaysServable entries given new
-joined-keeps given old new at entries c none entry over number clients keys keeps =
-    let (fresh, room) = new-and-few at old c none in
+    → new.standing.keys ≡ old.standing.keys ++ c.id ∷ [] → new.next ≡ old.next + 1 → StaysServable entries old → StaysServable entries new
+joined-keeps old new entries c none entry ended number clients keys next keeps =
+    let (fresh, room, some) = new-and-few old c none in
     let ids : map (λ (x : Client). x.id) new.latest.clients.items ≡ map (λ (x : Client). x.id) old.latest.clients.items ++ c.id ∷ [] =
     ap (map (λ (x : Client). x.id)) clients ∙ map-append (λ (x : Client). x.id) old.latest.clients.items (c ∷ []) in
     record {
-      over = rw over keeps.over;
-      below = rw (over, number) keeps.below;
+      ended = rw ended keeps.ended;
+      below = rw (ended, number) keeps.below;
       latest = record {
         few = omega (arith, room, ap length clients, length-append old.latest.clients.items (c ∷ []));
         within = rw clients (All-push (λ (x : Client). x.entry < entries) old.latest.clients.items c keeps.latest.within entry);
         once = λ x. rw ids (once_more x (rw keeps.standing at fresh));
       };
       standing = keys ∙ ap (λ (l : List ℕ). l ++ c.id ∷ []) keeps.standing ∙ sym ids;
+      count = omega (arith, next, ap (λ es. clients_of_epochs es.items) ended, ap length clients, length-append old.latest.clients.items (c ∷ []), keeps.count);
+      few = omega (arith, next, some);
     }
   where
     once_more : (x : ℕ) → list_any (nat_eq c.id) (map (λ (y : Client). y.id) old.latest.clients.items) ≡ false
@@ -109,14 +117,3 @@ joined-keeps given old new at entries c none entry over number clients keys keep
         let all = map (λ (y : Client). y.id) old.latest.clients.items in
         let none = absent c.id all fresh in
         grind (arith, nat_tests, none, keeps.latest.once x, times-append x all (c.id ∷ []), times-cons x c.id [], times-nil x)
-
--- once the epochs that are over were given out
-pub keeps-given : (given : List BatchEpoch) (old new : Gathering) (entries : ℕ) → new.over.items ≡ [] → new.latest ≡ old.latest → new.standing ≡ old.standing
-    → StaysServable entries given old → StaysServable entries (ended given old) new
-keeps-given given old new entries none latest standing keeps =
-    let same = same-ended given old new none latest standing in record {
-      over = rw same keeps.over;
-      below = rw (same, latest) keeps.below;
-      latest = rw latest keeps.latest;
-      standing = rw (standing, latest) keeps.standing;
-    }

@@ -1,19 +1,17 @@
 -- Arrivals that were read together, and how far they were gathered.
-use Rattle.std.proofs.Common.{◌≡◌, ◌<◌, ◌≤◌, ◌+◌, ◌⊎◌, ℕ, List, [], ◌∷◌, ◌++◌, Some, None, drop, get_or, length, take, arith, sym, ap, inl, inr, ◌∙◌, append_assoc, append-nil, length-append}
+use Rattle.std.proofs.Common.{◌≡◌, ◌<◌, ◌≤◌, ◌+◌, ◌⊎◌, ℕ, List, [], ◌∷◌, ◌++◌, Some, None, drop, get_or, length, take, arith, sym, ap, inl, inr, ◌∙◌, append_assoc, append-nil}
 use Rattle.std.specs.Prelude.{Result, Ok}
-use Rattle.std.proofs.lemmas.List.{get_or-map, length-map, length-take-le, map-append, take-append-drop, take_all, take_more}
+use Rattle.std.proofs.lemmas.List.{get_or-map, length-map, map-append, take-append-drop, take_all, take_more}
 use Rattle.cn_report.specs.Reading.Arrival.{arrival_cause, arrival_in, spelled_cause}
 use Rattle.cn_report.specs.Reading.Batch.{IsBatchFault, IsOfReading, header_cause, record_cause}
 use Rattle.cn_report.specs.Reading.Gathered.{IsGathered}
-use Rattle.cn_report.specs.Reading.Parts.{AreTaken}
 use Rattle.cn_report.specs.Reading.Records.{Record}
-use Rattle.cn_report.specs.Reading.Stretch.{AreSpelled}
-use Rattle.cn_report.specs.declared.reading.arrival.Arrival.{Arrival}
+use Rattle.cn_report.specs.Reading.Stretch.{AreSpelled, AreTaken}
+use Rattle.cn_report.specs.declared.reading.batch.arrival.Arrival.{Arrival}
 use Rattle.cn_report.specs.declared.reading.batch_fault.BatchCause.{BatchCause}
 use Rattle.cn_report.specs.declared.reading.batch_fault.BatchCause.TheVariants.{Memory}
-use Rattle.cn_report.specs.declared.reading.gathering.BatchEpoch.{BatchEpoch}
-use Rattle.cn_report.specs.declared.reading.gathering.Gathering.{Gathering}
-use Rattle.cn_report.specs.declared.reading.heading.Heading.{Heading}
+use Rattle.cn_report.specs.declared.reading.batch.gathering.Gathering.{Gathering}
+use Rattle.cn_report.specs.declared.reading.batch.heading.Heading.{Heading}
 use Rattle.cn_report.proofs.ReadingLemmas.BatchRecords.{at-arrivals, clean-of, taken-next}
 use Rattle.cn_report.proofs.ReadingLemmas.FirstFaults.{stop-other, stop-in}
 
@@ -35,33 +33,26 @@ module _ (heading : Heading) (entries : ℕ) (rows : List Record) (arrivals : Li
       ∙ get_or-map Ok arrivals i arrival (Ok arrival) h
 
 -- so many of the arrivals were gathered after those that came before
-pub record GatheredTo (heading : Heading) (entries : ℕ) (before rows : List Record) (came arrivals : List Arrival) (given : List BatchEpoch) (g : Gathering) (i : ℕ) : Type 0 where
+pub record GatheredTo (heading : Heading) (entries : ℕ) (before rows : List Record) (came arrivals : List Arrival) (g : Gathering) (i : ℕ) : Type 0 where
   pub taken : AreTaken heading entries (before ++ take i rows) (came ++ take i arrivals)
-  pub gathered : IsGathered given g (came ++ take i arrivals)
+  pub gathered : IsGathered g (came ++ take i arrivals)
 
 -- where nothing is gathered yet
-pub none-gathered-of : (heading : Heading) (entries : ℕ) (before rows : List Record) (came arrivals : List Arrival) (given : List BatchEpoch) (g : Gathering) → AreTaken heading entries before came
-    → IsGathered given g came → GatheredTo heading entries before rows came arrivals given g 0
-none-gathered-of heading entries before rows came arrivals given g taken gathered =
+pub none-gathered-of : (heading : Heading) (entries : ℕ) (before rows : List Record) (came arrivals : List Arrival) (g : Gathering) → AreTaken heading entries before came
+    → IsGathered g came → GatheredTo heading entries before rows came arrivals g 0
+none-gathered-of heading entries before rows came arrivals g taken gathered =
     record { taken = rw (append-nil before, append-nil came) taken; gathered = rw (append-nil came) gathered }
 
-module _ (heading : Heading) (entries : ℕ) (before rows : List Record) (came arrivals : List Arrival) (given : List BatchEpoch) (spelled : AreSpelled heading entries rows arrivals) where
+module _ (heading : Heading) (entries : ℕ) (before rows : List Record) (came arrivals : List Arrival) (spelled : AreSpelled heading entries rows arrivals) where
   -- all were gathered
-  pub all-gathered : (g : Gathering) (i : ℕ) → length arrivals ≤ i → GatheredTo heading entries before rows came arrivals given g i
-      → AreTaken heading entries (before ++ rows) (came ++ arrivals) × IsGathered given g (came ++ arrivals)
+  pub all-gathered : (g : Gathering) (i : ℕ) → length arrivals ≤ i → GatheredTo heading entries before rows came arrivals g i
+      → AreTaken heading entries (before ++ rows) (came ++ arrivals) × IsGathered g (came ++ arrivals)
   all-gathered g i all to =
       let r : take i rows ≡ rows = take_all i rows (omega (arith, all, same-length heading entries rows arrivals spelled)) in
       let a : take i arrivals ≡ arrivals = take_all i arrivals all in
       (rw (r, a) at to.taken, rw a at to.gathered)
 
   module _ (i : ℕ) (within : i < length arrivals) where
-    -- so many records had come, and so many arrivals
-    pub so-many : (g : Gathering) → GatheredTo heading entries before rows came arrivals given g i → (length (before ++ take i rows) ≡ length before + i) × (length (came ++ take i arrivals) + 1 ≡ length before + i)
-    so-many g to =
-        let size : length (before ++ take i rows) ≡ length before + i =
-        omega (arith, length-append before (take i rows), length-take-le i rows (omega (arith, within, same-length heading entries rows arrivals spelled))) in
-        (size, omega (arith, size, to.taken.counted))
-
     module _ (d : Arrival) where
       abbrev pub arrival : Arrival
       arrival = get_or arrivals i d
@@ -80,20 +71,21 @@ module _ (heading : Heading) (entries : ℕ) (before rows : List Record) (came a
       spells-it = spelled-at heading entries rows arrivals spelled i d within
 
       -- one more was
-      pub gathered-next : (g h : Gathering) → GatheredTo heading entries before rows came arrivals given g i → arrival_cause entries (came ++ take i arrivals) arrival ≡ None
-          → IsGathered given h ((came ++ take i arrivals) ++ arrival ∷ []) → GatheredTo heading entries before rows came arrivals given h (i + 1)
+      pub gathered-next : (g h : Gathering) → GatheredTo heading entries before rows came arrivals g i → arrival_cause entries (came ++ take i arrivals) arrival ≡ None
+          → IsGathered h ((came ++ take i arrivals) ++ arrival ∷ []) → GatheredTo heading entries before rows came arrivals h (i + 1)
       gathered-next g h to none more = record {
         taken = rw (rows-next, came-next) at (taken-next heading entries (before ++ take i rows) (came ++ take i arrivals) (get_or rows i []) arrival to.taken spells-it none);
         gathered = rw came-next at more;
       }
 
       -- the record after those that were has a cause, or there was no memory for it
-      pub gathering-fault : (from : ℕ) (g : Gathering) (later : List Record) (cause : BatchCause) → length before ≡ from → GatheredTo heading entries before rows came arrivals given g i
+      pub gathering-fault : (g : Gathering) (later : List Record) (cause : BatchCause) → GatheredTo heading entries before rows came arrivals g i
           → (arrival_cause entries (came ++ take i arrivals) arrival ≡ Some cause) ⊎ (cause ≡ Memory)
-          → IsBatchFault entries ((before ++ rows) ++ later) (record { at = from + i; cause = cause })
-      gathering-fault from g later cause size to told =
+          → IsBatchFault entries ((before ++ rows) ++ later) (record { at = g.next; cause = cause })
+      gathering-fault g later cause to told =
           let clean = clean-of heading entries (before ++ take i rows) (came ++ take i arrivals) to.taken in
-          rw (← size, ← (so-many g to).0) (elim told [
+          let many : length (before ++ take i rows) ≡ g.next = omega (arith, to.taken.counted, to.gathered.next) in
+          rw (← many) (elim told [
             | inl e ↦
                 stop-in header_cause (record_cause entries) IsOfReading ((before ++ rows) ++ later) (before ++ take i rows) (drop (i + 1) rows ++ later) (get_or rows i []) cause clean split
                 (at-arrivals heading entries (before ++ take i rows) (came ++ take i arrivals) (get_or rows i []) to.taken cause (ap (spelled_cause entries (came ++ take i arrivals)) spells-it ∙ e))

@@ -7,8 +7,8 @@ use Rattle.std.proofs.lemmas.List.Elements.{filter-append}
 use Rattle.std.proofs.lemmas.Bool.{ne_eqb}
 use Rattle.std.proofs.Math.Seq.{drop-append_seam}
 use Rattle.cn_ledger.specs.declared.client.Client.{Client}
-use Rattle.cn_report.specs.declared.reading.arrival.Arrival.{Arrival}
-use Rattle.cn_report.specs.declared.reading.gathering.BatchEpoch.{BatchEpoch}
+use Rattle.cn_report.specs.declared.reading.batch.arrival.Arrival.{Arrival}
+use Rattle.cn_report.specs.declared.reading.batch.BatchEpoch.{BatchEpoch}
 use Rattle.cn_report.specs.Reading.Arrival.{of_epoch}
 use Rattle.cn_report.specs.Reading.Batch.{AreEpochsOf, AreRising, arrivals_of, plain_epoch}
 use Rattle.cn_report.proofs.ReadingLemmas.GatheredEpochs.{arrival_at, client_of, other-epoch, same-epoch}

@@ -1,12 +1,16 @@
 -- The records of epochs, one after another.
 use Rattle.std.proofs.Common.{◌≡◌, ℕ, ◌+◌, ◌<◌, ◌≤◌, Bool, true, false, List, [], ◌∷◌, ◌++◌, drop, get_or, length, take, ap, ◌∙◌, refl, sym, subst, arith}
 use Rattle.std.specs.List.{flat_map}
+use Rattle.std.proofs.lemmas.List.Sums.{sum_by-cons}
 use Rattle.std.proofs.Math.ListN.{drop_of_length-le}
 use Rattle.std.proofs.lemmas.List.{drop_more}
 use Rattle.cn_spec.specs.Sums.{when}
 use Rattle.cn_record.specs.declared.record.EpochRecord.{EpochRecord}
-use Rattle.cn_report.specs.declared.reading.gathering.BatchEpoch.{BatchEpoch}
+use Rattle.cn_report.specs.declared.reading.batch.BatchEpoch.{BatchEpoch}
+use Rattle.cn_report.specs.Reading.Batch.{clients_of_epochs}
+use Rattle.cn_report.specs.Writing.Grants.{grant_lines}
 use Rattle.cn_report.specs.Writing.Records.{AreRecordsOf, IsRecordOfEpoch}
+use Rattle.cn_report.specs.Writing.Report.{clients_of_records}
 
 pub when-le : (carry : Bool) (n : ℕ) → when carry n ≤ n
 when-le true n = omega arith
@@ -44,3 +48,26 @@ pub last-record : (lines : EpochRecord → List ℕ) (carry : Bool) (w m : ℕ) 
     → length epochs ≤ i → AreRecordsOf carry w m (drop i epochs) records holders → flat_map lines records ≡ []
 last-record lines carry w m epochs i records holders over are =
     no-record lines carry w m records holders (subst (λ (es : List BatchEpoch). AreRecordsOf carry w m es records holders) (drop_of_length-le epochs over) are)
+
+-- there are as many records as epochs, of as many clients
+pub as-many-records : (carry : Bool) (w m : ℕ) (epochs : List BatchEpoch) (records : List EpochRecord) (holders : List ℕ) → AreRecordsOf carry w m epochs records holders
+    → (length records ≡ length epochs) × (clients_of_records records ≡ clients_of_epochs epochs)
+unfolding AreRecordsOf
+as-many-records carry w m [] [] holders are = (refl, refl)
+as-many-records carry w m [] (r ∷ records) holders are = absurd are
+as-many-records carry w m (e ∷ epochs) [] holders are = absurd are
+as-many-records carry w m (e ∷ epochs) (r ∷ records) holders (mine, rest) =
+    let (many, clients) = as-many-records carry w (when carry (m + length e.clients.items)) epochs records (drop (length e.clients.items) holders) rest in (
+      omega (arith, many),
+      omega (
+        arith,
+        clients,
+        mine.clients,
+        sum_by-cons (λ (x : EpochRecord). x.clients) r records,
+        sum_by-cons (λ (x : BatchEpoch). length x.clients.items) e epochs,
+      ),
+    )
+
+-- what a grant list has of a record
+abbrev pub grants-of : EpochRecord → List ℕ
+grants-of r = grant_lines r.number r.clients r.holders.items

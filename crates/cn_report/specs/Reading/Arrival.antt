@@ -5,9 +5,9 @@ use Rattle.std.specs.Result.{result_ok}
 use Rattle.cn_spec.specs.declared.limits.TheConstants.{MOST_CLIENTS, MOST_RECORDS}
 use Rattle.cn_report.specs.Reading.Number.{number_in}
 use Rattle.cn_report.specs.Reading.Records.{Record}
-use Rattle.cn_report.specs.declared.reading.arrival.Arrival.{Arrival}
-use Rattle.cn_report.specs.declared.reading.heading.Heading.{Heading}
-use Rattle.cn_report.specs.declared.reading.heading.Heading.TheVariants.{Told, ByRule}
+use Rattle.cn_report.specs.declared.reading.batch.arrival.Arrival.{Arrival}
+use Rattle.cn_report.specs.declared.reading.batch.heading.Heading.{Heading}
+use Rattle.cn_report.specs.declared.reading.batch.heading.Heading.TheVariants.{Told, ByRule}
 use Rattle.cn_report.specs.declared.reading.batch_fault.BatchCause.{BatchCause}
 use Rattle.cn_report.specs.declared.reading.batch_fault.BatchCause.TheVariants.{FieldCount, EpochNumber, ClientNumber, EntryNumber, EpochBackwards, EntryRange, Duplicate, EpochFull, BatchFull}
 
@@ -30,7 +30,8 @@ told_arrival fields = Err FieldCount
 
 -- the arrival that a record of two numbers spells, its entry by rule, or what is wrong with it
 unfoldable pub ruled_arrival : ℕ → Record → Result Arrival BatchCause
-ruled_arrival entries (epoch ∷ client ∷ []) = arriving (number_in epoch) (number_in client) (entry_by_rule entries (number_in client))
+ruled_arrival entries (epoch ∷ client ∷ []) =
+    arriving (number_in epoch) (number_in client) (entry_by_rule entries (number_in client))
 ruled_arrival entries fields = Err FieldCount
 
 -- the arrival that a record spells under a heading, or what is wrong with it

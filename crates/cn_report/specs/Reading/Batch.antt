@@ -8,15 +8,15 @@ use Rattle.cn_report.specs.Reading.Arrival.{arrival_in, arrivals_in, spelled_cau
 use Rattle.cn_report.specs.Reading.Faults.{IsClean, IsFirstFault, cause_by}
 use Rattle.cn_report.specs.Reading.Heading.{heading_in, heading_of}
 use Rattle.cn_report.specs.Reading.Records.{Record}
-use Rattle.cn_report.specs.declared.reading.arrival.Arrival.{Arrival}
-use Rattle.cn_report.specs.declared.reading.heading.Heading.{Heading}
+use Rattle.cn_report.specs.declared.reading.batch.arrival.Arrival.{Arrival}
+use Rattle.cn_report.specs.declared.reading.batch.heading.Heading.{Heading}
 use Rattle.cn_report.specs.declared.reading.rows.RowFault.{RowFault}
 use Rattle.cn_report.specs.declared.reading.rows.RowFault.TheVariants as row
 use Rattle.cn_report.specs.declared.reading.batch_fault.BatchCause.{BatchCause}
 use Rattle.cn_report.specs.declared.reading.batch_fault.BatchCause.TheVariants.{Read, Header, FieldCount, EpochNumber, ClientNumber, EntryNumber, EpochBackwards, EntryRange, Duplicate, EpochFull, BatchFull, Memory}
 use Rattle.cn_report.specs.declared.reading.batch_fault.BatchFault.{BatchFault}
 use Rattle.cn_report.specs.declared.reading.batch.Batch.{Batch}
-use Rattle.cn_report.specs.declared.reading.gathering.BatchEpoch.{BatchEpoch}
+use Rattle.cn_report.specs.declared.reading.batch.BatchEpoch.{BatchEpoch}
 
 -- the name that a cause prints
 abbrev pub batch_cause_name : BatchCause → List ℕ
@@ -50,7 +50,8 @@ header_cause fields = cause_of_heading (heading_of fields)
 -- the cause of a record after those before it, the header first
 abbrev pub record_cause : ℕ → List Record → Record → Option BatchCause
 record_cause entries before fields =
-    spelled_cause entries (arrivals_in (heading_in before) entries (drop 1 before)) (arrival_in (heading_in before) entries fields)
+    spelled_cause entries (arrivals_in (heading_in before) entries (drop 1 before))
+    (arrival_in (heading_in before) entries fields)
 
 -- the first cause of the record with this number, if it has one
 abbrev pub batch_cause : ℕ → List Record → ℕ → Option BatchCause
@@ -76,8 +77,8 @@ pub record AreEpochsOf (epochs : List BatchEpoch) (arrivals : List Arrival) : Ty
   pub some : AllByRecursion (λ e. 0 < length e.clients.items) epochs
   pub spells : flat_map arrivals_of epochs ≡ arrivals
 
--- these clients may come in one epoch to a network with so many entries: no more than an epoch takes, each by one of the
--- entries, and none twice
+-- these clients may come in one epoch to a network with so many entries: no more than an epoch takes, each by one of
+-- the entries, and none twice
 pub record MayCome (entries : ℕ) (clients : List Client) : Type 0 where
   pub few : length clients ≤ MOST_CLIENTS
   pub within : All (λ c. c.entry < entries) clients
@@ -104,7 +105,8 @@ IsBatchFault entries rows fault = IsFirstFault (batch_cause entries) IsOfReading
 
 -- what these records answer: the epochs that they are a batch of, or their fault
 abbrev pub AnswersBatch : ℕ → List Record → Result Batch BatchFault → Type 0
-AnswersBatch entries rows result = MatchResult result (λ batch. IsBatch entries rows batch.epochs.items) (IsBatchFault entries rows)
+AnswersBatch entries rows result =
+    MatchResult result (λ batch. IsBatch entries rows batch.epochs.items) (IsBatchFault entries rows)
 
 -- what an epoch is: its number and its clients
 abbrev pub plain_epoch : BatchEpoch → ℕ × List Client

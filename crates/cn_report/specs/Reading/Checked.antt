@@ -1,10 +1,9 @@
 -- What was seen of a grant list so far.
 use Rattle.std.specs.Prelude.{ℕ, ◌≡◌, ◌<◌, ◌≤◌, ◌++◌, ◌∷◌, [], List, length, map, nat_lt, Option, Some, None, if◌then◌else◌}
-use Rattle.cn_spec.specs.Step.{shares}
 use Rattle.std.specs.List.{AllByRecursion}
 use Rattle.cn_report.specs.Reading.Granted.{has_client, has_name, last_epoch, of_epoch}
 use Rattle.cn_report.specs.Reading.Grants.{Lacks}
-use Rattle.cn_report.specs.Reading.Told.{epoch_numbers, plain_tight, shared_epoch}
+use Rattle.cn_report.specs.Reading.Told.{epoch_numbers, named_epoch, plain_named}
 use Rattle.cn_report.specs.Reading.Numbers.{has}
 use Rattle.cn_report.specs.declared.reading.grant.Granted.{Granted}
 use Rattle.cn_report.specs.declared.reading.grant.GrantCause.{GrantCause}
@@ -36,26 +35,29 @@ pub record HoldsGrants (g : Granting) (grants : List Granted) : Type 0 where
 abbrev pub latest_number : ℕ → ℕ → List ℕ
 latest_number latest count = if nat_lt 0 count then latest ∷ [] else []
 
--- its number, clients and counts, if it has grants
-abbrev pub latest_told : ℕ → ℕ → ℕ → List (ℕ × ℕ × List ℕ)
-latest_told width latest count = if nat_lt 0 count then (latest, count, shares count width) ∷ [] else []
+-- its number and its number of clients, if it has grants
+abbrev pub latest_told : ℕ → ℕ → List (ℕ × ℕ)
+latest_told latest count = if nat_lt 0 count then (latest, count) ∷ [] else []
 
--- these are the numbers, clients and counts of the epochs before the latest
-pub record AreTold (width : ℕ) (over : List (ℕ × ℕ × List ℕ)) (latest count : ℕ) (grants : List Granted) : Type 0 where
+-- these are the numbers of the epochs before the latest, and their numbers of clients
+pub record AreTold (over : List (ℕ × ℕ)) (latest count : ℕ) (grants : List Granted) : Type 0 where
   pub numbers : epoch_numbers grants ≡ map (λ p. p.0) over ++ latest_number latest count
-  pub told : over ≡ map (shared_epoch width grants) (map (λ p. p.0) over)
+  pub told : over ≡ map (named_epoch grants) (map (λ p. p.0) over)
   pub below : AllByRecursion (λ p. p.0 < latest) over
 
 -- they are, if no gap was found
-abbrev pub Tells : ℕ → Granting → List Granted → Type 0
-Tells width g grants = g.gap ≡ None → AreTold width (map plain_tight g.over.items) g.latest g.count grants
+abbrev pub Tells : Granting → List Granted → Type 0
+Tells g grants = g.gap ≡ None → AreTold (map plain_named g.over.items) g.latest g.count grants
 
 -- and the latest epoch is that of the last grant
-pub record IsChecked (width : ℕ) (g : Granting) (grants : List Granted) : Type 0 where
+pub record IsChecked (g : Granting) (grants : List Granted) : Type 0 where
   pub holds : HoldsGrants g grants
   pub last : last_epoch grants ≡ g.latest
-  pub tells : Tells width g grants
+  pub tells : Tells g grants
 
 -- the cause of a grant of the latest epoch
 abbrev pub joining_cause : Granting → Granted → Option GrantCause
-joining_cause g grant = if has g.clients grant.client then Some DuplicateClient else if has g.names grant.name then Some DuplicateName else None
+joining_cause g grant =
+    if has g.clients grant.client then Some DuplicateClient
+    else if has g.names grant.name then Some DuplicateName
+    else None

@@ -4,7 +4,8 @@ use Rattle.cn_report.specs.Reading.Records.{Record}
 
 -- the cause of the record with this number, if it has one: record 0 is asked whether it is the header, even if it is
 -- missing, and each later record is judged after those before it
-unfoldable pub cause_by : {C : Type 0} → (Record → Option C) → (List Record → Record → Option C) → List Record → ℕ → Option C
+unfoldable pub cause_by : {C : Type 0} → (Record → Option C) → (List Record → Record → Option C) → List Record → ℕ
+    → Option C
 cause_by header later rows at =
     if at == 0 then header (slice_index_or rows 0 [])
     else if nat_lt at (length rows) then later (take at rows) (slice_index_or rows at [])
@@ -20,7 +21,8 @@ IsClean cause rows = (at : ℕ) → cause rows at ≡ None
 
 -- the first record with a cause, and its first cause; or what is no record's fault, at a record before which none has a
 -- cause: that it is the record that was being read, or of a batch gathered, is tested
-pub record IsFirstFault {C : Type 0} (cause : List Record → ℕ → Option C) (IsOther : C → Type 0) (rows : List Record) (at : ℕ) (why : C) : Type 0 where
+pub record IsFirstFault {C : Type 0} (cause : List Record → ℕ → Option C) (IsOther : C → Type 0) (rows : List Record)
+    (at : ℕ) (why : C) : Type 0 where
   pub within : at ≤ length rows
   pub clean : IsCleanBefore cause rows at
   pub told : (cause rows at ≡ Some why) ⊎ IsOther why

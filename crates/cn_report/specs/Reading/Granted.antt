@@ -34,7 +34,10 @@ last_epoch grants = fold (λ epoch g. g.epoch) 0 grants
 
 -- what is wrong with the form of a grant after those before it
 unfoldable pub form_cause : List Granted → Granted → Option GrantCause
-form_cause before g = if nat_lt g.epoch (last_epoch before) then Some Form else if nat_le MOST_RECORDS (length before) then Some Form else None
+form_cause before g =
+    if nat_lt g.epoch (last_epoch before) then Some Form
+    else if nat_le MOST_RECORDS (length before) then Some Form
+    else None
 
 -- whether the client stands among these
 abbrev pub has_client : ℕ → List Granted → Bool

@@ -8,4 +8,6 @@ use Rattle.cn_spec.specs.declared.limits.TheConstants.{MOST_RECORDS}
 
 -- whether the set has this number
 abbrev pub has : Numbers → ℕ → Bool
-has numbers n = nat_lt n numbers.run || (if nat_lt n MOST_RECORDS then is_marked numbers.marks n else contains nat_cmp numbers.others n)
+has numbers n =
+    nat_lt n numbers.run ||
+    (if nat_lt n MOST_RECORDS then is_marked numbers.marks n else contains nat_cmp numbers.others n)

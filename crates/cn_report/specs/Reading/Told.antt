@@ -7,8 +7,9 @@ use Rattle.cn_report.specs.Reading.Grants.{IsFlaw, IsTightList}
 use Rattle.cn_report.specs.Reading.Records.{Record}
 use Rattle.cn_report.specs.declared.reading.grant.Granted.{Granted}
 use Rattle.cn_report.specs.declared.reading.grant.Flaw.{Flaw}
-use Rattle.cn_report.specs.declared.reading.granting.Tight.{Tight}
-use Rattle.cn_report.specs.declared.reading.granting.TightEpoch.{TightEpoch}
+use Rattle.cn_report.specs.declared.reading.granting.NamedEpoch.{NamedEpoch}
+use Rattle.cn_report.specs.declared.reading.tight.Tight.{Tight}
+use Rattle.cn_report.specs.declared.reading.tight.TightEpoch.{TightEpoch}
 
 -- the numbers, and this one if it is not among them
 abbrev pub with_number : List ℕ → ℕ → List ℕ
@@ -18,13 +19,21 @@ with_number numbers n = if list_any (nat_eq n) numbers then numbers else numbers
 abbrev pub epoch_numbers : List Granted → List ℕ
 epoch_numbers grants = fold (λ numbers g. with_number numbers g.epoch) [] grants
 
--- an epoch: its number, how many clients it has, and the share of each remainder in so many names
-abbrev pub shared_epoch : ℕ → List Granted → ℕ → ℕ × ℕ × List ℕ
-shared_epoch width grants e = (e, length (of_epoch e grants), shares (length (of_epoch e grants)) width)
+-- an epoch: its number, and how many clients it has
+abbrev pub named_epoch : List Granted → ℕ → ℕ × ℕ
+named_epoch grants e = (e, length (of_epoch e grants))
 
 -- an epoch: its number, how many clients it has, and how many of its names are i modulo the width
 abbrev pub told_epoch : ℕ → List Granted → ℕ → ℕ × ℕ × List ℕ
 told_epoch width grants e = (e, length (of_epoch e grants), counts_of width (map (λ g. g.name) (of_epoch e grants)))
+
+-- an epoch, by its number and its number of clients
+abbrev pub plain_named : NamedEpoch → ℕ × ℕ
+plain_named epoch = (epoch.number, epoch.clients)
+
+-- the same, and the share of each remainder in so many names
+abbrev pub with_shares : ℕ → NamedEpoch → ℕ × ℕ × List ℕ
+with_shares width epoch = (epoch.number, epoch.clients, shares epoch.clients width)
 
 -- an epoch, as a tight list has it
 abbrev pub plain_tight : TightEpoch → ℕ × ℕ × List ℕ
@@ -36,7 +45,8 @@ names_in epoch rows = map (λ g. g.name) (of_epoch epoch (grants_spelled (drop 1
 
 -- what the records say of their epochs, in order
 abbrev pub told_epochs : ℕ → List Record → List (ℕ × ℕ × List ℕ)
-told_epochs width rows = map (told_epoch width (grants_spelled (drop 1 rows))) (epoch_numbers (grants_spelled (drop 1 rows)))
+told_epochs width rows =
+    map (told_epoch width (grants_spelled (drop 1 rows))) (epoch_numbers (grants_spelled (drop 1 rows)))
 
 -- these are the epochs of the records
 abbrev pub IsTold : ℕ → List Record → List TightEpoch → Type 0
@@ -46,3 +56,8 @@ IsTold width rows epochs = map plain_tight epochs ≡ told_epochs width rows
 abbrev pub AnswersTight : ℕ → List Record → Result Tight Flaw → Type 0
 AnswersTight width rows result =
     MatchResult result (λ tight. IsTightList rows × IsTold width rows tight.epochs.items) (IsFlaw rows)
+
+-- the records are a tight list, and these are its epochs: by any width the counts of each are shares
+pub record IsNamedList (rows : List Record) (epochs : List NamedEpoch) : Type 0 where
+  pub tight : IsTightList rows
+  pub told : (width : ℕ) → map (with_shares width) epochs ≡ told_epochs width rows

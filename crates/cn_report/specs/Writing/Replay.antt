@@ -1,6 +1,8 @@
 -- The text of a replay: the heading, the lines of each command and its answer, and the end line.
-use Rattle.std.specs.Prelude.{ℕ, List, [], ◌∷◌, ◌++◌, codes, decimal}
+use Rattle.std.specs.Prelude.{ℕ, ◌≡◌, ◌≤◌, List, [], ◌∷◌, ◌++◌, codes, decimal, length}
 use Rattle.std.specs.List.{AllZip, flat_map, zip}
+use Rattle.cn_spec.specs.Step.{shares_after}
+use Rattle.cn_spec.specs.declared.limits.TheConstants.{MOST_ARRIVALS}
 use Rattle.cn_record.specs.declared.reply.EnterFault.TheVariants.{NoSuchEntry, AlreadyIn, EpochFull}
 use Rattle.cn_ledger.specs.declared.moved.Moved.{Moved}
 use Rattle.cn_ledger.specs.declared.moved.Moved.TheVariants.{On, Out}
@@ -14,7 +16,7 @@ use Rattle.cn_record.specs.declared.command.Command.{Command}
 use Rattle.cn_record.specs.declared.command.Command.TheVariants.{Enter, Step, Turn}
 use Rattle.cn_record.specs.declared.record.EpochRecord.{EpochRecord}
 use Rattle.cn_wiring.specs.Network.{Network}
-use Rattle.cn_report.specs.Writing.Outcome.{IsWholeRecord, outcome_lines}
+use Rattle.cn_report.specs.Writing.Outcome.{IsWholeRecord, exit_lines, name_lines, outcome_lines}
 use Rattle.cn_report.specs.Writing.Text.{heading, line}
 
 -- an enter is entered or refused
@@ -52,23 +54,29 @@ IsWhole width (TurnRefused fault) = Unit {0}
 -- where a step of a client led
 unfoldable pub moved_line : ℕ → Moved → List ℕ
 moved_line client (On balancer number wire) =
-    line (codes "pass" ∷ decimal client ∷ codes "balancer" ∷ decimal balancer ∷ codes "number" ∷ decimal number ∷ codes "wire" ∷ decimal wire ∷ [])
+    line (codes "pass" ∷ decimal client ∷ codes "balancer" ∷ decimal balancer
+    ∷ codes "number" ∷ decimal number ∷ codes "wire" ∷ decimal wire ∷ [])
 moved_line client (Out exit visit name) =
-    line (codes "leave" ∷ decimal client ∷ codes "exit" ∷ decimal exit ∷ codes "visit" ∷ decimal visit ∷ codes "name" ∷ decimal name ∷ [])
+    line (codes "leave" ∷ decimal client ∷ codes "exit" ∷ decimal exit
+    ∷ codes "visit" ∷ decimal visit ∷ codes "name" ∷ decimal name ∷ [])
 
 -- an enter and its reply; nothing if the reply does not fit, or is want of memory
 unfoldable pub enter_line : ℕ → ℕ → Reply → List ℕ
 enter_line client entry Entered = line (codes "enter" ∷ decimal client ∷ codes "wire" ∷ decimal entry ∷ [])
-enter_line client entry (EnterRefused NoSuchEntry) = line (codes "refused" ∷ codes "enter" ∷ decimal client ∷ codes "NoSuchEntry" ∷ [])
-enter_line client entry (EnterRefused AlreadyIn) = line (codes "refused" ∷ codes "enter" ∷ decimal client ∷ codes "AlreadyIn" ∷ [])
-enter_line client entry (EnterRefused EpochFull) = line (codes "refused" ∷ codes "enter" ∷ decimal client ∷ codes "EpochFull" ∷ [])
+enter_line client entry (EnterRefused NoSuchEntry) =
+    line (codes "refused" ∷ codes "enter" ∷ decimal client ∷ codes "NoSuchEntry" ∷ [])
+enter_line client entry (EnterRefused AlreadyIn) =
+    line (codes "refused" ∷ codes "enter" ∷ decimal client ∷ codes "AlreadyIn" ∷ [])
+enter_line client entry (EnterRefused EpochFull) =
+    line (codes "refused" ∷ codes "enter" ∷ decimal client ∷ codes "EpochFull" ∷ [])
 enter_line client entry reply = []
 
 -- a step and its reply; nothing if the reply does not fit
 unfoldable pub step_line : ℕ → Reply → List ℕ
 step_line client (Stepped moved) = moved_line client moved
 step_line client (StepRefused Stranger) = line (codes "refused" ∷ codes "step" ∷ decimal client ∷ codes "Stranger" ∷ [])
-step_line client (StepRefused (HasName name)) = line (codes "refused" ∷ codes "step" ∷ decimal client ∷ codes "HasName" ∷ decimal name ∷ [])
+step_line client (StepRefused (HasName name)) =
+    line (codes "refused" ∷ codes "step" ∷ decimal client ∷ codes "HasName" ∷ decimal name ∷ [])
 step_line client reply = []
 
 -- the epoch that a turn ended, and how many clients entered it
@@ -93,12 +101,65 @@ answer_line width command answer = []
 
 -- the commands and their answers, one after the other
 abbrev pub answer_lines : ℕ → List Command → List Answer → List ℕ
-answer_lines width commands answers = flat_map (λ (command, answer). answer_line width command answer) (zip commands answers)
+answer_lines width commands answers =
+    flat_map (λ (command, answer). answer_line width command answer) (zip commands answers)
+
+-- these counts, or if they are left out, the shares of so many clients
+abbrev pub counts_or_shares : ℕ → ℕ → List ℕ → List ℕ
+counts_or_shares width clients [] = shares_after 0 clients width
+counts_or_shares width clients (count ∷ counts) = count ∷ counts
+
+-- the counts of a record that may leave them out
+abbrev pub kept_counts : ℕ → EpochRecord → List ℕ
+kept_counts width kept = counts_or_shares width kept.clients kept.counts.items
+
+-- the same record, with all its counts
+pub record IsKeptRecord (width : ℕ) (r kept : EpochRecord) : Type 0 where
+  pub number : r.number ≡ kept.number
+  pub clients : r.clients ≡ kept.clients
+  pub counts : r.counts.items ≡ kept_counts width kept
+  pub holders : r.holders.items ≡ kept.holders.items
+
+-- the same answer, if the record of a turn may leave out its counts
+abbrev pub IsKept : ℕ → Answer → Answer → Type 0
+IsKept width (Replied reply) (Replied kept) = reply ≡ kept
+IsKept width (Turned r) (Turned kept) = IsKeptRecord width r kept
+IsKept width (TurnRefused fault) (TurnRefused kept) = fault ≡ kept
+IsKept width answer kept = ⊥
+
+-- a record has a count for each exit, or none, and a holder for each client
+pub record IsWholeKeptRecord (width : ℕ) (kept : EpochRecord) : Type 0 where
+  pub counts : length (kept_counts width kept) ≡ width
+  pub few : kept.counts.items ≡ [] → kept.clients ≤ MOST_ARRIVALS
+  pub holders : length kept.holders.items ≡ kept.clients
+
+-- the record of a turn that is done is so
+abbrev pub IsWholeKept : ℕ → Answer → Type 0
+IsWholeKept width (Turned kept) = IsWholeKeptRecord width kept
+IsWholeKept width (Replied reply) = Unit {0}
+IsWholeKept width (TurnRefused fault) = Unit {0}
+
+-- the lines of a record that may leave out its counts
+abbrev pub kept_record_lines : ℕ → EpochRecord → List ℕ
+kept_record_lines width kept =
+    turn_line kept.number kept.clients
+    ++ (exit_lines width (kept_counts width kept) ++ name_lines kept.clients kept.holders.items)
+
+-- a command and its answer, whose record may leave out its counts
+abbrev pub kept_line : ℕ → Command → Answer → List ℕ
+kept_line width Turn (Turned kept) = kept_record_lines width kept
+kept_line width command answer = answer_line width command answer
+
+-- the commands and such answers, one after the other
+abbrev pub kept_lines : ℕ → List Command → List Answer → List ℕ
+kept_lines width commands answers =
+    flat_map (λ (command, answer). kept_line width command answer) (zip commands answers)
 
 -- how many epochs ended, and how many clients of the open one entered and are inside
 unfoldable pub end_line : ℕ → ℕ → ℕ → List ℕ
 end_line number entered inside =
-    line (codes "end" ∷ codes "epoch" ∷ decimal number ∷ codes "entered" ∷ decimal entered ∷ codes "inside" ∷ decimal inside ∷ [])
+    line (codes "end" ∷ codes "epoch" ∷ decimal number ∷ codes "entered" ∷ decimal entered
+    ∷ codes "inside" ∷ decimal inside ∷ [])
 
 -- the whole text of a replay
 abbrev pub replay_text : Network → List Command → List Answer → ℕ → ℕ → ℕ → List ℕ

@@ -25,4 +25,5 @@ report_end epochs grants = line (codes "end" ∷ codes "epochs" ∷ decimal epoc
 -- the whole text of a report
 abbrev pub report_text : Network → List EpochRecord → List ℕ
 report_text network records =
-    heading network ++ flat_map (epoch_lines network.table.width) records ++ report_end (length records) (clients_of_records records)
+    heading network ++ flat_map (epoch_lines network.table.width) records
+    ++ report_end (length records) (clients_of_records records)

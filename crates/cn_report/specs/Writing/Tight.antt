@@ -10,7 +10,8 @@ tight_line (number, clients, counts) =
 
 -- the same in parts: all before the counts
 unfoldable pub tight_head : ℕ → ℕ → List ℕ
-tight_head number clients = codes "epoch " ++ decimal number ++ codes " clients " ++ decimal clients ++ codes " counts"
+tight_head number clients =
+    codes "epoch " ++ (decimal number ++ (codes " clients " ++ (decimal clients ++ codes " counts")))
 
 -- each count after a space
 abbrev pub tight_counts : List ℕ → List ℕ
@@ -22,4 +23,5 @@ tight_end epochs grants = line (codes "tight" ∷ codes "epochs" ∷ decimal epo
 
 -- the whole text of a tight list; each client of an epoch has a grant
 abbrev pub tight_text : List (ℕ × ℕ × List ℕ) → List ℕ
-tight_text epochs = flat_map tight_line epochs ++ tight_end (length epochs) (sum_by (λ (number, clients, counts). clients) epochs)
+tight_text epochs =
+    flat_map tight_line epochs ++ tight_end (length epochs) (sum_by (λ (number, clients, counts). clients) epochs)

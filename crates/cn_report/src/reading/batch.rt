@@ -1,17 +1,29 @@
 //! Batches: a header, and an arrival a record.
 
-ghost use Rattle.std.specs.Prelude.{◌<◌, ◌≤◌, IfOk, IfSome};
-ghost use Rattle.cn_spec.specs.declared.limits.TheConstants.{MOST_RECORDS};
-ghost use Rattle.cn_report.specs.Reading.Batch.{AnswersBatch, AreServable, clients_of_epochs};
-ghost use Rattle.cn_report.specs.Reading.Records.{records_of};
+mod arrival;
+mod arrivals;
+mod gathering;
+mod heading;
+mod readers;
 
-use crate::reading::batch_fault::BatchFault;
-use crate::reading::batch_reader::BatchReader;
-use crate::reading::gathering::BatchEpoch;
-use cn_spec::limits::MOST_RECORDS;
+ghost use Rattle.std.specs.Prelude.{◌≡◌, ◌↔◌, ◌<◌, ◌≤◌, [], ℕ, IfOk, IfSome, List, MatchResult, Ok, true};
+ghost use Rattle.cn_spec.specs.declared.limits.TheConstants.{MOST_RECORDS};
+ghost use Rattle.cn_report.specs.Reading.Batch.{AnswersBatch, AreServable, IsBatch, IsBatchFault, clients_of_epochs};
+ghost use Rattle.cn_report.specs.Reading.Gathered.{IsGathered, StaysServable};
+ghost use Rattle.cn_report.specs.Reading.Records.{records_of};
+ghost use Rattle.cn_report.specs.Reading.Stretch.{HasHeader, IsOpen};
+
+use crate::reading::batch::arrivals::ArrivalReader;
+use crate::reading::batch::gathering::Gathering;
+use crate::reading::batch::readers::{OneThread, Readers, STRETCH, TwoThreads};
+use crate::reading::batch_fault::{BatchCause, BatchFault};
+use cn_ledger::Client;
 use std::alloc::Global;
 use std::hash::RandomState;
 use std::io::Read;
+use std::mem;
+use std::sync::Wait;
+use std::thread::Threads;
 
 /// The epochs of a batch.
 #[derive(Debug, Drop)]
@@ -20,11 +32,88 @@ pub struct Batch {
     pub epochs: Vec<BatchEpoch>,
 }
 
+/// The clients of one epoch of a batch, in the order of their records.
+#[derive(Debug, Drop)]
+pub struct BatchEpoch {
+    /// The epoch's number.
+    pub number: u64,
+    /// Its clients.
+    pub clients: Vec<Client>,
+}
+
+/// Whether others may come after a stretch that ended so.
+fn goes_on(end: Result<bool, BatchCause>) -> bool
+    ensures { (result ≡ true) ↔ (end ≡ Ok true) }
+{
+    matches!(end, Ok(true))
+}
+
+/// The epochs of a batch of which the header was read.
+fn read_epochs<I: Read + Drop, T: Readers>(
+    readers: &T,
+    alloc: Global,
+    source: &mut ArrivalReader<I>,
+    gathering: Gathering,
+) -> Result<Vec<BatchEpoch>, BatchFault>
+    requires open { IsOpen source.old }
+    requires none { IsGathered gathering [] }
+    requires keeps { StaysServable source.old.entries gathering }
+    ensures answer { (text : List ℕ) → HasHeader I.remaining source.old text
+        → MatchResult result (λ epochs. IsBatch source.old.entries (records_of text) epochs.items)
+        (IsBatchFault source.old.entries (records_of text)) }
+    ensures fits { IfOk result (λ epochs. AreServable source.old.entries epochs.items) }
+    ensures few { IfOk result (λ epochs. clients_of_epochs epochs.items ≤ MOST_RECORDS) }
+{
+    let mut gathering = gathering;
+    let (mut stretch, mut next) = (Vec::new(alloc), Vec::new(alloc));
+    let mut end = source.read_stretch(STRETCH, &mut stretch);
+    while goes_on(end) {
+        let (gathered, next_end) = readers.gather_and_read(
+            alloc,
+            source,
+            &stretch,
+            &mut next,
+            &mut gathering,
+        );
+        gathered?;
+        mem::swap(&mut stretch, &mut next);
+        end = next_end;
+    }
+    gathering.gather(alloc, source.entries(), &stretch)?;
+    match end {
+        Ok(_) => gathering.finish(alloc),
+        Err(cause) => Err(BatchFault {
+            at: gathering.next(),
+            cause,
+        }),
+    }
+}
+
+/// Reads a batch by one thread or by two.
+#[inline(never)]
+fn read_by<R: Read + Drop, T: Readers>(
+    readers: &T,
+    alloc: Global,
+    reader: R,
+    entries: u32,
+    state: RandomState,
+) -> Result<Batch, BatchFault>
+    requires { 0 < entries }
+    ensures answer { IfSome (R.remaining reader) (λ text.
+        AnswersBatch entries (records_of text) result) }
+    ensures fits { IfOk result (λ batch. AreServable entries batch.epochs.items) }
+    ensures few { IfOk result (λ batch. clients_of_epochs batch.epochs.items ≤ MOST_RECORDS) }
+{
+    let mut source = ArrivalReader::open(alloc, reader, entries)?;
+    let epochs = read_epochs(readers, alloc, &mut source, Gathering::new(alloc, state))?;
+    Ok(Batch { epochs })
+}
+
 /// The epochs of a batch: a header `epoch,client,entry`, and then a record of three numbers for each client, as `csv`
 /// reads them; or a header `epoch,client`, and then a record of two numbers for each, whose entry is the client modulo
-/// `entries`, which is at least 1. An epoch is a run of records of one number, and the numbers rise. Whatever the reader
-/// gives, the epochs are such as a network with `entries` entries can serve, and all of them have no more clients than a
-/// batch has records.
+/// `entries`, which is at least 1. An epoch is a run of records of one number, and the numbers rise. Whatever the
+/// reader gives, the epochs are such as a network with `entries` entries can serve, and all of them have no more
+/// clients than a batch has records.
 ///
 /// # Errors
 ///
@@ -42,11 +131,26 @@ pub fn read_batch<R: Read + Drop>(
     ensures fits { IfOk result (λ batch. AreServable entries batch.epochs.items) }
     ensures few { IfOk result (λ batch. clients_of_epochs batch.epochs.items ≤ MOST_RECORDS) }
 {
-    let mut batch = BatchReader::open(alloc, reader, entries, state)?;
-    let part = batch.read(alloc, MOST_RECORDS + 1, 1)?;
-    // So many records come in no batch.
-    prove!(!part.more);
-    Ok(Batch {
-        epochs: part.epochs,
-    })
+    read_by(&OneThread, alloc, reader, entries, state)
+}
+
+/// The epochs of a batch, as [`read_batch`] reads them, by two threads: one gathers records while the other reads on.
+///
+/// # Errors
+///
+/// Those of [`read_batch`].
+pub fn read_batch_by_two<R: Read + Drop, T: Threads + Wait + Sync>(
+    rt: &T,
+    alloc: Global,
+    reader: R,
+    entries: u32,
+    state: RandomState,
+) -> Result<Batch, BatchFault>
+    requires { 0 < entries }
+    ensures answer { IfSome (R.remaining reader) (λ text.
+        AnswersBatch entries (records_of text) result) }
+    ensures fits { IfOk result (λ batch. AreServable entries batch.epochs.items) }
+    ensures few { IfOk result (λ batch. clients_of_epochs batch.epochs.items ≤ MOST_RECORDS) }
+{
+    read_by(&TwoThreads(rt), alloc, reader, entries, state)
 }

@@ -4,16 +4,13 @@ ghost use Rattle.std.specs.Prelude.{◌≡◌, ◌==◌, ◌||◌, ◌<◌, ◌�
 ghost use Rattle.cn_report.specs.declared.reading.grant.Granted.{Granted};
 ghost use Rattle.cn_report.specs.Reading.Granted.{spelled_cause};
 ghost use Rattle.cn_report.specs.Reading.Checked.{HoldsGrants, IsGapBelow, IsChecked, Tells, joining_cause, latest_told};
-ghost use Rattle.cn_report.specs.Reading.Told.{epoch_numbers, plain_tight, shared_epoch};
+ghost use Rattle.cn_report.specs.Reading.Told.{epoch_numbers, named_epoch, plain_named};
 ghost use Rattle.cn_report.specs.Reading.Grants.{IsEndFlaw, Lacks};
 ghost use Rattle.cn_report.specs.Reading.Numbers.{has};
-ghost use Rattle.cn_spec.specs.Step.{shares};
-ghost use Rattle.cn_wiring.specs.Widths.{IsWidth};
 ghost use Rattle.cn_spec.specs.declared.limits.TheConstants.{MOST_RECORDS};
 
 use crate::reading::grant::{Flaw, GrantCause, Granted};
 use crate::reading::numbers::Numbers;
-use cn_exit::expected;
 use cn_spec::limits::MOST_RECORDS;
 use std::alloc::{AllocError, Global};
 
@@ -24,21 +21,19 @@ pub(crate) struct Gap {
     pub(crate) name: u64,
 }
 
-/// What a grant list says of an epoch.
-#[derive(Debug, Drop)]
-pub struct TightEpoch {
+/// An epoch whose clients got the names below their number, each once.
+#[derive(Clone, Copy, Debug, PartialEq, Eq)]
+pub struct NamedEpoch {
     /// The epoch's number.
     pub number: u64,
-    /// How many clients got a name.
-    pub clients: u64,
-    /// How many of the names are `i` modulo the width, for each `i` below it.
-    pub counts: Vec<u64>,
+    /// How many clients got a name: at most as many as a list has records.
+    pub clients: u32,
 }
 
 /// The epochs that are over, the first gap among them, and the latest epoch's clients and names.
 #[derive(Drop)]
 pub(crate) struct Granting {
-    over: Vec<TightEpoch>,
+    over: Vec<NamedEpoch>,
     gap: Option<Gap>,
     latest: u64,
     count: u64,
@@ -48,7 +43,7 @@ pub(crate) struct Granting {
 
 impl Granting {
     pub(crate) fn new(alloc: Global) -> Self
-        ensures checked { (width : ℕ) → IsChecked width result [] }
+        ensures checked { IsChecked result [] }
         ensures count { result.count ≡ 0 }
     {
         Granting {
@@ -78,46 +73,42 @@ impl Granting {
     }
 
     /// Ends the latest epoch, and adds it to those that are over if it has grants and no gap was found.
-    fn end(&mut self, alloc: Global, width: u32) -> Result<(), AllocError>
-        requires width { IsWidth width }
+    fn end(&mut self) -> Result<(), AllocError>
         requires few { self.old.count ≤ MOST_RECORDS }
         ensures same { OnOk result ((self.new.latest ≡ self.old.latest)
             × (self.new.count ≡ self.old.count)) }
         ensures gap { OnOk result ((grants : List Granted) → HoldsGrants self.old grants
             → IsGapBelow (self.old.latest + 1) grants self.new.gap) }
         ensures over { OnOk result (self.new.gap ≡ None → (self.old.gap ≡ None)
-            × (map plain_tight self.new.over.items
-            ≡ map plain_tight self.old.over.items
-            ++ latest_told width self.old.latest self.old.count)) }
+            × (map plain_named self.new.over.items
+            ≡ map plain_named self.old.over.items
+            ++ latest_told self.old.latest self.old.count)) }
     {
         self.gap = self.first_gap();
         if self.gap.is_none() && self.count > 0 {
-            let counts = shares(alloc, width, self.count)?;
-            self.over.push(TightEpoch {
+            self.over.push(NamedEpoch {
                 number: self.latest,
-                clients: self.count,
-                counts,
+                clients: self.count as u32,
             })?;
         }
         Ok(())
     }
 
     /// Comes to this epoch.
-    fn reach(&mut self, alloc: Global, width: u32, epoch: u64) -> Result<(), AllocError>
-        requires width { IsWidth width }
+    fn reach(&mut self, epoch: u64) -> Result<(), AllocError>
         requires few { self.old.count ≤ MOST_RECORDS }
         requires later { self.old.latest ≤ epoch }
         ensures here { OnOk result (self.new.latest ≡ epoch) }
         ensures holds { OnOk result ((grants : List Granted) → HoldsGrants self.old grants
             → HoldsGrants self.new grants) }
         ensures tells { OnOk result ((grants : List Granted) → HoldsGrants self.old grants
-            → Tells width self.old grants → Tells width self.new grants) }
+            → Tells self.old grants → Tells self.new grants) }
         ensures count { OnOk result (self.new.count ≤ self.old.count) }
     {
         if self.latest == epoch {
             return Ok(());
         }
-        self.end(alloc, width)?;
+        self.end()?;
         self.latest = epoch;
         self.count = 0;
         self.clients.clear();
@@ -152,73 +143,42 @@ impl Granting {
     }
 
     /// Takes a grant, which is record `at`, if it has no cause.
-    pub(crate) fn take(
-        &mut self,
-        alloc: Global,
-        width: u32,
-        at: u64,
-        grant: Granted,
-    ) -> Result<(), GrantCause>
-        requires width { IsWidth width }
+    pub(crate) fn take(&mut self, at: u64, grant: Granted) -> Result<(), GrantCause>
         requires count { self.old.count < at }
-        ensures ok { OnOk result ((before : List Granted) → IsChecked width self.old before
+        ensures ok { OnOk result ((before : List Granted) → IsChecked self.old before
             → length before + 1 ≡ at
             → (spelled_cause before (Some grant) ≡ None)
-            × IsChecked width self.new (before ++ grant ∷ [])) }
+            × IsChecked self.new (before ++ grant ∷ [])) }
         ensures few { OnOk result (at ≤ MOST_RECORDS) }
         ensures count { OnOk result (self.new.count ≤ at) }
         ensures err { IfErr result (λ cause. (before : List Granted)
-            → IsChecked width self.old before → length before + 1 ≡ at
+            → IsChecked self.old before → length before + 1 ≡ at
             → (spelled_cause before (Some grant) ≡ Some cause) ⊎ (cause ≡ GrantCause.Memory)) }
     {
         if grant.epoch < self.latest || at > MOST_RECORDS {
             return Err(GrantCause::Form);
         }
-        self.reach(alloc, width, grant.epoch)?;
+        self.reach(grant.epoch)?;
         self.join(grant)
     }
 
     /// The epochs, if none lacks a name.
-    pub(crate) fn finish(self, alloc: Global, width: u32) -> Result<Tight, Flaw>
-        requires width { IsWidth width }
+    pub(crate) fn finish(self) -> Result<Vec<NamedEpoch>, Flaw>
         requires few { self.count ≤ MOST_RECORDS }
         ensures answer { (grants : List Granted) → HoldsGrants self grants
             → MatchResult result (λ _. (e n : ℕ) → Lacks grants e n → ⊥) (IsEndFlaw grants) }
-        ensures told { IfOk result (λ tight. (grants : List Granted) → HoldsGrants self grants
-            → Tells width self grants
-            → map plain_tight tight.epochs.items
-            ≡ map (shared_epoch width grants) (epoch_numbers grants)) }
+        ensures told { IfOk result (λ epochs. (grants : List Granted) → HoldsGrants self grants
+            → Tells self grants
+            → map plain_named epochs.items ≡ map (named_epoch grants) (epoch_numbers grants)) }
     {
         let mut granting = self;
-        granting.end(alloc, width)?;
+        granting.end()?;
         match granting.gap {
             Some(gap) => Err(Flaw::Gap {
                 epoch: gap.epoch,
                 name: gap.name,
             }),
-            None => Ok(Tight {
-                epochs: granting.over,
-            }),
+            None => Ok(granting.over),
         }
     }
-}
-
-/// The shares of all exits in this many clients.
-fn shares(alloc: Global, width: u32, clients: u64) -> Result<Vec<u64>, AllocError>
-    requires width { IsWidth width }
-    requires few { clients ≤ MOST_RECORDS }
-    ensures { IfOk result (λ counts. counts.items ≡ shares clients width) }
-{
-    let mut counts = Vec::with_capacity(alloc, width as usize)?;
-    for exit in 0..width {
-        counts.push(expected(width, clients, exit))?;
-    }
-    Ok(counts)
-}
-
-/// A grant list in which each epoch's names are the numbers below its number of clients, each once.
-#[derive(Debug, Drop)]
-pub struct Tight {
-    /// The epochs, by rising numbers.
-    pub epochs: Vec<TightEpoch>,
 }

@@ -4,8 +4,8 @@ ghost use Rattle.std.specs.Prelude.{◌<◌, ◌≤◌, ℕ, slice_index};
 
 use std::alloc::{AllocError, Global};
 
-/// A set of numbers below [`cn_spec::limits::MOST_RECORDS`], with a place for each up to the greatest so far: a number is in
-/// the set if its place has the current stamp. So one step adds a number, and one step clears the set.
+/// A set of numbers below [`cn_spec::limits::MOST_RECORDS`], with a place for each up to the greatest so far: a number
+/// is in the set if its place has the current stamp. So one step adds a number, and one step clears the set.
 #[derive(Drop)]
 pub(crate) struct Marks {
     stamps: Vec<u32>,

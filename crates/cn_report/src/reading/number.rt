@@ -16,8 +16,8 @@ const LEAD_WEIGHT: u128 = 10_000_000_000_000_000_000;
 
 /// The value of so few digits, if each byte is one.
 ///
-/// No byte ends the loop, so that the compiler can test many bytes at once. A digit is worth its byte modulo 16. Any other
-/// byte counts below 16 too, so the sum fits whatever the bytes are.
+/// No byte ends the loop, so that the compiler can test many bytes at once. A digit is worth its byte modulo 16. Any
+/// other byte counts below 16 too, so the sum fits whatever the bytes are.
 fn value_of_few(digits: &[u8]) -> Option<u64>
     requires { length digits.now ≤ 19 }
     ensures { result ≡ (if list_all is_ascii_digit digits.now then Some (digits_value 10 digits.now) else None) }

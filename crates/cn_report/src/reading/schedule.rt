@@ -94,8 +94,8 @@ fn take_commands<R: Read>(
     unreachable!()
 }
 
-/// The commands of a schedule: a header `op,client,wire`, and then a record `enter,CLIENT,ENTRY`, `step,CLIENT,` or `turn,,`
-/// for each command, as `csv` reads them.
+/// The commands of a schedule: a header `op,client,wire`, and then a record `enter,CLIENT,ENTRY`, `step,CLIENT,` or
+/// `turn,,` for each command, as `csv` reads them.
 ///
 /// # Errors
 ///

@@ -1,22 +1,24 @@
 //! Grant lists: a header, and a grant a record.
 
-ghost use Rattle.std.specs.Prelude.{◌≡◌, ◌<◌, ◌≤◌, ◌+◌, ◌⊎◌, ◌∷◌, ◌++◌, [], ℕ, List, IfErr, IfOk, IfSome, OnOk, None, Some, length, true};
+ghost use Rattle.std.specs.Prelude.{◌≡◌, ◌<◌, ◌≤◌, ◌+◌, ◌⊎◌, ◌∷◌, ◌++◌, [], ℕ, List, IfErr, IfOk, IfSome, MatchResult, OnOk, None, Some, length, map, true};
 ghost use Rattle.std.specs.Bool.{MatchBool};
+ghost use Rattle.cn_spec.specs.Step.{shares};
 ghost use Rattle.cn_spec.specs.declared.limits.TheConstants.{MOST_RECORDS};
 ghost use Rattle.cn_wiring.specs.Widths.{IsWidth};
 ghost use Rattle.cn_report.specs.declared.reading.grant.Granted.{Granted};
 ghost use Rattle.cn_report.specs.Reading.Granted.{grant_spelled, spelled_cause};
-ghost use Rattle.cn_report.specs.Reading.Grants.{IsFirstWithCause, IsOutside, IsTightList, header_cause};
+ghost use Rattle.cn_report.specs.Reading.Grants.{IsFirstWithCause, IsFlaw, IsOutside, IsTightList, header_cause};
 ghost use Rattle.cn_report.specs.Reading.Checked.{IsChecked};
-ghost use Rattle.cn_report.specs.Reading.Told.{AnswersTight};
+ghost use Rattle.cn_report.specs.Reading.Told.{AnswersTight, IsNamedList, plain_tight, with_shares};
 ghost use Rattle.cn_report.specs.Reading.Records.{HasRead, IsPlain, Record, records_of};
 
 use crate::reading::grant::{Flaw, GrantCause, flaw_at, granted_of};
-use crate::reading::granting::{Granting, Tight};
+use crate::reading::granting::{Granting, NamedEpoch};
 use crate::reading::rows::{is_header, next_row, open_rows};
+use cn_exit::expected;
 use cn_spec::limits::MOST_RECORDS;
 use csv::{ByteRecord, Reader};
-use std::alloc::Global;
+use std::alloc::{AllocError, Global};
 use std::io::Read;
 
 /// Takes the header.
@@ -38,30 +40,27 @@ fn take_header<R: Read>(rows: &mut Reader<R>, row: &mut ByteRecord) -> Result<()
 
 /// Takes the grant of record `at`, and returns whether there was one.
 fn take_grant<R: Read>(
-    alloc: Global,
     rows: &mut Reader<R>,
     row: &mut ByteRecord,
-    width: u32,
     at: u64,
     granting: &mut Granting,
 ) -> Result<bool, GrantCause>
     requires plain { IsPlain rows.old }
-    requires width { IsWidth width }
     requires count { granting.old.count < at }
     ensures plain { OnOk result (IsPlain rows.new) }
     ensures found { IfOk result (λ found.
         (text : List ℕ) (before : List Record) (grants : List Granted)
         → HasRead R.remaining rows.old text before
-        → IsChecked width granting.old grants → length grants + 1 ≡ at
+        → IsChecked granting.old grants → length grants + 1 ≡ at
         → MatchBool found ((fields : Record) × (grant : Granted)
         × HasRead R.remaining rows.new text (before ++ fields ∷ [])
         × (grant_spelled fields ≡ Some grant) × (spelled_cause grants (Some grant) ≡ None)
-        × IsChecked width granting.new (grants ++ grant ∷ []))
-        ((records_of text ≡ before) × IsChecked width granting.new grants)) }
+        × IsChecked granting.new (grants ++ grant ∷ []))
+        ((records_of text ≡ before) × IsChecked granting.new grants)) }
     ensures refused { IfErr result (λ cause.
         (text : List ℕ) (before : List Record) (grants : List Granted)
         → HasRead R.remaining rows.old text before
-        → IsChecked width granting.old grants → length grants + 1 ≡ at
+        → IsChecked granting.old grants → length grants + 1 ≡ at
         → ((fields : Record) × HasRead R.remaining rows.new text (before ++ fields ∷ [])
         × (spelled_cause grants (grant_spelled fields) ≡ Some cause))
         ⊎ (cause ≡ GrantCause.Read) ⊎ (cause ≡ GrantCause.Memory)) }
@@ -75,7 +74,7 @@ fn take_grant<R: Read>(
     let Some(grant) = granted_of(row) else {
         return Err(GrantCause::Form);
     };
-    granting.take(alloc, width, at, grant)?;
+    granting.take(at, grant)?;
     Ok(true)
 }
 
@@ -84,21 +83,20 @@ fn take_grants<R: Read>(
     alloc: Global,
     rows: &mut Reader<R>,
     row: &mut ByteRecord,
-    width: u32,
-) -> Result<Tight, Flaw>
+) -> Result<Vec<NamedEpoch>, Flaw>
     requires plain { IsPlain rows.old }
-    requires width { IsWidth width }
     ensures answer { (text : List ℕ) → HasRead R.remaining rows.old text []
-        → AnswersTight width (records_of text) result }
+        → let rows = records_of text in
+        MatchResult result (λ epochs. IsNamedList rows epochs.items) (IsFlaw rows) }
 {
     let mut granting = Granting::new(alloc);
     if let Err(cause) = take_header(rows, row) {
         return Err(flaw_at(0, cause));
     }
     for at in 1..MOST_RECORDS + 2 {
-        match take_grant(alloc, rows, row, width, at, &mut granting) {
+        match take_grant(rows, row, at, &mut granting) {
             Ok(true) => {}
-            Ok(false) => return granting.finish(alloc, width),
+            Ok(false) => return granting.finish(),
             Err(cause) => return Err(flaw_at(at, cause)),
         }
     }
@@ -106,15 +104,78 @@ fn take_grants<R: Read>(
     unreachable!()
 }
 
-/// Whether a grant list gives each epoch's clients the names below their number, each once: a header `epoch,client,name`,
-/// and then a record of three numbers for each grant, as `csv` reads them. An epoch is a run of records of one number, and
-/// the numbers rise. Of each epoch it returns the number, how many clients it has, and how many of its names have each
-/// remainder by `width`, which is a width that networks have.
+/// What a grant list says of an epoch.
+#[derive(Debug, Drop)]
+pub struct TightEpoch {
+    /// The epoch's number.
+    pub number: u64,
+    /// How many clients got a name.
+    pub clients: u64,
+    /// How many of the names are `i` modulo the width, for each `i` below it.
+    pub counts: Vec<u64>,
+}
+
+/// A grant list in which each epoch's names are the numbers below its number of clients, each once.
+#[derive(Debug, Drop)]
+pub struct Tight {
+    /// The epochs, by rising numbers.
+    pub epochs: Vec<TightEpoch>,
+}
+
+/// The shares of all exits in this many clients.
+fn shares(alloc: Global, width: u32, clients: u32) -> Result<Vec<u64>, AllocError>
+    requires { IsWidth width }
+    ensures { IfOk result (λ counts. counts.items ≡ shares clients width) }
+{
+    let mut counts = Vec::with_capacity(alloc, width as usize)?;
+    for exit in 0..width {
+        counts.push(expected(width, u64::from(clients), exit))?;
+    }
+    Ok(counts)
+}
+
+/// The same epochs, each with its share of each exit.
+fn counted(alloc: Global, width: u32, named: &[NamedEpoch]) -> Result<Vec<TightEpoch>, AllocError>
+    requires { IsWidth width }
+    ensures { IfOk result (λ epochs. map plain_tight epochs.items ≡ map (with_shares width) named.now) }
+{
+    let mut epochs = Vec::with_capacity(alloc, named.len())?;
+    for epoch in named {
+        epochs.push(TightEpoch {
+            number: epoch.number,
+            clients: u64::from(epoch.clients),
+            counts: shares(alloc, width, epoch.clients)?,
+        })?;
+    }
+    Ok(epochs)
+}
+
+/// Whether a grant list gives each epoch's clients the names below their number, each once: a header
+/// `epoch,client,name`, and then a record of three numbers for each grant, as `csv` reads them. An epoch is a run of
+/// records of one number, and the numbers rise. Of each epoch it returns the number, and how many clients it has: of
+/// the names each exit's share of so many is `i` modulo the width, for each exit i and by any width.
 ///
 /// # Errors
 ///
 /// The first record that has a cause, with its first cause; if no record has one, the first name that is missing. A
 /// failed read is reported at the record that was being read. `Memory` if a growth was refused.
+pub fn named_grants<R: Read + Drop>(alloc: Global, reader: R) -> Result<Vec<NamedEpoch>, Flaw>
+    ensures answer { IfSome (R.remaining reader) (λ text. let rows = records_of text in
+        MatchResult result (λ epochs. IsNamedList rows epochs.items) (IsFlaw rows)) }
+    ensures exact { IfSome (R.remaining reader) (λ text.
+        IfErr result (λ flaw. IsTightList (records_of text) → IsOutside flaw)) }
+{
+    let mut rows = open_rows(alloc, reader);
+    let mut row = ByteRecord::new(alloc);
+    take_grants(alloc, &mut rows, &mut row)
+}
+
+/// As [`named_grants`], with how many of each epoch's names are `i` modulo the width, for each `i` below it. The width
+/// is one that networks have.
+///
+/// # Errors
+///
+/// As there.
 pub fn check_grants<R: Read + Drop>(alloc: Global, reader: R, width: u32) -> Result<Tight, Flaw>
     requires { IsWidth width }
     ensures answer { IfSome (R.remaining reader) (λ text.
@@ -122,7 +183,7 @@ pub fn check_grants<R: Read + Drop>(alloc: Global, reader: R, width: u32) -> Res
     ensures exact { IfSome (R.remaining reader) (λ text.
         IfErr result (λ flaw. IsTightList (records_of text) → IsOutside flaw)) }
 {
-    let mut rows = open_rows(alloc, reader);
-    let mut row = ByteRecord::new(alloc);
-    take_grants(alloc, &mut rows, &mut row, width)
+    let named = named_grants(alloc, reader)?;
+    let epochs = counted(alloc, width, &named)?;
+    Ok(Tight { epochs })
 }

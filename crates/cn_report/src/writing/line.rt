@@ -1,14 +1,11 @@
-//! Lines that are made from their ends in a buffer, so that a text grows once a line.
+//! Lines that are made from their ends in a buffer, so that each is put at once.
 
-ghost use Rattle.std.specs.Prelude.{◌≡◌, ◌+◌, ◌≤◌, ◌++◌, OnOk, codes, decimal, drop, length};
-ghost use Rattle.cn_report.specs.Writing.Text.{Grows};
+ghost use Rattle.std.specs.Prelude.{◌≡◌, ◌+◌, ◌≤◌, ◌++◌, codes, decimal, drop, length};
 ghost use Rattle.cn_report.specs.Writing.Grants.{grant_line};
 ghost use Rattle.cn_report.specs.Writing.Pieces.{Puts};
 
-use crate::writing::emitting::EmitFault;
 use crate::writing::pieces::Pieces;
 use itoa::write_digits;
-use std::alloc::AllocError;
 use std::io::Write;
 
 /// Three numbers of 20 digits, and a byte after each; or two, and words of 23 bytes.
@@ -27,8 +24,8 @@ fn write_word(word: &str, buffer: &mut [u8], end: usize) -> usize
     start
 }
 
-/// Makes a line of two words, each with a number after it, before the line feed at the end of a buffer, and returns where
-/// it starts.
+/// Makes a line of two words, each with a number after it, before the line feed at the end of a buffer, and returns
+/// where it starts.
 #[inline(always)]
 fn make_line(line: &mut [u8], first: &str, number: u64, second: &str, other: u64) -> usize
     requires room { length line.old ≡ ROOM }
@@ -60,24 +57,6 @@ fn make_grant(line: &mut [u8], epoch: u64, client: u64, name: u64) -> usize
     write_digits(epoch, line, comma)
 }
 
-/// Appends a line of two words, each with a number after it.
-#[inline(always)]
-pub(crate) fn put_line(
-    text: &mut String,
-    first: &str,
-    number: u64,
-    second: &str,
-    other: u64,
-) -> Result<(), AllocError>
-    requires { length first.now + length second.now ≤ 23 }
-    ensures { OnOk result (Grows text.old text.new
-        (first.now ++ decimal number ++ second.now ++ decimal other ++ codes "\n")) }
-{
-    let mut line = [b'\n'; ROOM];
-    let start = make_line(&mut line, first, number, second, other);
-    text.push_str(unsafe { str::from_utf8_unchecked(&line[start..]) })
-}
-
 /// Sends a line of two words, each with a number after it.
 #[inline(always)]
 pub(crate) fn send_line<W: Write>(
@@ -87,14 +66,14 @@ pub(crate) fn send_line<W: Write>(
     number: u64,
     second: &str,
     other: u64,
-) -> Result<(), EmitFault>
+)
     requires { length first.now + length second.now ≤ 23 }
-    ensures { Puts W.contents writer.old writer.new pieces.old pieces.new result
+    ensures { Puts W.contents writer.old writer.new pieces.old pieces.new
         (first.now ++ (decimal number ++ (second.now ++ (decimal other ++ codes "\n")))) }
 {
     let mut line = [b'\n'; ROOM];
     let start = make_line(&mut line, first, number, second, other);
-    pieces.put(writer, &line[start..])
+    pieces.put(writer, &line[start..]);
 }
 
 /// Sends a record of three numbers.
@@ -105,11 +84,11 @@ pub(crate) fn send_grant<W: Write>(
     epoch: u64,
     client: u64,
     name: u64,
-) -> Result<(), EmitFault>
-    ensures { Puts W.contents writer.old writer.new pieces.old pieces.new result
+)
+    ensures { Puts W.contents writer.old writer.new pieces.old pieces.new
         (grant_line epoch client name) }
 {
     let mut line = [b'\n'; ROOM];
     let start = make_grant(&mut line, epoch, client, name);
-    pieces.put(writer, &line[start..])
+    pieces.put(writer, &line[start..]);
 }

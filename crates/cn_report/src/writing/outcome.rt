@@ -1,96 +1,32 @@
 //! The lines of what an epoch gave out: its exits and their counts, its names and their holders.
 
-ghost use Rattle.std.specs.Prelude.{◌≡◌, ◌+◌, ◌<◌, ◌≤◌, OnOk, length, slice_index};
+ghost use Rattle.std.specs.Prelude.{◌≡◌, ◌+◌, ◌<◌, ◌≤◌, length, slice_index};
 ghost use Rattle.cn_spec.specs.Step.{shares_after};
 ghost use Rattle.cn_spec.specs.declared.limits.TheConstants.{MOST_ARRIVALS, MOST_ENDS};
 ghost use Rattle.cn_report.specs.Writing.Pieces.{Puts};
-ghost use Rattle.cn_report.specs.Writing.Text.{Grows};
-ghost use Rattle.cn_report.specs.Writing.Outcome.{IsWholeRecord, exit_line, exit_lines, name_line, name_lines, outcome_lines};
+ghost use Rattle.cn_report.specs.Writing.Outcome.{exit_line, exit_lines, name_line, name_lines};
 
-use crate::writing::emitting::EmitFault;
-use crate::writing::line::{put_line, send_line};
+use crate::writing::line::send_line;
 use crate::writing::pieces::Pieces;
 use cn_exit::expected;
-use cn_record::EpochRecord;
 use cn_spec::limits::{MOST_ARRIVALS, MOST_ENDS};
-use std::alloc::AllocError;
 use std::io::Write;
 
 #[tactic(auto, unfolding(crate::specs::Writing::Outcome::exit_line))]
-fn put_count(text: &mut String, exit: u32, count: u64) -> Result<(), AllocError>
-    ensures { OnOk result (Grows text.old text.new (exit_line exit count)) }
+fn send_count<W: Write>(pieces: &mut Pieces, writer: &mut W, exit: u32, count: u64)
+    ensures { Puts W.contents writer.old writer.new pieces.old pieces.new (exit_line exit count) }
 {
-    put_line(text, "exit ", u64::from(exit), " count ", count)
-}
-
-fn put_counts(text: &mut String, width: u32, counts: &[u64]) -> Result<(), AllocError>
-    requires { length counts.now ≡ width }
-    ensures { OnOk result (Grows text.old text.new (exit_lines width counts.now)) }
-{
-    for exit in 0..width {
-        put_count(text, exit, counts[exit as usize])?;
-    }
-    Ok(())
-}
-
-#[tactic(auto, unfolding(crate::specs::Writing::Outcome::name_line))]
-fn put_holder(text: &mut String, name: u64, client: u64) -> Result<(), AllocError>
-    ensures { OnOk result (Grows text.old text.new (name_line name client)) }
-{
-    put_line(text, "name ", name, " client ", client)
-}
-
-fn put_holders(text: &mut String, clients: u64, holders: &[u64]) -> Result<(), AllocError>
-    requires { length holders.now ≡ clients }
-    ensures { OnOk result (Grows text.old text.new (name_lines clients holders.now)) }
-{
-    for name in 0..clients {
-        put_holder(text, name, holders[name as usize])?;
-    }
-    Ok(())
-}
-
-/// Appends a line for each exit and its count, and one for each name and its holder.
-pub(crate) fn put_outcome(
-    text: &mut String,
-    width: u32,
-    epoch: &EpochRecord,
-) -> Result<(), AllocError>
-    requires { IsWholeRecord width epoch.now }
-    ensures { OnOk result (Grows text.old text.new (outcome_lines width epoch.now)) }
-{
-    put_counts(text, width, &epoch.counts)?;
-    put_holders(text, epoch.clients, &epoch.holders)
-}
-
-#[tactic(auto, unfolding(crate::specs::Writing::Outcome::exit_line))]
-fn send_count<W: Write>(
-    pieces: &mut Pieces,
-    writer: &mut W,
-    exit: u32,
-    count: u64,
-) -> Result<(), EmitFault>
-    ensures { Puts W.contents writer.old writer.new pieces.old pieces.new result
-        (exit_line exit count) }
-{
-    send_line(pieces, writer, "exit ", u64::from(exit), " count ", count)
+    send_line(pieces, writer, "exit ", u64::from(exit), " count ", count);
 }
 
 /// Sends a line for each exit and its count.
-pub(crate) fn send_exits<W: Write>(
-    pieces: &mut Pieces,
-    writer: &mut W,
-    width: u32,
-    counts: &[u64],
-) -> Result<(), EmitFault>
+pub(crate) fn send_exits<W: Write>(pieces: &mut Pieces, writer: &mut W, width: u32, counts: &[u64])
     requires { length counts.now ≡ width }
-    ensures { Puts W.contents writer.old writer.new pieces.old pieces.new result
-        (exit_lines width counts.now) }
+    ensures { Puts W.contents writer.old writer.new pieces.old pieces.new (exit_lines width counts.now) }
 {
     for exit in 0..width {
-        send_count(pieces, writer, exit, counts[exit as usize])?;
+        send_count(pieces, writer, exit, counts[exit as usize]);
     }
-    Ok(())
 }
 
 /// How many of `clients` tokens that come after `before` others leave by an exit.
@@ -111,43 +47,31 @@ pub(crate) fn send_counts<W: Write>(
     width: u32,
     before: u64,
     clients: u64,
-) -> Result<(), EmitFault>
+)
     requires width { width ≤ MOST_ENDS }
     requires few { before + clients ≤ MOST_ARRIVALS }
-    ensures { Puts W.contents writer.old writer.new pieces.old pieces.new result
+    ensures { Puts W.contents writer.old writer.new pieces.old pieces.new
         (exit_lines width (shares_after before clients width)) }
 {
     for exit in 0..width {
         let count = count_after(width, before, clients, exit);
-        send_count(pieces, writer, exit, count)?;
+        send_count(pieces, writer, exit, count);
     }
-    Ok(())
 }
 
 #[tactic(auto, unfolding(crate::specs::Writing::Outcome::name_line))]
-fn send_holder<W: Write>(
-    pieces: &mut Pieces,
-    writer: &mut W,
-    name: u64,
-    client: u64,
-) -> Result<(), EmitFault>
-    ensures { Puts W.contents writer.old writer.new pieces.old pieces.new result
-        (name_line name client) }
+fn send_holder<W: Write>(pieces: &mut Pieces, writer: &mut W, name: u64, client: u64)
+    ensures { Puts W.contents writer.old writer.new pieces.old pieces.new (name_line name client) }
 {
-    send_line(pieces, writer, "name ", name, " client ", client)
+    send_line(pieces, writer, "name ", name, " client ", client);
 }
 
 /// Sends a line for each name and its holder.
-pub(crate) fn send_holders<W: Write>(
-    pieces: &mut Pieces,
-    writer: &mut W,
-    holders: &[u64],
-) -> Result<(), EmitFault>
-    ensures { Puts W.contents writer.old writer.new pieces.old pieces.new result
+pub(crate) fn send_holders<W: Write>(pieces: &mut Pieces, writer: &mut W, holders: &[u64])
+    ensures { Puts W.contents writer.old writer.new pieces.old pieces.new
         (name_lines (length holders.now) holders.now) }
 {
     for name in 0..holders.len() {
-        send_holder(pieces, writer, name as u64, holders[name])?;
+        send_holder(pieces, writer, name as u64, holders[name]);
     }
-    Ok(())
 }

@@ -1,159 +1,139 @@
 //! The text of a replay.
 
-ghost use Rattle.std.specs.Prelude.{◌≡◌, OnOk, IfOk};
-ghost use Rattle.std.specs.List.{All};
+ghost use Rattle.std.specs.Prelude.{◌≡◌, ◌≤◌, IfOk, List};
+ghost use Rattle.std.specs.List.{All, AllZip};
+ghost use Rattle.cn_spec.specs.declared.limits.TheConstants.{MOST_ENDS};
 ghost use Rattle.cn_record.specs.Answers.{HadMemory};
-ghost use Rattle.cn_report.specs.Writing.Text.{Grows};
-ghost use Rattle.cn_report.specs.Writing.Outcome.{IsWholeRecord};
-ghost use Rattle.cn_report.specs.Writing.Replay.{AreAnswers, Fits, IsEnterReply, IsStepReply, IsWhole, answer_line, answer_lines, end_line, enter_line, moved_line, not_quiet_line, record_lines, replay_text, step_line, turn_line};
+ghost use Rattle.cn_record.specs.declared.answer.Answer.{Answer};
+ghost use Rattle.cn_report.specs.Writing.Outcome.{exit_lines};
+ghost use Rattle.cn_report.specs.Writing.Pieces.{Puts, nothing_put};
+ghost use Rattle.cn_report.specs.Writing.Replay.{AreAnswers, Fits, IsKept, IsWhole, IsWholeKept, IsWholeKeptRecord, end_line, kept_counts, kept_line, kept_lines, kept_record_lines, not_quiet_line, replay_text, turn_line};
+ghost use Rattle.cn_report.specs.Writing.Written.{First, HasWritten, written_by};
 
-use crate::writing::heading::put_heading;
-use crate::writing::outcome::put_outcome;
-use cn_ledger::Moved;
-use cn_record::{Answer, Command, EnterFault, EpochRecord, Reply, StepFault, TurnFault};
+use crate::writing::emitting::EmitFault;
+use crate::writing::events::{send_enter, send_step};
+use crate::writing::heading::{send_heading, send_number, send_numbered};
+use crate::writing::line::send_line;
+use crate::writing::outcome::{send_counts, send_exits, send_holders};
+use crate::writing::pieces::Pieces;
+use cn_record::{Answer, Command, EpochRecord, TurnFault};
+use cn_spec::limits::MOST_ENDS;
 use cn_wiring::Counting;
 use std::alloc::{AllocError, Global};
+use std::io::Write;
 
-#[tactic(auto, unfolding(crate::specs::Writing::Replay::moved_line))]
-fn put_moved(text: &mut String, client: u64, moved: Moved) -> Result<(), AllocError>
-    ensures { OnOk result (Grows text.old text.new (moved_line client moved)) }
-{
-    match moved {
-        Moved::On {
-            balancer,
-            number,
-            wire,
-        } => writeln!(
-            text,
-            "pass {client} balancer {balancer} number {number} wire {wire}"
-        ),
-        Moved::Out { exit, visit, name } => {
-            writeln!(text, "leave {client} exit {exit} visit {visit} name {name}")
-        }
-    }
-}
-
-#[tactic(auto, unfolding(crate::specs::Writing::Replay::enter_line))]
-fn put_enter_fault(
-    text: &mut String,
-    client: u64,
-    entry: u64,
-    fault: EnterFault,
-) -> Result<(), AllocError>
-    requires { HadMemory (Answer.Replied (Reply.EnterRefused fault)) }
-    ensures { OnOk result (Grows text.old text.new (enter_line client entry (Reply.EnterRefused fault))) }
-{
-    match fault {
-        EnterFault::NoSuchEntry => writeln!(text, "refused enter {client} NoSuchEntry"),
-        EnterFault::AlreadyIn => writeln!(text, "refused enter {client} AlreadyIn"),
-        EnterFault::EpochFull => writeln!(text, "refused enter {client} EpochFull"),
-        EnterFault::Memory => unreachable!(),
-    }
-}
-
-#[tactic(auto, unfolding(crate::specs::Writing::Replay::enter_line))]
-fn put_enter(text: &mut String, client: u64, entry: u64, reply: Reply) -> Result<(), AllocError>
-    requires fits { IsEnterReply reply }
-    requires memory { HadMemory (Answer.Replied reply) }
-    ensures { OnOk result (Grows text.old text.new (enter_line client entry reply)) }
-{
-    match reply {
-        Reply::Entered => writeln!(text, "enter {client} wire {entry}"),
-        Reply::EnterRefused(fault) => put_enter_fault(text, client, entry, fault),
-        _ => unreachable!(),
-    }
-}
-
-#[tactic(auto, unfolding(crate::specs::Writing::Replay::step_line))]
-fn put_step(text: &mut String, client: u64, reply: Reply) -> Result<(), AllocError>
-    requires { IsStepReply reply }
-    ensures { OnOk result (Grows text.old text.new (step_line client reply)) }
-{
-    match reply {
-        Reply::Stepped(moved) => put_moved(text, client, moved),
-        Reply::StepRefused(StepFault::Stranger) => {
-            writeln!(text, "refused step {client} Stranger")
-        }
-        Reply::StepRefused(StepFault::HasName(name)) => {
-            writeln!(text, "refused step {client} HasName {name}")
-        }
-        _ => unreachable!(),
-    }
+/// The epoch that stands open at the end of a replay.
+#[derive(Clone, Copy, Debug, PartialEq, Eq)]
+pub struct OpenEpoch {
+    /// How many epochs ended before it.
+    pub number: u64,
+    /// How many clients entered it.
+    pub entered: u64,
+    /// How many of them are inside.
+    pub inside: u64,
 }
 
 #[tactic(auto, unfolding(crate::specs::Writing::Replay::turn_line))]
-fn put_turn(text: &mut String, number: u64, clients: u64) -> Result<(), AllocError>
-    ensures { OnOk result (Grows text.old text.new (turn_line number clients)) }
+fn send_turn<W: Write>(pieces: &mut Pieces, writer: &mut W, number: u64, clients: u64)
+    ensures { Puts W.contents writer.old writer.new pieces.old pieces.new (turn_line number clients) }
 {
-    writeln!(text, "turn epoch {number} clients {clients}")
+    send_line(pieces, writer, "turn epoch ", number, " clients ", clients);
 }
 
-fn put_record(text: &mut String, width: u32, epoch: &EpochRecord) -> Result<(), AllocError>
-    requires { IsWholeRecord width epoch.now }
-    ensures { OnOk result (Grows text.old text.new (record_lines width epoch.now)) }
+/// Sends a line for each exit and its count, which is its share of the clients if the counts are left out.
+fn send_kept_counts<W: Write>(pieces: &mut Pieces, writer: &mut W, width: u32, epoch: &EpochRecord)
+    requires width { width ≤ MOST_ENDS }
+    requires whole { IsWholeKeptRecord width epoch.now }
+    ensures { Puts W.contents writer.old writer.new pieces.old pieces.new
+        (exit_lines width (kept_counts width epoch.now)) }
 {
-    put_turn(text, epoch.number, epoch.clients)?;
-    put_outcome(text, width, epoch)
+    if epoch.counts.is_empty() {
+        send_counts(pieces, writer, width, 0, epoch.clients);
+    } else {
+        send_exits(pieces, writer, width, &epoch.counts);
+    }
+}
+
+fn send_record<W: Write>(pieces: &mut Pieces, writer: &mut W, width: u32, epoch: &EpochRecord)
+    requires width { width ≤ MOST_ENDS }
+    requires whole { IsWholeKeptRecord width epoch.now }
+    ensures { Puts W.contents writer.old writer.new pieces.old pieces.new (kept_record_lines width epoch.now) }
+{
+    send_turn(pieces, writer, epoch.number, epoch.clients);
+    send_kept_counts(pieces, writer, width, epoch);
+    send_holders(pieces, writer, &epoch.holders);
 }
 
 #[tactic(auto, unfolding(crate::specs::Writing::Replay::not_quiet_line))]
-fn put_not_quiet(text: &mut String, inside: u64) -> Result<(), AllocError>
-    ensures { OnOk result (Grows text.old text.new (not_quiet_line inside)) }
+fn send_not_quiet<W: Write>(pieces: &mut Pieces, writer: &mut W, inside: u64)
+    ensures { Puts W.contents writer.old writer.new pieces.old pieces.new (not_quiet_line inside) }
 {
-    writeln!(text, "refused turn NotQuiet {inside}")
+    send_numbered(pieces, writer, "refused turn NotQuiet ", inside, "\n");
 }
 
 #[tactic(auto, unfolding(crate::specs::Writing::Replay::answer_line))]
-fn put_answer(
-    text: &mut String,
+fn send_answer<W: Write>(
+    pieces: &mut Pieces,
+    writer: &mut W,
     width: u32,
     command: Command,
     answer: &Answer,
-) -> Result<(), AllocError>
+)
+    requires width { width ≤ MOST_ENDS }
     requires fits { Fits command answer.now }
     requires memory { HadMemory answer.now }
-    requires whole { IsWhole width answer.now }
-    ensures { OnOk result (Grows text.old text.new (answer_line width command answer.now)) }
+    requires whole { IsWholeKept width answer.now }
+    ensures { Puts W.contents writer.old writer.new pieces.old pieces.new (kept_line width command answer.now) }
 {
     match (command, answer) {
         (Command::Enter { client, entry }, Answer::Replied(reply)) => {
-            put_enter(text, client, entry, *reply)
+            send_enter(pieces, writer, client, entry, *reply);
         }
-        (Command::Step { client }, Answer::Replied(reply)) => put_step(text, client, *reply),
-        (Command::Turn, Answer::Turned(epoch)) => put_record(text, width, epoch),
+        (Command::Step { client }, Answer::Replied(reply)) => {
+            send_step(pieces, writer, client, *reply);
+        }
+        (Command::Turn, Answer::Turned(epoch)) => send_record(pieces, writer, width, epoch),
         (Command::Turn, Answer::TurnRefused(TurnFault::NotQuiet(inside))) => {
-            put_not_quiet(text, *inside)
+            send_not_quiet(pieces, writer, *inside);
         }
         _ => unreachable!(),
     }
 }
 
-fn put_answers(
-    text: &mut String,
+fn send_answers<W: Write>(
+    pieces: &mut Pieces,
+    writer: &mut W,
     width: u32,
     commands: &[Command],
     answers: &[Answer],
-) -> Result<(), AllocError>
+)
+    requires width { width ≤ MOST_ENDS }
     requires fit { AreAnswers commands.now answers.now }
     requires memory { All HadMemory answers.now }
-    requires whole { All (IsWhole width) answers.now }
-    ensures { OnOk result (Grows text.old text.new (answer_lines width commands.now answers.now)) }
+    requires whole { All (IsWholeKept width) answers.now }
+    ensures { Puts W.contents writer.old writer.new pieces.old pieces.new
+        (kept_lines width commands.now answers.now) }
 {
     for (position, answer) in answers.iter().enumerate() {
-        put_answer(text, width, commands[position], answer)?;
+        if pieces.has_failed() {
+            return;
+        }
+        send_answer(pieces, writer, width, commands[position], answer);
     }
-    Ok(())
 }
 
-#[tactic(auto, unfolding(crate::specs::Writing::Replay::end_line))]
-fn put_end(text: &mut String, number: u64, entered: u64, inside: u64) -> Result<(), AllocError>
-    ensures { OnOk result (Grows text.old text.new (end_line number entered inside)) }
+fn send_end<W: Write>(pieces: &mut Pieces, writer: &mut W, last: OpenEpoch)
+    ensures { Puts W.contents writer.old writer.new pieces.old pieces.new
+        (end_line last.number last.entered last.inside) }
 {
-    writeln!(text, "end epoch {number} entered {entered} inside {inside}")
+    send_number(pieces, writer, "end epoch ", last.number);
+    send_number(pieces, writer, " entered ", last.entered);
+    send_number(pieces, writer, " inside ", last.inside);
+    pieces.put(writer, b"\n");
 }
 
-/// The text of a replay on a network: its heading, the lines of each command and its answer, and an end line. A turn that
-/// is done has the record of its epoch: a line for each exit and its count, and one for each name and its holder.
+/// The text of a replay on a network: its heading, the lines of each command and its answer, and an end line. A turn
+/// that is done has the record of its epoch: a line for each exit and its count, and one for each name and its holder.
 ///
 /// The end line says how many epochs ended, and how many clients of the open one entered and are inside.
 ///
@@ -177,9 +157,50 @@ pub fn render_replay(
     ensures { IfOk result (λ text. text.items
         ≡ replay_text network.now commands.now answers.now number entered inside) }
 {
-    let mut text = String::new(alloc);
-    put_heading(&mut text, network)?;
-    put_answers(&mut text, network.width(), commands, answers)?;
-    put_end(&mut text, number, entered, inside)?;
-    Ok(text.into_bytes())
+    // A network has some exit, so no record leaves out its counts.
+    let _ = network.width();
+    let pieces = Pieces::new(alloc)?;
+    let mut text = Vec::new(alloc);
+    let last = OpenEpoch {
+        number,
+        entered,
+        inside,
+    };
+    match write_replay(&mut text, pieces, network, commands, answers, last) {
+        Ok(()) => Ok(text),
+        // A vector refuses a write only for want of memory.
+        Err(_) => Err(AllocError),
+    }
+}
+
+/// Writes the text of a replay ([`render_replay`]) in pieces, and flushes once at the end. The record of a turn may
+/// leave out its counts if they are the shares of its clients, of which there are at most
+/// [`cn_spec::limits::MOST_ARRIVALS`]. It takes no memory.
+///
+/// # Errors
+/// `EmitFault` if a write fails, is interrupted or takes no byte: nothing is written after it, and the bytes written
+/// until then are the first of the text. A failed flush is reported with the whole length of the text.
+pub fn write_replay<W: Write>(
+    writer: &mut W,
+    pieces: Pieces,
+    network: &Counting,
+    commands: &[Command],
+    kept: &[Answer],
+    last: OpenEpoch,
+) -> Result<(), EmitFault>
+    requires fresh { pieces ≡ nothing_put }
+    requires fit { AreAnswers commands.now kept.now }
+    requires memory { All HadMemory kept.now }
+    requires whole { All (IsWholeKept network.now.table.width) kept.now }
+    ensures { (answers : List Answer) → AllZip (IsKept network.now.table.width) answers kept.now
+        → let written = written_by (λ fault. First fault.written) result in
+        HasWritten W.contents (λ text. text
+        ≡ replay_text network.now commands.now answers last.number last.entered last.inside) written
+        writer.old writer.new }
+{
+    let mut pieces = pieces;
+    send_heading(&mut pieces, writer, network);
+    send_answers(&mut pieces, writer, network.width(), commands, kept);
+    send_end(&mut pieces, writer, last);
+    pieces.finish(writer)
 }

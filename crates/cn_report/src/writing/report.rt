@@ -1,13 +1,12 @@
 //! The text of a report.
 
-ghost use Rattle.std.specs.Prelude.{◌≡◌, ◌+◌, ◌≤◌, [], ◌∷◌, ◌++◌, All, List, OnOk, IfOk, length, string_bytes};
-ghost use Rattle.std.specs.Io.KnownBytes.{Appends};
+ghost use Rattle.std.specs.Prelude.{◌≡◌, ◌+◌, ◌≤◌, ◌++◌, All, List, IfOk, length};
 ghost use Rattle.std.specs.List.{flat_map, sum_by};
 ghost use Rattle.cn_spec.specs.Step.{shares_after};
 ghost use Rattle.cn_spec.specs.Sums.{when};
 ghost use Rattle.cn_spec.specs.declared.limits.TheConstants.{MOST_ENDS, MOST_RECORDS};
 ghost use Rattle.cn_record.specs.declared.record.EpochRecord.{EpochRecord};
-ghost use Rattle.cn_report.specs.Reading.Batch.{AreServable, clients_of_epochs};
+ghost use Rattle.cn_report.specs.Reading.Batch.{clients_of_epochs};
 ghost use Rattle.cn_report.specs.Writing.Outcome.{IsWholeRecord, exit_lines, name_lines};
 ghost use Rattle.cn_report.specs.Writing.Pieces.{Puts, nothing_put};
 ghost use Rattle.cn_report.specs.Writing.Records.{AreRecordsOf};
@@ -15,7 +14,6 @@ ghost use Rattle.cn_report.specs.Writing.Report.{epoch_line, epoch_lines, report
 ghost use Rattle.cn_report.specs.Writing.Written.{First, HasWritten, written_by};
 
 use crate::reading::BatchEpoch;
-use crate::writing::bounds::report_is_countable;
 use crate::writing::emitting::EmitFault;
 use crate::writing::heading::{send_heading, send_number};
 use crate::writing::line::send_line;
@@ -28,16 +26,10 @@ use std::alloc::{AllocError, Global};
 use std::io::Write;
 
 #[tactic(auto, unfolding(crate::specs::Writing::Report::epoch_line))]
-fn send_epoch_line<W: Write>(
-    pieces: &mut Pieces,
-    writer: &mut W,
-    number: u64,
-    clients: u64,
-) -> Result<(), EmitFault>
-    ensures { Puts W.contents writer.old writer.new pieces.old pieces.new result
-        (epoch_line number clients) }
+fn send_epoch_line<W: Write>(pieces: &mut Pieces, writer: &mut W, number: u64, clients: u64)
+    ensures { Puts W.contents writer.old writer.new pieces.old pieces.new (epoch_line number clients) }
 {
-    send_line(pieces, writer, "epoch ", number, " clients ", clients)
+    send_line(pieces, writer, "epoch ", number, " clients ", clients);
 }
 
 fn send_epoch<W: Write>(
@@ -47,17 +39,17 @@ fn send_epoch<W: Write>(
     before: u64,
     number: u64,
     holders: &[u64],
-) -> Result<(), EmitFault>
+)
     requires width { width ≤ MOST_ENDS }
     requires few { before + length holders.now ≤ MOST_RECORDS }
     ensures { let clients = length holders.now in
-        Puts W.contents writer.old writer.new pieces.old pieces.new result (epoch_line number clients
+        Puts W.contents writer.old writer.new pieces.old pieces.new (epoch_line number clients
         ++ (exit_lines width (shares_after before clients width) ++ name_lines clients holders.now)) }
 {
     let clients = holders.len() as u64;
-    send_epoch_line(pieces, writer, number, clients)?;
-    send_counts(pieces, writer, width, before, clients)?;
-    send_holders(pieces, writer, holders)
+    send_epoch_line(pieces, writer, number, clients);
+    send_counts(pieces, writer, width, before, clients);
+    send_holders(pieces, writer, holders);
 }
 
 /// How many clients come before the next epoch, if so many have come.
@@ -74,68 +66,53 @@ fn send_epochs<W: Write>(
     carries: bool,
     epochs: &[BatchEpoch],
     holders: &[u64],
-) -> Result<(), EmitFault>
+)
     requires width { width ≤ MOST_ENDS }
     requires as_many { clients_of_epochs epochs.now ≡ length holders.now }
     requires few { clients_of_epochs epochs.now ≤ MOST_RECORDS }
     ensures { (records : List EpochRecord)
         → AreRecordsOf carries width 0 epochs.now records holders.now
-        → Puts W.contents writer.old writer.new pieces.old pieces.new result
+        → Puts W.contents writer.old writer.new pieces.old pieces.new
         (flat_map (epoch_lines width) records) }
 {
     let (mut before, mut left) = (0, holders);
     for epoch in epochs {
+        if pieces.has_failed() {
+            return;
+        }
         let (own, others) = left.split_at(epoch.clients.len());
-        send_epoch(pieces, writer, width, before, epoch.number, own)?;
+        send_epoch(pieces, writer, width, before, epoch.number, own);
         before = carried(carries, before + own.len() as u64);
         left = others;
     }
-    Ok(())
 }
 
-fn send_end<W: Write>(
-    pieces: &mut Pieces,
-    writer: &mut W,
-    epochs: u64,
-    grants: u128,
-) -> Result<(), EmitFault>
-    ensures { Puts W.contents writer.old writer.new pieces.old pieces.new result
-        (report_end epochs grants) }
+fn send_end<W: Write>(pieces: &mut Pieces, writer: &mut W, epochs: u64, grants: u128)
+    ensures { Puts W.contents writer.old writer.new pieces.old pieces.new (report_end epochs grants) }
 {
-    send_number(pieces, writer, "end epochs ", u128::from(epochs))?;
-    send_number(pieces, writer, " grants ", grants)?;
-    pieces.put(writer, b"\n")
+    send_number(pieces, writer, "end epochs ", epochs);
+    send_number(pieces, writer, " grants ", grants);
+    pieces.put(writer, b"\n");
 }
 
-fn send_record<W: Write>(
-    pieces: &mut Pieces,
-    writer: &mut W,
-    width: u32,
-    epoch: &EpochRecord,
-) -> Result<(), EmitFault>
+fn send_record<W: Write>(pieces: &mut Pieces, writer: &mut W, width: u32, epoch: &EpochRecord)
     requires { IsWholeRecord width epoch.now }
-    ensures { Puts W.contents writer.old writer.new pieces.old pieces.new result
+    ensures { Puts W.contents writer.old writer.new pieces.old pieces.new
         (epoch_lines width epoch.now) }
 {
-    send_epoch_line(pieces, writer, epoch.number, epoch.clients)?;
-    send_exits(pieces, writer, width, &epoch.counts)?;
-    send_holders(pieces, writer, &epoch.holders)
+    send_epoch_line(pieces, writer, epoch.number, epoch.clients);
+    send_exits(pieces, writer, width, &epoch.counts);
+    send_holders(pieces, writer, &epoch.holders);
 }
 
-fn send_records<W: Write>(
-    pieces: &mut Pieces,
-    writer: &mut W,
-    width: u32,
-    records: &[EpochRecord],
-) -> Result<(), EmitFault>
+fn send_records<W: Write>(pieces: &mut Pieces, writer: &mut W, width: u32, records: &[EpochRecord])
     requires { All (IsWholeRecord width) records.now }
-    ensures { Puts W.contents writer.old writer.new pieces.old pieces.new result
+    ensures { Puts W.contents writer.old writer.new pieces.old pieces.new
         (flat_map (epoch_lines width) records.now) }
 {
     for epoch in records {
-        send_record(pieces, writer, width, epoch)?;
+        send_record(pieces, writer, width, epoch);
     }
-    Ok(())
 }
 
 /// How many clients the epochs had in all, in 128 bits, which no number of epochs exceeds.
@@ -150,21 +127,21 @@ fn count_clients(records: &[EpochRecord]) -> u128
 }
 
 fn send_report<W: Write>(
-    pieces: Pieces,
     writer: &mut W,
+    pieces: Pieces,
     network: &Counting,
     records: &[EpochRecord],
 ) -> Result<(), EmitFault>
     requires fresh { pieces ≡ nothing_put }
     requires whole { All (IsWholeRecord network.now.table.width) records.now }
-    ensures { OnOk result (Appends (W.contents writer.old) (W.contents writer.new)
-        (report_text network.now records.now)) }
+    ensures { let written = written_by (λ fault. First fault.written) result in
+        HasWritten W.contents (λ text. text ≡ report_text network.now records.now) written writer.old writer.new }
 {
     let mut pieces = pieces;
-    send_heading(&mut pieces, writer, network)?;
-    send_records(&mut pieces, writer, network.width(), records)?;
+    send_heading(&mut pieces, writer, network);
+    send_records(&mut pieces, writer, network.width(), records);
     let grants = count_clients(records);
-    send_end(&mut pieces, writer, records.len() as u64, grants)?;
+    send_end(&mut pieces, writer, records.len() as u64, grants);
     pieces.finish(writer)
 }
 
@@ -185,21 +162,21 @@ pub fn render_report(
 {
     let pieces = Pieces::new(alloc)?;
     let mut text = Vec::new(alloc);
-    match send_report(pieces, &mut text, network, records) {
+    match send_report(&mut text, pieces, network, records) {
         Ok(()) => Ok(text),
         // A vector refuses a write only for want of memory.
         Err(_) => Err(AllocError),
     }
 }
 
-/// Writes the report of epochs on a network ([`render_report`]) in pieces, and flushes once at the end. Of an epoch of k
-/// clients that come after m others each exit has its share of m + k less its share of m: if the counters are carried, m is
-/// the number of all clients of the epochs before, else 0. The holders of each epoch's names follow those of the epoch
-/// before. It takes no memory.
+/// Writes the report of epochs on a network ([`render_report`]) in pieces, and flushes once at the end. Of an epoch of
+/// k clients that come after m others each exit has its share of m + k less its share of m: if the counters are
+/// carried, m is the number of all clients of the epochs before, else 0. The holders of each epoch's names follow those
+/// of the epoch before. It takes no memory.
 ///
 /// # Errors
-/// `EmitFault` if a write fails, is interrupted or takes no byte, which ends it: the bytes written until then are the
-/// first of the text. A failed flush is reported with the whole length of the text.
+/// `EmitFault` if a write fails, is interrupted or takes no byte: nothing is written after it, and the bytes written
+/// until then are the first of the text. A failed flush is reported with the whole length of the text.
 pub fn write_report<W: Write>(
     writer: &mut W,
     pieces: Pieces,
@@ -209,7 +186,6 @@ pub fn write_report<W: Write>(
     holders: &[u64],
 ) -> Result<(), EmitFault>
     requires fresh { pieces ≡ nothing_put }
-    requires servable { AreServable network.now.table.entries epochs.now }
     requires as_many { clients_of_epochs epochs.now ≡ length holders.now }
     requires few { clients_of_epochs epochs.now ≤ MOST_RECORDS }
     ensures { (records : List EpochRecord)
@@ -217,9 +193,8 @@ pub fn write_report<W: Write>(
         → let written = written_by (λ fault. First fault.written) result in
         HasWritten W.contents (λ text. text ≡ report_text network.now records) written writer.old writer.new }
 {
-    report_is_countable(network, epochs, holders);
     let mut pieces = pieces;
-    send_heading(&mut pieces, writer, network)?;
+    send_heading(&mut pieces, writer, network);
     send_epochs(
         &mut pieces,
         writer,
@@ -227,12 +202,12 @@ pub fn write_report<W: Write>(
         carries,
         epochs,
         holders,
-    )?;
+    );
     send_end(
         &mut pieces,
         writer,
         epochs.len() as u64,
         holders.len() as u128,
-    )?;
+    );
     pieces.finish(writer)
 }

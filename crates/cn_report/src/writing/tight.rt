@@ -1,55 +1,103 @@
 //! The text of a tight list.
 
-ghost use Rattle.std.specs.Prelude.{◌≡◌, ◌++◌, OnOk, IfOk, codes, map, string_bytes};
+ghost use Rattle.std.specs.Prelude.{◌≡◌, ◌≤◌, IfOk, map};
 ghost use Rattle.std.specs.List.{flat_map, sum_by};
-ghost use Rattle.cn_report.specs.Reading.Told.{plain_tight};
+ghost use Rattle.cn_spec.specs.Step.{shares};
+ghost use Rattle.cn_spec.specs.declared.limits.TheConstants.{MOST_ENDS};
+ghost use Rattle.cn_report.specs.Reading.Told.{plain_tight, with_shares};
+ghost use Rattle.cn_report.specs.Writing.Pieces.{Puts, nothing_put};
 ghost use Rattle.cn_report.specs.Writing.Tight.{tight_counts, tight_end, tight_head, tight_line, tight_text};
+ghost use Rattle.cn_report.specs.Writing.Written.{First, HasWritten, written_by};
 
-use crate::reading::{Tight, TightEpoch};
+use crate::reading::{NamedEpoch, Tight, TightEpoch};
+use crate::writing::emitting::EmitFault;
+use crate::writing::heading::send_number;
+use crate::writing::pieces::Pieces;
+use cn_exit::expected;
+use cn_spec::limits::MOST_ENDS;
 use std::alloc::{AllocError, Global};
+use std::io::Write;
 
-fn put_counts(text: &mut String, counts: &[u64]) -> Result<(), AllocError>
-    ensures { OnOk result (string_bytes text.new
-        ≡ string_bytes text.old ++ tight_counts counts.now) }
+fn send_head<W: Write>(pieces: &mut Pieces, writer: &mut W, number: u64, clients: u64)
+    ensures { Puts W.contents writer.old writer.new pieces.old pieces.new (tight_head number clients) }
+{
+    send_number(pieces, writer, "epoch ", number);
+    send_number(pieces, writer, " clients ", clients);
+    pieces.put(writer, b" counts");
+}
+
+fn send_counts<W: Write>(pieces: &mut Pieces, writer: &mut W, counts: &[u64])
+    ensures { Puts W.contents writer.old writer.new pieces.old pieces.new (tight_counts counts.now) }
 {
     for count in counts {
-        write!(text, " {count}")?;
+        send_number(pieces, writer, " ", *count);
     }
-    Ok(())
 }
 
-#[tactic(auto, unfolding(crate::specs::Writing::Tight::tight_head))]
-fn put_head(text: &mut String, number: u64, clients: u64) -> Result<(), AllocError>
-    ensures { OnOk result (string_bytes text.new
-        ≡ string_bytes text.old ++ tight_head number clients) }
+fn send_epoch<W: Write>(pieces: &mut Pieces, writer: &mut W, epoch: &TightEpoch)
+    ensures { Puts W.contents writer.old writer.new pieces.old pieces.new (tight_line (plain_tight epoch.now)) }
 {
-    write!(text, "epoch {number} clients {clients} counts")
+    send_head(pieces, writer, epoch.number, epoch.clients);
+    send_counts(pieces, writer, &epoch.counts);
+    pieces.put(writer, b"\n");
 }
 
-fn end_line(text: &mut String) -> Result<(), AllocError>
-    ensures { OnOk result (string_bytes text.new ≡ string_bytes text.old ++ codes "\n") }
+fn send_shares<W: Write>(pieces: &mut Pieces, writer: &mut W, width: u32, clients: u32)
+    requires { width ≤ MOST_ENDS }
+    ensures { Puts W.contents writer.old writer.new pieces.old pieces.new (tight_counts (shares clients width)) }
 {
-    writeln!(text)
+    for exit in 0..width {
+        send_number(
+            pieces,
+            writer,
+            " ",
+            expected(width, u64::from(clients), exit),
+        );
+    }
 }
 
-#[tactic(auto, using(crate::proofs::WritingLemmas::Words::line_whole))]
-fn put_epoch(text: &mut String, epoch: &TightEpoch) -> Result<(), AllocError>
-    ensures { OnOk result (string_bytes text.new
-        ≡ string_bytes text.old ++ tight_line (plain_tight epoch.now)) }
+fn send_named<W: Write>(pieces: &mut Pieces, writer: &mut W, width: u32, epoch: NamedEpoch)
+    requires { width ≤ MOST_ENDS }
+    ensures { Puts W.contents writer.old writer.new pieces.old pieces.new (tight_line (with_shares width epoch)) }
 {
-    put_head(text, epoch.number, epoch.clients)?;
-    put_counts(text, &epoch.counts)?;
-    end_line(text)
+    send_head(pieces, writer, epoch.number, u64::from(epoch.clients));
+    send_shares(pieces, writer, width, epoch.clients);
+    pieces.put(writer, b"\n");
 }
 
-fn put_epochs(text: &mut String, epochs: &[TightEpoch]) -> Result<(), AllocError>
-    ensures { OnOk result (string_bytes text.new
-        ≡ string_bytes text.old ++ flat_map tight_line (map plain_tight epochs.now)) }
+fn send_end<W: Write>(pieces: &mut Pieces, writer: &mut W, epochs: usize, grants: u128)
+    ensures { Puts W.contents writer.old writer.new pieces.old pieces.new (tight_end epochs grants) }
+{
+    send_number(pieces, writer, "tight epochs ", epochs);
+    send_number(pieces, writer, " grants ", grants);
+    pieces.put(writer, b"\n");
+}
+
+fn send_epochs<W: Write>(pieces: &mut Pieces, writer: &mut W, epochs: &[TightEpoch])
+    ensures { Puts W.contents writer.old writer.new pieces.old pieces.new
+        (flat_map tight_line (map plain_tight epochs.now)) }
 {
     for epoch in epochs {
-        put_epoch(text, epoch)?;
+        send_epoch(pieces, writer, epoch);
     }
-    Ok(())
+}
+
+fn send_named_epochs<W: Write>(
+    pieces: &mut Pieces,
+    writer: &mut W,
+    width: u32,
+    epochs: &[NamedEpoch],
+)
+    requires { width ≤ MOST_ENDS }
+    ensures { Puts W.contents writer.old writer.new pieces.old pieces.new
+        (flat_map tight_line (map (with_shares width) epochs.now)) }
+{
+    for epoch in epochs {
+        if pieces.has_failed() {
+            return;
+        }
+        send_named(pieces, writer, width, *epoch);
+    }
 }
 
 /// How many clients the epochs have in all, in 128 bits, which no number of epochs exceeds.
@@ -63,12 +111,27 @@ fn count_clients(epochs: &[TightEpoch]) -> u128
     clients
 }
 
-#[tactic(auto, unfolding(crate::specs::Writing::Tight::tight_end))]
-fn put_end(text: &mut String, epochs: usize, grants: u128) -> Result<(), AllocError>
-    ensures { OnOk result (string_bytes text.new
-        ≡ string_bytes text.old ++ tight_end epochs grants) }
+fn count_named(epochs: &[NamedEpoch]) -> u128
+    ensures { result ≡ sum_by (λ e. e.clients) epochs.now }
 {
-    writeln!(text, "tight epochs {epochs} grants {grants}")
+    let mut clients = 0;
+    for epoch in epochs {
+        clients += u128::from(epoch.clients);
+    }
+    clients
+}
+
+fn send_tight<W: Write>(writer: &mut W, pieces: Pieces, tight: &Tight) -> Result<(), EmitFault>
+    requires { pieces ≡ nothing_put }
+    ensures { let written = written_by (λ fault. First fault.written) result in
+        HasWritten W.contents (λ text. text ≡ tight_text (map plain_tight tight.now.epochs.items)) written
+        writer.old writer.new }
+{
+    let mut pieces = pieces;
+    send_epochs(&mut pieces, writer, &tight.epochs);
+    let grants = count_clients(&tight.epochs);
+    send_end(&mut pieces, writer, tight.epochs.len(), grants);
+    pieces.finish(writer)
 }
 
 /// The text of a tight list: for each epoch its number, its number of clients, and how many of its names are `i` modulo
@@ -77,11 +140,38 @@ fn put_end(text: &mut String, epochs: usize, grants: u128) -> Result<(), AllocEr
 /// # Errors
 /// `AllocError` if the text gets no memory.
 pub fn render_tight(alloc: Global, tight: &Tight) -> Result<Vec<u8>, AllocError>
-    ensures { IfOk result (λ text. text.items
-        ≡ tight_text (map plain_tight tight.now.epochs.items)) }
+    ensures { IfOk result (λ text. text.items ≡ tight_text (map plain_tight tight.now.epochs.items)) }
 {
-    let mut text = String::new(alloc);
-    put_epochs(&mut text, &tight.epochs)?;
-    put_end(&mut text, tight.epochs.len(), count_clients(&tight.epochs))?;
-    Ok(text.into_bytes())
+    let pieces = Pieces::new(alloc)?;
+    let mut text = Vec::new(alloc);
+    match send_tight(&mut text, pieces, tight) {
+        Ok(()) => Ok(text),
+        // A vector refuses a write only for want of memory.
+        Err(_) => Err(AllocError),
+    }
+}
+
+/// Writes the text of a tight list ([`render_tight`]) in pieces, and flushes once at the end: the counts of each epoch
+/// are the shares of its clients. It takes no memory.
+///
+/// # Errors
+/// `EmitFault` if a write fails, is interrupted or takes no byte: nothing is written after it, and the bytes written
+/// until then are the first of the text. A failed flush is reported with the whole length of the text.
+pub fn write_tight<W: Write>(
+    writer: &mut W,
+    pieces: Pieces,
+    width: u32,
+    epochs: &[NamedEpoch],
+) -> Result<(), EmitFault>
+    requires fresh { pieces ≡ nothing_put }
+    requires width { width ≤ MOST_ENDS }
+    ensures { let written = written_by (λ fault. First fault.written) result in
+        HasWritten W.contents (λ text. text ≡ tight_text (map (with_shares width) epochs.now)) written
+        writer.old writer.new }
+{
+    let mut pieces = pieces;
+    send_named_epochs(&mut pieces, writer, width, epochs);
+    let grants = count_named(epochs);
+    send_end(&mut pieces, writer, epochs.len(), grants);
+    pieces.finish(writer)
 }

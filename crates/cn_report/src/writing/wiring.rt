@@ -1,42 +1,56 @@
 //! The text of a wiring.
 
-ghost use Rattle.std.specs.Prelude.{◌≡◌, OnOk, IfOk};
-ghost use Rattle.cn_report.specs.Writing.Text.{Grows};
+ghost use Rattle.std.specs.Prelude.{◌≡◌, IfOk};
+ghost use Rattle.cn_report.specs.Writing.Pieces.{Puts, nothing_put};
 ghost use Rattle.cn_report.specs.Writing.Wiring.{wire_line, wire_lines, wires_line, wiring_text};
+ghost use Rattle.cn_report.specs.Writing.Written.{First, HasWritten, written_by};
 
-use crate::writing::heading::put_heading;
+use crate::writing::emitting::EmitFault;
+use crate::writing::heading::{send_heading, send_numbered};
+use crate::writing::line::send_line;
+use crate::writing::pieces::Pieces;
 use cn_wiring::{Counting, End};
 use std::alloc::{AllocError, Global};
+use std::io::Write;
 
 #[tactic(auto, unfolding(crate::specs::Writing::Wiring::wire_line))]
-fn put_wire(text: &mut String, wire: u32, end: End) -> Result<(), AllocError>
-    ensures { OnOk result (Grows text.old text.new (wire_line (wire, end))) }
+fn send_wire<W: Write>(pieces: &mut Pieces, writer: &mut W, wire: u32, end: End)
+    ensures { Puts W.contents writer.old writer.new pieces.old pieces.new (wire_line (wire, end)) }
 {
+    let wire = u64::from(wire);
     match end {
-        End::Balancer(balancer) => writeln!(text, "wire {wire} balancer {balancer}"),
-        End::Exit(exit) => writeln!(text, "wire {wire} exit {exit}"),
+        End::Balancer(balancer) => {
+            send_line(
+                pieces,
+                writer,
+                "wire ",
+                wire,
+                " balancer ",
+                u64::from(balancer),
+            );
+        }
+        End::Exit(exit) => send_line(pieces, writer, "wire ", wire, " exit ", u64::from(exit)),
     }
 }
 
-fn put_wires(text: &mut String, network: &Counting) -> Result<(), AllocError>
-    ensures { OnOk result (Grows text.old text.new (wire_lines network.now.table.ends)) }
+fn send_wires<W: Write>(pieces: &mut Pieces, writer: &mut W, network: &Counting)
+    ensures { Puts W.contents writer.old writer.new pieces.old pieces.new (wire_lines network.now.table.ends) }
 {
     let wires = network.entries() + 2 * network.balancers();
     for wire in 0..wires {
-        put_wire(text, wire, network.end(wire))?;
+        send_wire(pieces, writer, wire, network.end(wire));
     }
-    Ok(())
 }
 
 #[tactic(auto, unfolding(crate::specs::Writing::Wiring::wires_line))]
-fn put_end(text: &mut String, wires: u32) -> Result<(), AllocError>
-    ensures { OnOk result (Grows text.old text.new (wires_line wires)) }
+fn send_end<W: Write>(pieces: &mut Pieces, writer: &mut W, wires: u32)
+    ensures { Puts W.contents writer.old writer.new pieces.old pieces.new (wires_line wires) }
 {
-    writeln!(text, "end wires {wires}")
+    send_numbered(pieces, writer, "end wires ", wires, "\n");
 }
 
-/// The text of a network's wiring: its heading, a line for each wire with the balancer or exit at which it ends, and how
-/// many wires there are.
+/// The text of a network's wiring: its heading, a line for each wire with the balancer or exit at which it ends, and
+/// how many wires there are.
 ///
 /// # Errors
 ///
@@ -44,9 +58,37 @@ fn put_end(text: &mut String, wires: u32) -> Result<(), AllocError>
 pub fn render_wiring(alloc: Global, network: &Counting) -> Result<Vec<u8>, AllocError>
     ensures { IfOk result (λ text. text.items ≡ wiring_text network.now) }
 {
-    let mut text = String::new(alloc);
-    put_heading(&mut text, network)?;
-    put_wires(&mut text, network)?;
-    put_end(&mut text, network.entries() + 2 * network.balancers())?;
-    Ok(text.into_bytes())
+    let pieces = Pieces::new(alloc)?;
+    let mut text = Vec::new(alloc);
+    match write_wiring(&mut text, pieces, network) {
+        Ok(()) => Ok(text),
+        // A vector refuses a write only for want of memory.
+        Err(_) => Err(AllocError),
+    }
+}
+
+/// Writes the text of a network's wiring ([`render_wiring`]) in pieces, and flushes once at the end. It takes no
+/// memory.
+///
+/// # Errors
+/// `EmitFault` if a write fails, is interrupted or takes no byte: nothing is written after it, and the bytes written
+/// until then are the first of the text. A failed flush is reported with the whole length of the text.
+pub fn write_wiring<W: Write>(
+    writer: &mut W,
+    pieces: Pieces,
+    network: &Counting,
+) -> Result<(), EmitFault>
+    requires { pieces ≡ nothing_put }
+    ensures { let written = written_by (λ fault. First fault.written) result in
+        HasWritten W.contents (λ text. text ≡ wiring_text network.now) written writer.old writer.new }
+{
+    let mut pieces = pieces;
+    send_heading(&mut pieces, writer, network);
+    send_wires(&mut pieces, writer, network);
+    send_end(
+        &mut pieces,
+        writer,
+        network.entries() + 2 * network.balancers(),
+    );
+    pieces.finish(writer)
 }

@@ -69,8 +69,8 @@ fn name_run(floor: &Floor<'static>, lane: &mut Lane, ids: &[u64], entry: u64)
     }
 }
 
-/// Names clients by a lane with nobody inside that has quota and room for all: those who follow one another by one entry
-/// together.
+/// Names clients by a lane with nobody inside that has quota and room for all: those who follow one another by one
+/// entry together.
 fn name_all(floor: &Floor<'static>, lane: &mut Lane, clients: &[Client])
     requires own { lane.old.home ≡ floor.now }
     requires out { tokens_in lane.old.yard.lists ≡ 0 }

@@ -7,14 +7,14 @@ ghost use Rattle.cn_floor.specs.Together.{NamesApart, StoodAsOne, both_of, cut_f
 ghost use Rattle.cn_floor.specs.Views.{after_entered, after_look, base};
 
 use super::super::plays::{CutApart, LoadOf, LoadPlay, LookPlay, PairOf, TakeTogether};
-use super::Counters;
+use super::{Counters, place_of};
 use crate::view::View;
 use atomic_table::Seat;
 use std::marker::Brand;
 
 impl Counters {
-    /// Looks once, in one atomic step: a load of the lanes' word, which nobody changes. It shows a moment at which the lane has
-    /// its view.
+    /// Looks once, in one atomic step: a load of the lanes' word, which nobody changes. It shows a moment at which the
+    /// lane has its view.
     pub(in crate::floor) fn look<T: LoadOf>(&self, seat: &mut Seat<(), View>)
         requires own { seat.old.table_id ≡ self.now.table }
         requires hears { T.start ≡ self.now.start }
@@ -37,11 +37,11 @@ impl Counters {
     {
         self.table
             .shared
-            .load::<LoadPlay<T>>(seat, 1 + entry as usize)
+            .load::<LoadPlay<T>>(seat, place_of(self.stride, 1 + entry as usize))
     }
 
-    /// Loads the word of each entry once, in order: how many clients came in since the floor began, before which `came_before` had
-    /// come.
+    /// Loads the word of each entry once, in order: how many clients came in since the floor began, before which
+    /// `came_before` had come.
     pub(in crate::floor) fn load_all(&self, seat: &mut Seat<(), View>, came_before: u64) -> u64
         requires own { seat.old.table_id ≡ self.now.table }
         requires slots { (seat.old.me.1 ≡ []) × (seat.old.me.0.loads ≡ []) }
@@ -58,8 +58,8 @@ impl Counters {
         total - came_before
     }
 
-    /// Looks at both seats at one moment, for which the second's view is taken to the first's, and loads the word of each
-    /// entry then: how many clients came in. Gives the second back.
+    /// Looks at both seats at one moment, for which the second's view is taken to the first's, and loads the word of
+    /// each entry then: how many clients came in. Gives the second back.
     pub(in crate::floor) fn look_at_both<T: PairOf>(
         &self,
         seat: &mut Seat<(), View>,
@@ -90,8 +90,8 @@ impl Counters {
         (other, entered)
     }
 
-    /// Cuts a view in the two of which it was made, once it has an answer of how many came in. The answer is only for the
-    /// proof.
+    /// Cuts a view in the two of which it was made, once it has an answer of how many came in. The answer is only for
+    /// the proof.
     fn cut_apart<T: PairOf>(&self, seat: &mut Seat<(), View>, _entered: u64) -> Seat<(), View>
         requires own { seat.old.table_id ≡ self.now.table }
         requires slots { seat.old.me.1 ≡ [] }

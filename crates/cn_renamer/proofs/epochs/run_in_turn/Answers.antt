@@ -8,7 +8,7 @@ use Rattle.cn_spec.specs.Sums.{when}
 use Rattle.cn_wiring.specs.Network.{Network}
 use Rattle.cn_floor.specs.Carried.{client_count}
 use Rattle.cn_report.specs.Reading.Batch.{clients_of_epochs}
-use Rattle.cn_report.specs.declared.reading.gathering.BatchEpoch.{BatchEpoch}
+use Rattle.cn_report.specs.declared.reading.batch.BatchEpoch.{BatchEpoch}
 use Rattle.cn_renamer.specs.Running.{AreHoldersOf, AreHoldersOfOne}
 use Rattle.cn_renamer.proofs.Headline.{as-many, when-more}
 use Rattle.cn_renamer.proofs.Running.{listed-next, none-listed}
@@ -16,25 +16,25 @@ use Rattle.cn_renamer.proofs.epochs.run_in_turn.Goals as goal
 
 pub loop-epoch-init : goal.loop-epoch-init
 loop-epoch-init g c = record {
-  over = search rules;
+  network = search rules;
   came = search rules;
   carries = search rules;
   at = search rules;
   places = c.requires.epochs.all;
-  listed = none-listed c.args.carries c.args.network.now.table.width;
+  listed = none-listed c.args.first.carries c.args.first.words.network.table.width;
 }
 
 pub loop-epoch-preserved : goal.loop-epoch-preserved
 loop-epoch-preserved g c =
     let before = c.loop-epoch.invariant in
-    let carry = c.args.carries in
-    let width = c.args.network.now.table.width in
+    let carry = c.args.first.carries in
+    let width = c.args.first.words.network.table.width in
     let it = c.epoch-item.is in
     let epochs = c.args.epochs.now in
     let i = c.loop-epoch.epoch-index in
     let at : ℕ = c.loop-epoch.at in
     let epoch : BatchEpoch = c.epoch-item.result in
-    let own : List ℕ = c.run_next.new.holders in
+    let own : List ℕ = c.serve_epoch.new.holders in
     let old : List ℕ = c.loop-epoch.holders in
     let front : take i epochs ++ epoch ∷ [] ≡ take (i + 1) epochs = grind (arith, common_steps) in
     let more : clients_of_epochs (take i epochs) + length epoch.clients.items ≡ clients_of_epochs (take (i + 1) epochs) =
@@ -42,7 +42,7 @@ loop-epoch-preserved g c =
     let all = sum_by-take-le (λ (e : BatchEpoch). length e.clients.items) epochs (i + 1) in
     let one : AreHoldersOfOne width (when carry (clients_of_epochs (take i epochs))) epoch own =
     subst (λ (m : ℕ). AreHoldersOfOne width m epoch own) before.came
-    (subst (λ (n : Network). AreHoldersOfOne n.table.width (client_count c.loop-epoch.runner.words) epoch own) before.over c.in_ok-next.ensures.served) in
+    (subst (λ (n : Network). AreHoldersOfOne n.table.width (client_count c.loop-epoch.runner.words) epoch own) before.network c.in_ok-next.ensures.served) in
     let many : length own ≡ length epoch.clients.items = ap (λ (xs : List ℕ). length xs) (sym one.listed) ∙ as-many _ _ epoch one.made one.served ∙ one.served.clients in
     let fits : at + length own ≤ length old = omega (arith, before.at, before.places, more, many, all) in
     let put : List ℕ = put_mid at (at + c.len.result - at) old own in
@@ -52,7 +52,7 @@ loop-epoch-preserved g c =
     subst (λ (xs : List ℕ). AreHoldersOf carry width (take i epochs ++ epoch ∷ []) (take at old ++ xs)) one.listed
     (listed-next carry width (take i epochs) epoch one.made (take at old) before.listed one.served) in
     record {
-      over = c.in_ok-next.ensures.network ∙ before.over;
+      network = c.in_ok-next.ensures.network ∙ before.network;
       carries = c.in_ok-next.ensures.carries ∙ before.carries;
       came = c.in_ok-next.ensures.came
           ∙ ap (λ (b : Bool). client_count c.loop-epoch.runner.words + when b (length epoch.clients.items)) before.carries

@@ -1,11 +1,17 @@
-use Rattle.std.proofs.Common.{◌∙◌}
+use Rattle.std.proofs.lemmas.Result.{err_from_is_err_and}
 use Rattle.cn_report.proofs.CallerLemmas.{written-map}
-use Rattle.cn_renamer.specs.Outputs.{until_output}
+use Rattle.cn_report.specs.Writing.Written.{First}
 use Rattle.cn_renamer.specs.Show.{IsWiringOf}
-use Rattle.cn_report.specs.Writing.Written.{written_by}
 use Rattle.cn_renamer.proofs.showing.show.Goals as goal
+
+pub returns-in_err-write_wiring : goal.returns-in_err-write_wiring
+returns-in_err-write_wiring g c =
+    let fault = err_from_is_err_and c.from_residual-in_err-write_wiring.result c.from_residual-in_err-write_wiring.ensures.1 in
+    rw (fault.1, fault.2) (
+    written-map g.W.Write.contents _ (IsWiringOf c.args.net.now) (First c.in_err-write_wiring.field-0.0.written) c.args.writer.now c.write_wiring.new.writer
+    (λ text is. (c.in_ok-network.network, c.in_ok-network.ensures.ok, is)) c.in_err-write_wiring.ensures)
 
 pub returns : goal.returns
 returns g c =
-    written-map g.W.Write.contents _ (IsWiringOf c.args.net.now) (written_by until_output c.write_text.result) c.args.writer.now c.write_text.new.writer
-    (λ text is. (c.in_ok-network.network, c.in_ok-network.ensures.ok, is ∙ c.deref.ensures.value ∙ c.in_ok-text.ensures)) c.write_text.ensures
+    let (text, is, grows) = c.in_ok-write_wiring.ensures in
+    (text, (c.in_ok-network.network, c.in_ok-network.ensures.ok, is), grows)

@@ -12,8 +12,8 @@ use Rattle.cn_floor.proofs.floor.Floor.begin.Goals as goal
 begun : (w : WordsValue) (quota : ℕ) → IsClosed w → client_count w ≤ MOST_CARRIED → quota ≤ MOST_CLIENTS → IsStart (start_after w quota)
 begun w quota closed few low = record { network = closed.network; quota = low; carried = closed.carried; few = few }
 
-pub new-made-requires : goal.new-made-requires
-new-made-requires c =
+pub new-made-requires-clause-began : goal.new-made-requires-clause-began
+new-made-requires-clause-began c =
     let network : c.network.result.now ≡ c.words.inside.network = c.network.ensures ∙ ap (λ (w : WordsValue). w.network) (sym c.words.view_is) in
     let same : c.args.words ≡ record { network = c.network.result.now; words = c.words.inside.words.items } =
     sym c.words.view_is ∙ (λ i. record { network = (sym network) i; words = c.words.inside.words.items }) in

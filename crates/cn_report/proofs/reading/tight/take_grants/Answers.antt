@@ -13,11 +13,11 @@ loop-at-init g c = record {
   plain = c.in_default.ensures.plain;
   taken = λ text read.
       let (fields, now, e) = c.in_default.ensures.ok text read in
-      (fields ∷ [], [], now, refl, taken-header fields e, c.new-granting.ensures.checked c.args.width);
+      (fields ∷ [], [], now, refl, taken-header fields e, c.new-granting.ensures.checked);
 }
 
-pub finish-requires-clause-few : goal.finish-requires-clause-few
-finish-requires-clause-few g c =
+pub finish-requires : goal.finish-requires
+finish-requires g c =
     let count = rw c.in-Ok-false.field-0-test at c.in-Ok-false.ensures.count in
     omega (arith, count, c.loop-at.invariant.few)
 
@@ -26,8 +26,8 @@ returns-in-Ok-false g c = record {
   answer = λ text read.
       let (before, grants, now, size, t, checked) = c.loop-at.invariant.taken text read in
       let (all, ended) = rw c.in-Ok-false.field-0-test at (c.in-Ok-false.ensures.found text before grants now checked (omega (arith, t.counted, size))) in
-      taken-end c.args.width (records_of text) before grants c.finish.result t all (c.finish.ensures.answer grants ended.holds)
-      (if_ok-map c.finish.result c.finish.ensures.told (λ tight told. told grants ended.holds ended.tells));
+      taken-end (λ epochs. epochs.items) (records_of text) before grants c.finish.result t all (c.finish.ensures.answer grants ended.holds)
+      (if_ok-map c.finish.result c.finish.ensures.told (λ epochs told. told grants ended.holds ended.tells));
 }
 
 pub returns-in-Err-take_grant : goal.returns-in-Err-take_grant

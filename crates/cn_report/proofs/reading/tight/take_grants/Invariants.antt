@@ -13,5 +13,5 @@ invariant-loop-at g l = record {
   plain : IsPlain l.rows;
   taken : (text : List ℕ) → HasRead g.R.Read.remaining l.fn.rows text []
       → (before : List Record) × (grants : List Granted) × HasRead g.R.Read.remaining l.rows text before × (length before ≡ l.at)
-      × AreTaken before grants × IsChecked l.fn.width l.granting grants;
+      × AreTaken before grants × IsChecked l.granting grants;
 }

@@ -1,10 +1,6 @@
-use Rattle.std.proofs.Common.{◌-◌, length, slice_index}
-use Rattle.std.specs.List.{flat_map, range_with_len}
-use Rattle.cn_report.specs.Writing.Grants.{grant_line, grant_lines}
-use Rattle.cn_report.proofs.WritingLemmas.Pieces.{Leads}
+use Rattle.cn_report.specs.Writing.Grants.{grant_lines}
+use Rattle.cn_report.specs.Writing.Pieces.{Puts}
 use Rattle.cn_report.proofs.writing.grants.send_epoch.Given as goal
 
 abbrev pub invariant-loop-name : goal.invariant-loop-name
-invariant-loop-name g l =
-    Leads g.W.Write.contents l.initial.writer l.writer l.initial.pieces l.pieces (grant_lines l.epoch (length l.holders) l.holders)
-    (flat_map (λ name. grant_line l.epoch (slice_index l.holders name) name) (range_with_len l.name (length l.holders - l.name)))
+invariant-loop-name g l = Puts g.W.Write.contents l.initial.writer l.writer l.initial.pieces l.pieces (grant_lines l.epoch l.name l.holders)

@@ -1,12 +1,11 @@
-use Rattle.std.proofs.Common.{◌≡◌, ◌+◌, ◌++◌, ◌∙◌, ℕ, Bool, List, ap, arith, drop, length, refl, subst, sym, take}
+use Rattle.std.proofs.Common.{◌≡◌, ◌+◌, ◌++◌, ◌∙◌, ℕ, Bool, List, [], ap, append_assoc, append-nil, arith, drop, length, refl, subst, sym, take}
 use Rattle.std.proofs.lemmas.List.Sums.{sum_by-drop_more}
-use Rattle.std.proofs.lemmas.Result.{err_from_is_err_and}
 use Rattle.cn_spec.specs.Sums.{when}
-use Rattle.cn_report.specs.declared.reading.gathering.BatchEpoch.{BatchEpoch}
+use Rattle.cn_report.specs.declared.reading.batch.BatchEpoch.{BatchEpoch}
 use Rattle.cn_record.specs.declared.record.EpochRecord.{EpochRecord}
 use Rattle.cn_report.specs.Writing.Grants.{grant_lines}
 use Rattle.cn_report.specs.Writing.Records.{AreRecordsOf}
-use Rattle.cn_report.proofs.WritingLemmas.Pieces.{apart, same-left}
+use Rattle.cn_report.proofs.WritingLemmas.Pieces.{put-none, put-same, put-then}
 use Rattle.cn_report.proofs.WritingLemmas.Records.{FirstRecord, first-record, last-record}
 use Rattle.cn_report.proofs.writing.grants.send_epochs.Invariants.{lines}
 use Rattle.cn_report.proofs.writing.grants.send_epochs.Goals as goal
@@ -31,7 +30,7 @@ split_at-requires g c =
     )
 
 pub loop-epoch-init : goal.loop-epoch-init
-loop-epoch-init g c = record { as_many = c.requires; put = λ carry width records are. (0, records, are, λ start text left way. way) }
+loop-epoch-init g c = record { as_many = c.requires; put = λ carry width records are. (0, records, are, [], refl, put-none) }
 
 pub loop-epoch-preserved : goal.loop-epoch-preserved
 loop-epoch-preserved g c =
@@ -49,31 +48,20 @@ loop-epoch-preserved g c =
         sum_by-drop_more (λ (x : BatchEpoch). length x.clients.items) c.args.epochs.now c.loop-epoch.epoch-index e c.loop-epoch-test.true,
       );
       put = λ carry width records are.
-          let (m, later, rest, leads) = c.loop-epoch.invariant.put carry width records are in
+          let (m, later, rest, sofar, whole, puts) = c.loop-epoch.invariant.put carry width records are in
           let f = first-record (λ r. grant_lines r.number r.clients r.holders.items) carry width m c.args.epochs.now c.loop-epoch.epoch-index e later c.loop-epoch.left.now c.loop-epoch-test.true c.epoch-item.is rest in
           let parts = record-lines carry width m e _ later c.loop-epoch.left.now c.split_at.result.0.now front (c.split_at.ensures.front_len ∙ count) f in (
             when carry (m + length e.clients.items),
             f.later,
             subst (λ (t : List ℕ). AreRecordsOf carry width (when carry (m + length e.clients.items)) (drop (c.loop-epoch.epoch-index + 1) c.args.epochs.now) f.later t) (sym back) f.rest,
-            λ start text left way.
-                c.in_ok-send_epoch.ensures start text _ (apart start _ _ text _ (lines f.later) left (same-left start _ _ text _ _ (ap (λ (t : List ℕ). t ++ left) parts) (leads start text left way))),
+            sofar ++ grant_lines e.number (length c.split_at.result.0.now) c.split_at.result.0.now,
+            whole ∙ ap (λ (t : List ℕ). sofar ++ t) parts ∙ sym (append_assoc sofar (grant_lines e.number (length c.split_at.result.0.now) c.split_at.result.0.now) (lines f.later)),
+            put-then puts c.send_epoch.ensures,
           );
     }
 
-pub returns-in_err-send_epoch : goal.returns-in_err-send_epoch
-returns-in_err-send_epoch g c carry width records are =
-    let fault = err_from_is_err_and c.from_residual.result c.from_residual.ensures.1 in
-    let e = c.epoch-item.result in
-    let count : c.len.result ≡ length e.clients.items = omega (arith, c.len.ensures, e.clients.ok.0) in
-    let front = c.split_at.ensures.front ∙ ap (λ n. take n c.loop-epoch.left.now) count in
-    let (m, later, rest, leads) = c.loop-epoch.invariant.put carry width records are in
-    let f = first-record (λ r. grant_lines r.number r.clients r.holders.items) carry width m c.args.epochs.now c.loop-epoch.epoch-index e later c.loop-epoch.left.now c.loop-epoch-test.true c.epoch-item.is rest in
-    let parts = record-lines carry width m e _ later c.loop-epoch.left.now c.split_at.result.0.now front (c.split_at.ensures.front_len ∙ count) f in
-    rw (fault.1, fault.2) (λ start text left way.
-    c.in_err-send_epoch.ensures start text _ (apart start _ _ text _ (lines f.later) left (same-left start _ _ text _ _ (ap (λ (t : List ℕ). t ++ left) parts) (leads start text left way))))
-
 pub returns : goal.returns
-returns g c carry width records are start text left way =
-    let (m, later, rest, leads) = c.loop-epoch.invariant.put carry width records are in
+returns g c carry width records are =
+    let (m, later, rest, sofar, whole, puts) = c.loop-epoch.invariant.put carry width records are in
     let none = last-record (λ r. grant_lines r.number r.clients r.holders.items) carry width m c.args.epochs.now c.loop-epoch.epoch-index later c.loop-epoch.left.now c.loop-epoch-test.false rest in
-    same-left start _ _ text _ _ (ap (λ (t : List ℕ). t ++ left) none) (leads start text left way)
+    put-same (sym (whole ∙ ap (λ (t : List ℕ). sofar ++ t) none ∙ append-nil sofar)) puts

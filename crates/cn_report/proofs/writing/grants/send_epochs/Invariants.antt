@@ -1,10 +1,10 @@
-use Rattle.std.proofs.Common.{◌≡◌, ℕ, Bool, List, drop, length}
+use Rattle.std.proofs.Common.{◌≡◌, ◌++◌, ℕ, Bool, List, drop, length}
 use Rattle.std.specs.List.{flat_map}
 use Rattle.cn_record.specs.declared.record.EpochRecord.{EpochRecord}
 use Rattle.cn_report.specs.Reading.Batch.{clients_of_epochs}
 use Rattle.cn_report.specs.Writing.Grants.{grant_lines}
+use Rattle.cn_report.specs.Writing.Pieces.{Puts}
 use Rattle.cn_report.specs.Writing.Records.{AreRecordsOf}
-use Rattle.cn_report.proofs.WritingLemmas.Pieces.{Leads}
 use Rattle.cn_report.proofs.writing.grants.send_epochs.Given as goal
 
 abbrev pub lines : List EpochRecord → List ℕ
@@ -17,5 +17,5 @@ invariant-loop-epoch g l =
       as_many : clients_of_epochs (drop l.epoch-index l.epochs) ≡ length l.left;
       put : (carry : Bool) (width : ℕ) (records : List EpochRecord) → AreRecordsOf carry width 0 l.epochs records l.holders
           → (m : ℕ) × (later : List EpochRecord) × AreRecordsOf carry width m (drop l.epoch-index l.epochs) later l.left
-          × Leads g.W.Write.contents l.initial.writer l.writer l.initial.pieces l.pieces (lines records) (lines later);
+          × (sofar : List ℕ) × (lines records ≡ sofar ++ lines later) × Puts g.W.Write.contents l.initial.writer l.writer l.initial.pieces l.pieces sofar;
     }

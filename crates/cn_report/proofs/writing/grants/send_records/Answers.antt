@@ -1,25 +1,18 @@
 use Rattle.std.proofs.Common.{subst, sym}
 use Rattle.cn_report.specs.Writing.Grants.{HasHolders}
 use Rattle.std.proofs.lemmas.List.Elements.{All-get_or}
-use Rattle.std.proofs.lemmas.Result.{err_from_is_err_and}
-use Rattle.cn_report.proofs.WritingLemmas.Lengths.{grants-of}
-use Rattle.cn_report.proofs.WritingLemmas.Pieces.{next-item, no-item}
+use Rattle.cn_report.proofs.WritingLemmas.Pieces.{put-last, put-next, put-none}
+use Rattle.cn_report.proofs.WritingLemmas.Records.{grants-of}
 use Rattle.cn_report.proofs.writing.grants.send_records.Goals as goal
 
-pub loop-epoch-preserved : goal.loop-epoch-preserved
-loop-epoch-preserved g c start text left way =
-    let holders = subst HasHolders (sym c.epoch-item.is) (All-get_or HasHolders c.args.records.now c.loop-epoch.epoch-index c.epoch-item.result c.loop-epoch-test.true c.requires) in
-    (rw (c.deref.ensures.value, holders) at c.in_ok-send_epoch.ensures) start text _
-    (next-item grants-of start _ _ text c.args.records.now c.loop-epoch.epoch-index c.epoch-item.result left c.loop-epoch-test.true c.epoch-item.is (c.loop-epoch.invariant start text left way))
+pub loop-epoch-init : goal.loop-epoch-init
+loop-epoch-init g c = put-none
 
-pub returns-in_err-send_epoch : goal.returns-in_err-send_epoch
-returns-in_err-send_epoch g c =
-    let fault = err_from_is_err_and c.from_residual.result c.from_residual.ensures.1 in
+pub loop-epoch-preserved : goal.loop-epoch-preserved
+loop-epoch-preserved g c =
     let holders = subst HasHolders (sym c.epoch-item.is) (All-get_or HasHolders c.args.records.now c.loop-epoch.epoch-index c.epoch-item.result c.loop-epoch-test.true c.requires) in
-    rw (fault.1, fault.2) (λ start text left way.
-    (rw (c.deref.ensures.value, holders) at c.in_err-send_epoch.ensures) start text _
-    (next-item grants-of start _ _ text c.args.records.now c.loop-epoch.epoch-index c.epoch-item.result left c.loop-epoch-test.true c.epoch-item.is (c.loop-epoch.invariant start text left way)))
+    put-next grants-of c.args.records.now c.loop-epoch.epoch-index c.epoch-item.result c.epoch-item.result c.loop-epoch-test.true c.epoch-item.is c.loop-epoch.invariant
+    (rw (c.deref.ensures.value, holders) at c.send_epoch.ensures)
 
 pub returns : goal.returns
-returns g c start text left way =
-    no-item grants-of start _ _ text c.args.records.now c.loop-epoch.epoch-index left c.loop-epoch-test.false (c.loop-epoch.invariant start text left way)
+returns g c = put-last grants-of c.args.records.now c.loop-epoch.epoch-index c.loop-epoch-test.false c.loop-epoch.invariant

@@ -1,11 +1,7 @@
-use Rattle.std.proofs.Common.{◌-◌, slice_index}
-use Rattle.std.specs.List.{flat_map, range_with_len}
 use Rattle.cn_spec.specs.Step.{shares_after}
-use Rattle.cn_report.specs.Writing.Outcome.{exit_line, exit_lines}
-use Rattle.cn_report.proofs.WritingLemmas.Pieces.{Leads}
+use Rattle.cn_report.specs.Writing.Outcome.{exit_lines}
+use Rattle.cn_report.specs.Writing.Pieces.{Puts}
 use Rattle.cn_report.proofs.writing.outcome.send_counts.Given as goal
 
 abbrev pub invariant-loop-exit : goal.invariant-loop-exit
-invariant-loop-exit g l =
-    Leads g.W.Write.contents l.initial.writer l.writer l.initial.pieces l.pieces (exit_lines l.width (shares_after l.before l.clients l.width))
-    (flat_map (λ exit. exit_line exit (slice_index (shares_after l.before l.clients l.width) exit)) (range_with_len l.exit (l.width - l.exit)))
+invariant-loop-exit g l = Puts g.W.Write.contents l.initial.writer l.writer l.initial.pieces l.pieces (exit_lines l.exit (shares_after l.before l.clients l.width))

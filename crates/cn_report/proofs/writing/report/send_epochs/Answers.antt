@@ -1,15 +1,14 @@
-use Rattle.std.proofs.Common.{◌≡◌, ◌+◌, ◌++◌, ◌∙◌, ℕ, Bool, List, ap, arith, drop, length, refl, subst, sym, take}
+use Rattle.std.proofs.Common.{◌≡◌, ◌+◌, ◌++◌, ◌∙◌, ℕ, Bool, List, [], ap, append_assoc, append-nil, arith, drop, length, refl, subst, sym, take}
 use Rattle.std.specs.List.{flat_map}
 use Rattle.std.proofs.lemmas.List.Sums.{sum_by-drop_more}
-use Rattle.std.proofs.lemmas.Result.{err_from_is_err_and}
 use Rattle.cn_spec.specs.Step.{shares_after}
 use Rattle.cn_spec.specs.Sums.{when}
-use Rattle.cn_report.specs.declared.reading.gathering.BatchEpoch.{BatchEpoch}
+use Rattle.cn_report.specs.declared.reading.batch.BatchEpoch.{BatchEpoch}
 use Rattle.cn_record.specs.declared.record.EpochRecord.{EpochRecord}
 use Rattle.cn_report.specs.Writing.Outcome.{exit_lines, name_lines}
 use Rattle.cn_report.specs.Writing.Records.{AreRecordsOf}
 use Rattle.cn_report.specs.Writing.Report.{epoch_line, epoch_lines}
-use Rattle.cn_report.proofs.WritingLemmas.Pieces.{apart, same-left}
+use Rattle.cn_report.proofs.WritingLemmas.Pieces.{put-none, put-rest, put-same, put-then}
 use Rattle.cn_report.proofs.WritingLemmas.Records.{FirstRecord, first-record, last-record, when-le}
 use Rattle.cn_report.proofs.writing.report.send_epochs.Goals as goal
 
@@ -35,7 +34,7 @@ split_at-requires g c =
 
 pub loop-epoch-init : goal.loop-epoch-init
 loop-epoch-init g c =
-    record { as_many = c.requires.as_many; few = omega (arith, c.requires.as_many, c.requires.few); put = λ records are. (records, are, λ start text left way. way) }
+    record { as_many = c.requires.as_many; few = omega (arith, c.requires.as_many, c.requires.few); put = λ records are. (records, are, [], refl, put-none) }
 
 pub loop-epoch-preserved : goal.loop-epoch-preserved
 loop-epoch-preserved g c =
@@ -58,33 +57,28 @@ loop-epoch-preserved g c =
       );
       few = omega (arith, count, c.split_at.ensures.back_len, c.loop-epoch.invariant.few, next, when-le c.args.carries (m + length e.clients.items));
       put = λ records are.
-          let (later, rest, leads) = c.loop-epoch.invariant.put records are in
+          let (later, rest, sofar, whole, puts) = c.loop-epoch.invariant.put records are in
+          let n = length c.split_at.result.0.now in
+          let own : List ℕ = epoch_line e.number n ++ (exit_lines w (shares_after m n w) ++ name_lines n c.split_at.result.0.now) in
           let f = first-record (epoch_lines w) c.args.carries w m c.args.epochs.now c.loop-epoch.epoch-index e later c.loop-epoch.left.now c.loop-epoch-test.true c.epoch-item.is rest in
           let parts = record-lines c.args.carries w m e _ later c.loop-epoch.left.now c.split_at.result.0.now front many f in
           let epochs = drop (c.loop-epoch.epoch-index + 1) c.args.epochs.now in
           let after = subst (λ (t : List ℕ). AreRecordsOf c.args.carries w (when c.args.carries (m + length e.clients.items)) epochs f.later t) (sym back) f.rest in (
             f.later,
             subst (λ n. AreRecordsOf c.args.carries w n epochs f.later c.split_at.result.1.now) (sym next) after,
-            λ start text left way.
-                c.in_ok-send_epoch.ensures start text _ (apart start _ _ text _ (flat_map (epoch_lines w) f.later) left (same-left start _ _ text _ _ (ap (λ (t : List ℕ). t ++ left) parts) (leads start text left way))),
+            sofar ++ own,
+            whole ∙ ap (λ (t : List ℕ). sofar ++ t) parts ∙ sym (append_assoc sofar own (flat_map (epoch_lines w) f.later)),
+            put-then puts c.send_epoch.ensures,
           );
     }
 
-pub returns-in_err-send_epoch : goal.returns-in_err-send_epoch
-returns-in_err-send_epoch g c records are =
-    let fault = err_from_is_err_and c.from_residual.result c.from_residual.ensures.1 in
-    let e = c.epoch-item.result in
-    let w = c.args.width in
-    let count : c.len.result ≡ length e.clients.items = omega (arith, c.len.ensures, e.clients.ok.0) in
-    let front = c.split_at.ensures.front ∙ ap (λ n. take n c.loop-epoch.left.now) count in
-    let (later, rest, leads) = c.loop-epoch.invariant.put records are in
-    let f = first-record (epoch_lines w) c.args.carries w c.loop-epoch.before c.args.epochs.now c.loop-epoch.epoch-index e later c.loop-epoch.left.now c.loop-epoch-test.true c.epoch-item.is rest in
-    let parts = record-lines c.args.carries w c.loop-epoch.before e _ later c.loop-epoch.left.now c.split_at.result.0.now front (c.split_at.ensures.front_len ∙ count) f in
-    rw (fault.1, fault.2) (λ start text left way.
-    c.in_err-send_epoch.ensures start text _ (apart start _ _ text _ (flat_map (epoch_lines w) f.later) left (same-left start _ _ text _ _ (ap (λ (t : List ℕ). t ++ left) parts) (leads start text left way))))
-
 pub returns : goal.returns
-returns g c records are start text left way =
-    let (later, rest, leads) = c.loop-epoch.invariant.put records are in
+returns g c records are =
+    let (later, rest, sofar, whole, puts) = c.loop-epoch.invariant.put records are in
     let none = last-record (epoch_lines c.args.width) c.args.carries c.args.width c.loop-epoch.before c.args.epochs.now c.loop-epoch.epoch-index later c.loop-epoch.left.now c.loop-epoch-test.false rest in
-    same-left start _ _ text _ _ (ap (λ (t : List ℕ). t ++ left) none) (leads start text left way)
+    put-same (sym (whole ∙ ap (λ (t : List ℕ). sofar ++ t) none ∙ append-nil sofar)) puts
+
+pub returns-then-has_failed : goal.returns-then-has_failed
+returns-then-has_failed g c records are =
+    let (later, rest, sofar, whole, puts) = c.loop-epoch.invariant.put records are in
+    put-same (sym whole) (put-rest sofar (flat_map (epoch_lines c.args.width) later) (sym c.has_failed.ensures ∙ c.if-has_failed.true) puts)

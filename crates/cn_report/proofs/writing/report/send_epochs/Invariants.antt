@@ -1,11 +1,11 @@
-use Rattle.std.proofs.Common.{◌≡◌, ◌+◌, ◌≤◌, List, drop, length}
+use Rattle.std.proofs.Common.{◌≡◌, ◌+◌, ◌++◌, ◌≤◌, ℕ, List, drop, length}
 use Rattle.std.specs.List.{flat_map}
 use Rattle.cn_spec.specs.declared.limits.TheConstants.{MOST_RECORDS}
 use Rattle.cn_record.specs.declared.record.EpochRecord.{EpochRecord}
 use Rattle.cn_report.specs.Reading.Batch.{clients_of_epochs}
+use Rattle.cn_report.specs.Writing.Pieces.{Puts}
 use Rattle.cn_report.specs.Writing.Records.{AreRecordsOf}
 use Rattle.cn_report.specs.Writing.Report.{epoch_lines}
-use Rattle.cn_report.proofs.WritingLemmas.Pieces.{Leads}
 use Rattle.cn_report.proofs.writing.report.send_epochs.Given as goal
 
 -- the records of the epochs so far are put
@@ -16,5 +16,6 @@ invariant-loop-epoch g l =
       few : l.before + length l.left ≤ MOST_RECORDS;
       put : (records : List EpochRecord) → AreRecordsOf l.carries l.width 0 l.epochs records l.holders
           → (later : List EpochRecord) × AreRecordsOf l.carries l.width l.before (drop l.epoch-index l.epochs) later l.left
-          × Leads g.W.Write.contents l.initial.writer l.writer l.initial.pieces l.pieces (flat_map (epoch_lines l.width) records) (flat_map (epoch_lines l.width) later);
+          × (sofar : List ℕ) × (flat_map (epoch_lines l.width) records ≡ sofar ++ flat_map (epoch_lines l.width) later)
+          × Puts g.W.Write.contents l.initial.writer l.writer l.initial.pieces l.pieces sofar;
     }

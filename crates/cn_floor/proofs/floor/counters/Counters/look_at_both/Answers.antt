@@ -5,6 +5,7 @@ use Rattle.cn_floor.specs.Rule.{start_of}
 use Rattle.cn_floor.specs.Steps.{HasMoment, IsAnswer}
 use Rattle.cn_floor.specs.Together.{Pair, both_of, cut_first, first_after}
 use Rattle.cn_floor.specs.Views.{after_entered, after_look}
+use Rattle.cn_floor.proofs.AtMoments.Placed.{first as lanes-place, joins-at, there}
 use Rattle.cn_floor.proofs.AtMoments.Together.{answers-both, names-apart, takes-together}
 use Rattle.cn_floor.proofs.floor.counters.Counters.look_at_both.Goals as goal
 
@@ -15,8 +16,13 @@ join_seat-requires g c =
     let idle : c.look.new.seat.me.0.loads ≡ [] = ap (λ (v : View). v.loads) first ∙ c.requires.slots.1 in
     let idle' : c.look-2.new.seat.me.0.loads ≡ [] = ap (λ (v : View). v.loads) second ∙ c.requires.slots.3 in
     let long : length c.look-2.new.seat.me.0.tokens ≡ length c.look.new.seat.me.0.tokens =
-    ap (λ (v : View). length v.tokens) second ∙ c.requires.wires ∙ sym (ap (λ (v : View). length v.tokens) first) in
-    (search rules, search rules, search rules, omega (arith, c.self.invariant.words), takes-together (start_of c.self.inside.table.shared.key) _ _ _ _ idle idle' long)
+    ap (λ (v : View). length v.tokens) second ∙ c.requires.wires ∙ sym (ap (λ (v : View). length v.tokens) first) in (
+      search rules,
+      search rules,
+      search rules,
+      there c.self.inside c.self.invariant (lanes-place c.self.inside c.self.invariant) (omega arith),
+      joins-at c.self.inside c.self.invariant (takes-together (start_of c.self.inside.table.shared.key) _ _ _ _ idle idle' long),
+    )
 
 pub returns-clause-apart : goal.returns-clause-apart
 returns-clause-apart g c =

@@ -1,6 +1,7 @@
 use Rattle.std.proofs.Common.{ℕ, ◌≤◌, rules, sym, ap, ◌∙◌, arith}
 use Rattle.cn_floor.specs.Lane.{FloorValue}
 use Rattle.cn_floor.specs.Rule.{start_of}
+use Rattle.cn_floor.proofs.AtMoments.Placed.{first, splits-at, there}
 use Rattle.cn_floor.proofs.AtMoments.Sharing.{splits}
 use Rattle.cn_floor.proofs.floor.counters.Counters.split.Goals as goal
 
@@ -11,4 +12,4 @@ split_seat-requires g c =
     let q : ℕ = g.T.Portion.quota in
     let is = c.requires.quota.0 in
     let enough : q ≤ c.args.seat.now.me.0.quota = omega (arith, c.requires.quota.1) in
-    (search rules, omega (arith, c.self.invariant.words), splits (start_of key) _ q c.args.seat.now.me.0 (c.requires.own.1 ∙ about) c.requires.slots.1 enough)
+    (search rules, there c.self.inside c.self.invariant (first c.self.inside c.self.invariant) (omega arith), splits-at c.self.inside c.self.invariant (splits (start_of key) _ q c.args.seat.now.me.0 (c.requires.own.1 ∙ about) c.requires.slots.1 enough))

@@ -1,9 +1,11 @@
-use Rattle.std.proofs.Common.{◌≡◌, ◌<◌, length, rules, sym, ap, ◌∙◌, subst, arith}
+use Rattle.std.proofs.Common.{◌≡◌, ◌^◌, ◌%◌, ◌+◌, [], ◌<◌, length, rules, sym, ap, ◌∙◌, subst, arith}
 use Rattle.cn_wiring.specs.Table.{Stands, end_of}
 use Rattle.cn_floor.specs.declared.view.Start.{Start}
 use Rattle.cn_floor.specs.Lane.{FloorValue}
+use Rattle.cn_floor.specs.Sweeps.{AllGoOn}
 use Rattle.cn_floor.specs.Rule.{start_of}
-use Rattle.cn_floor.specs.Words.{end_word, word_count}
+use Rattle.cn_floor.specs.Words.{end_word}
+use Rattle.cn_floor.proofs.AtMoments.Placed.{at-word, there}
 use Rattle.cn_floor.proofs.AtMoments.Raised.{end-there}
 use Rattle.cn_floor.proofs.AtMoments.Sweeps.{all_go-on}
 use Rattle.cn_floor.proofs.floor.counters.Counters.sweep.Goals as goal
@@ -13,18 +15,19 @@ fetch_add-requires g c =
     let key = c.self.inside.table.shared.key in
     let start : Start = start_of key in
     let about : c.args.self.now.start ≡ start = sym (ap (λ (h : FloorValue). h.start) c.self.view_is) in
-    let count : c.self.inside.table.shared.table_id.words ≡ word_count start.network.table = c.self.invariant.words in
-    let word : c.word_of-word.result ≡ end_word start.network.table c.args.end = c.word_of-word.ensures ∙ ap (λ (s : Start). end_word s.network.table c.args.end) about in
+    let word : c.word_of.result ≡ end_word start.network.table c.args.end = c.word_of.ensures.word ∙ ap (λ (s : Start). end_word s.network.table c.args.end) about in
     let stands : Stands start.network.table c.args.end = subst (λ (s : Start). Stands s.network.table c.args.end) about c.requires.stands in
     let low = end-there start.network.table c.args.end stands in (
       search rules,
-      omega arith,
-      all_go-on start _ _ c.args.seat.now.me g.T.SweepOf.sweeping c.args._wire c.args.end c.args.tokens c.word_of-word.result
+      there c.self.inside c.self.invariant c.place_of-place.ensures (omega (arith, word, low)),
+      at-word c.self.inside c.self.invariant (λ n. (n + c.args.tokens) % 2 ^ 64) (λ n new. (new.1 ≡ []) × AllGoOn g.T.SweepOf.sweeping c.args.seat.now.me.0 n new.0)
+          c.place_of-place.ensures
+          (all_go-on start _ _ c.args.seat.now.me g.T.SweepOf.sweeping c.args._wire c.args.end c.args.tokens c.word_of.result
           (c.requires.sweeping ∙ ap (λ (s : Start). record { start = s; wire = c.args._wire; end = c.args.end }) about)
           c.requires.slots.0 c.requires.slots.1 (c.requires.own.1 ∙ about) c.requires.once
           (subst (λ (s : Start). length c.args.seat.now.me.0.tokens ≡ length s.network.table.ends) about c.requires.wires)
           (subst (λ (s : Start). c.args._wire < length s.network.table.ends) about c.requires.wire)
           c.requires.tokens
           (subst (λ (s : Start). end_of s.network.table c.args._wire ≡ c.args.end) about c.requires.ends)
-          stands (sym word),
+          stands (sym word)),
     )

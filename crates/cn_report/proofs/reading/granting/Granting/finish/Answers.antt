@@ -8,4 +8,4 @@ returns-in-None-clause-answer c = λ grants held. no_gap c.args.self grants held
 pub returns-in-None-clause-told : goal.returns-in-None-clause-told
 returns-in-None-clause-told c = λ grants held tells.
     let (before, over) = c.in_ok-end.ensures.over c.in-None.is in
-    over ∙ told-end c.args.width _ (c.args.self.latest + 1) grants (told-turn c.args.width _ c.args.self.latest c.args.self.count (c.args.self.latest + 1) grants (tells before) held.count (omega arith))
+    over ∙ told-end _ (c.args.self.latest + 1) grants (told-turn _ c.args.self.latest c.args.self.count (c.args.self.latest + 1) grants (tells before) held.count (omega arith))

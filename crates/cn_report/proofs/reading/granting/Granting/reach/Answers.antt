@@ -9,4 +9,4 @@ returns-clause-holds c = λ grants held.
 pub returns-clause-tells : goal.returns-clause-tells
 returns-clause-tells c = λ grants held tells none.
     let (before, over) = c.in_ok-end.ensures.over none in
-    rw over (told-turn c.args.width _ c.args.self.now.latest c.args.self.now.count c.args.epoch grants (tells before) held.count (omega (arith, c.requires.later, c.if-self-epoch.false)))
+    rw over (told-turn _ c.args.self.now.latest c.args.self.now.count c.args.epoch grants (tells before) held.count (omega (arith, c.requires.later, c.if-self-epoch.false)))

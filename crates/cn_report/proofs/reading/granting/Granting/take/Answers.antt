@@ -20,7 +20,7 @@ returns-clause-ok c =
     let (none, over, gap, latest, count, clients, names) = j in
     let held = c.in_ok-reach.ensures.holds before checked.holds in (
       sym (told c.reach.new.self before c.args.grant held c.in_ok-reach.ensures.here (omega (arith, checked.last, c.if-grant-self.false)) (omega (arith, size, c.if-at-gt-MOST_RECORDS.false))) ∙ none,
-      joined c.args.width c.reach.new.self c.join.new.self before c.args.grant held (c.in_ok-reach.ensures.tells before checked.holds checked.tells) c.in_ok-reach.ensures.here over gap latest count clients names,
+      joined c.reach.new.self c.join.new.self before c.args.grant held (c.in_ok-reach.ensures.tells before checked.holds checked.tells) c.in_ok-reach.ensures.here over gap latest count clients names,
     ))
 
 pub returns-clause-err : goal.returns-clause-err

@@ -1,0 +1,188 @@
+"""Compares the header of the library with the crate that it is built from, with the Rust crate over it, and with the
+symbols of the archive: calls with what they take and return, structs with their fields, numbers, statuses, versions; and
+what the archive wants with what docs/EMBEDDING.md says of that.
+
+A call is a list of the types that it takes, in the words of Rust, and what it returns. A slice of the proved crate is a
+pointer and a size, and a handle is a handle in all three.
+"""
+import pathlib
+import re
+import subprocess
+
+ROOT = pathlib.Path(__file__).resolve().parents[2]
+HEADER = ROOT / "bindings" / "c" / "renamer.h"
+RUST = ROOT / "bindings" / "rust"
+CRATE = ROOT / "crates" / "renamer_c" / "src"
+OF_C = {"uint32_t": "u32", "uint64_t": "u64", "size_t": "usize", "void": None}
+COMMENT = re.compile(r"/\*.*?\*/|//[^\n]*", re.S)
+EXTERN = r'extern "C" \{(.*?)^\}'
+
+
+def code(path):
+    """A text without its comments."""
+    return COMMENT.sub("", path.read_text())
+
+
+def rust_code():
+    return "".join(code(path) for path in sorted((RUST / "src").glob("*.rs")))
+
+
+def crate_code():
+    return "".join(code(path) for path in sorted(CRATE.glob("**/*.rt")))
+
+
+def plain(name):
+    """The name of a struct without the prefix of the library, by which no two structs differ: handles are one type."""
+    name = re.sub(r"^(renamer_|raw)", "", name.lower())
+    return "handle" if name in ("lane", "quiet", "handle") else name
+
+
+def pieces(text):
+    """The parameters of a call, apart."""
+    return [piece.strip() for piece in text.split(",") if piece.strip() not in ("", "void")]
+
+
+# ---- calls
+
+def c_type(parameter):
+    """The type of a parameter in C, without the parameter's name."""
+    kind, star = re.fullmatch(r"(.*?)\s*(\*?)\s*\w+", parameter, re.S).groups()
+    const = kind.startswith("const ")
+    name = OF_C.get(kind.removeprefix("const "), plain(kind.removeprefix("const ")))
+    return f"*{'const' if const else 'mut'} {name}" if star else name
+
+
+def header_calls():
+    found = re.findall(r"^(\w+) (renamer_\w+)\(([^)]*)\);", code(HEADER), re.M)
+    return {name: ([c_type(one) for one in pieces(taken)], OF_C[back]) for back, name, taken in found}
+
+
+def rust_type(kind):
+    """The types that C passes for one of Rust."""
+    kind = " ".join(kind.split())
+    pointer = re.fullmatch(r"\*(const|mut) (\w+)", kind)
+    slice_of = re.fullmatch(r"&(mut )?\[(\w+)\]", kind)
+    reference = re.fullmatch(r"&(mut )?(\w+)", kind)
+    if pointer:
+        return [f"*{pointer[1]} {plain(pointer[2])}"]
+    if slice_of:
+        return [f"*{'mut' if slice_of[1] else 'const'} {plain(slice_of[2])}", "usize"]
+    if reference:
+        return [f"*{'mut' if reference[1] else 'const'} {plain(reference[2])}"]
+    return [kind]
+
+
+def rust_call(taken, back):
+    kinds = [one.split(":", 1)[1].strip() for one in pieces(taken)]
+    return [part for kind in kinds if kind != "Global" for part in rust_type(kind)], back or None
+
+
+def rust_calls():
+    block = re.search(EXTERN, code(RUST / "src" / "raw.rs"), re.M | re.S)
+    found = re.findall(r"fn (renamer_\w+)\(([^)]*)\)(?: -> (\w+))?;", block[1] if block else "")
+    return {name: rust_call(taken, back) for name, taken, back in found}
+
+
+def crate_calls():
+    """The exports of the proved crate. Those that only ask take `&mut Handle` too, since the checker takes no other handle
+    of C that can be read. Which these are header and Rust crate say alike."""
+    found = re.findall(r'extern "C" fn (renamer_\w+)\(([^)]*)\)\s*(?:-> (\w+))?', crate_code())
+    return {name: rust_call(taken, back) for name, taken, back in found}
+
+
+def by_whichever_handle(calls):
+    """The calls, with each handle as one that may be changed."""
+    return {name: ([one.replace("*const handle", "*mut handle") for one in taken], back)
+            for name, (taken, back) in calls.items()}
+
+
+def symbols(archive):
+    """What the archive defines for others, and what it wants of them."""
+    listed = subprocess.run(["nm", "-g", str(archive)], capture_output=True, text=True, check=True).stdout
+    words = [line.split() for line in listed.splitlines() if line]
+    defined = {line[-1] for line in words if len(line) == 3}
+    return defined, {line[-1] for line in words if len(line) == 2 and line[0] == "U"}
+
+
+def said_to_be_wanted():
+    """What docs/EMBEDDING.md says that the archive wants of the C library."""
+    said = re.search(r"The archive wants (.*?) of the C library", (ROOT / "docs" / "EMBEDDING.md").read_text())
+    return set(re.findall(r"`(\w+)`", said[1])) if said else set()
+
+
+# ---- structs and numbers
+
+def header_structs():
+    found = re.findall(r"typedef struct \w+ \{([^}]*)\} (\w+);", code(HEADER))
+    fields = {plain(name): re.findall(r"(\w+) (\w+);", fields) for fields, name in found if plain(name) != "handle"}
+    return {name: [(field, OF_C[kind]) for kind, field in both] for name, both in fields.items()}
+
+
+def rust_structs(text):
+    found = re.findall(r"#\[repr\(C\)\]\s*(?:#\[[^\n]*\]\s*)*pub(?:\(crate\))? struct (\w+) \{([^}]*)\}", text)
+    return {plain(name): re.findall(r"(\w+):\s*(\w+)", fields) for name, fields in found if plain(name) != "handle"}
+
+
+def statuses_of_header():
+    return {name: int(number) for name, number in re.findall(r"^\s*RENAMER_(\w+) = (\d+)", code(HEADER), re.M)}
+
+
+def snake(name):
+    return re.sub(r"(?<!^)(?=[A-Z])", "_", name).upper()
+
+
+def wrong_numbers():
+    """The numbers of the header that the proved crate or the Rust crate has otherwise, or has not."""
+    header, wrong = statuses_of_header(), []
+    crate = {snake(name): int(number) for name, number in re.findall(r"Refusal::(\w+) => (\d+),", crate_code())}
+    crate |= {snake(name): int(number) for number, name in re.findall(r"(\d+) => Kind::(\w+),", crate_code())}
+    crate |= {name: int(number) for name, number in re.findall(r"const (\w+): u32 = (\d+);", crate_code())}
+    rust = {snake(name): int(number) for name, number in re.findall(r"^    (\w+) = (\d+),", rust_code(), re.M)}
+    for name, number in header.items():
+        # No call returns it any more.
+        if name != "NO_PLACE" and crate.get({"NONE": "NOTHING"}.get(name, name)) != number:
+            wrong.append(f"{name} is {number} in the header, and {crate.get(name)} in the proved crate")
+        if rust.get(name) != number and name not in ("DONE", "NONE", "KIND"):
+            wrong.append(f"{name} is {number} in the header, and {rust.get(name)} in the Rust crate")
+    wrong += [f"{name} of the Rust crate is not in the header" for name in rust.keys() - header.keys()]
+    limits = dict(re.findall(r"#define RENAMER_(MOST_\w+) (\d+)", code(HEADER)))
+    found = re.findall(r"const (MOST_\w+): u64 = ([\d_]+);", rust_code())
+    own = {name: number.replace("_", "") for name, number in found}
+    if limits != own or not limits:
+        wrong.append(f"the limits are {limits} in the header, and {own} in the Rust crate")
+    return wrong
+
+
+def wrong_versions():
+    version = (ROOT / "VERSION").read_text().strip()
+    major, minor, patch = map(int, version.split("."))
+    wrong = []
+    if f"#define RENAMER_VERSION {major * 1_000_000 + minor * 1_000 + patch}\n" not in HEADER.read_text():
+        wrong.append(f"the header has another version than {version}")
+    if f'\nversion = "{version}"\n' not in (RUST / "Cargo.toml").read_text():
+        wrong.append(f"the Rust crate has another version than {version}")
+    return wrong
+
+
+def differences(what, header, others):
+    """What the header has and another has otherwise, or has not, and the reverse."""
+    for where, other in others.items():
+        for name in sorted(header.keys() | other.keys()):
+            if header.get(name) != other.get(name):
+                yield f"{what} {name}: {header.get(name)} in the header, {other.get(name)} in {where}"
+
+
+def wrong(archive):
+    """All that does not agree."""
+    calls, structs = header_calls(), header_structs()
+    if not calls or not structs:
+        return ["the header has no call, or no struct"]
+    found = [*differences("call", calls, {"the Rust crate": rust_calls()})]
+    found += differences("call", by_whichever_handle(calls), {"the proved crate": by_whichever_handle(crate_calls())})
+    others = {"the proved crate": rust_structs(crate_code()), "the Rust crate": rust_structs(rust_code())}
+    found += differences("struct", structs, others)
+    defined, wanted = symbols(archive)
+    found += [f"the archive shows {name}, and the header does not" for name in sorted(defined - calls.keys())]
+    found += [f"the archive has no {name}" for name in sorted(calls.keys() - defined)]
+    found += [f"{name}: the archive wants it, or docs/EMBEDDING.md says so" for name in sorted(wanted ^ said_to_be_wanted())]
+    return [*found, *wrong_numbers(), *wrong_versions()]

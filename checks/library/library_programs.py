@@ -1,0 +1,192 @@
+"""The programs in C and C++ that stand in bindings/c, compiled and run, as they are and under the compilers'
+sanitizers."""
+import dataclasses
+import os
+import pathlib
+import shutil
+import subprocess
+
+ROOT = pathlib.Path(__file__).resolve().parents[2]
+C, RUST, OUT = ROOT / "bindings" / "c", ROOT / "bindings" / "rust", ROOT / "out"
+STRICT = ["-Wall", "-Wextra", "-Wpedantic", "-Werror", "-O1", "-g"]
+# By which programs in C++ are compiled once more, since their header has all of its code.
+SECOND = "clang++"
+# Another processor: its name, its compiler, by what its programs run here, and the packages of Debian that have these.
+ARM, ARM_CC, ARM_RUN = "aarch64-unknown-linux-gnu", "aarch64-linux-gnu-gcc", "qemu-aarch64"
+ARM_HOME = pathlib.Path("/usr/aarch64-linux-gnu")
+ARM_PACKAGES = {ARM_CC: "gcc-aarch64-linux-gnu", ARM_RUN: "qemu-user", str(ARM_HOME): "libc6-dev-arm64-cross"}
+# The standards that the header is to compile by; programs are compiled by the first.
+STANDARDS = {"cc": ["c99", "c11", "c17"], "c++": ["c++11", "c++14", "c++17", "c++20"]}
+WRAPPED = "-Wl,--wrap=malloc,--wrap=calloc,--wrap=realloc,--wrap=free"
+# What a sanitizer wants of the compiler, and of the program that runs.
+SANITIZERS = {
+    "thread": (["-fsanitize=thread"], {"TSAN_OPTIONS": "halt_on_error=1"}),
+    "address and leak": (["-fsanitize=address"], {"ASAN_OPTIONS": "detect_leaks=1"}),
+    "undefined": (["-fsanitize=undefined", "-fno-sanitize-recover=all"], {}),
+}
+# The words of programs that take some: as they are, under a sanitizer that is named, and under the others.
+WORDS = {
+    "rounds.c": {None: ["100000"], "undefined": ["10000"], "others": ["2000"]},
+    "fuzz.c": {None: ["1", "2000000"], "others": ["2", "200000"]},
+    "many_lanes.c": {None: ["1000"], "others": ["100"]},
+    "lane_after_lane.c": {None: ["100000"], "others": ["2000"]},
+}
+VALGRIND = ["valgrind", "-q", "--leak-check=full", "--error-exitcode=9"]
+SECONDS = 120
+# How much is shown of what a command printed that failed.
+MOST_SAID = 600
+
+
+class Wrong(Exception):
+    """What is wrong, in one line or more."""
+
+
+class NotTried(Exception):
+    """Why a case was not tried, though nothing that must be there is missing."""
+
+
+@dataclasses.dataclass
+class Program:
+    """A program in C or C++: its source, what else it is made of, and what it prints, if that is one text. A long one
+    takes a minute, and is not run under sanitizers."""
+
+    source: pathlib.Path
+    others: tuple = ()
+    prints: str = ""
+    is_long: bool = False
+
+    def compiler(self):
+        return "c++" if self.source.suffix == ".cpp" else "cc"
+
+    def words(self, sanitizer):
+        words = WORDS.get(self.source.name, {})
+        return words.get(sanitizer, words.get("others", []))
+
+
+GROWTHS = (C / "tests" / "growths.c", WRAPPED)
+FUZZ = Program(C / "tests" / "fuzz.c", (C / "tests" / "model.c", *sorted((C / "tests").glob("calls_*.c")), *GROWTHS))
+EPOCHS = "".join(f"epoch {epoch}: {2 * epoch + 2} clients in the first rows\n" for epoch in (1, 2, 3))
+PROGRAMS = (
+    Program(C / "tests" / "carried.c", is_long=True),
+    Program(C / "examples" / "pool.c", prints="622 workers have the numbers 0 to 621\n"),
+    Program(C / "examples" / "table.c", prints=EPOCHS),
+    Program(C / "examples" / "lanes.cpp", prints="3000 clients have the names 0 to 2999\n"),
+    Program(C / "tests" / "names.c"),
+    Program(C / "tests" / "statuses.c"),
+    Program(C / "tests" / "handed.c"),
+    Program(C / "tests" / "asked.c", (WRAPPED,)),
+    Program(C / "tests" / "lane_size.c", (WRAPPED,)),
+    Program(C / "tests" / "joined.c"),
+    Program(C / "tests" / "memory.c", GROWTHS),
+    Program(C / "tests" / "rounds.c", GROWTHS),
+    Program(C / "tests" / "many_lanes.c"),
+    Program(C / "tests" / "lane_after_lane.c", GROWTHS),
+    Program(C / "tests" / "objects.cpp"),
+    FUZZ,
+)
+
+
+def run(words, folder=ROOT, seconds=SECONDS, **environment):
+    """Runs a command to its end, and returns what it printed; it is wrong if it fails."""
+    done = subprocess.run(list(map(str, words)), cwd=folder, env={**os.environ, **environment}, timeout=seconds,
+                          stdin=subprocess.DEVNULL, capture_output=True, text=True)
+    if done.returncode != 0:
+        said = " ".join((done.stdout + done.stderr).split())
+        raise Wrong(f"{pathlib.Path(words[0]).name}: status {done.returncode}: {said[-MOST_SAID:]}")
+    return done.stdout
+
+
+def compiled(program, folder, name, flags, compiler=None, out=OUT):
+    """Compiles a program with some flags more."""
+    made = folder / f"{program.source.name}-{name}".replace(" ", "-")
+    own = program.compiler()
+    run([compiler or own, f"-std={STANDARDS[own][0]}", *STRICT, *flags, "-I", out / "include", program.source,
+         *program.others, "-o", made, "-L", out / "lib", "-lrenamer", "-lpthread"])
+    return made
+
+
+def run_program(program, folder, sanitizer=None):
+    """Compiles and runs a program, under a sanitizer if one is named."""
+    flags, environment = SANITIZERS[sanitizer] if sanitizer else ([], {})
+    made = compiled(program, folder, sanitizer or "plain", flags)
+    printed = run([made, *program.words(sanitizer)], seconds=SECONDS * (5 if program.is_long else 1), **environment)
+    if program.prints and printed != program.prints:
+        raise Wrong(f"it printed {printed!r}, not {program.prints!r}")
+
+
+def run_by_second(program, folder):
+    """Runs a program in C++ as another compiler makes it."""
+    if not shutil.which(SECOND):
+        raise NotTried(f"{SECOND} is not here; Debian has it in the package clang")
+    run([compiled(program, folder, SECOND, [], SECOND)])
+
+
+def run_on_arm(program, folder):
+    """Runs a program in C that is made for ARM, as an emulator of that processor runs it."""
+    made = compiled(program, folder, "arm", [], ARM_CC, OUT / ARM)
+    printed = run([ARM_RUN, "-L", ARM_HOME, made, *program.words("others")], seconds=10 * SECONDS)
+    if program.prints and printed != program.prints:
+        raise Wrong(f"it printed {printed!r}, not {program.prints!r}")
+
+
+def arm_cases(folder):
+    """A case for each program in C on ARM."""
+    for program in PROGRAMS:
+        if program.compiler() == "cc" and not program.is_long:
+            name = f"{program.source.relative_to(ROOT)}, ARM"
+            yield name, lambda program=program: run_on_arm(program, folder)
+
+
+def fuzz_by_valgrind(folder):
+    """Random calls with arrays of exact sizes by valgrind, which also sees the archive's own loads and stores."""
+    if not shutil.which("valgrind"):
+        raise NotTried("not here, so it did not see the archive's loads and stores")
+    made = compiled(FUZZ, folder, "valgrind", ["-DGUARD=0"])
+    run([*VALGRIND, made, "3", "100000"])
+
+
+def has_sanitizer(compiler, sanitizer, folder):
+    """Whether a program runs that was compiled with the sanitizer."""
+    source = folder / f"none-{compiler}.{'cpp' if compiler == 'c++' else 'c'}"
+    source.write_text("int main(void) { return 0; }\n")
+    made = folder / f"none-{compiler}-{sanitizer.split()[0]}"
+    try:
+        run([compiler, *SANITIZERS[sanitizer][0], source, "-o", made])
+        run([made], **SANITIZERS[sanitizer][1])
+    except Wrong:
+        return False
+    return True
+
+
+def sanitized(compiler, folder):
+    """A case for each program of a compiler under each sanitizer; says of each whether it is there."""
+    programs = [program for program in PROGRAMS if program.compiler() == compiler and not program.is_long]
+    for sanitizer in SANITIZERS:
+        there = has_sanitizer(compiler, sanitizer, folder)
+        what = f"{len(programs)} program{'s' * (len(programs) > 1)} of {compiler}"
+        print(f"sanitizer {sanitizer}: {'ran' if there else 'not here, so it did not run'} {what}", flush=True)
+        for program in programs if there else ():
+            name = f"{program.source.relative_to(ROOT)}, sanitizer {sanitizer}"
+            yield name, lambda program=program, sanitizer=sanitizer: run_program(program, folder, sanitizer)
+
+
+def cases(compiler, folder):
+    """The cases of a compiler: a name, and what raises Wrong."""
+    for program in PROGRAMS:
+        name = f"{program.source.relative_to(ROOT)}"
+        if program.compiler() == compiler:
+            yield name, lambda program=program: run_program(program, folder)
+        if program.compiler() == compiler == "c++":
+            yield f"{name}, {SECOND}", lambda program=program: run_by_second(program, folder)
+    for standard in STANDARDS[compiler]:
+        yield f"the header, {standard}", lambda standard=standard: header_stands_alone(compiler, standard, folder)
+    yield from sanitized(compiler, folder)
+    if compiler == "cc":
+        yield "bindings/c/tests/fuzz.c, valgrind", lambda: fuzz_by_valgrind(folder)
+
+
+def header_stands_alone(compiler, standard, folder):
+    """The header needs no other before it, and can be included twice."""
+    source = folder / f"header-{standard}.{'cpp' if compiler == 'c++' else 'c'}"
+    source.write_text('#include "renamer.h"\n#include "renamer.h"\nint main(void) { return !renamer_version(); }\n')
+    run([compiler, f"-std={standard}", *STRICT, "-I", C, "-fsyntax-only", source])

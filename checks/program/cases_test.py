@@ -1,0 +1,45 @@
+"""Tries the reader of cases (checks/program/cases.py) at each line that a table may have. `wrong` names what it reads wrong."""
+import cases
+
+# A table, and the values that differ from those of a new case, by the rules at the head of checks/program/cases.table.
+READ = [
+    ("case a\nwords run --width 2\n", {"words": ["run", "--width", "2"]}),
+    ("case a\n\n# no line\nstatus 3\nseconds 5\n", {"status": 3, "seconds": 5}),
+    ("case a\nthreads 7\nstack 128\n", {"threads": 7, "stack": 128}),
+    ("case a\nthreads 20 refused\n", {"threads": 20, "refused": True}),
+    ("case a\nby the script\n", {"by_script": True}),
+    ("case a\nclients in any order\n", {"any_order": True}),
+    ("case a\n< a b\n<\n<- c\\xff\\r\n", {"given": b"a b\n\nc\xff\r"}),
+    ("case a\n<* 2 x\\ny\n", {"given": b"x\ny\nx\ny\n"}),
+    ("case a\n<# 3 1,&\n<+ 2 &,&\n", {"given": b"1,0\n1,1\n1,2\n1,1\n2,2\n"}),
+    ("case a\n> one\n>* 2 two\n! bad\n", {"wanted_output": b"one\ntwo\ntwo\n", "wanted_errors": b"bad\n"}),
+    ("case a\n>@ show tree 2\n", {"wanted_output": b"network tree width 2 balancers 1 depth 1\nwire 0 balancer 0\n"
+                                                   b"wire 1 exit 0\nwire 2 exit 1\nend wires 3\n"}),
+    ("case a\noutput open\nerrors open\n", {"open_output": True, "open_errors": True}),
+    ("case a\noutput full\nerrors closed\ninput folder\n", {"output": "full", "errors": "closed", "input": "folder"}),
+    ("case a\nerrors with one line\n", {"open_errors": True, "error_lines": ["one line"]}),
+    ("case a\n? x y\nlacks z\n", {"open_output": True, "texts": ["x y"], "unwanted_texts": ["z"]}),
+    ("refuses run now\n", {"name": "to refuse run now", "words": ["run", "now"], "open_errors": True, "status": 2}),
+    ("helps help run\n", {"name": "to help with help run", "words": ["help", "run"], "open_output": True,
+                          "texts": ["Usage: renamer"]}),
+]
+# Tables that are refused: a line that stands in no case, and lines that mean nothing.
+REFUSED = ["words run\n", "case a\nword run\n", "case a\n<% x\n", "case a\noutput loud\n", "case a\nby hand\n", "case\n"]
+
+
+def wrong():
+    """Each table that is read as another, or is not refused."""
+    found = []
+    for table, values in READ:
+        case = cases.Case(**{"name": "a", **values})
+        if cases.read(table) != [case]:
+            found.append(f"it reads another case: {table!r}")
+    if [case.name for case in cases.read("case a\n> x\ncase b\nrefuses c\n")] != ["a", "b", "to refuse c"]:
+        found.append("it reads other cases of three")
+    for table in REFUSED:
+        try:
+            cases.read(table)
+            found.append(f"it takes: {table!r}")
+        except cases.NoCase:
+            pass
+    return found

@@ -1,2 +1,0 @@
--- What proofs of other crates cite of this one. They cite nothing else of proofs/.
-pub use Rattle.cn_cli.proofs.OneNetwork.{one-network}

@@ -1,8 +1,0 @@
-use Rattle.std.proofs.Common.{rules}
-use Rattle.cn_cli.proofs.net.Net.kind.Goals as goal
-
-pub returns-clause-kind : goal.returns-clause-kind
-returns-clause-kind c = search rules
-
-pub returns-clause-built : goal.returns-clause-built
-returns-clause-built c = search rules

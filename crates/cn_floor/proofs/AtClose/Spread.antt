@@ -1,0 +1,31 @@
+-- What the table of a floor has at the end, where its words lie a stride apart.
+use Rattle.std.proofs.Common.{◌≡◌, ℕ, List, sym, ap, ◌∙◌, subst}
+use Rattle.atomic_table.specs.Table.{Final, Seen}
+use Rattle.cn_floor.specs.declared.floor.counters.Counters.TheInside.{Inside}
+use Rattle.cn_floor.specs.declared.view.View.{View}
+use Rattle.cn_floor.specs.Closing.{IsEnding}
+use Rattle.cn_floor.specs.InsideCounters.{IsCounters}
+use Rattle.cn_floor.specs.Rule.{start_of}
+use Rattle.cn_floor.specs.Spread.{picked, spread}
+use Rattle.cn_floor.proofs.AtClose.Closings.{ending-at}
+use Rattle.cn_floor.proofs.AtMoments.Placed.{Rule}
+use Rattle.cn_floor.proofs.AtMoments.Spreads.{picked-spread}
+
+module _ (c : Inside) (is : IsCounters c) {id : ℕ} {v : View} {row : List ℕ} (xs : List (Unit {0})) (end : Final (Seen (Rule c is) id v) row xs) where
+  abbrev words : List ℕ
+  words = end.1.0.0
+
+  apart : row ≡ spread c.stride words
+  apart = sym end.2 ∙ end.1.0.1 ∙ ap (λ (n : ℕ). spread n words) is.apart
+
+  same : picked c.stride 0 row ≡ words
+  same = ap (λ (ws : List ℕ). picked c.stride 0 ws) apart ∙ picked-spread c.stride is.stride.0 words
+
+  -- those picked are all of them
+  pub picked-all : row ≡ spread c.stride (picked c.stride 0 row)
+  picked-all = apart ∙ sym (ap (λ (ws : List ℕ). spread c.stride ws) same)
+
+  pub ending-spread : IsEnding (start_of c.table.shared.key) v (picked c.stride 0 row)
+  ending-spread =
+      subst (λ (w : List ℕ). IsEnding (start_of c.table.shared.key) v w) (sym same)
+      (ending-at (start_of c.table.shared.key) (record { words = words; homes = end.0.homes; views = end.0.views }) id v end.1.0.2 end.1.1)

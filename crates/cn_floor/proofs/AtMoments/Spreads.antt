@@ -1,0 +1,94 @@
+-- A rule about words holds as well of a table in which they lie a stride apart.
+use Rattle.std.proofs.Common.{◌≡◌, ℕ, zero, suc, ◌+◌, ◌-◌, ◌*◌, ◌<◌, ◌≤◌, List, [], ◌∷◌, ◌++◌, length, replicate, get_or, set, sym, refl, ap, ◌∙◌, subst, arith}
+use Rattle.std.proofs.lemmas.List.{length-append, length-replicate}
+use Rattle.std.proofs.Math.Nat.{mul-le-mul_left}
+use Rattle.atomic_table.specs.Table.{Act, Allows, Joins, Me, Splits, State, Valid, carried_after, stepped}
+use Rattle.cn_floor.specs.Spread.{HoldsSpread, picked, spread}
+
+-- ---- past what lies between
+
+get-past : (g j : ℕ) (xs : List ℕ) → get_or (replicate g 0 ++ xs) (g + j) 0 ≡ get_or xs j 0
+get-past zero j xs = ap (λ (n : ℕ). get_or xs n 0) (omega arith)
+get-past (suc g) j xs = let later : suc g + j ≡ suc (g + j) = omega arith in ap (λ (n : ℕ). get_or (0 ∷ (replicate g 0 ++ xs)) n 0) later ∙ get-past g j xs
+
+set-past : (g j n : ℕ) (xs : List ℕ) → set (replicate g 0 ++ xs) (g + j) n ≡ replicate g 0 ++ set xs j n
+set-past zero j n xs = ap (λ (m : ℕ). set xs m n) (omega arith)
+set-past (suc g) j n xs =
+    let later : suc g + j ≡ suc (g + j) = omega arith in
+    ap (λ (m : ℕ). set (0 ∷ (replicate g 0 ++ xs)) m n) later ∙ ap (λ (ys : List ℕ). 0 ∷ ys) (set-past g j n xs)
+
+picked-past : (stride g : ℕ) (xs : List ℕ) → picked stride g (replicate g 0 ++ xs) ≡ picked stride 0 xs
+picked-past stride zero xs = refl
+picked-past stride (suc g) xs = picked-past stride g xs
+
+module _ (stride : ℕ) (some-stride : 1 ≤ stride) where
+  abbrev between : ℕ
+  between = stride - 1
+
+  next : (i : ℕ) → stride * suc i ≡ suc (between + stride * i)
+  next i = omega arith
+
+  none : stride * 0 ≡ 0
+  none = omega arith
+
+  -- the places of fewer words are fewer
+  pub low-spread : {i n : ℕ} → i < n → stride * i < stride * n
+  low-spread {i} {n} less = let most : stride * suc i ≤ stride * n = mul-le-mul_left stride less in omega (arith, next i)
+
+  -- ---- the word at a place
+
+  pub get-spread : (words : List ℕ) (i : ℕ) → get_or (spread stride words) (stride * i) 0 ≡ get_or words i 0
+  get-spread [] i = refl
+  get-spread (w ∷ ws) zero = ap (λ (n : ℕ). get_or (spread stride (w ∷ ws)) n 0) none
+  get-spread (w ∷ ws) (suc i) =
+      ap (λ (n : ℕ). get_or (spread stride (w ∷ ws)) n 0) (next i) ∙ get-past between (stride * i) (spread stride ws) ∙ get-spread ws i
+
+  pub set-spread : (words : List ℕ) (i n : ℕ) → set (spread stride words) (stride * i) n ≡ spread stride (set words i n)
+  set-spread [] i n = refl
+  set-spread (w ∷ ws) zero n = ap (λ (m : ℕ). set (spread stride (w ∷ ws)) m n) none
+  set-spread (w ∷ ws) (suc i) n =
+      ap (λ (m : ℕ). set (spread stride (w ∷ ws)) m n) (next i)
+      ∙ ap (λ (ys : List ℕ). w ∷ ys) (set-past between (stride * i) n (spread stride ws))
+      ∙ ap (λ (ys : List ℕ). w ∷ (replicate between 0 ++ ys)) (set-spread ws i n)
+
+  pub length-spread : (words : List ℕ) → length (spread stride words) ≡ stride * length words
+  length-spread [] = sym none
+  length-spread (w ∷ ws) =
+      omega (arith, length-append (replicate between 0) (spread stride ws), length-replicate {A = ℕ} between 0, length-spread ws, next (length ws))
+
+  pub picked-spread : (words : List ℕ) → picked stride 0 (spread stride words) ≡ words
+  picked-spread [] = refl
+  picked-spread (w ∷ ws) = ap (λ (ys : List ℕ). w ∷ ys) (picked-past stride between (spread stride ws) ∙ picked-spread ws)
+
+  -- ---- what a seat may do
+
+  module _ {S V : Type 0} (holds : State S V → Type 0) where
+    -- a step on a word
+    pub allows-spread : (slots id : ℕ) (me : Me S V) (i : ℕ) (f : ℕ → ℕ) (then : ℕ → Me S V → Type 0)
+        → Allows holds slots id me i f then → Allows (HoldsSpread stride holds) slots id me (stride * i) f then
+    allows-spread slots id me i f then allow s kept homes at fits =
+        let words : List ℕ = kept.0 in
+        let s' : State S V = record { words = words; homes = s.homes; views = s.views } in
+        let found : get_or words i 0 ≡ get_or s.words (stride * i) 0 = sym (ap (λ (ws : List ℕ). get_or ws (stride * i) 0) kept.1 ∙ get-spread words i) in
+        let may = allow s' kept.2 homes at (subst (λ (n : ℕ). n < 18446744073709551616) (sym found) fits) in
+        let put : set s.words (stride * i) (f (get_or words i 0)) ≡ spread stride (set words i (f (get_or words i 0))) =
+        ap (λ (ws : List ℕ). set ws (stride * i) (f (get_or words i 0))) kept.1 ∙ set-spread words i (f (get_or words i 0)) in
+        subst
+        (λ (n : ℕ). (w : V) × (a : Act S) × Valid s.homes me.1 a × HoldsSpread stride holds (stepped s (stride * i) (f n) id me.1 w a) × then n (w, carried_after me.1 a))
+        found
+        (may.0, may.1, may.2, (set words i (f (get_or words i 0)), put, may.3), may.4)
+
+    pub splits-spread : (id : ℕ) (v left right : V) → Splits holds id v left right → Splits (HoldsSpread stride holds) id v left right
+    splits-spread id v left right split s kept at =
+        (kept.0, kept.1, split (record { words = kept.0; homes = s.homes; views = s.views }) kept.2 at)
+
+    pub joins-spread : (id : ℕ) (v : V) (other : ℕ) (w both spent : V) → Joins holds id v other w both spent
+        → Joins (HoldsSpread stride holds) id v other w both spent
+    joins-spread id v other w both spent join s kept at apart there =
+        (kept.0, kept.1, join (record { words = kept.0; homes = s.homes; views = s.views }) kept.2 at apart there)
+
+    -- the same, by the place of the word
+    pub allows-at : {slots id : ℕ} {me : Me S V} {i place : ℕ} (f : ℕ → ℕ) (then : ℕ → Me S V → Type 0) → place ≡ stride * i
+        → Allows holds slots id me i f then → Allows (HoldsSpread stride holds) slots id me place f then
+    allows-at {slots} {id} {me} {i} {place} f then is allow =
+        subst (λ (n : ℕ). Allows (HoldsSpread stride holds) slots id me n f then) (sym is) (allows-spread slots id me i f then allow)

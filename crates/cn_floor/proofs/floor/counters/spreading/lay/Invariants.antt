@@ -1,0 +1,8 @@
+use Rattle.std.proofs.Common.{◌≡◌}
+use Rattle.cn_floor.specs.Spread.{spread}
+use Rattle.cn_floor.proofs.AtMoments.Laid.{laid}
+use Rattle.cn_floor.proofs.floor.counters.spreading.lay.Given as goal
+
+-- the words so far are laid
+abbrev pub invariant-loop-word : goal.invariant-loop-word
+invariant-loop-word l = l.row ≡ spread l.stride (laid l.word l.words)

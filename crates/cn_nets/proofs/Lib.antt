@@ -1,0 +1,2 @@
+pub mod OneNetwork
+pub mod CallerLemmas

@@ -1,5 +1,0 @@
-use Rattle.std.proofs.Common.{rules}
-use Rattle.cn_report.proofs.reading.arrival.arrival_by_rule.Goals as goal
-
-pub returns : goal.returns
-returns c = search rules

@@ -1,5 +1,0 @@
-use Rattle.std.proofs.Common.{rules}
-use Rattle.cn_report.proofs.reading.arrival.arrival_of.Goals as goal
-
-pub returns-in-Told : goal.returns-in-Told
-returns-in-Told c = search rules

@@ -1,0 +1,75 @@
+use Rattle.std.proofs.Common.{◌≡◌, ◌∷◌, ◌++◌, [], append-nil, append_assoc, arith, false, inr, length-append, refl, rules, true}
+use Rattle.std.specs.Prelude.{Err, Ok}
+use Rattle.std.specs.Result.{is_ok}
+use Rattle.std.proofs.lemmas.Result.{err_from_is_err_and}
+use Rattle.cn_report.specs.declared.reading.batch_fault.BatchCause.TheVariants.{Memory}
+use Rattle.cn_report.proofs.ReadingLemmas.Ahead.{same-header, stretch-read}
+use Rattle.cn_report.proofs.ReadingLemmas.Stretches.{spelled-more}
+use Rattle.cn_report.proofs.reading.batch.arrivals.ArrivalReader.read_stretch.Goals as goal
+
+pub loop-taken-init : goal.loop-taken-init
+loop-taken-init g c = record {
+  plain = c.requires.plain;
+  same = record { heading = refl {a = c.args.self.now.heading}; entries = refl {a = c.args.self.now.entries} };
+  many = rw c.clear.ensures.items refl;
+  reads = λ text before read. ([], rw c.clear.ensures.items refl, rw (append-nil before) read);
+}
+
+pub loop-taken-preserved : goal.loop-taken-preserved
+loop-taken-preserved g c =
+    let good : is_ok c.push.result ≡ true = search rules in
+    let items = rw good at c.push.ensures.items in
+    let xs = c.loop-taken.arrivals.items in
+    record {
+      plain = c.in_ok-arrival.ensures.plain;
+      same = same-header _ _ _ c.loop-taken.invariant.same c.next_arrival.ensures.same;
+      many = rw items (omega (arith, length-append xs (c.in-Some.arrival ∷ []), c.loop-taken.invariant.many));
+      reads = λ text before read.
+          let (rows, spelled, now) = c.loop-taken.invariant.reads text before read in
+          let (fields, next, is) = rw (c.in-Some.is, c.loop-taken.invariant.same.heading, c.loop-taken.invariant.same.entries) at (c.in_ok-arrival.ensures.next text (before ++ rows) now) in (
+            rows ++ fields ∷ [],
+            rw items (spelled-more c.args.self.now.heading c.args.self.now.entries rows xs fields c.in-Some.arrival spelled is),
+            rw (append_assoc before rows (fields ∷ [])) at next,
+          );
+    }
+
+pub returns-in_err-arrival-clause-reads : goal.returns-in_err-arrival-clause-reads
+returns-in_err-arrival-clause-reads g c =
+    let told = err_from_is_err_and c.from_residual.result c.from_residual.ensures.1 in
+    rw (told.1, told.2) (record {
+      plain = tt;
+      same = same-header _ _ _ c.loop-taken.invariant.same c.next_arrival.ensures.same;
+      reads = λ text before read.
+          let (rows, spelled, now) = c.loop-taken.invariant.reads text before read in
+          stretch-read g.R.Read.remaining c.loop-taken.self.rows c.next_arrival.new.self.rows c.args.self.now.heading c.args.self.now.entries text before rows c.loop-taken.arrivals.items _ spelled now (rw (c.loop-taken.invariant.same.heading, c.loop-taken.invariant.same.entries) at (c.in_err-arrival.ensures.refused text (before ++ rows) now));
+    })
+
+pub returns-in_default-clause-reads : goal.returns-in_default-clause-reads
+returns-in_default-clause-reads g c = record {
+  plain = c.in_ok-arrival.ensures.plain;
+  same = same-header _ _ _ c.loop-taken.invariant.same c.next_arrival.ensures.same;
+  reads = λ text before read.
+      let (rows, spelled, now) = c.loop-taken.invariant.reads text before read in
+      stretch-read g.R.Read.remaining c.loop-taken.self.rows c.next_arrival.new.self.rows c.args.self.now.heading c.args.self.now.entries text before rows c.loop-taken.arrivals.items (Ok false) spelled now (rw c.in_default.is at (c.in_ok-arrival.ensures.next text (before ++ rows) now));
+}
+
+pub returns-then-is_err-clause-reads : goal.returns-then-is_err-clause-reads
+returns-then-is_err-clause-reads g c =
+    let bad : is_ok c.push.result ≡ false = search rules in
+    let items = rw bad at c.push.ensures.items in
+    record {
+      plain = tt;
+      same = same-header _ _ _ c.loop-taken.invariant.same c.next_arrival.ensures.same;
+      reads = λ text before read.
+          let (rows, spelled, now) = c.loop-taken.invariant.reads text before read in
+          stretch-read g.R.Read.remaining c.loop-taken.self.rows c.next_arrival.new.self.rows c.args.self.now.heading c.args.self.now.entries text before rows c.push.new.self.items (Err Memory) (rw items spelled) now (inr (inr refl));
+    }
+
+pub returns-clause-reads : goal.returns-clause-reads
+returns-clause-reads g c = record {
+  plain = c.loop-taken.invariant.plain;
+  same = c.loop-taken.invariant.same;
+  reads = λ text before read.
+      let (rows, spelled, now) = c.loop-taken.invariant.reads text before read in
+      stretch-read g.R.Read.remaining c.loop-taken.self.rows c.loop-taken.self.rows c.args.self.now.heading c.args.self.now.entries text before rows c.loop-taken.arrivals.items (Ok true) spelled now now;
+}

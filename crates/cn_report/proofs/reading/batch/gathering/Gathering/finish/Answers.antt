@@ -1,0 +1,15 @@
+use Rattle.std.proofs.Common.{arith, refl}
+use Rattle.cn_report.proofs.ReadingLemmas.BatchRecords.{taken_all}
+use Rattle.cn_report.proofs.ReadingLemmas.GatheredEpochs.{ended-epochs}
+use Rattle.cn_report.proofs.ReadingLemmas.ServableEpochs.{all-ended, ended-servable}
+use Rattle.cn_report.proofs.reading.batch.gathering.Gathering.finish.Goals as goal
+
+pub returns-in-Ok-clause-answer : goal.returns-in-Ok-clause-answer
+returns-in-Ok-clause-answer c = λ heading entries rows arrivals taken gathered.
+    taken_all heading entries rows rows arrivals _ taken refl (rw c.in-Ok.ensures.turned.0 (ended-epochs c.args.self arrivals gathered.holds))
+
+pub returns-in-Ok-clause-fits : goal.returns-in-Ok-clause-fits
+returns-in-Ok-clause-fits c = λ entries keeps. rw c.in-Ok.ensures.turned.0 (ended-servable c.args.self entries keeps)
+
+pub returns-in-Ok-clause-few : goal.returns-in-Ok-clause-few
+returns-in-Ok-clause-few c = λ entries keeps. rw c.in-Ok.ensures.turned.0 (omega (arith, all-ended c.args.self, keeps.count, keeps.few))

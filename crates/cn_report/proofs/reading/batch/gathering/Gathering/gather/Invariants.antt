@@ -1,0 +1,16 @@
+use Rattle.std.proofs.Common.{◌≡◌, ◌+◌, List}
+use Rattle.cn_report.specs.Reading.Gathered.{IsGathered, StaysServable}
+use Rattle.cn_report.specs.Reading.Records.{Record}
+use Rattle.cn_report.specs.Reading.Stretch.{AreSpelled, AreTaken}
+use Rattle.cn_report.specs.declared.reading.batch.arrival.Arrival.{Arrival}
+use Rattle.cn_report.specs.declared.reading.batch.heading.Heading.{Heading}
+use Rattle.cn_report.proofs.ReadingLemmas.Stretches.{GatheredTo}
+use Rattle.cn_report.proofs.reading.batch.gathering.Gathering.gather.Given as goal
+
+abbrev pub invariant-loop-arrival : goal.invariant-loop-arrival
+invariant-loop-arrival l = record {
+  keeps : StaysServable l.entries l.self;
+  next : l.self.next ≡ l.initial.self.next + l.arrival-index;
+  taken : (heading : Heading) (before rows : List Record) (came : List Arrival) → AreTaken heading l.entries before came → IsGathered l.initial.self came
+      → AreSpelled heading l.entries rows l.arrivals → GatheredTo heading l.entries before rows came l.arrivals l.self l.arrival-index;
+}

@@ -1,0 +1,10 @@
+use Rattle.std.proofs.Common.{refl}
+use Rattle.cn_report.proofs.ReadingLemmas.GatheredEpochs.{none-gathered}
+use Rattle.cn_report.proofs.ReadingLemmas.ServableEpochs.{none_kept}
+use Rattle.cn_report.proofs.reading.batch.gathering.Gathering.new.Goals as goal
+
+pub returns-clause-none : goal.returns-clause-none
+returns-clause-none c = none-gathered _ c.new.ensures.items c.new-2.ensures.items refl c.with_hasher.ensures.empty refl
+
+pub returns-clause-keeps : goal.returns-clause-keeps
+returns-clause-keeps c = λ entries. none_kept _ entries c.new.ensures.items c.new-2.ensures.items c.with_hasher.ensures.empty refl

@@ -1,0 +1,22 @@
+use Rattle.std.proofs.Common.{◌+◌, ◌-◌, ℕ, List}
+use Rattle.std.specs.Prelude.{OnOk}
+use Rattle.cn_spec.specs.declared.limits.TheConstants.{MOST_RECORDS}
+use Rattle.cn_report.specs.Reading.Gathered.{StaysServable}
+use Rattle.cn_report.specs.Reading.Records.{IsPlain}
+use Rattle.cn_report.specs.Reading.Stretch.{HasHeader, HasSameHeader, IsFull}
+use Rattle.cn_report.specs.declared.reading.batch.readers.TheConstants.{STRETCH}
+use Rattle.cn_report.proofs.ReadingLemmas.Ahead.{IsAhead}
+use Rattle.cn_report.proofs.reading.batch.read_epochs.Given as goal
+
+abbrev pub invariant-loop-end : goal.invariant-loop-end
+invariant-loop-end g l = record {
+  plain : OnOk l.end (IsPlain l.source.rows);
+  same : HasSameHeader l.fn.source l.source;
+  full : IsFull STRETCH l.stretch.items l.end;
+  keeps : StaysServable l.fn.source.entries l.gathering;
+  ahead : (text : List ℕ) → HasHeader g.I.Read.remaining l.fn.source text
+      → IsAhead g.I.Read.remaining l.fn.source.heading l.fn.source.entries text l.source.rows l.gathering l.stretch.items l.end;
+}
+
+abbrev pub decreases-loop-end : goal.decreases-loop-end
+decreases-loop-end g l = MOST_RECORDS + 2 - l.gathering.next

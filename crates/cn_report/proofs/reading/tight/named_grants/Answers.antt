@@ -1,0 +1,21 @@
+use Rattle.std.proofs.Common.{[]}
+use Rattle.std.specs.Prelude.{IfErr, MatchResult}
+use Rattle.cn_report.specs.Reading.Told.{IsNamedList}
+use Rattle.cn_report.specs.Reading.Records.{HasRead, records_of}
+use Rattle.cn_report.specs.Reading.Grants.{IsFlaw, IsOutside, IsTightList}
+use Rattle.cn_report.proofs.ReadingLemmas.FirstFaults.{known-map}
+use Rattle.cn_report.proofs.ReadingLemmas.TightFacts.{exact}
+use Rattle.cn_report.proofs.reading.tight.named_grants.Goals as goal
+
+pub returns-clause-answer : goal.returns-clause-answer
+returns-clause-answer g c =
+    known-map (g.R.Read.remaining c.args.reader) (λ text. HasRead g.R.Read.remaining c.open_rows-rows.result text [])
+    (λ text. MatchResult c.take_grants.result (λ epochs. IsNamedList (records_of text) epochs.items) (IsFlaw (records_of text)))
+    c.open_rows-rows.ensures.opened c.take_grants.ensures.answer
+
+pub returns-clause-exact : goal.returns-clause-exact
+returns-clause-exact g c =
+    known-map (g.R.Read.remaining c.args.reader) (λ text. HasRead g.R.Read.remaining c.open_rows-rows.result text [])
+    (λ text. IfErr c.take_grants.result (λ flaw. IsTightList (records_of text) → IsOutside flaw))
+    c.open_rows-rows.ensures.opened
+    (λ text read. exact (λ epochs. IsNamedList (records_of text) epochs.items) (records_of text) c.take_grants.result (c.take_grants.ensures.answer text read))

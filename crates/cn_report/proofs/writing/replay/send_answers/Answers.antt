@@ -1,0 +1,57 @@
+use Rattle.std.proofs.Common.{◌≡◌, ◌<◌, ◌∙◌, ap, arith, get_or, length, sym}
+use Rattle.std.specs.List.{zip}
+use Rattle.std.proofs.lemmas.List.Elements.{All-get_or}
+use Rattle.std.proofs.lemmas.Slice.Zip.{AllZip-long, get_or-zip, length-zip}
+use Rattle.cn_record.specs.declared.answer.Answer.{Answer}
+use Rattle.cn_record.specs.declared.command.Command.{Command}
+use Rattle.cn_record.specs.declared.command.Command.TheVariants.{Enter}
+use Rattle.cn_record.specs.Answers.{HadMemory}
+use Rattle.cn_report.specs.Writing.Replay.{Fits, IsWholeKept, kept_line}
+use Rattle.cn_report.proofs.WritingLemmas.Pieces.{put-cut, put-last, put-next}
+use Rattle.cn_report.proofs.WritingLemmas.SameLines.{zipped_at}
+use Rattle.cn_report.proofs.writing.replay.send_answers.Goals as goal
+
+pub bounds-commands-position : goal.bounds-commands-position
+bounds-commands-position g c = omega (arith, AllZip-long Fits c.args.commands.now c.args.answers.now c.requires.fit)
+
+pub send_answer-requires-clause-fits : goal.send_answer-requires-clause-fits
+send_answer-requires-clause-fits g c =
+    let answer = c.index-answers-position in
+    rw answer.is (zipped_at Fits c.args.commands.now c.args.answers.now c.loop-position.position (Enter 0 0) answer.result c.requires.fit c.loop-position-test.true)
+
+pub send_answer-requires-clause-memory : goal.send_answer-requires-clause-memory
+send_answer-requires-clause-memory g c =
+    let answer = c.index-answers-position in
+    rw answer.is (All-get_or HadMemory c.args.answers.now c.loop-position.position answer.result c.loop-position-test.true c.requires.memory)
+
+pub send_answer-requires-clause-whole : goal.send_answer-requires-clause-whole
+send_answer-requires-clause-whole g c =
+    let answer = c.index-answers-position in
+    rw answer.is (All-get_or (IsWholeKept c.args.width) c.args.answers.now c.loop-position.position answer.result c.loop-position-test.true c.requires.whole)
+
+pub loop-position-preserved : goal.loop-position-preserved
+loop-position-preserved g c =
+    let commands = c.args.commands.now in
+    let answers = c.args.answers.now in
+    let i = c.loop-position.position in
+    let answer = c.index-answers-position in
+    let command : Command = get_or commands i (Enter 0 0) in
+    let many = AllZip-long Fits commands answers c.requires.fit in
+    let far : i < length commands = omega (arith, many, c.loop-position-test.true) in
+    let long = length-zip commands answers in
+    let at : (command, answer.result) ≡ get_or (zip commands answers) i (Enter 0 0, answer.result) =
+    ap (λ (a : Answer). (command, a)) answer.is ∙ sym (get_or-zip commands answers i (Enter 0 0, answer.result) far c.loop-position-test.true) in
+    put-next (λ (command, answer). kept_line c.args.width command answer) (zip commands answers) i (Enter 0 0, answer.result) (command, answer.result) (omega (arith, long, many, c.loop-position-test.true)) at
+    c.loop-position.invariant c.send_answer.ensures
+
+pub returns : goal.returns
+returns g c =
+    let commands = c.args.commands.now in
+    let answers = c.args.answers.now in
+    let many = AllZip-long Fits commands answers c.requires.fit in
+    let long = length-zip commands answers in
+    put-last (λ (command, answer). kept_line c.args.width command answer) (zip commands answers) c.loop-position.position (omega (arith, long, many, c.loop-position-test.false)) c.loop-position.invariant
+
+pub returns-then-has_failed : goal.returns-then-has_failed
+returns-then-has_failed g c =
+    put-cut (λ (command, answer). kept_line c.args.width command answer) (zip c.args.commands.now c.args.answers.now) c.loop-position.position (sym c.has_failed.ensures ∙ c.if-has_failed.true) c.loop-position.invariant

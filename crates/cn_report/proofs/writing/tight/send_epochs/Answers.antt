@@ -1,0 +1,15 @@
+use Rattle.std.proofs.Common.{◌∙◌, ap, arith, map, sym}
+use Rattle.std.proofs.lemmas.List.{get_or-map, length-map}
+use Rattle.cn_report.specs.Reading.Told.{plain_tight}
+use Rattle.cn_report.specs.Writing.Tight.{tight_line}
+use Rattle.cn_report.proofs.WritingLemmas.Pieces.{put-next}
+use Rattle.cn_report.proofs.writing.tight.send_epochs.Goals as goal
+
+pub loop-epoch-preserved : goal.loop-epoch-preserved
+loop-epoch-preserved g c =
+    let epochs = c.args.epochs.now in
+    let i = c.loop-epoch.epoch-index in
+    let e = c.epoch-item.result in
+    let many = length-map epochs plain_tight in
+    put-next tight_line (map plain_tight epochs) i (plain_tight e) (plain_tight e) (omega (arith, many, c.loop-epoch-test.true))
+    (ap plain_tight c.epoch-item.is ∙ sym (get_or-map plain_tight epochs i e (plain_tight e) c.loop-epoch-test.true)) c.loop-epoch.invariant c.send_epoch.ensures

@@ -1,0 +1,21 @@
+use Rattle.std.proofs.Common.{◌∙◌, arith, get_or, map, sym}
+use Rattle.std.proofs.lemmas.List.{get_or-map, length-map}
+use Rattle.cn_report.specs.declared.reading.granting.NamedEpoch.{NamedEpoch}
+use Rattle.cn_report.specs.Reading.Told.{with_shares}
+use Rattle.cn_report.specs.Writing.Tight.{tight_line}
+use Rattle.cn_report.proofs.WritingLemmas.Pieces.{put-cut, put-next}
+use Rattle.cn_report.proofs.writing.tight.send_named_epochs.Goals as goal
+
+pub loop-epoch-preserved : goal.loop-epoch-preserved
+loop-epoch-preserved g c =
+    let epochs = c.args.epochs.now in
+    let i = c.loop-epoch.epoch-index in
+    let none : NamedEpoch = record { number = 0; clients = 0 } in
+    let part = with_shares c.args.width in
+    let many = length-map epochs part in
+    put-next tight_line (map part epochs) i (part none) (part (get_or epochs i none)) (omega (arith, many, c.loop-epoch-test.true))
+    (sym (get_or-map part epochs i none (part none) c.loop-epoch-test.true)) c.loop-epoch.invariant c.send_named.ensures
+
+pub returns-then-has_failed : goal.returns-then-has_failed
+returns-then-has_failed g c =
+    put-cut tight_line (map (with_shares c.args.width) c.args.epochs.now) c.loop-epoch.epoch-index (sym c.has_failed.ensures ∙ c.if-has_failed.true) c.loop-epoch.invariant

@@ -1,0 +1,85 @@
+//! One record of a batch.
+
+ghost use Rattle.std.specs.Prelude.{◌≡◌, ◌<◌};
+ghost use Rattle.csv.specs.Records.{fields_of};
+ghost use Rattle.cn_report.specs.Reading.Number.{number_in};
+ghost use Rattle.cn_report.specs.Reading.Arrival.{arrival_in, arriving, entry_by_rule, ruled_arrival, told_arrival};
+
+use crate::reading::batch::heading::Heading;
+use crate::reading::batch_fault::BatchCause;
+use crate::reading::number::number_of;
+use crate::reading::rows::field;
+use csv::ByteRecord;
+
+/// A client that comes in an epoch by an entry.
+#[derive(Clone, Copy, Debug, PartialEq, Eq)]
+pub(crate) struct Arrival {
+    pub(crate) epoch: u64,
+    pub(crate) client: u64,
+    pub(crate) entry: u64,
+}
+
+fn arrival_from(epoch: &[u8], client: &[u8], entry: &[u8]) -> Result<Arrival, BatchCause>
+    ensures { result ≡ arriving (number_in epoch.now) (number_in client.now) (number_in entry.now) }
+{
+    let epoch = number_of(epoch).ok_or(BatchCause::EpochNumber)?;
+    let client = number_of(client).ok_or(BatchCause::ClientNumber)?;
+    let entry = number_of(entry).ok_or(BatchCause::EntryNumber)?;
+    Ok(Arrival {
+        epoch,
+        client,
+        entry,
+    })
+}
+
+/// The arrival of a record that gives its entry.
+#[tactic(auto, using(crate::proofs::ReadingLemmas::ArrivalFields::arrival_of_three, crate::proofs::ReadingLemmas::ArrivalFields::arrival_of_others))]
+fn told_arrival(row: &ByteRecord) -> Result<Arrival, BatchCause>
+    ensures { result ≡ told_arrival (fields_of row.now) }
+{
+    if row.len() != 3 {
+        return Err(BatchCause::FieldCount);
+    }
+    arrival_from(field(row, 0), field(row, 1), field(row, 2))
+}
+
+fn arrival_by_rule(epoch: &[u8], client: &[u8], entries: u32) -> Result<Arrival, BatchCause>
+    requires { 0 < entries }
+    ensures { result
+        ≡ arriving (number_in epoch.now) (number_in client.now) (entry_by_rule entries (number_in client.now)) }
+{
+    let epoch = number_of(epoch).ok_or(BatchCause::EpochNumber)?;
+    let client = number_of(client).ok_or(BatchCause::ClientNumber)?;
+    Ok(Arrival {
+        epoch,
+        client,
+        entry: client % u64::from(entries),
+    })
+}
+
+/// The arrival of a record whose entry follows by rule.
+#[tactic(auto, using(crate::proofs::ReadingLemmas::ArrivalFields::arrival_of_two, crate::proofs::ReadingLemmas::ArrivalFields::ruled_of_others))]
+fn ruled_arrival(row: &ByteRecord, entries: u32) -> Result<Arrival, BatchCause>
+    requires { 0 < entries }
+    ensures { result ≡ ruled_arrival entries (fields_of row.now) }
+{
+    if row.len() != 2 {
+        return Err(BatchCause::FieldCount);
+    }
+    arrival_by_rule(field(row, 0), field(row, 1), entries)
+}
+
+/// The arrival of a record, of a batch with this heading for a network with so many entries.
+pub(crate) fn arrival_of(
+    row: &ByteRecord,
+    heading: Heading,
+    entries: u32,
+) -> Result<Arrival, BatchCause>
+    requires { 0 < entries }
+    ensures { result ≡ arrival_in heading entries (fields_of row.now) }
+{
+    match heading {
+        Heading::Told => told_arrival(row),
+        Heading::ByRule => ruled_arrival(row, entries),
+    }
+}

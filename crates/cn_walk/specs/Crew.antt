@@ -1,0 +1,11 @@
+-- Workers who run epochs.
+use Rattle.std.specs.Prelude.{◌+◌, ◌<◌, ◌≤◌}
+use Rattle.cn_spec.specs.declared.limits.TheConstants.{MOST_WORKERS}
+use Rattle.cn_walk.specs.Runs.{HandFits}
+use Rattle.cn_walk.specs.declared.crew.Crew.{Crew}
+
+-- some worker is there, none has a number that no worker may have, and each may have so many clients in hand
+pub record IsCrew (crew : Crew) : Type 0 where
+  pub some : 0 < crew.workers
+  pub within : crew.first + crew.workers ≤ MOST_WORKERS
+  pub hand : HandFits crew.hand

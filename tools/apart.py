@@ -1,0 +1,74 @@
+"""Crates that stand apart from the gate, in folders of checks/long: it neither proves nor runs them.
+
+Their files have endings that no check reads. They get those of a crate in a copy of the repository's libraries, in a
+temporary folder, and what is built there is kept in the folder's out/.
+"""
+import contextlib
+import itertools
+import os
+import pathlib
+import shutil
+import subprocess
+import tempfile
+import time
+
+import crates_txt
+
+ROOT = pathlib.Path(__file__).resolve().parents[1]
+# The endings of such a file, and in a crate.
+ENDINGS = {".rattle": ".rt", ".proof": ".antt"}
+
+
+def is_current(built, folder):
+    """Whether something is built, and no source of the repository or the folder is newer."""
+    if not built.exists():
+        return False
+    parts = itertools.product(("src", "specs", "proofs"), ("*.rt", "*.antt"))
+    sources = [path for part, kind in parts for path in ROOT.glob(f"crates/*/{part}/**/{kind}")]
+    sources += (path for kind in ENDINGS for path in folder.glob(f"**/*{kind}"))
+    sources.append(ROOT / "crates.txt")
+    return all(path.stat().st_mtime <= built.stat().st_mtime for path in sources)
+
+
+def libraries():
+    """The lines of crates.txt for the libraries of the repository, by name: such a crate may stand on each."""
+    return {name: crate.line for name, crate in crates_txt.listed(ROOT).items() if crate.is_library}
+
+
+@contextlib.contextmanager
+def as_a_crate(folder, name, uses=(), tests=False):
+    """The folder as a crate of that name, which also uses these of the kit, in a copy of the libraries; for its tests
+    with what rt has proved of them."""
+    with tempfile.TemporaryDirectory() as copied:
+        copy, below = pathlib.Path(copied), libraries()
+        for library in below:
+            left_out = None if tests else shutil.ignore_patterns("out")
+            shutil.copytree(ROOT / "crates" / library, copy / "crates" / library, ignore=left_out)
+        crate = copy / "crates" / name
+        for path in folder.glob("**/*"):
+            if path.suffix in ENDINGS:
+                at = crate / path.relative_to(folder).with_suffix(ENDINGS[path.suffix])
+                at.parent.mkdir(parents=True, exist_ok=True)
+                shutil.copy(path, at)
+        shutil.copy(ROOT / "HANDLES", copy)
+        lines = [*below.values(), f"{name}: {' '.join([*below, *uses])}"]
+        (copy / "crates.txt").write_text("\n".join(lines) + "\n")
+        yield crate
+
+
+def build(built, folder, name, uses=(), tests=False):
+    """Builds the crate if a source is newer than what is built: its tests by rt, a program by tools/build, which takes
+    what it has proved of the libraries."""
+    if is_current(built, folder):
+        return
+    began = time.time()
+    with as_a_crate(folder, name, uses, tests) as crate:
+        words = ["rt", "test"] if tests else [ROOT / "tools" / "build", name, name, crate.parent.parent]
+        # What a test ends with says nothing of the build: that is judged when it is run.
+        subprocess.run(words, cwd=crate, stdout=subprocess.DEVNULL, stdin=subprocess.DEVNULL)
+        if not (crate / "out" / built.name).exists():
+            raise SystemExit(f"{name} is not built")
+        built.parent.mkdir(exist_ok=True)
+        shutil.copy(crate / "out" / built.name, built)
+        # An edit that came during the build is newer.
+        os.utime(built, (began, began))
