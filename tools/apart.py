@@ -4,7 +4,6 @@ Their files have endings that no check reads. They get those of a crate in a cop
 temporary folder, and what is built there is kept in the folder's out/.
 """
 import contextlib
-import itertools
 import os
 import pathlib
 import shutil
@@ -17,17 +16,6 @@ import crates_txt
 ROOT = pathlib.Path(__file__).resolve().parents[1]
 # The endings of such a file, and in a crate.
 ENDINGS = {".rattle": ".rt", ".proof": ".antt"}
-
-
-def is_current(built, folder):
-    """Whether something is built, and no source of the repository or the folder is newer."""
-    if not built.exists():
-        return False
-    parts = itertools.product(("src", "specs", "proofs"), ("*.rt", "*.antt"))
-    sources = [path for part, kind in parts for path in ROOT.glob(f"crates/*/{part}/**/{kind}")]
-    sources += (path for kind in ENDINGS for path in folder.glob(f"**/*{kind}"))
-    sources.append(ROOT / "crates.txt")
-    return all(path.stat().st_mtime <= built.stat().st_mtime for path in sources)
 
 
 def libraries():
@@ -59,7 +47,7 @@ def as_a_crate(folder, name, uses=(), tests=False):
 def build(built, folder, name, uses=(), tests=False):
     """Builds the crate if a source is newer than what is built: its tests by rt, a program by tools/build, which takes
     what it has proved of the libraries."""
-    if is_current(built, folder):
+    if subprocess.run([ROOT / "tools" / "is_current", built, *libraries(), "--", folder]).returncode == 0:
         return
     began = time.time()
     with as_a_crate(folder, name, uses, tests) as crate:

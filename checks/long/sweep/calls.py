@@ -72,10 +72,9 @@ def floors(kind, width, count):
 def shared(kind, width, count):
     made = {kind: 1, "Floor::open_shared": 1, "Floor::split_off": 1, "Lane::reserve": 1}
     made |= {"Floor::name": (count + 1) // 2, "Floor::name_all": count // 2}
-    made |= {"Floor::join": 2, "Floor::close_for": 2, "ClosedFloor::outcome_since": 2, "Floor::open_shared_apart": 1}
-    made |= {"outcomes of closed floors are tight": 2, "Words::zero_shared": 1, "Floor::open_after": 1}
-    made |= {"Floor::split": 1, "Floor::enter": count, "Floor::close": 1, "Quiet::holders": 1}
-    return made | {"closed floors are tight": 1}
+    made |= {"Floor::join": 2, "Floor::close_for": 2, "ClosedFloor::into_quiet": 2, "Floor::open_shared_apart": 1}
+    made |= {"Words::zero_shared": 1, "Floor::open_after": 1, "Floor::split": 1, "Floor::enter": count}
+    return made | {"Floor::close": 1, "Quiet::holders": 3, "closed floors are tight": 3}
 
 
 def runs(kind, width, count):

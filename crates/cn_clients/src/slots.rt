@@ -7,7 +7,7 @@ ghost use Rattle.cn_yard.specs.Lists.{tokens_in};
 ghost use Rattle.cn_clients.specs.Slots.{AreSlotsOf, FilledBy, clients_filled, names_of};
 
 use crate::filled::Filled;
-use cn_floor::{Floor, Lane};
+use cn_floor::{Floor, Lane, SharedFloor};
 use std::alloc::Global;
 use std::sync::OnceLock;
 use std::thread;
@@ -49,42 +49,9 @@ fn fill_all<'s>(
     Some((lane, filled))
 }
 
-/// What the threads share ([`crate::two_threads`] says why it is a trait).
-trait Shared {
-    ghost use Rattle.cn_floor.specs.Lane.{FloorValue};
-
-    ghost home: { Self → FloorValue };
-
-    fn fill_all<'s>(
-        &self,
-        alloc: Global,
-        lane: Lane,
-        clients: &[u64],
-        slots: &'s [OnceLock<u64>],
-    ) -> Option<(Lane, Vec<Filled<'s>>)>
-        requires own { lane.home ≡ Self.home self.now }
-        requires out { tokens_in lane.yard.lists ≡ 0 }
-        requires slots { (Self.home self.now).start.quota ≤ length slots.now }
-        ensures { IfSome result (λ r. FilledBy slots.now lane r.0 clients.now r.1.items) };
-}
-
-impl<'a> Shared for Floor<'a> {
-    ghost home = { λ floor. floor };
-
-    fn fill_all<'s>(
-        &self,
-        alloc: Global,
-        lane: Lane,
-        clients: &[u64],
-        slots: &'s [OnceLock<u64>],
-    ) -> Option<(Lane, Vec<Filled<'s>>)> {
-        fill_all(alloc, self, lane, clients, slots)
-    }
-}
-
 /// Two threads fill slots at once, each by a lane of its own. `None` if a client is refused, a list gets no memory, or
 /// a slot was written before.
-fn fill_in_threads<'s, G: Shared + Sync, R: Threads>(
+fn fill_in_threads<'s, G: SharedFloor + Sync, R: Threads>(
     rt: &R,
     alloc: Global,
     floor: &G,
@@ -106,12 +73,12 @@ fn fill_in_threads<'s, G: Shared + Sync, R: Threads>(
             requires { (lane.home ≡ G.home floor.now) × (tokens_in lane.yard.lists ≡ 0)
                 × ((G.home floor.now).start.quota ≤ length slots.now) }
             ensures { IfSome result (λ r. FilledBy slots.entry.now lane r.0 first.entry.now r.1.items) }
-        { floor.fill_all(alloc, lane, first, slots) },
+        { fill_all(alloc, floor.floor(), lane, first, slots) },
         move || -> Option<(Lane, Vec<Filled<'_>>)>
             requires { (other.home ≡ G.home floor.now) × (tokens_in other.yard.lists ≡ 0)
                 × ((G.home floor.now).start.quota ≤ length slots.now) }
             ensures { IfSome result (λ r. FilledBy slots.entry.now other r.0 second.entry.now r.1.items) }
-        { floor.fill_all(alloc, other, second, slots) },
+        { fill_all(alloc, floor.floor(), other, second, slots) },
     );
     match (one, two) {
         (Some((lane, first)), Some((other, second))) => Some((lane, other, first, second)),

@@ -7,7 +7,7 @@ ghost use Rattle.cn_floor.specs.Together.{StoodAsOne};
 ghost use Rattle.cn_clients.specs.Naming.{AreApart, GaveNames};
 ghost use denote.Param.Send.{IsSync};
 
-use cn_floor::{Floor, Lane};
+use cn_floor::{Floor, Lane, SharedFloor};
 use std::alloc::Global;
 use std::thread;
 use std::thread::Threads;
@@ -35,30 +35,9 @@ fn name_all(
     Some((lane, names))
 }
 
-/// What the threads share. The closure of a thread that captures a `&Floor<'a>` promises nothing, so it captures a type
-/// parameter, for which the floor stands.
-trait Shared {
-    ghost use Rattle.cn_floor.specs.Lane.{FloorValue};
-
-    ghost home: { Self → FloorValue };
-
-    fn name_all(&self, alloc: Global, lane: Lane, clients: &[u64]) -> Option<(Lane, Vec<u64>)>
-        requires own { lane.home ≡ Self.home self.now }
-        requires out { tokens_in lane.yard.lists ≡ 0 }
-        ensures { IfSome result (λ r. GaveNames lane r.0 clients.now r.1.items) };
-}
-
-impl<'a> Shared for Floor<'a> {
-    ghost home = { λ floor. floor };
-
-    fn name_all(&self, alloc: Global, lane: Lane, clients: &[u64]) -> Option<(Lane, Vec<u64>)> {
-        name_all(alloc, self, lane, clients)
-    }
-}
-
 /// Two threads name their clients, each by a lane of its own: the lanes, and the names. `None` if a client is refused,
 /// or the lists get no memory.
-fn name_in_threads<G: Shared + Sync, R: Threads>(
+fn name_in_threads<G: SharedFloor + Sync, R: Threads>(
     rt: &R,
     alloc: Global,
     floor: &G,
@@ -77,11 +56,11 @@ fn name_in_threads<G: Shared + Sync, R: Threads>(
         move || -> Option<(Lane, Vec<u64>)>
             requires { (lane.home ≡ G.home floor.now) × (tokens_in lane.yard.lists ≡ 0) }
             ensures { IfSome result (λ r. GaveNames lane r.0 first.entry.now r.1.items) }
-        { floor.name_all(alloc, lane, first) },
+        { name_all(alloc, floor.floor(), lane, first) },
         move || -> Option<(Lane, Vec<u64>)>
             requires { (other.home ≡ G.home floor.now) × (tokens_in other.yard.lists ≡ 0) }
             ensures { IfSome result (λ r. GaveNames other r.0 second.entry.now r.1.items) }
-        { floor.name_all(alloc, other, second) },
+        { name_all(alloc, floor.floor(), other, second) },
     );
     match (one, two) {
         (Some((lane, first)), Some((other, second))) => Some((lane, other, first, second)),

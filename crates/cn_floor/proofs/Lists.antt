@@ -1,8 +1,8 @@
 -- The tokens of a lane on their wires, where one comes or goes.
-use Rattle.std.proofs.Common.{◌≡◌, ℕ, ◌+◌, ◌<◌, ◌≤◌, inl, inr, eqb, List, [], ◌∷◌, ◌++◌, length, get_or, map, sum_by, refl, ap, ◌∙◌, arith}
+use Rattle.std.proofs.Common.{◌≡◌, ℕ, ◌+◌, ◌<◌, ◌≤◌, inl, inr, eqb, List, [], ◌∷◌, ◌++◌, length, get_or, map, set, sum_by, take, refl, ap, sym, ◌∙◌, arith}
 use Rattle.std.specs.List.{range_with_len}
 use Rattle.std.proofs.lemmas.Bool.{cases_lt, ne_eqb}
-use Rattle.std.proofs.lemmas.List.{get_or_past}
+use Rattle.std.proofs.lemmas.List.{get_or_past, length-set, take_all, take_more, take_more_set}
 use Rattle.std.proofs.lemmas.List.FromFn.{get_or-map-range_with_len, length-map-range_with_len, fill_by_all}
 use Rattle.std.proofs.lemmas.List.Sums.{sum_by-append, sum_by-cons}
 use Rattle.cn_spec.specs.Sums.{when}
@@ -12,6 +12,20 @@ use Rattle.cn_yard.proofs.CallerLemmas.{last_on-sum}
 pub ones : {X : Type 0} (xs : List X) → sum_by (λ (_ : X). 1) xs ≡ length xs
 ones [] = refl
 ones {X} (x ∷ xs) = omega (arith, ones xs, sum_by-cons (λ (_ : X). 1) x xs)
+
+-- ---- lists that are copied, place by place
+
+pub copied-next : (xs ys : List ℕ) (i y : ℕ) → length xs ≡ length ys → i < length ys → take i xs ≡ take i ys → get_or ys i 0 ≡ y
+    → (length (set xs i y) ≡ length ys) × (take (i + 1) (set xs i y) ≡ take (i + 1) ys)
+copied-next xs ys i y long low so-far next = (
+  length-set xs i y ∙ long,
+  take_more_set xs i y (omega (arith, low, long)) ∙ ap (λ (zs : List ℕ). zs ++ y ∷ []) so-far
+      ∙ ap (λ (z : ℕ). take i ys ++ z ∷ []) (sym next) ∙ sym (take_more ys i 0 low),
+)
+
+pub copied-all : (xs ys : List ℕ) (i : ℕ) → length xs ≡ length ys → length ys ≤ i → take i xs ≡ take i ys → xs ≡ ys
+copied-all xs ys i long end so-far =
+    sym (take_all i xs (omega (arith, long, end))) ∙ so-far ∙ take_all i ys end
 
 -- ---- lists that are made anew
 

@@ -82,19 +82,9 @@ pub record IsClosedFloor (start : Start) (v : View) (words : List ℕ) : Type 0 
   -- another floor may begin with the words
   pub closed : IsCarried start.network.table words
 
--- what came of a floor: how many left by each exit, and the clients by rising name
-pub record OutcomeValue : Type 0 where
-  pub counts : List ℕ
-  pub holders : List ℕ
-
 -- the clients by rising name: at each place stands the client that was granted the place's number
 pub record ListsHolders (grants : List Grant) (holders : List ℕ) : Type 0 where
   pub all : length holders ≡ length grants
   pub by_name : All (λ g. slice_index holders g.name ≡ g.client) grants
   -- they are the clients of the grants, each as often as it was granted a name
   pub own : IsPermutation (map (λ g. g.client) grants) holders
-
--- this came of a closed floor
-pub record IsOutcomeOf (quiet : QuietValue) (outcome : OutcomeValue) : Type 0 where
-  pub counts : outcome.counts ≡ counts_by_exit quiet.start quiet.words
-  pub holders : ListsHolders quiet.did.grants outcome.holders

@@ -2,6 +2,7 @@ pub mod Words
 pub mod Views
 pub mod Rule
 pub mod Spread
+pub mod Spacing
 pub mod Carried
 pub mod InsideNetworkRef
 pub mod InsideWords
@@ -13,7 +14,6 @@ pub mod Lane
 pub mod InsideLane
 pub mod Ends
 pub mod Closing
-pub mod InsideEndWords
 pub mod InsideCounters
 pub mod InsideFloor
 pub mod InsideLeftovers

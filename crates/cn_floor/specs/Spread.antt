@@ -24,3 +24,12 @@ abbrev pub HoldsSpread : {S V : Type 0} → ℕ → (State S V → Type 0) → S
 HoldsSpread stride holds s =
     (words : List ℕ) × (s.words ≡ spread stride words)
     × holds record { words = words; homes = s.homes; views = s.views }
+
+-- the words of a closed table in which they lie a stride apart
+abbrev pub words_in : ℕ → List ℕ → List ℕ
+words_in stride row = picked stride 0 row
+
+-- this is such a table: there is nothing but the words and the zeros between
+pub record IsSpaced (stride : ℕ) (row : List ℕ) : Type 0 where
+  pub some : 1 ≤ stride
+  pub apart : row ≡ spread stride (words_in stride row)

@@ -8,8 +8,7 @@ mod view;
 
 pub use fault::{JoinFault, LaneFault, OpenFault, SplitFault};
 pub use floor::{
-    CloseFault, ClosedFloor, Floor, HoldersListed, Lane, Leftovers, Outcome, Quiet, Words,
-    pass_alone,
+    CloseFault, ClosedFloor, Floor, Lane, Leftovers, Quiet, SharedFloor, Words, pass_alone,
 };
 pub use gate::{Gate, Moment, OpenGate};
 pub use view::{Grant, Opening, Passage, Start, Sweep, View};

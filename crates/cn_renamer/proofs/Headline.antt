@@ -16,7 +16,7 @@ use Rattle.cn_report.proofs.CallerLemmas.{known-map}
 use Rattle.cn_report.specs.Writing.Written.{HasWritten, First, Nothing, Whole, Written}
 use Rattle.cn_nets.specs.Net.{Description, IsNetworkOf}
 use Rattle.cn_cli.specs.declared.options.Form.{Form}
-use Rattle.cn_renamer.specs.Headline.{AreServed, IsRunOf, IsRunOfKnown, IsServed, after, text_in}
+use Rattle.cn_renamer.specs.Headline.{AreServed, IsRunOf, IsRunOfKnown, IsServed, clients_before_next, text_in}
 
 -- who holds the names of an epoch that was served are as many as its clients
 pub as-many : (width m : ℕ) (epoch : BatchEpoch) (r : EpochRecord) → IsServed width m epoch r → length r.holders.items ≡ r.clients
@@ -33,12 +33,12 @@ unfolding AreServed
 each-served carry width m [] [] served = tt
 each-served carry width m [] (r ∷ records) served = absurd served
 each-served carry width m (e ∷ epochs) [] served = absurd served
-each-served carry width m (e ∷ epochs) (r ∷ records) (one, rest) = ((m, one), each-served carry width (after carry m (length e.clients.items)) epochs records rest)
+each-served carry width m (e ∷ epochs) (r ∷ records) (one, rest) = ((m, one), each-served carry width (clients_before_next carry m (length e.clients.items)) epochs records rest)
 
 -- how many clients come before the epoch after these
 came : Bool → ℕ → List BatchEpoch → ℕ
 came carry m [] = m
-came carry m (e ∷ epochs) = came carry (after carry m (length e.clients.items)) epochs
+came carry m (e ∷ epochs) = came carry (clients_before_next carry m (length e.clients.items)) epochs
 
 -- where one more epoch was served
 served-more : (carry : Bool) (width m : ℕ) (epochs : List BatchEpoch) (records : List EpochRecord) (e : BatchEpoch) (r : EpochRecord) → AreServed carry width m epochs records → IsServed width (came carry m epochs) e r
@@ -47,7 +47,7 @@ unfolding AreServed came
 served-more carry width m [] [] e r served one = (one, tt)
 served-more carry width m [] (x ∷ records) e r served one = absurd served
 served-more carry width m (x ∷ epochs) [] e r served one = absurd served
-served-more carry width m (x ∷ epochs) (y ∷ records) e r (first, rest) one = (first, served-more carry width (after carry m (length x.clients.items)) epochs records e r rest one)
+served-more carry width m (x ∷ epochs) (y ∷ records) e r (first, rest) one = (first, served-more carry width (clients_before_next carry m (length x.clients.items)) epochs records e r rest one)
 
 -- without carry none come before it, and with carry all come
 none-came : (epochs : List BatchEpoch) → came false 0 epochs ≡ 0

@@ -1,5 +1,5 @@
 -- The record of an epoch that was run.
-use Rattle.std.proofs.Common.{◌≡◌, ℕ, ◌+◌, ◌-◌, ◌^◌, ◌<◌, ◌≤◌, Global, List, Vec, ap, get_or, length, map, refl, sym, subst, ◌∙◌, arith}
+use Rattle.std.proofs.Common.{◌≡◌, ℕ, ◌+◌, ◌-◌, ◌^◌, ◌<◌, ◌≤◌, Global, List, Vec, ap, get_or, length, map, refl, sym, ◌∙◌, arith}
 use Rattle.std.specs.List.Sorted.{IsPermutation}
 use Rattle.std.proofs.lemmas.List.FromFn.{length-map-range_with_len}
 use Rattle.std.proofs.lemmas.List.Sorted.{IsPermutation-trans}
@@ -12,12 +12,11 @@ use Rattle.cn_wiring.specs.Network.{Network}
 use Rattle.cn_record.specs.declared.record.EpochRecord.{EpochRecord}
 use Rattle.cn_floor.specs.declared.view.Grant.{Grant}
 use Rattle.cn_floor.specs.Carried.{WordsValue, client_count}
-use Rattle.cn_floor.specs.Ends.{IsOutcomeOf, ListsHolders, OutcomeValue, QuietValue, counts_by_exit}
+use Rattle.cn_floor.specs.Ends.{ListsHolders, QuietValue, counts_by_exit}
 use Rattle.cn_walk.specs.Runs.{IsRunAfter}
 use Rattle.cn_walk.specs.Walks.{AreFor}
 use Rattle.cn_report.specs.Reading.Batch.{MayCome}
 use Rattle.cn_report.specs.declared.reading.batch.BatchEpoch.{BatchEpoch}
-use Rattle.cn_renamer.specs.Headline.{IsServed}
 use Rattle.cn_renamer.specs.Running.{AreHoldersOfOne}
 
 -- what has risen at an exit's word
@@ -39,21 +38,6 @@ module _ (clients : List Client) (grants : List Grant) (theirs : AreFor clients 
   pub once : ((client : ℕ) → times client ids ≤ 1) → (client : ℕ) → times client holders ≤ 1
   once come client = omega (arith, times-order ids holders client own, come client)
 
--- the record of a run is that of its epoch, served after so many clients
-pub served : (entries width m : ℕ) (epoch : BatchEpoch) (before : WordsValue) (quiet : QuietValue) (outcome : OutcomeValue) (r : EpochRecord) → MayCome entries epoch.clients.items
-    → before.network.table.width ≡ width → client_count before ≡ m → IsRunAfter before epoch.clients.items quiet → IsOutcomeOf quiet outcome
-    → r.number ≡ epoch.number → r.clients ≡ length epoch.clients.items → r.counts.items ≡ outcome.counts → r.holders.items ≡ outcome.holders → IsServed width m epoch r
-served entries width m epoch before quiet outcome r come wide after run came number many counts holders =
-    let clients : List Client = epoch.clients.items in
-    let lists : ListsHolders quiet.did.grants r.holders.items = subst (λ (ns : List ℕ). ListsHolders quiet.did.grants ns) (sym holders) came.holders in
-    record {
-      number = number;
-      clients = many;
-      counts = counts ∙ came.counts ∙ run.counts ∙ (λ x. shares_after (after x) (sym many x) (wide x));
-      holders = own clients quiet.did.grants run.theirs r.holders.items lists;
-      once = once clients quiet.did.grants run.theirs r.holders.items lists come.once;
-    }
-
 -- a list as a vector has it; where that would lie does not matter
 abbrev vector-of : {X : Type 0} → Vec X Global → (ns : List ℕ) → length ns < 2 ^ 63 → Vec ℕ Global
 vector-of v ns few = record { ptr = v.ptr; len = length ns; cap = length ns; alloc = v.alloc; items = ns; ok = (refl, omega arith); small = few }
@@ -73,8 +57,15 @@ served-by entries width m epoch before quiet holders come wide after narrow run 
       counts = vector-of epoch.clients counts (omega (arith, exits, narrow));
       holders = vector-of epoch.clients holders many;
     } in
+    let clients : List Client = epoch.clients.items in
     record {
       made = r;
-      served = served entries width m epoch before quiet (record { counts = counts; holders = holders }) r come wide after run (record { counts = refl; holders = lists }) refl refl refl refl;
+      served = record {
+        number = refl;
+        clients = refl;
+        counts = run.counts ∙ (λ x. shares_after (after x) (length clients) (wide x));
+        holders = own clients quiet.did.grants run.theirs holders lists;
+        once = once clients quiet.did.grants run.theirs holders lists come.once;
+      };
       listed = refl;
     }

@@ -29,8 +29,8 @@ pub record IsServed (w m : ℕ) (epoch : BatchEpoch) (r : EpochRecord) : Type 0 
 
 -- how many clients come before the epoch after one of k clients that come after m: with carry all of them, without it
 -- none
-abbrev pub after : Bool → ℕ → ℕ → ℕ
-after carry m k = when carry (m + k)
+abbrev pub clients_before_next : Bool → ℕ → ℕ → ℕ
+clients_before_next carry m k = when carry (m + k)
 
 -- the epochs were served one after another; m clients come before the first
 unfoldable pub AreServed : Bool → ℕ → ℕ → List BatchEpoch → List EpochRecord → Type 0
@@ -38,7 +38,7 @@ AreServed carry w m [] [] = ⊤
 AreServed carry w m [] (r ∷ records) = ⊥
 AreServed carry w m (e ∷ epochs) [] = ⊥
 AreServed carry w m (e ∷ epochs) (r ∷ records) =
-    IsServed w m e r × AreServed carry w (after carry m (length e.clients.items)) epochs records
+    IsServed w m e r × AreServed carry w (clients_before_next carry m (length e.clients.items)) epochs records
 
 -- the text of epochs in the asked form
 abbrev pub text_in : Form → Network → List EpochRecord → List ℕ

@@ -1,4 +1,5 @@
 pub mod Check
+pub mod Lines
 pub mod Headline
 pub mod Outputs
 pub mod Performing

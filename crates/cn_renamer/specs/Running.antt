@@ -1,11 +1,13 @@
 -- The epochs of a batch that were run: who has which name, in one list.
-use Rattle.std.specs.Prelude.{◌≡◌, ℕ, ◌<◌, ◌≤◌, All, Bool, List, length}
+use Rattle.std.specs.Prelude.{◌≡◌, ℕ, ◌<◌, ◌≤◌, ◌&&◌, All, Bool, List, length, nat_lt, if◌then◌else◌}
 use Rattle.std.specs.List.{flat_map}
 use Rattle.cn_spec.specs.declared.limits.TheConstants.{MOST_RECORDS}
 use Rattle.cn_record.specs.declared.record.EpochRecord.{EpochRecord}
 use Rattle.cn_report.specs.Reading.Batch.{MayCome, clients_of_epochs}
 use Rattle.cn_report.specs.declared.reading.batch.BatchEpoch.{BatchEpoch}
 use Rattle.cn_renamer.specs.Headline.{AreServed, IsServed}
+use Rattle.cn_renamer.specs.declared.epochs.TheConstants.{FEW_CLIENTS}
+use Rattle.cn_walk.specs.declared.crew.Crew.{Crew}
 
 -- these epochs may be run on a network with so many entries, each on a floor of its own, and there is a place for each
 -- client: the clients of each may come, and each has some
@@ -27,3 +29,9 @@ pub record AreHoldersOf (carry : Bool) (w : ℕ) (epochs : List BatchEpoch) (hol
   pub records : List EpochRecord
   pub served : AreServed carry w 0 epochs records
   pub listed : holders ≡ flat_map (λ r. r.holders.items) records
+
+-- who of a crew run an epoch of so many clients, one of so many that run one after another: of few clients, if there
+-- are other epochs, the first worker; else all
+abbrev pub crew_for : Crew → ℕ → ℕ → Crew
+crew_for crew epochs clients =
+    if nat_lt 1 epochs && nat_lt clients FEW_CLIENTS then record crew { workers = 1 } else crew

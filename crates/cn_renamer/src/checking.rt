@@ -1,9 +1,10 @@
 //! A list of grants, checked.
 
-ghost use Rattle.std.specs.Prelude.{◌≡◌, IfErr};
+ghost use Rattle.std.specs.Prelude.{◌≡◌, IfErr, Some};
 ghost use Rattle.cn_wiring.specs.Widths.{IsWidth};
 ghost use Rattle.cn_report.specs.Writing.Written.{HasWritten, written_by};
 ghost use Rattle.cn_renamer.specs.Check.{IsCheckFault, IsCheckOfKnown, IsTightTextOf, fault_of_flaw, fault_of_output, status_of_check, until_check};
+ghost use Rattle.cn_renamer.specs.Lines.{flaw_line};
 ghost use Rattle.cn_renamer.specs.Outputs.{until_output};
 
 use crate::output_fault::OutputFault;
@@ -35,6 +36,8 @@ pub enum CheckFault {
 struct FlawLine(Flaw);
 
 impl fmt::Display for FlawLine {
+    ghost output = { λ line. Some (flaw_line line.0) };
+
     fn fmt<W: fmt::Write>(&self, f: &mut fmt::Formatter<W>) -> fmt::Result {
         let flaw = self.0;
         match flaw {
@@ -115,7 +118,6 @@ fn write_epochs<W: Write>(
 /// `Flaw` with the first record that has a flaw, or the first gap; `Memory` if any growth was refused; `Write` if a
 /// write or the flush at the end failed, with the number of bytes that were written: they are the first of the text. On
 /// any other fault nothing was written.
-#[inline(never)]
 pub fn check<R: Read + Drop, W: Write>(
     alloc: Global,
     reader: R,

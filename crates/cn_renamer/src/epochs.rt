@@ -5,7 +5,7 @@ ghost use Rattle.cn_spec.specs.declared.limits.TheConstants.{MOST_CARRIED, MOST_
 ghost use Rattle.cn_spec.specs.Sums.{when};
 ghost use Rattle.cn_floor.specs.Carried.{client_count};
 ghost use Rattle.cn_report.specs.Reading.Batch.{MayCome, clients_of_epochs};
-ghost use Rattle.cn_renamer.specs.Running.{AreHoldersOf, AreHoldersOfOne, MayRunAll};
+ghost use Rattle.cn_renamer.specs.Running.{AreHoldersOf, AreHoldersOfOne, MayRunAll, crew_for};
 ghost use Rattle.cn_walk.specs.Crew.{IsCrew};
 ghost use denote.Param.Send.{IsSync};
 
@@ -18,15 +18,16 @@ use std::sync::Wait;
 use std::thread::{Threads, join_mut};
 
 /// An epoch of fewer clients is over before threads have started for it.
-const FEW: usize = 128;
+const FEW_CLIENTS: usize = 128;
 
 /// Who of a crew run an epoch of so many clients, one of so many that run one after another: if there are others, and
 /// it has few clients, the first worker; else all.
 fn crew_for(crew: Crew, epochs: usize, clients: usize) -> Crew
     requires { IsCrew crew }
-    ensures { IsCrew result }
+    ensures crew { IsCrew result }
+    ensures few { result ≡ crew_for crew epochs clients }
 {
-    if epochs > 1 && clients < FEW {
+    if epochs > 1 && clients < FEW_CLIENTS {
         Crew { workers: 1, ..crew }
     } else {
         crew
@@ -56,9 +57,12 @@ fn serve_epoch<'n, G: Gate + Sync, R: Threads + Wait + Sync>(
         ≡ client_count runner.entry.words + when runner.entry.carries (length epoch.now.clients.items)) }
 {
     runner.words().words_laws();
-    let (runner, ended) = runner.run(rt, alloc, &epoch.clients, crew, gate, holders);
+    let (runner, ended) = runner.run(rt, alloc, &epoch.clients, crew, gate);
     match ended {
-        Ok(_listed) => Ok(runner),
+        Ok(closed) => {
+            closed.list_holders(holders);
+            Ok(runner)
+        }
         Err(fault) => {
             // An epoch of a batch is refused only for want of memory.
             prove!(matches!(fault, RunFault::Memory));
@@ -112,7 +116,7 @@ fn cut(epochs: &[BatchEpoch], wanted: usize) -> (usize, usize)
     requires few { clients_of_epochs epochs.now ≤ MOST_RECORDS }
     ensures both { (0 < result.0) × (result.0 < length epochs.now) }
     ensures clients { result.1 ≡ clients_of_epochs (take result.0 epochs.now) }
-    ensures enough { result.0 + 1 < length epochs.now → wanted ≤ result.1 }
+    ensures reached { result.0 + 1 < length epochs.now → wanted ≤ result.1 }
     ensures first { (at : ℕ) → 0 < at → at < result.0 → clients_of_epochs (take at epochs.now) < wanted }
 {
     let mut at = 1;

@@ -1,7 +1,9 @@
 //! What ends the program before its job is done, and the program's end.
 
+ghost use Rattle.std.specs.IoError.{error_kind};
 ghost use Rattle.std.specs.Prelude.{◌≡◌, ◌↔◌, true};
 ghost use Rattle.std.specs.Result.{is_ok};
+ghost use Rattle.std.specs.declared.io.ErrorKind.TheVariants.{OutOfMemory};
 ghost use Rattle.cn_renamer.specs.Performing.{IsOfRuntime, status_by, status_of};
 ghost use Rattle.cn_renamer.specs.declared.fault.Fault.TheVariants.{Check, Output, Replay, Serve};
 ghost use Rattle.cn_renamer.specs.declared.output_fault.OutputFault.TheVariants.{Memory};
@@ -98,7 +100,8 @@ impl From<AllocError> for Fault {
 
 /// What the runtime answers when it is asked for arguments or random words.
 impl From<io::Error> for Fault {
-    ghost from_gives = { λ _ told. IsOfRuntime told };
+    ghost from_gives = { λ error told. IsOfRuntime told
+        × ((told ≡ Output Memory) ↔ (error_kind error ≡ OutOfMemory)) };
 
     fn from(error: io::Error) -> Fault {
         match error.kind() {
@@ -109,7 +112,7 @@ impl From<io::Error> for Fault {
 }
 
 /// Writes what is printed of a fault: its text and a line feed. A refusal's text ends its own lines.
-fn tell<E: Write>(errors: &mut E, fault: &Fault) -> io::Result<()> {
+fn write_fault<E: Write>(errors: &mut E, fault: &Fault) -> io::Result<()> {
     match fault {
         Fault::Refused(text) => errors.write_all(text.as_bytes()),
         _ => writeln!(errors, "{fault}"),
@@ -126,7 +129,7 @@ pub fn end<E: Write>(done: &Result<(), Fault>, errors: &mut E) -> u8
     match done {
         Ok(()) => 0,
         Err(fault) => {
-            let _ = tell(errors, fault);
+            let _ = write_fault(errors, fault);
             fault.status()
         }
     }

@@ -40,7 +40,6 @@ pub fn perform<I: Read + Drop, W: Write, S: RandomSource, R: Threads + Wait + Sy
         HasWritten W.contents Is (written_by until_fault result) writer.old writer.new }
     ensures ends { IfErr result (MayEnd job (I.remaining reader)) }
 {
-    // None of these calls is inlined: the frame of one is not that of all.
     match job {
         Job::Run(options) => {
             let state = RandomState::new(source)?;

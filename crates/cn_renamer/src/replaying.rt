@@ -192,7 +192,6 @@ fn replay_commands<W: Write>(
 /// `Schedule` with the first record that has a cause, and its first cause; `Memory` if any growth was refused; `Write`
 /// if a write or the flush at the end failed, with the number of bytes that were written: they are the first of the
 /// text. On any other fault nothing was written.
-#[inline(never)]
 pub fn replay<R: Read + Drop, W: Write>(
     alloc: Global,
     reader: R,

@@ -30,7 +30,7 @@ use std::thread::Threads;
 ///
 /// # Errors
 /// Those of [`read_batch`].
-fn read<I: Read + Drop, R: Threads + Wait + Sync>(
+fn read_by_options<I: Read + Drop, R: Threads + Wait + Sync>(
     rt: &R,
     alloc: Global,
     reader: I,
@@ -106,7 +106,6 @@ fn write_epochs<W: Write>(
 /// `Batch` with the first record that has a cause, and its first cause; `Memory` if any growth was refused; `Write` if
 /// a write or the flush at the end failed, with the number of bytes that were written: they are the first of the text.
 /// On any other fault nothing was written.
-#[inline(never)]
 pub fn serve<I: Read + Drop, W: Write, G: Gate + Sync, R: Threads + Wait + Sync>(
     rt: &R,
     alloc: Global,
@@ -121,7 +120,7 @@ pub fn serve<I: Read + Drop, W: Write, G: Gate + Sync, R: Threads + Wait + Sync>
     ensures refused { IfErr result (IsServeFault options.now.net (I.remaining reader)) }
 {
     let network = options.net().build(alloc)?;
-    let batch = read(rt, alloc, reader, &network, options, state)?;
+    let batch = read_by_options(rt, alloc, reader, &network, options, state)?;
     let holders = run_epochs(rt, alloc, &network, options, &batch.epochs, gate)?;
     let pieces = Pieces::new(alloc)?;
     write_epochs(writer, pieces, &network, options, &batch.epochs, &holders)?;

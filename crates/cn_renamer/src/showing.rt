@@ -18,7 +18,6 @@ pub type ShowFault = OutputFault;
 /// # Errors
 /// `Memory` if any growth was refused, and then nothing was written; `Write` if a write or the flush at the end failed,
 /// with the number of bytes that were written: they are the first of the text.
-#[inline(never)]
 pub fn show<W: Write>(alloc: Global, writer: &mut W, net: &Net) -> Result<(), ShowFault>
     ensures { HasWritten W.contents (IsWiringOf net.now) (written_by until_output result) writer.old writer.new }
 {

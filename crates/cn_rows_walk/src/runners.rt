@@ -29,8 +29,8 @@ fn next<'a, R: Threads + Wait + Sync>(
     }
     let clients = [Client { id: 7, entry: 0 }];
     let mut holders = [0];
-    let (runner, ended) = runner.run(rt, alloc, &clients, ONE, &OpenGate, &mut holders);
-    let _listed = ended.ok()?;
+    let (runner, ended) = runner.run(rt, alloc, &clients, ONE, &OpenGate);
+    ended.ok()?.list_holders(&mut holders);
     if holders != [7] {
         return None;
     }
@@ -76,7 +76,7 @@ fn refused<R: Threads + Wait + Sync>(rt: &R, alloc: Global) -> Option<(Option<Ru
         return None;
     }
     let nobody = Crew { workers: 0, ..ONE };
-    let (runner, ended) = runner.run(rt, alloc, &[], nobody, &OpenGate, &mut []);
+    let (runner, ended) = runner.run(rt, alloc, &[], nobody, &OpenGate);
     Some((ended.err(), runner.words().clients()))
 }
 
@@ -94,8 +94,8 @@ fn listed<R: Threads + Wait + Sync>(rt: &R, alloc: Global) -> Option<([u64; 2], 
     let runner = Runner::new(alloc, &network, true).ok()?;
     let clients = [Client { id: 7, entry: 0 }, Client { id: 9, entry: 1 }];
     let mut holders = [0; 2];
-    let (runner, ended) = runner.run(rt, alloc, &clients, ONE, &OpenGate, &mut holders);
-    let _listed = ended.ok()?;
+    let (runner, ended) = runner.run(rt, alloc, &clients, ONE, &OpenGate);
+    ended.ok()?.list_holders(&mut holders);
     Some((holders, runner.words().clients()))
 }
 

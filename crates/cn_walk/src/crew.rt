@@ -2,7 +2,7 @@
 
 ghost use Rattle.std.specs.Prelude.{◌≡◌, ◌+◌, ◌<◌, ◌≤◌};
 ghost use Rattle.cn_spec.specs.declared.limits.TheConstants.{MOST_RECORDS};
-ghost use Rattle.cn_walk.specs.Crew.{IsCrew};
+ghost use Rattle.cn_walk.specs.Crew.{IsCrew, nearest_part};
 
 /// Workers whose numbers follow one another, with so many clients in hand each.
 #[derive(Clone, Copy, Debug, PartialEq, Eq)]
@@ -27,6 +27,7 @@ impl Crew {
         ensures first { IsCrew result.0 }
         ensures second { IsCrew result.1 }
         ensures all { result.0.workers + result.1.workers ≡ self.workers }
+        ensures nearest { result.0.workers ≡ nearest_part self.workers part whole }
         ensures numbers { (result.0.first ≡ self.first) × (result.1.first ≡ self.first + result.0.workers) }
         ensures hand { (result.0.hand ≡ self.hand) × (result.1.hand ≡ self.hand) }
     {

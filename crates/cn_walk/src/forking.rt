@@ -2,14 +2,13 @@
 
 ghost use Rattle.std.specs.Prelude.{◌≡◌, ◌+◌, ◌-◌, ◌*◌, ◌/◌, ◌<◌, ◌≤◌, All, IfSome, length};
 ghost use Rattle.cn_spec.specs.declared.limits.TheConstants.{MOST_CLIENTS};
-ghost use Rattle.cn_yard.specs.Lists.{tokens_in};
-ghost use Rattle.cn_walk.specs.Halves.{AreOf, AreReady, HasNothing, IsPair, IsReady, MayWalk, first_position, together, whole};
+ghost use Rattle.cn_walk.specs.Halves.{AreOf, AreReady, HasNothing, IsPair, MayWalk, first_position, whole};
 ghost use Rattle.cn_walk.specs.Walks.{WalksAll};
 ghost use denote.Param.Send.{IsSync};
 
 use crate::crew::Crew;
 use crate::walking::walk_all;
-use cn_floor::{Floor, Gate, JoinFault, Lane};
+use cn_floor::{Floor, Gate, Lane, SharedFloor};
 use cn_ledger::Client;
 use std::alloc::Global;
 use std::sync::Wait;
@@ -23,60 +22,6 @@ pub(crate) enum Lanes {
     One(Lane, u32),
     /// The number of clients of the first half, and the halves.
     Halves(u32, Box<Lanes>, Box<Lanes>),
-}
-
-/// What walks clients through lanes, and joins the lanes. A closure that captures a `&Floor<'a>` itself promises
-/// nothing when threads join. So the recursion is over a type parameter, and [`Floor`] is the one type that it stands
-/// for.
-pub(crate) trait LaneWalker {
-    ghost use Rattle.cn_floor.specs.Lane.{FloorValue};
-
-    ghost home: { Self → FloorValue };
-
-    fn walk<G: Gate, R: Wait>(
-        &self,
-        rt: &R,
-        lane: Lane,
-        clients: &[Client],
-        hand: u32,
-        gate: &G,
-        number: u32,
-    ) -> Lane
-        requires ready { IsReady (Self.home self.now) (length clients.now) lane }
-        requires entries { All (λ c.
-            c.entry < (Self.home self.now).start.network.table.entries) clients.now }
-        requires hand { 0 < hand }
-        ensures { WalksAll lane result clients.now };
-
-    fn join(&self, lane: Lane, other: Lane) -> Lane
-        requires own { (lane.home ≡ Self.home self.now) × (other.home ≡ Self.home self.now) }
-        requires out { tokens_in other.yard.lists ≡ 0 }
-        requires room { length other.view.grants ≤ lane.room }
-        ensures { result ≡ together lane other };
-}
-
-impl<'a> LaneWalker for Floor<'a> {
-    ghost home = { λ f. f };
-
-    fn walk<G: Gate, R: Wait>(
-        &self,
-        rt: &R,
-        lane: Lane,
-        clients: &[Client],
-        hand: u32,
-        gate: &G,
-        number: u32,
-    ) -> Lane {
-        walk_all(rt, self, lane, clients, hand, gate, number)
-    }
-
-    fn join(&self, lane: Lane, other: Lane) -> Lane {
-        match Floor::join(self, lane, other) {
-            Ok(lane) => lane,
-            Err((JoinFault::StillWalking, _lane, _other)) => unreachable!(),
-            Err((JoinFault::Memory, _lane, _other)) => unreachable!(),
-        }
-    }
 }
 
 /// The position of a worker's first client among all; that of the worker after the last is the number of clients.
@@ -145,7 +90,7 @@ fn pair(alloc: Global, at: u32, left: Lanes, right: Lanes) -> Option<Lanes>
 
 /// Walks the clients through the lanes, the first half in a thread of its own beside the second, and joins the lanes.
 /// If no thread can be had the halves are walked one after the other. A single lane is walked here.
-pub(crate) fn walk_lanes<F: LaneWalker + Sync, G: Gate + Sync, R: Threads + Wait + Sync>(
+pub(crate) fn walk_lanes<F: SharedFloor + Sync, G: Gate + Sync, R: Threads + Wait + Sync>(
     rt: &R,
     floor: &F,
     lanes: Lanes,
@@ -162,7 +107,7 @@ pub(crate) fn walk_lanes<F: LaneWalker + Sync, G: Gate + Sync, R: Threads + Wait
     match lanes {
         Lanes::One(lane, worker) => {
             let number = crew.first.wrapping_add(worker);
-            floor.walk(rt, lane, clients, crew.hand, gate, number)
+            walk_all(rt, floor.floor(), lane, clients, crew.hand, gate, number)
         }
         Lanes::Halves(at, left, right) => {
             let left = Box::into_inner(left);
@@ -181,7 +126,10 @@ pub(crate) fn walk_lanes<F: LaneWalker + Sync, G: Gate + Sync, R: Threads + Wait
                     ensures { WalksAll (whole right) result second.entry.now }
                 { walk_lanes(rt, floor, right, second, crew, gate) },
             );
-            floor.join(lane, other)
+            let Ok(lane) = floor.floor().join(lane, other) else {
+                unreachable!()
+            };
+            lane
         }
     }
 }

@@ -8,9 +8,8 @@ mod running;
 mod walking;
 
 pub use cn_floor::{
-    CloseFault, ClosedFloor, Floor, Gate, Grant, HoldersListed, JoinFault, Lane, LaneFault,
-    Leftovers, Moment, OpenFault, OpenGate, Opening, Outcome, Passage, Quiet, SplitFault, Start,
-    Sweep, View, Words,
+    CloseFault, ClosedFloor, Floor, Gate, Grant, JoinFault, Lane, LaneFault, Leftovers, Moment,
+    OpenFault, OpenGate, Opening, Passage, Quiet, SplitFault, Start, Sweep, View, Words,
 };
 pub use crew::Crew;
 pub use runner::Runner;

@@ -1,14 +1,14 @@
 //! Epochs over one network, one after another.
 
-ghost use Rattle.std.specs.Prelude.{◌≡◌, ◌≤◌, IfErr, IfOk, OnErr, OnOk, length};
+ghost use Rattle.std.specs.Prelude.{◌≡◌, ◌≤◌, IfErr, IfOk, OnErr, OnOk};
 ghost use Rattle.cn_spec.specs.declared.limits.TheConstants.{MOST_CARRIED};
 ghost use Rattle.cn_floor.specs.Carried.{client_count, words_before, zero_words};
-ghost use Rattle.cn_walk.specs.Runner.{RunsNext, next_words};
+ghost use Rattle.cn_walk.specs.Runner.{next_runner};
 ghost use Rattle.cn_walk.specs.Runs.{IsRefused, IsRunAfter, MayRun};
 
 use crate::crew::Crew;
 use crate::running::{RunFault, may_run, walk_floor};
-use cn_floor::{ClosedFloor, Floor, Gate, HoldersListed, Leftovers, Words};
+use cn_floor::{ClosedFloor, Floor, Gate, Leftovers, Words};
 use cn_ledger::Client;
 use cn_wiring::Counting;
 use std::alloc::{AllocError, Global};
@@ -62,8 +62,8 @@ impl<'a> Runner<'a> {
     }
 
     /// Runs an epoch of these clients by a crew, as [`crate::run_epoch_after`] does, on a floor that goes on from the
-    /// runner's words, and gives the runner back. Writes who has which name over a list with a place for each client:
-    /// `holders[n]` is the client with name n. If the epoch is refused, list and words are as they were.
+    /// runner's words, and returns the runner for the next epoch, with the closed floor. If the epoch is refused, the
+    /// words are as they were.
     ///
     /// # Errors
     /// As those of [`crate::run_epoch`], in its order.
@@ -74,12 +74,11 @@ impl<'a> Runner<'a> {
         clients: &[Client],
         crew: Crew,
         gate: &G,
-        holders: &mut [u64],
-    ) -> (Runner<'a>, Result<HoldersListed, RunFault>)
+    ) -> (Runner<'a>, Result<ClosedFloor<'a>, RunFault>)
         requires few { client_count self.words ≤ MOST_CARRIED }
-        requires places { length holders.old ≡ length clients.now }
-        ensures run { IfOk result.1 (λ grants. RunsNext self.entry result.0 clients.now grants holders.new) }
-        ensures back { OnErr result.1 ((result.0 ≡ self.entry) × (holders.new ≡ holders.old)) }
+        ensures run { IfOk result.1 (λ closed. IsRunAfter self.entry.words clients.now closed) }
+        ensures next { IfOk result.1 (λ closed. result.0 ≡ next_runner self.entry closed) }
+        ensures back { OnErr result.1 (result.0 ≡ self.entry) }
         ensures refused { IfErr result.1 (IsRefused self.entry.words.network.table.entries
             clients.now crew.workers crew.hand) }
         ensures allowed { OnOk result.1 (MayRun self.entry.words.network.table.entries
@@ -91,10 +90,7 @@ impl<'a> Runner<'a> {
         }
         let Runner { leftovers, carries } = self;
         match walk_after(rt, alloc, leftovers, clients, crew, gate) {
-            Ok((closed, leftovers)) => {
-                let listed = closed.list_holders(holders);
-                (runner_after(closed, leftovers, carries), Ok(listed))
-            }
+            Ok((closed, leftovers)) => { (runner_after(&closed, leftovers, carries), Ok(closed)) }
             Err(leftovers) => (Runner { leftovers, carries }, Err(RunFault::Memory)),
         }
     }
@@ -122,12 +118,9 @@ fn walk_after<'a, G: Gate + Sync, R: Threads + Wait + Sync>(
 }
 
 /// The runner after an epoch.
-fn runner_after<'a>(closed: ClosedFloor<'a>, leftovers: Leftovers<'a>, carries: bool) -> Runner<'a>
-    requires { leftovers ≡ words_before closed.start }
-    ensures { result ≡ record {
-      words = next_words carries leftovers.entry closed.entry;
-      carries = carries;
-    } }
+fn runner_after<'a>(closed: &ClosedFloor<'a>, leftovers: Leftovers<'a>, carries: bool) -> Runner<'a>
+    requires { leftovers ≡ words_before closed.now.start }
+    ensures { result ≡ next_runner (record { words = leftovers.entry; carries = carries }) closed.now }
 {
     let leftovers = if carries {
         leftovers.go_on_from(closed)

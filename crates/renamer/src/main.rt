@@ -15,7 +15,8 @@ fn run_words(
 ) -> Result<(), Fault> {
     let alloc = rt.alloc();
     let words: Vec<String> = env::args(rt)?.collect(alloc)?;
-    run(rt, alloc, words, rt.reader(), &mut io::writer(rt), rt)
+    // The reader has a buffer of 8 KB: lent, it takes no room in the frames below.
+    run(rt, alloc, words, &mut rt.reader(), &mut io::writer(rt), rt)
 }
 
 fn main(rt: HostRuntime) -> ExitCode {

@@ -2,19 +2,19 @@
 
 ghost use Rattle.std.specs.Prelude.{◌≡◌, IfOk, length};
 ghost use Rattle.cn_floor.specs.Carried.{words_before};
-ghost use Rattle.cn_floor.specs.Ends.{IsClosedFloor, IsOutcomeOf, ListsHolders, counts_by_exit};
+ghost use Rattle.cn_floor.specs.Ends.{IsClosedFloor, ListsHolders};
 ghost use Rattle.cn_floor.specs.Words.{word_count};
 
-use super::end_words::EndWords;
-use super::holders::{HoldersListed, holders_of, put_holders};
+use super::holders::put_holders;
 use super::lane::Lane;
 use super::leftovers::Leftovers;
 use super::network_ref::NetworkRef;
-use super::outcome::Outcome;
 use super::quiet::Quiet;
+use super::reading::copy_words;
 use super::words::Words;
 use super::zeros;
 use crate::view::Grant;
+use atomic_table::Closed;
 use std::alloc::{AllocError, Global};
 use std::marker::Model;
 use std::snapshot::Snapshot;
@@ -24,7 +24,10 @@ pub struct ClosedFloor<'a> {
     pub(super) alloc: Global,
     pub(super) lane: Snapshot<Lane>,
     pub(super) network: NetworkRef<'a>,
-    pub(super) words: EndWords,
+    /// Its words stay in their table: most callers ask for few of them.
+    pub(super) table: Closed<(), Global>,
+    /// How far apart neighbours lie in it.
+    pub(super) stride: usize,
     /// How many clients the words count.
     pub(super) clients: u64,
     pub(super) grants: Vec<Grant>,
@@ -52,63 +55,22 @@ impl<'a> ClosedFloor<'a> {
         let _ = &self.grants;
     }
 
-    /// How many left by each exit since the words with which it began: each exit's share.
-    ///
-    /// # Errors
-    /// `AllocError` if the list gets no memory.
-    fn counts_since(&self, before: &Words<'_>) -> Result<Vec<u64>, AllocError>
-        requires { before.now ≡ words_before self.now.start }
-        ensures { IfOk result (λ counts. counts.items ≡ counts_by_exit self.now.start self.now.words) }
-    {
-        let network = self.network.get();
-        let width = network.width();
-        let first = 1 + network.entries() as usize + network.balancers() as usize;
-        let mut counts = Vec::with_capacity(self.alloc, width as usize)?;
-        for exit in 0..width {
-            let (count, earlier) = (
-                self.words.word(first + exit as usize),
-                before.exit_count(exit),
-            );
-            counts.push_reserved(count.saturating_sub(earlier));
-        }
-        Ok(counts)
-    }
-
-    /// What came of it since the words with which it began.
-    ///
-    /// # Errors
-    /// `AllocError` if its lists get no memory.
-    pub fn outcome_since(&self, before: &Words<'_>) -> Result<Outcome, AllocError>
-        requires { before.now ≡ words_before self.now.start }
-        ensures { IfOk result (IsOutcomeOf self.now) }
-    {
-        Ok(Outcome {
-            counts: self.counts_since(before)?,
-            holders: self.holders()?,
-        })
-    }
-
     /// Writes the clients by rising name over a list of as many: `holders[n]` is the client with name n. It takes no
     /// memory.
-    pub fn list_holders(&self, holders: &mut [u64]) -> HoldersListed
+    pub fn list_holders(&self, holders: &mut [u64])
         requires { length holders.old ≡ length self.now.did.grants }
-        ensures listed { ListsHolders self.now.did.grants holders.new }
-        ensures grants { result ≡ self.now.did.grants }
+        ensures { ListsHolders self.now.did.grants holders.new }
     {
         self.closed_laws();
         put_holders(self.grants.as_slice(), holders);
-        HoldersListed::of(&self.grants)
     }
 
-    /// The clients by rising name.
-    ///
-    /// # Errors
-    /// `AllocError` if the list gets no memory.
-    fn holders(&self) -> Result<Vec<u64>, AllocError>
-        ensures { IfOk result (λ holders. ListsHolders self.now.did.grants holders.items) }
+    /// Copies its words over a list of as many.
+    pub(super) fn copy_words(&self, list: &mut Vec<u64>)
+        requires { length list.old.items ≡ length self.now.words }
+        ensures { list.new.items ≡ self.now.words }
     {
-        self.closed_laws();
-        holders_of(self.alloc, self.grants.as_slice())
+        copy_words(&self.table, self.stride, list);
     }
 
     /// A list with a place for each word.
@@ -145,12 +107,14 @@ impl<'a> ClosedFloor<'a> {
             alloc,
             lane,
             network,
-            words,
+            table,
+            stride,
             clients,
             grants,
         } = self;
         let mut list = room;
-        words.copy_over(&mut list);
+        copy_words(&table, stride, &mut list);
+        table.free();
         let spacing = before.spacing;
         let risen = before.risen_to(&list);
         Quiet {
@@ -163,16 +127,18 @@ impl<'a> ClosedFloor<'a> {
     }
 }
 
-// By hand, as that of the network that it holds: it is one call where a value is dropped.
+// By hand, since only its own call gives up the memory of a closed table.
 impl Drop for ClosedFloor<'_> {
     fn drop(self) {
         let ClosedFloor {
             alloc: _alloc,
             lane: _lane,
             network: _network,
-            words: _words,
+            table,
+            stride: _stride,
             clients: _clients,
             grants: _grants,
         } = self;
+        table.free();
     }
 }

@@ -140,11 +140,12 @@ impl<'a> Floor<'a> {
             grants,
             ..
         } = lane;
-        let words = counters.close(seat);
-        let clients = clients_of(before.network(), &words);
+        let (table, stride) = counters.close(seat);
+        let clients = clients_of(before.network(), &table, stride);
         let entered = clients - base;
         let granted = grants.len() as u64;
         if entered != granted {
+            table.free();
             return Err(CloseFault::LanesMissing {
                 entered,
                 granted,
@@ -155,7 +156,8 @@ impl<'a> Floor<'a> {
             alloc,
             lane: told,
             network,
-            words,
+            table,
+            stride,
             clients,
             grants,
         };

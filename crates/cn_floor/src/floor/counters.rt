@@ -4,6 +4,7 @@
 mod looking;
 mod spreading;
 
+ghost use Rattle.std.specs.Mem.Slots.{slots_items, slots_len, IsFull};
 ghost use Rattle.std.specs.Prelude.{◌≡◌, ◌+◌, ◌*◌, ◌^◌, ◌<◌, ◌≤◌, ℕ, [], length, IfOk};
 ghost use Rattle.cn_wiring.specs.Table.{Stands, end_of};
 ghost use Rattle.cn_yard.specs.Lists.{IsThere, on, times_in};
@@ -11,19 +12,18 @@ ghost use Rattle.cn_floor.specs.Closing.{IsEnding};
 ghost use Rattle.cn_floor.specs.EntersAll.{AllComeIn};
 ghost use Rattle.cn_floor.specs.Plays.{ComesIn, GoesOn};
 ghost use Rattle.cn_floor.specs.Rule.{IsStart};
-ghost use Rattle.cn_floor.specs.Spread.{IsStride};
+ghost use Rattle.cn_floor.specs.Spread.{IsSpaced, IsStride, words_in};
 ghost use Rattle.cn_floor.specs.Sweeps.{AllGoOn};
 ghost use Rattle.cn_floor.specs.Views.{after_join, after_split, empty_view, on_in, split_off};
 ghost use Rattle.cn_floor.specs.Words.{end_word, word_count};
 ghost use Rattle.cn_floor.specs.declared.floor.counters.TheConstants.{MOST_STRIDE};
 
-use super::end_words::EndWords;
 use super::plays::{
     EnterAllOf, EnterAllPlay, EnterOf, EnterPlay, FloorRule, JoinSeats, Portion, SplitSeat, StepOf,
     StepPlay, SweepOf, SweepPlay,
 };
 use crate::view::{Opening, View};
-use atomic_table::{Seat, Table};
+use atomic_table::{Closed, Seat, Table};
 use cn_wiring::{Counting, End};
 use cn_yard::Token;
 use spreading::table_of;
@@ -244,12 +244,14 @@ impl Counters {
         self.table.shared.join_seat::<JoinSeats>(seat, other);
     }
 
-    /// The words at the end, as the view of the last seat records them.
-    pub(super) fn close(self, seat: Seat<(), View>) -> EndWords
+    /// The table at the end, and how far apart its words lie: they are as the view of the last seat records them.
+    pub(super) fn close(self, seat: Seat<(), View>) -> (Closed<(), Global>, usize)
         requires own { seat.table_id ≡ self.table }
-        ensures { IsEnding self.start seat.me.0 result }
+        ensures ending { IsEnding self.start seat.me.0 (words_in result.1 (slots_items result.0.words)) }
+        ensures spaced { IsSpaced result.1 (slots_items result.0.words) }
+        ensures whole { IsFull result.0.words × (slots_len result.0.slots ≡ 0) }
     {
         let stride = self.stride;
-        EndWords::of(self.table.close_with(seat), stride)
+        (self.table.close_with(seat), stride)
     }
 }

@@ -6,34 +6,6 @@ ghost use Rattle.cn_floor.specs.Ends.{ListsHolders};
 
 use crate::view::Grant;
 use std::alloc::{AllocError, Global};
-use std::marker::Model;
-use std::snapshot::Snapshot;
-
-/// That the holders of a closed floor's names were listed. To contracts it is the list of the floor's grants. Only
-/// [`super::ClosedFloor::list_holders`] makes one: a run that walks nothing has none to answer.
-#[derive(Drop)]
-pub struct HoldersListed {
-    grants: Snapshot<Vec<Grant>>,
-}
-
-impl Model for HoldersListed {
-    ghost use Rattle.std.specs.Prelude.{List};
-    ghost use Rattle.cn_floor.specs.declared.view.Grant.{Grant};
-
-    ghost Value = { List Grant };
-
-    ghost view = { λ l. l.grants.value.items };
-}
-
-impl HoldersListed {
-    pub(super) fn of(grants: &Vec<Grant>) -> HoldersListed
-        ensures { result ≡ grants.now.items }
-    {
-        HoldersListed {
-            grants: Snapshot::of(grants),
-        }
-    }
-}
 
 /// The clients by rising name, in a list. The names are those below the number of grants, each once.
 ///

@@ -72,13 +72,13 @@ impl<'a> Leftovers<'a> {
     }
 
     /// The same yard, with the words of a closed floor over the same network in place of its own. It takes no memory.
-    pub fn go_on_from(self, closed: ClosedFloor<'a>) -> Leftovers<'a>
-        requires { closed.start.network ≡ self.network }
-        ensures { result ≡ words_after closed.entry }
+    pub fn go_on_from(self, closed: &ClosedFloor<'_>) -> Leftovers<'a>
+        requires { closed.now.start.network ≡ self.network }
+        ensures { result ≡ words_after closed.now }
     {
         let Leftovers { words, yard } = self;
         Leftovers {
-            words: words.overwritten(&closed.words, closed.clients),
+            words: words.overwritten(closed),
             yard,
         }
     }

@@ -1,20 +1,87 @@
 //! What is read off the words of a closed floor.
 
-ghost use Rattle.std.specs.Prelude.{◌≡◌, ◌<◌, ◌^◌, length};
+ghost use Rattle.std.specs.Mem.Slots.{slots_items, IsFull};
+ghost use Rattle.std.specs.Prelude.{◌≡◌, ◌<◌, ◌^◌, length, slice_index};
+ghost use Rattle.cn_floor.specs.Spread.{IsSpaced, words_in};
 ghost use Rattle.cn_floor.specs.Words.{IsDifference, clients_in, word_count};
 
-use super::end_words::EndWords;
+use atomic_table::Closed;
 use cn_wiring::Counting;
+use std::alloc::Global;
 
-/// How many clients came, by the words.
-pub(super) fn clients_of(network: &Counting, words: &EndWords) -> u64
-    requires words { length words.now ≡ word_count network.now.table }
-    requires few { clients_in network.now.table words.now < 2 ^ 64 }
-    ensures { result ≡ clients_in network.now.table words.now }
+/// A word of a closed table in which they lie a stride apart.
+fn word_in(table: &Closed<(), Global>, stride: usize, word: usize) -> u64
+    requires spaced { IsSpaced stride (slots_items table.now.words) }
+    requires full { IsFull table.now.words }
+    requires there { word < length (words_in stride (slots_items table.now.words)) }
+    ensures { result ≡ slice_index (words_in stride (slots_items table.now.words)) word }
+{
+    table.word(stride * word)
+}
+
+/// Copies the words of a closed table in which they lie side by side.
+#[inline]
+fn copy_row(table: &Closed<(), Global>, words: &mut [u64])
+    requires full { IsFull table.now.words }
+    requires places { length words.old ≡ length (slots_items table.now.words) }
+    ensures { words.new ≡ slots_items table.now.words }
+{
+    for word in 0..words.len() {
+        words[word] = table.word(word);
+    }
+}
+
+/// Copies the words of a closed table over a list of as many.
+// Inlined where the table is a local, words side by side are one copy of memory.
+#[inline]
+pub(super) fn copy_words(table: &Closed<(), Global>, stride: usize, list: &mut Vec<u64>)
+    requires spaced { IsSpaced stride (slots_items table.now.words) }
+    requires full { IsFull table.now.words }
+    requires places { length list.old.items ≡ length (words_in stride (slots_items table.now.words)) }
+    ensures { list.new.items ≡ words_in stride (slots_items table.now.words) }
+{
+    copy_by_stride(table, stride, list);
+}
+
+/// Copies the words of a closed table over as many.
+#[inline]
+fn copy_by_stride(table: &Closed<(), Global>, stride: usize, words: &mut [u64])
+    requires spaced { IsSpaced stride (slots_items table.now.words) }
+    requires full { IsFull table.now.words }
+    requires places { length words.old ≡ length (words_in stride (slots_items table.now.words)) }
+    ensures { words.new ≡ words_in stride (slots_items table.now.words) }
+{
+    if stride == 1 {
+        copy_row(table, words);
+    } else {
+        copy_apart(table, stride, words);
+    }
+}
+
+/// Copies the words of a closed table in which they lie apart.
+#[inline(never)]
+fn copy_apart(table: &Closed<(), Global>, stride: usize, words: &mut [u64])
+    requires spaced { IsSpaced stride (slots_items table.now.words) }
+    requires full { IsFull table.now.words }
+    requires places { length words.old ≡ length (words_in stride (slots_items table.now.words)) }
+    ensures { words.new ≡ words_in stride (slots_items table.now.words) }
+{
+    for word in 0..words.len() {
+        words[word] = word_in(table, stride, word);
+    }
+}
+
+/// How many clients came, by the words of a closed table.
+pub(super) fn clients_of(network: &Counting, table: &Closed<(), Global>, stride: usize) -> u64
+    requires spaced { IsSpaced stride (slots_items table.now.words) }
+    requires full { IsFull table.now.words }
+    requires words { length (words_in stride (slots_items table.now.words)) ≡ word_count network.now.table }
+    requires few { clients_in network.now.table (words_in stride (slots_items table.now.words)) < 2 ^ 64 }
+    ensures { result ≡ clients_in network.now.table (words_in stride (slots_items table.now.words)) }
 {
     let mut clients = 0;
     for entry in 0..network.entries() {
-        clients += words.word(1 + entry as usize);
+        clients += word_in(table, stride, 1 + entry as usize);
     }
     clients
 }

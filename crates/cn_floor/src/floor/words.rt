@@ -4,9 +4,10 @@ ghost use Rattle.std.specs.Arc.{arc_value};
 ghost use Rattle.std.specs.Prelude.{◌≡◌, ◌<◌, None, length, IfOk, IfSome};
 ghost use Rattle.cn_wiring.specs.declared.end.End.TheVariants.{Balancer, Exit};
 ghost use Rattle.cn_floor.specs.Carried.{AreTight, IsClosed, client_count, zero_words};
+ghost use Rattle.cn_floor.specs.Ends.{words_after};
 ghost use Rattle.cn_floor.specs.Words.{IsDifference, NoneWent, count_in, entered_in};
 
-use super::end_words::EndWords;
+use super::closed_floor::ClosedFloor;
 use super::network_ref::NetworkRef;
 use super::reading::rise;
 use super::spacing::Spacing;
@@ -120,13 +121,10 @@ impl<'a> Words<'a> {
         }
     }
 
-    /// These words, overwritten by those of a floor that is closed over the same network, with the number of all their
-    /// clients.
-    pub(super) fn overwritten(self, words: &EndWords, clients: u64) -> Words<'a>
-        requires closed { IsClosed (record { network = self.network; words = words.now }) }
-        requires clients { clients
-            ≡ client_count (record { network = self.network; words = words.now }) }
-        ensures { result ≡ record { network = self.entry.network; words = words.now } }
+    /// These words, overwritten by those of a floor that is closed over the same network.
+    pub(super) fn overwritten(self, closed: &ClosedFloor<'_>) -> Words<'a>
+        requires { closed.now.start.network ≡ self.network }
+        ensures { result ≡ words_after closed.now }
     {
         self.words_laws();
         let Words {
@@ -135,7 +133,9 @@ impl<'a> Words<'a> {
             clients: _clients,
             spacing,
         } = self;
-        words.copy_over(&mut list);
+        closed.closed_laws();
+        let clients = closed.clients;
+        closed.copy_words(&mut list);
         Words::closed(network, list, clients, spacing)
     }
 

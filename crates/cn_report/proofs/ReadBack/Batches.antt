@@ -10,11 +10,11 @@ use Rattle.std.proofs.lemmas.List.Sums.{sum_by-cons}
 use Rattle.std.proofs.lemmas.Option.{none-some}
 use Rattle.cn_spec.specs.declared.limits.TheConstants.{MOST_RECORDS}
 use Rattle.cn_ledger.specs.declared.client.Client.{Client}
-use Rattle.cn_report.specs.Reading.Arrival.{arrival_cause, arrival_in, arrivals_in, arriving, entry_by_rule, ruled_arrival, spelled_cause, told_arrival}
+use Rattle.cn_report.specs.Reading.Arrival.{arrival_cause, arrival_in, arrival_with_entry, arrivals_in, arriving, entry_by_rule, ruled_arrival, spelled_cause}
 use Rattle.cn_report.specs.Reading.Batch.{IsBatch, arrivals_of, batch_cause, header_cause, record_cause}
 use Rattle.cn_report.specs.Reading.Heading.{heading_in}
 use Rattle.cn_report.specs.declared.reading.batch.heading.Heading.{Heading}
-use Rattle.cn_report.specs.declared.reading.batch.heading.Heading.TheVariants.{Told, ByRule}
+use Rattle.cn_report.specs.declared.reading.batch.heading.Heading.TheVariants.{WithEntry, ByRule}
 use Rattle.cn_report.specs.Reading.Faults.{IsClean}
 use Rattle.cn_report.specs.Reading.Number.{number_in}
 use Rattle.cn_report.specs.Reading.Records.{Record}
@@ -43,13 +43,13 @@ arriving-small (Some x) (Some y) (Some z) a e c is =
     let same : record { epoch = x; client = y; entry = z } ≡ a = cc is in
     subst IsSmall same (e x refl, c y refl)
 
-told-small : (row : Record) (a : Arrival) → result_ok (told_arrival row) ≡ Some a → IsSmall a
-unfolding told_arrival
-told-small [] a is = absurd (none-some a is)
-told-small (e ∷ []) a is = absurd (none-some a is)
-told-small (e ∷ c ∷ []) a is = absurd (none-some a is)
-told-small (e ∷ c ∷ n ∷ []) a is = arriving-small (number_in e) (number_in c) (number_in n) a (number-small e) (number-small c) is
-told-small (e ∷ c ∷ n ∷ d ∷ row) a is = absurd (none-some a is)
+with-entry-small : (row : Record) (a : Arrival) → result_ok (arrival_with_entry row) ≡ Some a → IsSmall a
+unfolding arrival_with_entry
+with-entry-small [] a is = absurd (none-some a is)
+with-entry-small (e ∷ []) a is = absurd (none-some a is)
+with-entry-small (e ∷ c ∷ []) a is = absurd (none-some a is)
+with-entry-small (e ∷ c ∷ n ∷ []) a is = arriving-small (number_in e) (number_in c) (number_in n) a (number-small e) (number-small c) is
+with-entry-small (e ∷ c ∷ n ∷ d ∷ row) a is = absurd (none-some a is)
 
 ruled-small : (entries : ℕ) (row : Record) (a : Arrival) → result_ok (ruled_arrival entries row) ≡ Some a → IsSmall a
 unfolding ruled_arrival
@@ -59,7 +59,7 @@ ruled-small entries (e ∷ c ∷ []) a is = arriving-small (number_in e) (number
 ruled-small entries (e ∷ c ∷ n ∷ row) a is = absurd (none-some a is)
 
 arrival-small : (heading : Heading) (entries : ℕ) (row : Record) (a : Arrival) → result_ok (arrival_in heading entries row) ≡ Some a → IsSmall a
-arrival-small Told entries row a is = told-small row a is
+arrival-small WithEntry entries row a is = with-entry-small row a is
 arrival-small ByRule entries row a is = ruled-small entries row a is
 
 arrivals-small : (heading : Heading) (entries : ℕ) (rows : List Record) → AllByRecursion IsSmall (arrivals_in heading entries rows)

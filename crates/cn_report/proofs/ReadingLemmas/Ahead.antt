@@ -59,8 +59,8 @@ module _ {R : Type 0} (remaining : R → Option (List ℕ)) (heading : Heading) 
     gathered = none;
   }
 
-  pub next-ahead : (old new : ArrivalReader R) → old.heading ≡ heading → old.entries ≡ entries → (g : Gathering) (arrivals : List Arrival) (end : Result Bool BatchCause) → HasTaken old.rows g
-      → ReadsStretch remaining old new arrivals end → IsAhead new.rows g arrivals end
+  pub next-ahead : (old new : ArrivalReader R) → old.heading ≡ heading → old.entries ≡ entries → (g : Gathering) (arrivals : List Arrival) (end : Result Bool BatchCause) → HasTaken old.rows.value g
+      → ReadsStretch remaining old new arrivals end → IsAhead new.rows.value g arrivals end
   next-ahead old new same-heading same-entries g arrivals end t reads = record {
     rows = t.rows;
     came = t.came;

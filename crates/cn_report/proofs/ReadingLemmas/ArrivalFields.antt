@@ -1,21 +1,21 @@
 -- The fields of a record of a batch.
 use Rattle.std.proofs.Common.{◌≡◌, ◌≢◌, List, [], ◌∷◌, ℕ, length, get_or, refl, arith}
 use Rattle.std.specs.Prelude.{Err}
-use Rattle.cn_report.specs.Reading.Arrival.{arriving, entry_by_rule, ruled_arrival, told_arrival}
+use Rattle.cn_report.specs.Reading.Arrival.{arrival_with_entry, arriving, entry_by_rule, ruled_arrival}
 use Rattle.cn_report.specs.Reading.Number.{number_in}
 use Rattle.cn_report.specs.declared.reading.batch_fault.BatchCause.TheVariants.{FieldCount}
 
 pub arrival_of_three : (fields : List (List ℕ)) → length fields ≡ 3
-    → told_arrival fields ≡ arriving (number_in (get_or fields 0 [])) (number_in (get_or fields 1 [])) (number_in (get_or fields 2 []))
-unfolding told_arrival
+    → arrival_with_entry fields ≡ arriving (number_in (get_or fields 0 [])) (number_in (get_or fields 1 [])) (number_in (get_or fields 2 []))
+unfolding arrival_with_entry
 arrival_of_three [] h = absurd (omega arith)
 arrival_of_three (a ∷ []) h = absurd (omega arith)
 arrival_of_three (a ∷ b ∷ []) h = absurd (omega arith)
 arrival_of_three (a ∷ b ∷ c ∷ []) h = refl
 arrival_of_three (a ∷ b ∷ c ∷ d ∷ fields) h = absurd (omega arith)
 
-pub arrival_of_others : (fields : List (List ℕ)) → length fields ≢ 3 → told_arrival fields ≡ Err FieldCount
-unfolding told_arrival
+pub arrival_of_others : (fields : List (List ℕ)) → length fields ≢ 3 → arrival_with_entry fields ≡ Err FieldCount
+unfolding arrival_with_entry
 arrival_of_others [] h = refl
 arrival_of_others (a ∷ []) h = refl
 arrival_of_others (a ∷ b ∷ []) h = refl

@@ -55,9 +55,9 @@ gap-further k end grants (Some gap) h all least = record {
     each e n lack (inr w) = absurd (no-lack-above k e n grants w.1 all lack)
 
 -- what was seen, once a later epoch has come
-pub reached : (old new : Granting) (grants : List Granted) → old.latest < new.latest → new.count ≡ 0 → ((n : ℕ) → has new.clients n ≡ false) → ((n : ℕ) → has new.names n ≡ false)
+pub turned : (old new : Granting) (grants : List Granted) → old.latest < new.latest → new.count ≡ 0 → ((n : ℕ) → has new.clients n ≡ false) → ((n : ℕ) → has new.names n ≡ false)
     → IsGapBelow (old.latest + 1) grants new.gap → HoldsGrants old grants → HoldsGrants new grants
-reached old new grants h count clients names gap held =
+turned old new grants h count clients names gap held =
     let none = none-above old.latest new.latest grants h held.below in record {
       below = all_below old.latest new.latest grants (omega (arith, h)) held.below;
       count = count ∙ sym (ap length none);
@@ -127,80 +127,80 @@ gap-more before grant (Some gap) least = record {
   least = λ n lack. least.least n (lacks-same (before ++ grant ∷ []) before gap.epoch n (of-other before grant gap.epoch (λ x. omega (arith, x, least.below))) lack);
 }
 
--- what is found of the epochs that are over, once the latest is over too
-told-all : (k n : ℕ) (over : List (ℕ × ℕ)) → k < n → AllByRecursion (λ p. p.0 < k) over → AllByRecursion (λ p. p.0 < n) over
+-- what is found of the epochs that ended, once the latest does too
+told-all : (k n : ℕ) (ended : List (ℕ × ℕ)) → k < n → AllByRecursion (λ p. p.0 < k) ended → AllByRecursion (λ p. p.0 < n) ended
 told-all k n [] h all = tt
-told-all k n (p ∷ over) h all = (omega (arith, h, all.0), told-all k n over h all.1)
+told-all k n (p ∷ ended) h all = (omega (arith, h, all.0), told-all k n ended h all.1)
 
-told-last : (n : ℕ) (over : List (ℕ × ℕ)) (p : ℕ × ℕ) → AllByRecursion (λ p. p.0 < n) over → p.0 < n → AllByRecursion (λ p. p.0 < n) (over ++ p ∷ [])
+told-last : (n : ℕ) (ended : List (ℕ × ℕ)) (p : ℕ × ℕ) → AllByRecursion (λ p. p.0 < n) ended → p.0 < n → AllByRecursion (λ p. p.0 < n) (ended ++ p ∷ [])
 told-last n [] p all h = (h, tt)
-told-last n (x ∷ over) p all h = (all.0, told-last n over p all.1 h)
+told-last n (x ∷ ended) p all h = (all.0, told-last n ended p all.1 h)
 
-pub told-turn : (over : List (ℕ × ℕ)) (latest count next : ℕ) (grants : List Granted) → AreTold over latest count grants → count ≡ length (of_epoch latest grants) → latest < next
-    → AreTold (over ++ latest_told latest count) next 0 grants
-told-turn over latest count next grants t size h = each (leb_tells 1 count)
+pub told-turn : (ended : List (ℕ × ℕ)) (latest count next : ℕ) (grants : List Granted) → AreTold ended latest count grants → count ≡ length (of_epoch latest grants) → latest < next
+    → AreTold (ended ++ latest_told latest count) next 0 grants
+told-turn ended latest count next grants t size h = each (leb_tells 1 count)
   where
-    each : ((leb 1 count ≡ true) × (1 ≤ count)) ⊎ ((leb 1 count ≡ false) × (count < 1)) → AreTold (over ++ latest_told latest count) next 0 grants
+    each : ((leb 1 count ≡ true) × (1 ≤ count)) ⊎ ((leb 1 count ≡ false) × (count < 1)) → AreTold (ended ++ latest_told latest count) next 0 grants
     each (inl w) = rw w.0 (record {
-      numbers = (rw w.0 at t.numbers) ∙ sym (append-nil (map (λ (p : ℕ × ℕ). p.0) over ++ latest ∷ []))
-          ∙ ap (λ (l : List ℕ). l ++ []) (sym (map-append (λ (p : ℕ × ℕ). p.0) over ((latest, count) ∷ [])));
+      numbers = (rw w.0 at t.numbers) ∙ sym (append-nil (map (λ (p : ℕ × ℕ). p.0) ended ++ latest ∷ []))
+          ∙ ap (λ (l : List ℕ). l ++ []) (sym (map-append (λ (p : ℕ × ℕ). p.0) ended ((latest, count) ∷ [])));
       told = (λ i. t.told i ++ (latest, size i) ∷ [])
-          ∙ sym (map-append (named_epoch grants) (map (λ (p : ℕ × ℕ). p.0) over) (latest ∷ []))
-          ∙ ap (map (named_epoch grants)) (sym (map-append (λ (p : ℕ × ℕ). p.0) over ((latest, count) ∷ [])));
-      below = told-last next over (latest, count) (told-all latest next over h t.below) h;
+          ∙ sym (map-append (named_epoch grants) (map (λ (p : ℕ × ℕ). p.0) ended) (latest ∷ []))
+          ∙ ap (map (named_epoch grants)) (sym (map-append (λ (p : ℕ × ℕ). p.0) ended ((latest, count) ∷ [])));
+      below = told-last next ended (latest, count) (told-all latest next ended h t.below) h;
     })
-    each (inr w) = rw (w.0, append-nil over) (record {
+    each (inr w) = rw (w.0, append-nil ended) (record {
       numbers = rw w.0 at t.numbers;
       told = t.told;
-      below = told-all latest next over h t.below;
+      below = told-all latest next ended h t.below;
     })
 
-shared_same : (latest : ℕ) (over : List (ℕ × ℕ)) (grants : List Granted) (g : Granted) → g.epoch ≡ latest → AllByRecursion (λ p. p.0 < latest) over
-    → map (named_epoch grants) (map (λ p. p.0) over) ≡ map (named_epoch (grants ++ g ∷ [])) (map (λ p. p.0) over)
+shared_same : (latest : ℕ) (ended : List (ℕ × ℕ)) (grants : List Granted) (g : Granted) → g.epoch ≡ latest → AllByRecursion (λ p. p.0 < latest) ended
+    → map (named_epoch grants) (map (λ p. p.0) ended) ≡ map (named_epoch (grants ++ g ∷ [])) (map (λ p. p.0) ended)
 shared_same latest [] grants g here all = refl
-shared_same latest (p ∷ over) grants g here all =
+shared_same latest (p ∷ ended) grants g here all =
     let same : of_epoch p.0 grants ≡ of_epoch p.0 (grants ++ g ∷ []) = sym (of-other grants g p.0 (λ x. omega (arith, x, here, all.0))) in
-    λ i. (p.0, length (same i)) ∷ shared_same latest over grants g here all.1 i
+    λ i. (p.0, length (same i)) ∷ shared_same latest ended grants g here all.1 i
 
-number-last : (n : ℕ) (over : List (ℕ × ℕ)) → list_any (nat_eq n) (map (λ p. p.0) over ++ n ∷ []) ≡ true
+number-last : (n : ℕ) (ended : List (ℕ × ℕ)) → list_any (nat_eq n) (map (λ p. p.0) ended ++ n ∷ []) ≡ true
 number-last n [] = rw (eq-eqb n n refl) refl
-number-last n (p ∷ over) = ap (λ b. nat_eq n p.0 || b) (number-last n over) ∙ or_true (nat_eq n p.0)
+number-last n (p ∷ ended) = ap (λ b. nat_eq n p.0 || b) (number-last n ended) ∙ or_true (nat_eq n p.0)
   where
     or_true : (b : Bool) → (b || true) ≡ true
     or_true true = refl
     or_true false = refl
 
-number-new : (n : ℕ) (over : List (ℕ × ℕ)) → AllByRecursion (λ p. p.0 < n) over → list_any (nat_eq n) (map (λ p. p.0) over) ≡ false
+number-new : (n : ℕ) (ended : List (ℕ × ℕ)) → AllByRecursion (λ p. p.0 < n) ended → list_any (nat_eq n) (map (λ p. p.0) ended) ≡ false
 number-new n [] all = refl
-number-new n (p ∷ over) all = rw (ne_eqb n p.0 (λ x. omega (arith, x, all.0))) (number-new n over all.1)
+number-new n (p ∷ ended) all = rw (ne_eqb n p.0 (λ x. omega (arith, x, all.0))) (number-new n ended all.1)
 
-told-more : (over : List (ℕ × ℕ)) (latest count : ℕ) (grants : List Granted) (g : Granted) → AreTold over latest count grants → g.epoch ≡ latest
-    → AreTold over latest (count + 1) (grants ++ g ∷ [])
-told-more over latest count grants g t here = record {
+told-more : (ended : List (ℕ × ℕ)) (latest count : ℕ) (grants : List Granted) (g : Granted) → AreTold ended latest count grants → g.epoch ≡ latest
+    → AreTold ended latest (count + 1) (grants ++ g ∷ [])
+told-more ended latest count grants g t here = record {
   numbers = fold-append (λ (numbers : List ℕ) (x : Granted). with_number numbers x.epoch) [] grants (g ∷ []) ∙ (λ i. with_number (t.numbers i) (here i)) ∙ each (leb_tells 1 count)
-      ∙ ap (λ b. map (λ (p : ℕ × ℕ). p.0) over ++ (if b then latest ∷ [] else [])) (sym (lt-ltb 0 (count + 1) (omega arith)));
-  told = t.told ∙ shared_same latest over grants g here t.below;
+      ∙ ap (λ b. map (λ (p : ℕ × ℕ). p.0) ended ++ (if b then latest ∷ [] else [])) (sym (lt-ltb 0 (count + 1) (omega arith)));
+  told = t.told ∙ shared_same latest ended grants g here t.below;
   below = t.below;
 }
   where
-    each : ((leb 1 count ≡ true) × (1 ≤ count)) ⊎ ((leb 1 count ≡ false) × (count < 1)) → with_number (map (λ p. p.0) over ++ latest_number latest count) latest ≡ map (λ p. p.0) over ++ latest ∷ []
-    each (inl w) = rw w.0 (rw (number-last latest over) refl)
-    each (inr w) = rw (w.0, append-nil (map (λ (p : ℕ × ℕ). p.0) over)) (rw (number-new latest over t.below) refl)
+    each : ((leb 1 count ≡ true) × (1 ≤ count)) ⊎ ((leb 1 count ≡ false) × (count < 1)) → with_number (map (λ p. p.0) ended ++ latest_number latest count) latest ≡ map (λ p. p.0) ended ++ latest ∷ []
+    each (inl w) = rw w.0 (rw (number-last latest ended) refl)
+    each (inr w) = rw (w.0, append-nil (map (λ (p : ℕ × ℕ). p.0) ended)) (rw (number-new latest ended t.below) refl)
 
-told-joined : (old new : Granting) (before : List Granted) (grant : Granted) → old.latest ≡ grant.epoch → new.over ≡ old.over → new.latest ≡ old.latest → new.count ≡ old.count + 1
-    → AreTold (map plain_named old.over.items) old.latest old.count before → AreTold (map plain_named new.over.items) new.latest new.count (before ++ grant ∷ [])
-told-joined old new before grant here over latest count t =
-    rw (over, latest, count) (told-more (map plain_named old.over.items) old.latest old.count before grant t (sym here))
+told-joined : (old new : Granting) (before : List Granted) (grant : Granted) → old.latest ≡ grant.epoch → new.ended ≡ old.ended → new.latest ≡ old.latest → new.count ≡ old.count + 1
+    → AreTold (map plain_named old.ended.items) old.latest old.count before → AreTold (map plain_named new.ended.items) new.latest new.count (before ++ grant ∷ [])
+told-joined old new before grant here ended latest count t =
+    rw (ended, latest, count) (told-more (map plain_named old.ended.items) old.latest old.count before grant t (sym here))
 
 -- what is found at the end
-pub told-end : (over : List (ℕ × ℕ)) (next : ℕ) (grants : List Granted) → AreTold over next 0 grants → over ≡ map (named_epoch grants) (epoch_numbers grants)
-told-end over next grants t = t.told ∙ ap (map (named_epoch grants)) (sym (t.numbers ∙ append-nil (map (λ (p : ℕ × ℕ). p.0) over)))
+pub told-end : (ended : List (ℕ × ℕ)) (next : ℕ) (grants : List Granted) → AreTold ended next 0 grants → ended ≡ map (named_epoch grants) (epoch_numbers grants)
+told-end ended next grants t = t.told ∙ ap (map (named_epoch grants)) (sym (t.numbers ∙ append-nil (map (λ (p : ℕ × ℕ). p.0) ended)))
 
 -- one more grant of the latest epoch
-pub joined : (old new : Granting) (before : List Granted) (grant : Granted) → HoldsGrants old before → Tells old before → old.latest ≡ grant.epoch → new.over ≡ old.over → new.gap ≡ old.gap → new.latest ≡ old.latest
+pub joined : (old new : Granting) (before : List Granted) (grant : Granted) → HoldsGrants old before → Tells old before → old.latest ≡ grant.epoch → new.ended ≡ old.ended → new.gap ≡ old.gap → new.latest ≡ old.latest
     → new.count ≡ old.count + 1 → ((n : ℕ) → has new.clients n ≡ ((n == grant.client) || has old.clients n)) → ((n : ℕ) → has new.names n ≡ ((n == grant.name) || has old.names n))
     → IsChecked new (before ++ grant ∷ [])
-joined old new before grant held tells here over gap latest count clients names =
+joined old new before grant held tells here ended gap latest count clients names =
     let same = of_same before grant new.latest (sym here ∙ sym latest) in record {
       holds = record {
         below = rw latest (all_more old.latest before grant held.below (omega (arith, here)));
@@ -213,7 +213,7 @@ joined old new before grant held tells here over gap latest count clients names 
             (rw gap (gap-more before grant old.gap (subst (λ (e : ℕ). IsGapBelow e before old.gap) here held.gap)));
       };
       last = fold-append (λ (epoch : ℕ) (g : Granted). g.epoch) 0 before (grant ∷ []) ∙ sym (latest ∙ here);
-      tells = λ none. told-joined old new before grant here over latest count (tells (sym gap ∙ none));
+      tells = λ none. told-joined old new before grant here ended latest count (tells (sym gap ∙ none));
     }
 
 pub no_gap : (g : Granting) (grants : List Granted) → HoldsGrants g grants → IsGapBelow (g.latest + 1) grants None → (e n : ℕ) → Lacks grants e n → ⊥

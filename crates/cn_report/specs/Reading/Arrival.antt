@@ -7,7 +7,7 @@ use Rattle.cn_report.specs.Reading.Number.{number_in}
 use Rattle.cn_report.specs.Reading.Records.{Record}
 use Rattle.cn_report.specs.declared.reading.batch.arrival.Arrival.{Arrival}
 use Rattle.cn_report.specs.declared.reading.batch.heading.Heading.{Heading}
-use Rattle.cn_report.specs.declared.reading.batch.heading.Heading.TheVariants.{Told, ByRule}
+use Rattle.cn_report.specs.declared.reading.batch.heading.Heading.TheVariants.{WithEntry, ByRule}
 use Rattle.cn_report.specs.declared.reading.batch_fault.BatchCause.{BatchCause}
 use Rattle.cn_report.specs.declared.reading.batch_fault.BatchCause.TheVariants.{FieldCount, EpochNumber, ClientNumber, EntryNumber, EpochBackwards, EntryRange, Duplicate, EpochFull, BatchFull}
 
@@ -24,9 +24,9 @@ entry_by_rule entries None = None
 entry_by_rule entries (Some client) = Some (client % entries)
 
 -- the arrival that a record of three numbers spells, or what is wrong with it
-unfoldable pub told_arrival : Record → Result Arrival BatchCause
-told_arrival (epoch ∷ client ∷ entry ∷ []) = arriving (number_in epoch) (number_in client) (number_in entry)
-told_arrival fields = Err FieldCount
+unfoldable pub arrival_with_entry : Record → Result Arrival BatchCause
+arrival_with_entry (epoch ∷ client ∷ entry ∷ []) = arriving (number_in epoch) (number_in client) (number_in entry)
+arrival_with_entry fields = Err FieldCount
 
 -- the arrival that a record of two numbers spells, its entry by rule, or what is wrong with it
 unfoldable pub ruled_arrival : ℕ → Record → Result Arrival BatchCause
@@ -36,7 +36,7 @@ ruled_arrival entries fields = Err FieldCount
 
 -- the arrival that a record spells under a heading, or what is wrong with it
 abbrev pub arrival_in : Heading → ℕ → Record → Result Arrival BatchCause
-arrival_in Told entries fields = told_arrival fields
+arrival_in WithEntry entries fields = arrival_with_entry fields
 arrival_in ByRule entries fields = ruled_arrival entries fields
 
 -- the arrivals of these records

@@ -40,14 +40,14 @@ abbrev pub latest_told : ℕ → ℕ → List (ℕ × ℕ)
 latest_told latest count = if nat_lt 0 count then (latest, count) ∷ [] else []
 
 -- these are the numbers of the epochs before the latest, and their numbers of clients
-pub record AreTold (over : List (ℕ × ℕ)) (latest count : ℕ) (grants : List Granted) : Type 0 where
-  pub numbers : epoch_numbers grants ≡ map (λ p. p.0) over ++ latest_number latest count
-  pub told : over ≡ map (named_epoch grants) (map (λ p. p.0) over)
-  pub below : AllByRecursion (λ p. p.0 < latest) over
+pub record AreTold (ended : List (ℕ × ℕ)) (latest count : ℕ) (grants : List Granted) : Type 0 where
+  pub numbers : epoch_numbers grants ≡ map (λ p. p.0) ended ++ latest_number latest count
+  pub told : ended ≡ map (named_epoch grants) (map (λ p. p.0) ended)
+  pub below : AllByRecursion (λ p. p.0 < latest) ended
 
 -- they are, if no gap was found
 abbrev pub Tells : Granting → List Granted → Type 0
-Tells g grants = g.gap ≡ None → AreTold (map plain_named g.over.items) g.latest g.count grants
+Tells g grants = g.gap ≡ None → AreTold (map plain_named g.ended.items) g.latest g.count grants
 
 -- and the latest epoch is that of the last grant
 pub record IsChecked (g : Granting) (grants : List Granted) : Type 0 where

@@ -9,15 +9,15 @@ use Rattle.cn_report.specs.declared.reading.grant.GrantCause.{GrantCause}
 use Rattle.cn_report.specs.declared.reading.grant.GrantCause.TheVariants.{Form, DuplicateClient, DuplicateName}
 
 -- the grant that these three numbers make
-abbrev pub granting : Option ℕ → Option ℕ → Option ℕ → Option Granted
-granting None client name = None
-granting (Some epoch) None name = None
-granting (Some epoch) (Some client) None = None
-granting (Some epoch) (Some client) (Some name) = Some (record { epoch = epoch; client = client; name = name })
+abbrev pub granted_from : Option ℕ → Option ℕ → Option ℕ → Option Granted
+granted_from None client name = None
+granted_from (Some epoch) None name = None
+granted_from (Some epoch) (Some client) None = None
+granted_from (Some epoch) (Some client) (Some name) = Some (record { epoch = epoch; client = client; name = name })
 
 -- the grant that a record spells
 unfoldable pub grant_spelled : Record → Option Granted
-grant_spelled (epoch ∷ client ∷ name ∷ []) = granting (number_in epoch) (number_in client) (number_in name)
+grant_spelled (epoch ∷ client ∷ name ∷ []) = granted_from (number_in epoch) (number_in client) (number_in name)
 grant_spelled fields = None
 
 -- the grants of these records

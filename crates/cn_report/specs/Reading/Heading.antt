@@ -4,7 +4,7 @@ use Rattle.std.specs.Cmp.Lexicographic.{pointwise}
 use Rattle.std.specs.Str.{bytes_eq}
 use Rattle.cn_report.specs.Reading.Records.{Record}
 use Rattle.cn_report.specs.declared.reading.batch.heading.Heading.{Heading}
-use Rattle.cn_report.specs.declared.reading.batch.heading.Heading.TheVariants.{Told, ByRule}
+use Rattle.cn_report.specs.declared.reading.batch.heading.Heading.TheVariants.{WithEntry, ByRule}
 
 -- the header of a batch that gives entries
 abbrev pub is_batch_header : Record → Bool
@@ -16,12 +16,15 @@ is_short_header fields = pointwise bytes_eq fields (codes "epoch" ∷ codes "cli
 
 -- what a record heads, if it is a header
 abbrev pub heading_of : Record → Option Heading
-heading_of fields = if is_batch_header fields then Some Told else if is_short_header fields then Some ByRule else None
+heading_of fields =
+    if is_batch_header fields then Some WithEntry
+    else if is_short_header fields then Some ByRule
+    else None
 
 -- this heading if there is one, and otherwise that with entries
 abbrev pub heading_or : Option Heading → Heading
 heading_or (Some heading) = heading
-heading_or None = Told
+heading_or None = WithEntry
 
 -- the heading of these records, which is that of the first
 abbrev pub heading_in : List Record → Heading

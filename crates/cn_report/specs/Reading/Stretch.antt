@@ -1,5 +1,5 @@
 -- A stretch of a batch: arrivals that are read together, before they are gathered.
-use Rattle.std.specs.Prelude.{ℕ, ◌≡◌, ◌<◌, ◌+◌, ◌⊎◌, ◌++◌, ◌∷◌, [], Bool, List, Option, Result, MatchResult, IfOk, OnOk, Ok, Err, Some, true, drop, length, map}
+use Rattle.std.specs.Prelude.{ℕ, ◌≡◌, ◌<◌, ◌+◌, ◌⊎◌, ◌++◌, ◌∷◌, [], Bool, List, Option, Result, MatchResult, IfErr, IfOk, OnOk, Ok, Err, Some, true, drop, length, map}
 use Rattle.std.specs.Bool.{MatchBool}
 use Rattle.cn_report.specs.Reading.Arrival.{arrival_in, arrivals_in}
 use Rattle.cn_report.specs.Reading.Batch.{IsBatchFault, IsOfReading, batch_cause}
@@ -17,14 +17,14 @@ use Rattle.csv.specs.declared.reader.Reader.{Reader}
 
 -- arrivals can be read
 pub record IsOpen {R : Type 0} (source : ArrivalReader R) : Type 0 where
-  pub plain : IsPlain source.rows
+  pub plain : IsPlain source.rows.value
   pub entries : 0 < source.entries
 
 -- of the text the header was read, and nothing after it
 pub record HasHeader {R : Type 0} (remaining : R → Option (List ℕ)) (source : ArrivalReader R)
     (text : List ℕ) : Type 0 where
   pub fields : Record
-  pub read : HasRead remaining source.rows text (fields ∷ [])
+  pub read : HasRead remaining source.rows.value text (fields ∷ [])
   pub heads : heading_of fields ≡ Some source.heading
 
 -- what is read later is spelled under the same header
@@ -65,10 +65,10 @@ pub record HasStretch {R : Type 0} (remaining : R → Option (List ℕ)) (reader
 -- what the reading of a stretch does
 pub record ReadsStretch {R : Type 0} (remaining : R → Option (List ℕ)) (old new : ArrivalReader R)
     (arrivals : List Arrival) (end : Result Bool BatchCause) : Type 0 where
-  pub plain : OnOk end (IsPlain new.rows)
+  pub plain : OnOk end (IsPlain new.rows.value)
   pub same : HasSameHeader old new
-  pub reads : (text : List ℕ) (before : List Record) → HasRead remaining old.rows text before
-      → HasStretch remaining new.rows old.heading old.entries text before arrivals end
+  pub reads : (text : List ℕ) (before : List Record) → HasRead remaining old.rows.value text before
+      → HasStretch remaining new.rows.value old.heading old.entries text before arrivals end
 
 -- a stretch after which others may come is full: it has as many arrivals as were asked for
 abbrev pub IsFull : ℕ → List Arrival → Result Bool BatchCause → Type 0
@@ -80,6 +80,8 @@ pub record Gathers (entries : ℕ) (arrivals : List Arrival) (old new : Gatherin
     (result : Result (Unit {0}) BatchFault) : Type 0 where
   pub keeps : OnOk result (StaysServable entries new)
   pub next : OnOk result (new.next ≡ old.next + length arrivals)
+  -- a fault is told at the record that was being gathered
+  pub at : IfErr result (λ fault. fault.at ≡ new.next)
   pub answer : (heading : Heading) (before rows later : List Record) (came : List Arrival)
       → AreTaken heading entries before came → IsGathered old came → AreSpelled heading entries rows arrivals
       → MatchResult result

@@ -90,7 +90,6 @@ fn read_epochs<I: Read + Drop, T: Readers>(
 }
 
 /// Reads a batch by one thread or by two.
-#[inline(never)]
 fn read_by<R: Read + Drop, T: Readers>(
     readers: &T,
     alloc: Global,

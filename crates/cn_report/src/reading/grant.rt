@@ -3,7 +3,7 @@
 ghost use Rattle.std.specs.Prelude.{◌≡◌, Some};
 ghost use Rattle.csv.specs.Records.{fields_of};
 ghost use Rattle.cn_report.specs.Reading.Number.{number_in};
-ghost use Rattle.cn_report.specs.Reading.Granted.{grant_spelled, granting};
+ghost use Rattle.cn_report.specs.Reading.Granted.{grant_spelled, granted_from};
 ghost use Rattle.cn_report.specs.Reading.Grants.{flaw_name, flaw_of, grant_cause_of_row};
 ghost use Rattle.cn_report.specs.declared.reading.grant.Flaw.TheVariants as flaws;
 ghost use Rattle.cn_report.specs.declared.reading.grant.GrantCause.TheVariants as causes;
@@ -113,7 +113,7 @@ pub(crate) fn flaw_at(at: u64, cause: GrantCause) -> Flaw
 }
 
 fn granted_from(epoch: &[u8], client: &[u8], name: &[u8]) -> Option<Granted>
-    ensures { result ≡ granting (number_in epoch.now) (number_in client.now) (number_in name.now) }
+    ensures { result ≡ granted_from (number_in epoch.now) (number_in client.now) (number_in name.now) }
 {
     let epoch = number_of(epoch)?;
     let client = number_of(client)?;

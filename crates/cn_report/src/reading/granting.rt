@@ -30,10 +30,10 @@ pub struct NamedEpoch {
     pub clients: u32,
 }
 
-/// The epochs that are over, the first gap among them, and the latest epoch's clients and names.
+/// The epochs that ended, the first gap among them, and the latest epoch's clients and names.
 #[derive(Drop)]
 pub(crate) struct Granting {
-    over: Vec<NamedEpoch>,
+    ended: Vec<NamedEpoch>,
     gap: Option<Gap>,
     latest: u64,
     count: u64,
@@ -47,7 +47,7 @@ impl Granting {
         ensures count { result.count ≡ 0 }
     {
         Granting {
-            over: Vec::new(alloc),
+            ended: Vec::new(alloc),
             gap: None,
             latest: 0,
             count: 0,
@@ -56,7 +56,7 @@ impl Granting {
         }
     }
 
-    /// The first gap of the epochs so far, if the latest is over.
+    /// The first gap of the epochs so far, if the latest ends.
     pub(crate) fn first_gap(&self) -> Option<Gap>
         ensures gap { (grants : List Granted) → HoldsGrants self.now grants
             → IsGapBelow (self.now.latest + 1) grants result }
@@ -72,21 +72,21 @@ impl Granting {
         })
     }
 
-    /// Ends the latest epoch, and adds it to those that are over if it has grants and no gap was found.
-    fn end(&mut self) -> Result<(), AllocError>
+    /// Ends the latest epoch, and adds it to those that ended if it has grants and no gap was found.
+    fn end_latest(&mut self) -> Result<(), AllocError>
         requires few { self.old.count ≤ MOST_RECORDS }
         ensures same { OnOk result ((self.new.latest ≡ self.old.latest)
             × (self.new.count ≡ self.old.count)) }
         ensures gap { OnOk result ((grants : List Granted) → HoldsGrants self.old grants
             → IsGapBelow (self.old.latest + 1) grants self.new.gap) }
-        ensures over { OnOk result (self.new.gap ≡ None → (self.old.gap ≡ None)
-            × (map plain_named self.new.over.items
-            ≡ map plain_named self.old.over.items
+        ensures ended { OnOk result (self.new.gap ≡ None → (self.old.gap ≡ None)
+            × (map plain_named self.new.ended.items
+            ≡ map plain_named self.old.ended.items
             ++ latest_told self.old.latest self.old.count)) }
     {
         self.gap = self.first_gap();
         if self.gap.is_none() && self.count > 0 {
-            self.over.push(NamedEpoch {
+            self.ended.push(NamedEpoch {
                 number: self.latest,
                 clients: self.count as u32,
             })?;
@@ -95,7 +95,7 @@ impl Granting {
     }
 
     /// Comes to this epoch.
-    fn reach(&mut self, epoch: u64) -> Result<(), AllocError>
+    fn turn_to(&mut self, epoch: u64) -> Result<(), AllocError>
         requires few { self.old.count ≤ MOST_RECORDS }
         requires later { self.old.latest ≤ epoch }
         ensures here { OnOk result (self.new.latest ≡ epoch) }
@@ -108,7 +108,7 @@ impl Granting {
         if self.latest == epoch {
             return Ok(());
         }
-        self.end()?;
+        self.end_latest()?;
         self.latest = epoch;
         self.count = 0;
         self.clients.clear();
@@ -116,11 +116,11 @@ impl Granting {
         Ok(())
     }
 
-    /// Takes a grant of the latest epoch, if it has no cause.
+    /// Adds a grant of the latest epoch, if it has no cause.
     fn join(&mut self, grant: Granted) -> Result<(), GrantCause>
         requires { self.old.count < MOST_RECORDS }
         ensures ok { OnOk result ((joining_cause self.old grant ≡ None)
-            × (self.new.over ≡ self.old.over) × (self.new.gap ≡ self.old.gap)
+            × (self.new.ended ≡ self.old.ended) × (self.new.gap ≡ self.old.gap)
             × (self.new.latest ≡ self.old.latest)
             × (self.new.count ≡ self.old.count + 1)
             × ((n : ℕ) → has self.new.clients n ≡ ((n == grant.client) || has self.old.clients n))
@@ -142,8 +142,8 @@ impl Granting {
         Ok(())
     }
 
-    /// Takes a grant, which is record `at`, if it has no cause.
-    pub(crate) fn take(&mut self, at: u64, grant: Granted) -> Result<(), GrantCause>
+    /// Adds a grant, which is record `at`, if it has no cause.
+    pub(crate) fn add(&mut self, at: u64, grant: Granted) -> Result<(), GrantCause>
         requires count { self.old.count < at }
         ensures ok { OnOk result ((before : List Granted) → IsChecked self.old before
             → length before + 1 ≡ at
@@ -158,7 +158,7 @@ impl Granting {
         if grant.epoch < self.latest || at > MOST_RECORDS {
             return Err(GrantCause::Form);
         }
-        self.reach(grant.epoch)?;
+        self.turn_to(grant.epoch)?;
         self.join(grant)
     }
 
@@ -172,13 +172,13 @@ impl Granting {
             → map plain_named epochs.items ≡ map (named_epoch grants) (epoch_numbers grants)) }
     {
         let mut granting = self;
-        granting.end()?;
+        granting.end_latest()?;
         match granting.gap {
             Some(gap) => Err(Flaw::Gap {
                 epoch: gap.epoch,
                 name: gap.name,
             }),
-            None => Ok(granting.over),
+            None => Ok(granting.ended),
         }
     }
 }

@@ -9,7 +9,7 @@ ghost use Rattle.csv.specs.Records.{fields_of};
 ghost use Rattle.cn_report.specs.Reading.Records.{HasRead, IsOfReader, IsPlain, Record, records_of};
 
 use csv::{ByteRecord, Error, ErrorKind, Reader, ReaderBuilder};
-use std::alloc::Global;
+use std::alloc::{AllocError, Global};
 use std::io::Read;
 
 /// Why no record came.
@@ -32,15 +32,24 @@ fn fault_of(error: Error) -> RowFault
     }
 }
 
-/// A reader of records of any length, with no header taken apart.
-pub(crate) fn open_rows<R: Read>(alloc: Global, reader: R) -> Reader<R>
-    ensures plain { IsPlain result }
-    ensures opened { IfSome (R.remaining reader) (λ text. HasRead R.remaining result text []) }
+/// A reader of records of any length, with no header taken apart. It is boxed, for it holds a buffer of 8 KB, of which
+/// the frame of each caller would have a copy.
+///
+/// # Errors
+/// `AllocError` if there is no memory for it.
+pub(crate) fn open_rows<R: Read + Drop>(
+    alloc: Global,
+    reader: R,
+) -> Result<Box<Reader<R>>, AllocError>
+    ensures plain { IfOk result (λ rows. IsPlain rows.value) }
+    ensures opened { IfOk result (λ rows.
+        IfSome (R.remaining reader) (λ text. HasRead R.remaining rows.value text [])) }
 {
-    ReaderBuilder::new()
+    let rows = ReaderBuilder::new()
         .has_headers(false)
         .flexible(true)
-        .from_reader(alloc, reader)
+        .from_reader(alloc, reader);
+    Ok(Box::new(alloc, rows)?)
 }
 
 /// Reads the next record into `row`, and returns whether there was one.

@@ -109,7 +109,10 @@ pub fn read_schedule<R: Read + Drop>(
         MatchResult result (λ commands.
         IsSchedule (records_of text) commands.items) (IsScheduleFault (records_of text))) }
 {
-    let mut rows = open_rows(alloc, reader);
+    let Ok(mut rows) = open_rows(alloc, reader) else {
+        let cause = ScheduleCause::Memory;
+        return Err(ScheduleFault { at: 0, cause });
+    };
     let mut row = ByteRecord::new(alloc);
     take_commands(alloc, &mut rows, &mut row)
 }

@@ -74,7 +74,7 @@ fn take_grant<R: Read>(
     let Some(grant) = granted_of(row) else {
         return Err(GrantCause::Form);
     };
-    granting.take(at, grant)?;
+    granting.add(at, grant)?;
     Ok(true)
 }
 
@@ -135,7 +135,11 @@ fn shares(alloc: Global, width: u32, clients: u32) -> Result<Vec<u64>, AllocErro
 }
 
 /// The same epochs, each with its share of each exit.
-fn counted(alloc: Global, width: u32, named: &[NamedEpoch]) -> Result<Vec<TightEpoch>, AllocError>
+fn with_shares(
+    alloc: Global,
+    width: u32,
+    named: &[NamedEpoch],
+) -> Result<Vec<TightEpoch>, AllocError>
     requires { IsWidth width }
     ensures { IfOk result (λ epochs. map plain_tight epochs.items ≡ map (with_shares width) named.now) }
 {
@@ -165,7 +169,7 @@ pub fn named_grants<R: Read + Drop>(alloc: Global, reader: R) -> Result<Vec<Name
     ensures exact { IfSome (R.remaining reader) (λ text.
         IfErr result (λ flaw. IsTightList (records_of text) → IsOutside flaw)) }
 {
-    let mut rows = open_rows(alloc, reader);
+    let mut rows = open_rows(alloc, reader)?;
     let mut row = ByteRecord::new(alloc);
     take_grants(alloc, &mut rows, &mut row)
 }
@@ -184,6 +188,6 @@ pub fn check_grants<R: Read + Drop>(alloc: Global, reader: R, width: u32) -> Res
         IfErr result (λ flaw. IsTightList (records_of text) → IsOutside flaw)) }
 {
     let named = named_grants(alloc, reader)?;
-    let epochs = counted(alloc, width, &named)?;
+    let epochs = with_shares(alloc, width, &named)?;
     Ok(Tight { epochs })
 }

@@ -64,6 +64,8 @@ impl Pieces {
         requires { count ≤ PIECE }
         ensures puts { Puts W.contents writer.old writer.new self.old self.new [] }
         ensures room { length self.new.held + count ≤ PIECE }
+        ensures rests { length self.old.held + count ≤ PIECE
+            → (self.new ≡ self.old) × (writer.new ≡ writer.old) }
     {
         if count > PIECE - self.held.len() {
             self.write_held(writer);

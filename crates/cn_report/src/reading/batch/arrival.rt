@@ -3,7 +3,7 @@
 ghost use Rattle.std.specs.Prelude.{◌≡◌, ◌<◌};
 ghost use Rattle.csv.specs.Records.{fields_of};
 ghost use Rattle.cn_report.specs.Reading.Number.{number_in};
-ghost use Rattle.cn_report.specs.Reading.Arrival.{arrival_in, arriving, entry_by_rule, ruled_arrival, told_arrival};
+ghost use Rattle.cn_report.specs.Reading.Arrival.{arrival_in, arrival_with_entry, arriving, entry_by_rule, ruled_arrival};
 
 use crate::reading::batch::heading::Heading;
 use crate::reading::batch_fault::BatchCause;
@@ -34,8 +34,8 @@ fn arrival_from(epoch: &[u8], client: &[u8], entry: &[u8]) -> Result<Arrival, Ba
 
 /// The arrival of a record that gives its entry.
 #[tactic(auto, using(crate::proofs::ReadingLemmas::ArrivalFields::arrival_of_three, crate::proofs::ReadingLemmas::ArrivalFields::arrival_of_others))]
-fn told_arrival(row: &ByteRecord) -> Result<Arrival, BatchCause>
-    ensures { result ≡ told_arrival (fields_of row.now) }
+fn arrival_with_entry(row: &ByteRecord) -> Result<Arrival, BatchCause>
+    ensures { result ≡ arrival_with_entry (fields_of row.now) }
 {
     if row.len() != 3 {
         return Err(BatchCause::FieldCount);
@@ -79,7 +79,7 @@ pub(crate) fn arrival_of(
     ensures { result ≡ arrival_in heading entries (fields_of row.now) }
 {
     match heading {
-        Heading::Told => told_arrival(row),
+        Heading::WithEntry => arrival_with_entry(row),
         Heading::ByRule => ruled_arrival(row, entries),
     }
 }

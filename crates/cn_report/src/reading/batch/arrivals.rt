@@ -18,7 +18,7 @@ use std::io::Read;
 /// A batch that is read, record by record.
 #[derive(Drop)]
 pub(crate) struct ArrivalReader<R: Read + Drop> {
-    rows: Reader<R>,
+    rows: Box<Reader<R>>,
     row: ByteRecord,
     heading: Heading,
     /// How many entries the network has.
@@ -50,7 +50,6 @@ impl<R: Read + Drop> ArrivalReader<R> {
     ///
     /// # Errors
     /// The fault of the batch at record 0, if it has one. A failed read and want of memory are reported there.
-    #[inline(never)]
     pub(crate) fn open(alloc: Global, reader: R, entries: u32) -> Result<Self, BatchFault>
         requires { 0 < entries }
         ensures open { IfOk result IsOpen }
@@ -58,7 +57,10 @@ impl<R: Read + Drop> ArrivalReader<R> {
             (λ source. HasHeader R.remaining source text) (IsBatchFault entries (records_of text))) }
         ensures entries { IfOk result (λ source. source.entries ≡ entries) }
     {
-        let mut rows = open_rows(alloc, reader);
+        let Ok(mut rows) = open_rows(alloc, reader) else {
+            let cause = BatchCause::Memory;
+            return Err(BatchFault { at: 0, cause });
+        };
         let mut row = ByteRecord::new(alloc);
         match read_header(&mut rows, &mut row) {
             Ok(heading) => Ok(ArrivalReader {
@@ -81,16 +83,16 @@ impl<R: Read + Drop> ArrivalReader<R> {
     /// The arrival of the next record, if there is one.
     fn next_arrival(&mut self) -> Result<Option<Arrival>, BatchCause>
         requires { IsOpen self.old }
-        ensures plain { OnOk result (IsPlain self.new.rows) }
+        ensures plain { OnOk result (IsPlain self.new.rows.value) }
         ensures same { HasSameHeader self.old self.new }
         ensures next { IfOk result (λ next. (text : List ℕ) (before : List Record)
-            → HasRead R.remaining self.old.rows text before
+            → HasRead R.remaining self.old.rows.value text before
             → MatchOption next (records_of text ≡ before) (λ arrival.
-            (fields : Record) × HasRead R.remaining self.new.rows text (before ++ fields ∷ [])
+            (fields : Record) × HasRead R.remaining self.new.rows.value text (before ++ fields ∷ [])
             × (arrival_in self.old.heading self.old.entries fields ≡ Ok arrival))) }
         ensures refused { IfErr result (λ cause. (text : List ℕ) (before : List Record)
-            → HasRead R.remaining self.old.rows text before
-            → ((fields : Record) × HasRead R.remaining self.new.rows text (before ++ fields ∷ [])
+            → HasRead R.remaining self.old.rows.value text before
+            → ((fields : Record) × HasRead R.remaining self.new.rows.value text (before ++ fields ∷ [])
             × (arrival_in self.old.heading self.old.entries fields ≡ Err cause)) ⊎ IsOfReading cause) }
     {
         if !next_row(&mut self.rows, &mut self.row)? {

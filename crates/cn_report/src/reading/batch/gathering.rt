@@ -1,6 +1,6 @@
 //! The epochs of a batch, as its records come.
 
-ghost use Rattle.std.specs.Prelude.{◌≡◌, ℕ, ◌≤◌, ◌+◌, ◌⊎◌, ◌∷◌, ◌++◌, [], List, None, Some, MatchResult, OnOk, IfErr, IfOk};
+ghost use Rattle.std.specs.Prelude.{◌≡◌, ℕ, ◌≤◌, ◌+◌, ◌⊎◌, ◌∷◌, ◌++◌, [], List, None, Some, MatchResult, OnErr, OnOk, IfErr, IfOk};
 ghost use Rattle.cn_spec.specs.declared.limits.TheConstants.{MOST_RECORDS};
 ghost use Rattle.cn_report.specs.declared.reading.batch.arrival.Arrival.{Arrival};
 ghost use Rattle.cn_report.specs.declared.reading.batch.heading.Heading.{Heading};
@@ -100,6 +100,7 @@ impl Gathering {
             × (self.new.latest.clients.items ≡ self.old.latest.clients.items ++ client ∷ [])
             × (self.new.standing.keys ≡ self.old.standing.keys ++ client.id ∷ [])
             × (self.new.next ≡ self.old.next + 1)) }
+        ensures stays { OnErr result (self.new.next ≡ self.old.next) }
         ensures err { IfErr result (λ cause.
             (joining_cause self.old client ≡ Some cause) ⊎ (cause ≡ BatchCause.Memory)) }
     {
@@ -129,6 +130,7 @@ impl Gathering {
             × IsGathered self.new (before ++ arrival ∷ [])) }
         ensures keeps { OnOk result (StaysServable entries self.new) }
         ensures next { OnOk result (self.new.next ≡ self.old.next + 1) }
+        ensures stays { OnErr result (self.new.next ≡ self.old.next) }
         ensures err { IfErr result (λ cause. (before : List Arrival) → IsGathered self.old before
             → (arrival_cause entries before arrival ≡ Some cause) ⊎ (cause ≡ BatchCause.Memory)) }
     {
@@ -182,6 +184,7 @@ impl Gathering {
             → AreServable entries epochs.items) }
         ensures few { IfOk result (λ epochs. (entries : ℕ) → StaysServable entries self
             → clients_of_epochs epochs.items ≤ MOST_RECORDS) }
+        ensures at { IfErr result (λ fault. fault.at ≡ self.next) }
     {
         let mut gathering = self;
         match gathering.open_epoch(alloc, 0) {

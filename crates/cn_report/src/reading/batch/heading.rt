@@ -11,7 +11,7 @@ use csv::ByteRecord;
 #[derive(Clone, Copy, Debug, PartialEq, Eq)]
 pub(crate) enum Heading {
     /// `epoch,client,entry`: in a field of its own.
-    Told,
+    WithEntry,
     /// `epoch,client`: by the rule that it is the client modulo the number of entries.
     ByRule,
 }
@@ -21,7 +21,7 @@ pub(crate) fn heading_of(row: &ByteRecord) -> Option<Heading>
     ensures { result ≡ heading_of (fields_of row.now) }
 {
     if is_header(row, b"epoch", b"client", b"entry") {
-        Some(Heading::Told)
+        Some(Heading::WithEntry)
     } else if is_short_header(row, b"epoch", b"client") {
         Some(Heading::ByRule)
     } else {

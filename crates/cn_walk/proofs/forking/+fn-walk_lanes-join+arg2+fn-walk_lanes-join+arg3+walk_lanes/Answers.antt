@@ -1,4 +1,5 @@
 use Rattle.std.proofs.Common.{◌≡◌, ℕ, ◌-◌, List, length, sym, ap, ◌∙◌, subst}
+use Rattle.std.specs.Prelude.{IfOk}
 use Rattle.cn_ledger.specs.declared.client.Client.{Client}
 use Rattle.cn_walk.specs.declared.forking.Lanes.{Lanes}
 use Rattle.cn_walk.specs.Halves.{AreReady, IsReady, together, whole}
@@ -7,20 +8,22 @@ use Rattle.cn_walk.specs.Walks.{WalksAll}
 use Rattle.cn_walk.proofs.Halves.{both-walked, whole-ready}
 use Rattle.cn_walk.proofs.forking.+fn-walk_lanes-join+arg2+fn-walk_lanes-join+arg3+walk_lanes.Goals as goal
 
-pub returns-in-Halves : goal.returns-in-Halves
-returns-in-Halves g t c =
+pub returns-in-Ok : goal.returns-in-Ok
+returns-in-Ok g t c =
     let left = c.into_inner-left.ensures in
     let right = c.into_inner-right.ensures in
     let a : LaneValue = whole c.into_inner-left.result in
     let b : LaneValue = whole c.into_inner-right.result in
     let lanes : whole c.args.lanes ≡ together a b = ap whole c.in-Halves.is ∙ (λ i. together (whole (sym left i)) (whole (sym right i))) in
-    let home : FloorValue = g.F.LaneWalker.home c.args.floor.now in
+    let home : FloorValue = g.F.SharedFloor.home c.args.floor.now in
     let n : ℕ = length c.args.clients.now in
     let at : ℕ = c.in-Halves.at in
     let ready = subst (λ (x : Lanes). AreReady home n x) c.in-Halves.is c.requires.ready in
     let other = subst (λ (x : Lanes). IsReady home (n - at) (whole x)) (sym right) (whole-ready home (n - at) c.in-Halves.right.value ready.3) in
     let cut = c.split_at.ensures.by_index.0 in
     let done = both-walked a b c.join-lane.result.0 c.join-lane.result.1 _ _ other.nothing.entries other.nothing.grants c.join-lane.ensures.first c.join-lane.ensures.second in
-    subst (λ (l : LaneValue). WalksAll l c.join.result c.args.clients.now) (sym lanes)
-    (subst (λ (l : LaneValue). WalksAll (together a b) l c.args.clients.now) (sym c.join.ensures)
+    let joined : c.in-Ok.lane ≡ together c.join-lane.result.0 c.join-lane.result.1 =
+    subst (λ r. IfOk r (λ (l : LaneValue). l ≡ together c.join-lane.result.0 c.join-lane.result.1)) c.in-Ok.is c.join.ensures.ok in
+    subst (λ (l : LaneValue). WalksAll l c.in-Ok.lane c.args.clients.now) (sym lanes)
+    (subst (λ (l : LaneValue). WalksAll (together a b) l c.args.clients.now) (sym joined)
     (subst (λ (xs : List Client). WalksAll (together a b) (together c.join-lane.result.0 c.join-lane.result.1) xs) (sym cut) done))

@@ -1,5 +1,6 @@
 use Rattle.std.proofs.Common.{◌≡◌, ℕ, ◌+◌, ◌-◌, inl, inr, List, [], length, replicate, rules, sym, ap, ◌∙◌, subst, arith}
 use Rattle.std.proofs.lemmas.Bool.{cases_lt}
+use Rattle.std.specs.Mem.Slots.{slots_items}
 use Rattle.cn_wiring.specs.Network.{Network}
 use Rattle.cn_yard.specs.Lists.{tokens_in}
 use Rattle.cn_floor.specs.declared.view.Start.{Start}
@@ -8,6 +9,7 @@ use Rattle.cn_floor.specs.Carried.{IsClosed, WordsValue, words_before}
 use Rattle.cn_floor.specs.Closing.{IsMissing}
 use Rattle.cn_floor.specs.Ends.{IsClosedFloor}
 use Rattle.cn_floor.specs.Lane.{FloorValue, LaneValue}
+use Rattle.cn_floor.specs.Spread.{words_in}
 use Rattle.cn_floor.specs.Views.{base}
 use Rattle.cn_floor.specs.Words.{clients_in}
 use Rattle.cn_floor.proofs.AtClose.Closings.{inside-yard}
@@ -18,8 +20,8 @@ pub invariant_of-closed : goal.invariant_of-closed
 invariant_of-closed c =
     let start : Start = c.self.inside.counters.start in
     let v : View = c.lane.inside.seat.me.0 in
-    let ws : List ℕ = c.close-words.result in
-    let e = c.close-words.ensures in
+    let ws : List ℕ = words_in c.close-table.result.1 (slots_items c.close-table.result.0.words) in
+    let e = c.close-table.ensures.ending in
     let began = c.self.invariant.began in
     let network : c.network.result.now ≡ start.network = c.network.ensures ∙ ap (λ (w : WordsValue). w.network) c.self.invariant.before in
     let lane : c.of-told.result.value ≡ c.args.lane = c.of-told.ensures in
@@ -37,6 +39,9 @@ invariant_of-closed c =
       few = omega (arith, e.few, began.few, began.quota);
     } in
     record {
+      spaced = c.close-table.ensures.spaced;
+      full = c.close-table.ensures.whole.0;
+      none = c.close-table.ensures.whole.1;
       quiet = subst (λ (z : Start × View). IsClosedFloor z.0 z.1 ws) (λ i. (about i, view i)) quiet;
       network = c.requires.network ∙ ap (λ (h : FloorValue). h.start.network) (sym c.self.view_is) ∙ ap (λ (s : Start). s.network) about;
       closed = subst (λ (s : Start). IsClosed (record { network = s.network; words = ws })) about closed;
@@ -60,8 +65,8 @@ pub returns-then-entered-granted-clause-refused : goal.returns-then-entered-gran
 returns-then-entered-granted-clause-refused c =
     let start : Start = c.self.inside.counters.start in
     let v : View = c.lane.inside.seat.me.0 in
-    let ws : List ℕ = c.close-words.result in
-    let e = c.close-words.ensures in
+    let ws : List ℕ = words_in c.close-table.result.1 (slots_items c.close-table.result.0.words) in
+    let e = c.close-table.ensures.ending in
     let entered : ℕ = c.clients_of-clients.result - c.self.inside.base in
     let network : c.network.result.now ≡ start.network = c.network.ensures ∙ ap (λ (w : WordsValue). w.network) c.self.invariant.before in
     let clients : c.clients_of-clients.result ≡ clients_in start.network.table ws = c.clients_of-clients.ensures ∙ ap (λ (n : Network). clients_in n.table ws) network in

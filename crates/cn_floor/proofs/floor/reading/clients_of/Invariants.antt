@@ -1,7 +1,9 @@
 use Rattle.std.proofs.Common.{◌≡◌}
 use Rattle.cn_spec.specs.Sums.{sum_below}
+use Rattle.std.specs.Mem.Slots.{slots_items}
+use Rattle.cn_floor.specs.Spread.{words_in}
 use Rattle.cn_floor.specs.Words.{entered_in}
 use Rattle.cn_floor.proofs.floor.reading.clients_of.Given as goal
 
 abbrev pub invariant-loop-entry : goal.invariant-loop-entry
-invariant-loop-entry l = l.clients ≡ sum_below l.entry (entered_in l.network.table l.words)
+invariant-loop-entry l = l.clients ≡ sum_below l.entry (entered_in l.network.table (words_in l.stride (slots_items l.table.words)))

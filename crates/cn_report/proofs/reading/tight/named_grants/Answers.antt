@@ -9,13 +9,13 @@ use Rattle.cn_report.proofs.reading.tight.named_grants.Goals as goal
 
 pub returns-clause-answer : goal.returns-clause-answer
 returns-clause-answer g c =
-    known-map (g.R.Read.remaining c.args.reader) (λ text. HasRead g.R.Read.remaining c.open_rows-rows.result text [])
+    known-map (g.R.Read.remaining c.args.reader) (λ text. HasRead g.R.Read.remaining c.in_ok-rows.rows.value text [])
     (λ text. MatchResult c.take_grants.result (λ epochs. IsNamedList (records_of text) epochs.items) (IsFlaw (records_of text)))
-    c.open_rows-rows.ensures.opened c.take_grants.ensures.answer
+    c.in_ok-rows.ensures.opened (rw c.deref_mut.ensures.value at c.take_grants.ensures.answer)
 
 pub returns-clause-exact : goal.returns-clause-exact
 returns-clause-exact g c =
-    known-map (g.R.Read.remaining c.args.reader) (λ text. HasRead g.R.Read.remaining c.open_rows-rows.result text [])
+    known-map (g.R.Read.remaining c.args.reader) (λ text. HasRead g.R.Read.remaining c.in_ok-rows.rows.value text [])
     (λ text. IfErr c.take_grants.result (λ flaw. IsTightList (records_of text) → IsOutside flaw))
-    c.open_rows-rows.ensures.opened
-    (λ text read. exact (λ epochs. IsNamedList (records_of text) epochs.items) (records_of text) c.take_grants.result (c.take_grants.ensures.answer text read))
+    c.in_ok-rows.ensures.opened
+    (λ text read. exact (λ epochs. IsNamedList (records_of text) epochs.items) (records_of text) c.take_grants.result (rw c.deref_mut.ensures.value at c.take_grants.ensures.answer text read))

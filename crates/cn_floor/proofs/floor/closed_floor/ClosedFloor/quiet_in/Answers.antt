@@ -1,38 +1,44 @@
 use Rattle.std.proofs.Common.{◌≡◌, ℕ, List, ap, sym, ◌∙◌, subst}
+use Rattle.std.specs.Mem.Slots.{slots_items}
 use Rattle.std.specs.Prelude.{IfSome}
 use Rattle.cn_floor.specs.declared.view.Start.{Start}
 use Rattle.cn_floor.specs.Carried.{IsClosed, WordsValue, client_count, words_before}
 use Rattle.cn_floor.specs.Ends.{IsClosedFloor, QuietValue}
+use Rattle.cn_floor.specs.Spread.{words_in}
 use Rattle.cn_floor.specs.Words.{IsDifference, NoneWent, word_count}
 use Rattle.cn_floor.proofs.floor.closed_floor.ClosedFloor.quiet_in.Goals as goal
 
-pub copy_over-requires : goal.copy_over-requires
-copy_over-requires c =
+pub copy_words-requires-clause-places : goal.copy_words-requires-clause-places
+copy_words-requires-clause-places c =
     c.requires.room ∙ ap (λ (q : QuietValue). word_count q.start.network.table) (sym c.self.view_is) ∙ sym c.self.invariant.closed.carried.words
 
 pub closed-requires-clause-closed : goal.closed-requires-clause-closed
 closed-requires-clause-closed c =
-    subst (λ (w : WordsValue). IsClosed w) (λ i. record { network = (sym c.self.invariant.network) i; words = (sym c.copy_over.ensures) i }) c.self.invariant.closed
+    let copied = c.copy_words.ensures in
+    subst (λ (w : WordsValue). IsClosed w) (λ i. record { network = (sym c.self.invariant.network) i; words = (sym copied) i }) c.self.invariant.closed
 
 pub closed-requires-clause-clients : goal.closed-requires-clause-clients
 closed-requires-clause-clients c =
-    c.self.invariant.clients ∙ (λ i. client_count (record { network = (sym c.self.invariant.network) i; words = (sym c.copy_over.ensures) i }))
+    let copied = c.copy_words.ensures in
+    c.self.invariant.clients ∙ (λ i. client_count (record { network = (sym c.self.invariant.network) i; words = (sym copied) i }))
 
 pub invariant_of-result : goal.invariant_of-result
 invariant_of-result c =
     let start : Start = c.self.inside.lane.value.home.start in
     let before : c.args.before ≡ words_before start = c.requires.before ∙ ap (λ (q : QuietValue). words_before q.start) (sym c.self.view_is) in
-    let words : c.closed.result.words ≡ c.copy_over.new.list.items = ap (λ (w : WordsValue). w.words) c.closed.ensures in
+    let copied = c.copy_words.ensures in
+    let words : c.closed.result.words ≡ c.copy_words.new.list.items = ap (λ (w : WordsValue). w.words) c.closed.ensures in
     record {
-      quiet = subst (λ (ws : List ℕ). IsClosedFloor start c.self.inside.lane.value.view ws) (sym (words ∙ c.copy_over.ensures)) c.self.invariant.quiet;
+      quiet = subst (λ (ws : List ℕ). IsClosedFloor start c.self.inside.lane.value.view ws) (sym (words ∙ copied)) c.self.invariant.quiet;
       network = ap (λ (w : WordsValue). w.network) c.closed.ensures ∙ c.self.invariant.network;
       grants = c.self.invariant.grants;
       risen = subst (λ (ws : List ℕ). IfSome c.risen_to-risen.result (λ list. IsDifference start.words ws list.items)) (sym words)
-          (subst (λ (b : WordsValue). IfSome c.risen_to-risen.result (λ list. IsDifference b.words c.copy_over.new.list.items list.items)) before c.risen_to-risen.ensures.some);
+          (subst (λ (b : WordsValue). IfSome c.risen_to-risen.result (λ list. IsDifference b.words c.copy_words.new.list.items list.items)) before c.risen_to-risen.ensures.some);
       none = λ n. subst (λ (b : WordsValue). NoneWent b.network.table b.words) before (c.risen_to-risen.ensures.none n);
     }
 
 pub returns : goal.returns
 returns c =
-    let words : c.closed.result.words ≡ c.self.inside.words = ap (λ (w : WordsValue). w.words) c.closed.ensures ∙ c.copy_over.ensures in
+    let copied = c.copy_words.ensures in
+    let words : c.closed.result.words ≡ words_in c.self.inside.stride (slots_items c.self.inside.table.words) = ap (λ (w : WordsValue). w.words) c.closed.ensures ∙ copied in
     (λ i. record { start = c.self.inside.lane.value.home.start; did = c.self.inside.lane.value.view; words = words i }) ∙ c.self.view_is

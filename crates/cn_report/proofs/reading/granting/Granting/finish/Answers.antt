@@ -3,9 +3,9 @@ use Rattle.cn_report.proofs.ReadingLemmas.CheckedGrants.{no_gap, told-end, told-
 use Rattle.cn_report.proofs.reading.granting.Granting.finish.Goals as goal
 
 pub returns-in-None-clause-answer : goal.returns-in-None-clause-answer
-returns-in-None-clause-answer c = λ grants held. no_gap c.args.self grants held (rw c.in-None.is at (c.in_ok-end.ensures.gap grants held))
+returns-in-None-clause-answer c = λ grants held. no_gap c.args.self grants held (rw c.in-None.is at (c.in_ok-end_latest.ensures.gap grants held))
 
 pub returns-in-None-clause-told : goal.returns-in-None-clause-told
 returns-in-None-clause-told c = λ grants held tells.
-    let (before, over) = c.in_ok-end.ensures.over c.in-None.is in
-    over ∙ told-end _ (c.args.self.latest + 1) grants (told-turn _ c.args.self.latest c.args.self.count (c.args.self.latest + 1) grants (tells before) held.count (omega arith))
+    let (before, ended) = c.in_ok-end_latest.ensures.ended c.in-None.is in
+    ended ∙ told-end _ (c.args.self.latest + 1) grants (told-turn _ c.args.self.latest c.args.self.count (c.args.self.latest + 1) grants (tells before) held.count (omega arith))

@@ -41,7 +41,7 @@ returns-in_err-arrival-clause-reads g c =
       same = same-header _ _ _ c.loop-taken.invariant.same c.next_arrival.ensures.same;
       reads = λ text before read.
           let (rows, spelled, now) = c.loop-taken.invariant.reads text before read in
-          stretch-read g.R.Read.remaining c.loop-taken.self.rows c.next_arrival.new.self.rows c.args.self.now.heading c.args.self.now.entries text before rows c.loop-taken.arrivals.items _ spelled now (rw (c.loop-taken.invariant.same.heading, c.loop-taken.invariant.same.entries) at (c.in_err-arrival.ensures.refused text (before ++ rows) now));
+          stretch-read g.R.Read.remaining c.loop-taken.self.rows.value c.next_arrival.new.self.rows.value c.args.self.now.heading c.args.self.now.entries text before rows c.loop-taken.arrivals.items _ spelled now (rw (c.loop-taken.invariant.same.heading, c.loop-taken.invariant.same.entries) at (c.in_err-arrival.ensures.refused text (before ++ rows) now));
     })
 
 pub returns-in_default-clause-reads : goal.returns-in_default-clause-reads
@@ -50,7 +50,7 @@ returns-in_default-clause-reads g c = record {
   same = same-header _ _ _ c.loop-taken.invariant.same c.next_arrival.ensures.same;
   reads = λ text before read.
       let (rows, spelled, now) = c.loop-taken.invariant.reads text before read in
-      stretch-read g.R.Read.remaining c.loop-taken.self.rows c.next_arrival.new.self.rows c.args.self.now.heading c.args.self.now.entries text before rows c.loop-taken.arrivals.items (Ok false) spelled now (rw c.in_default.is at (c.in_ok-arrival.ensures.next text (before ++ rows) now));
+      stretch-read g.R.Read.remaining c.loop-taken.self.rows.value c.next_arrival.new.self.rows.value c.args.self.now.heading c.args.self.now.entries text before rows c.loop-taken.arrivals.items (Ok false) spelled now (rw c.in_default.is at (c.in_ok-arrival.ensures.next text (before ++ rows) now));
 }
 
 pub returns-then-is_err-clause-reads : goal.returns-then-is_err-clause-reads
@@ -62,7 +62,7 @@ returns-then-is_err-clause-reads g c =
       same = same-header _ _ _ c.loop-taken.invariant.same c.next_arrival.ensures.same;
       reads = λ text before read.
           let (rows, spelled, now) = c.loop-taken.invariant.reads text before read in
-          stretch-read g.R.Read.remaining c.loop-taken.self.rows c.next_arrival.new.self.rows c.args.self.now.heading c.args.self.now.entries text before rows c.push.new.self.items (Err Memory) (rw items spelled) now (inr (inr refl));
+          stretch-read g.R.Read.remaining c.loop-taken.self.rows.value c.next_arrival.new.self.rows.value c.args.self.now.heading c.args.self.now.entries text before rows c.push.new.self.items (Err Memory) (rw items spelled) now (inr (inr refl));
     }
 
 pub returns-clause-reads : goal.returns-clause-reads
@@ -71,5 +71,5 @@ returns-clause-reads g c = record {
   same = c.loop-taken.invariant.same;
   reads = λ text before read.
       let (rows, spelled, now) = c.loop-taken.invariant.reads text before read in
-      stretch-read g.R.Read.remaining c.loop-taken.self.rows c.loop-taken.self.rows c.args.self.now.heading c.args.self.now.entries text before rows c.loop-taken.arrivals.items (Ok true) spelled now now;
+      stretch-read g.R.Read.remaining c.loop-taken.self.rows.value c.loop-taken.self.rows.value c.args.self.now.heading c.args.self.now.entries text before rows c.loop-taken.arrivals.items (Ok true) spelled now now;
 }

@@ -5,9 +5,9 @@ use Rattle.cn_report.proofs.reading.batch.arrivals.ArrivalReader.read_stretch.Gi
 
 abbrev pub invariant-loop-taken : goal.invariant-loop-taken
 invariant-loop-taken g l = record {
-  plain : IsPlain l.self.rows;
+  plain : IsPlain l.self.rows.value;
   same : HasSameHeader l.initial.self l.self;
   many : length l.arrivals.items ≡ l._taken;
-  reads : (text : List ℕ) (before : List Record) → HasRead g.R.Read.remaining l.initial.self.rows text before
-      → (rows : List Record) × AreSpelled l.initial.self.heading l.initial.self.entries rows l.arrivals.items × HasRead g.R.Read.remaining l.self.rows text (before ++ rows);
+  reads : (text : List ℕ) (before : List Record) → HasRead g.R.Read.remaining l.initial.self.rows.value text before
+      → (rows : List Record) × AreSpelled l.initial.self.heading l.initial.self.entries rows l.arrivals.items × HasRead g.R.Read.remaining l.self.rows.value text (before ++ rows);
 }

@@ -1,4 +1,4 @@
-use Rattle.std.proofs.Common.{arith, ◌++◌, take}
+use Rattle.std.proofs.Common.{arith, ◌++◌, sym, take}
 use Rattle.cn_report.proofs.ReadingLemmas.Stretches.{all-gathered, gathered-next, gathering-fault, none-gathered-of}
 use Rattle.cn_report.proofs.reading.batch.gathering.Gathering.gather.Goals as goal
 
@@ -13,6 +13,7 @@ pub returns-in-Err : goal.returns-in-Err
 returns-in-Err c = record {
   keeps = tt;
   next = tt;
+  at = sym c.in-Err.ensures.stays;
   answer = λ heading before rows later came taken gathered spelled.
       let at = c.loop-arrival.arrival-index in
       let xs = c.args.arrivals.now in
@@ -37,6 +38,7 @@ pub returns : goal.returns
 returns c = record {
   keeps = c.loop-arrival.invariant.keeps;
   next = omega (arith, c.loop-arrival.invariant.next, c.loop-arrival-test.false);
+  at = tt;
   answer = λ heading before rows later came taken gathered spelled.
       all-gathered heading c.args.entries before rows came c.args.arrivals.now spelled c.loop-arrival.self c.loop-arrival.arrival-index c.loop-arrival-test.false
       (c.loop-arrival.invariant.taken heading before rows came taken gathered spelled);

@@ -1,0 +1,8 @@
+use Rattle.std.proofs.Common.{◌≡◌, length, take}
+use Rattle.std.specs.Mem.Slots.{slots_items}
+use Rattle.cn_floor.proofs.floor.reading.copy_row.Given as goal
+
+-- the places so far have the words of the table
+abbrev pub invariant-loop-word : goal.invariant-loop-word
+invariant-loop-word l =
+    (length l.words ≡ length (slots_items l.table.words)) × (take l.word l.words ≡ take l.word (slots_items l.table.words))
