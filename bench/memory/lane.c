@@ -1,6 +1,8 @@
 // What a lane of the library takes, by network: the bytes that are asked of malloc by a split, a first name and a first
-// enter, and the nanoseconds of a split, one name and a drop, of which the walk by itself is shown too. For glibc, whose
-// malloc it wraps: gcc -O2 -I PREFIX/include bench/memory/lane.c PREFIX/lib/librenamer.a -lpthread
+// enter, and the nanoseconds of a split, one name and a drop, of which the walk by itself is shown too. Memory is kept
+// from run to run: a page that is touched for the first time costs more than a lane. For glibc, whose malloc it wraps:
+// gcc -O2 -I PREFIX/include bench/memory/lane.c PREFIX/lib/librenamer.a -lpthread
+#include <malloc.h>
 #include <renamer.h>
 #include <stdatomic.h>
 #include <stdio.h>
@@ -113,6 +115,7 @@ static void print_times(uint32_t kind, uint32_t width, double add) {
 }
 
 int main(void) {
+    mallopt(M_TRIM_THRESHOLD, 1 << 30);
     const char *const names[] = {"bitonic", "periodic", "tree"};
     double add = of_an_add();
     printf("an atomic add: %.1f ns\n", add);

@@ -12,6 +12,7 @@ use Rattle.std.proofs.vec.Vec.TheSendSync as vec
 use Rattle.std.specs.contracts.alloc.Global as global
 use Rattle.std.specs.contracts.impls.GlobalAllocator.TheImpl as global_impl
 use Rattle.std.specs.contracts.option.Option as Option
+use Rattle.std.specs.contracts.sync.Arc as Arc
 use Rattle.counted_slot.proofs.Counted.TheSendSync as counted
 use Rattle.counted_slot.specs.contracts.Counted as Counted
 use Rattle.counted_slot.specs.contracts.OptionFits.TheImpl as option_fits
@@ -26,9 +27,6 @@ use Rattle.renamer_c.specs.contracts.group.Returned as Returned
 use Rattle.renamer_c.specs.contracts.group.ReturnedFits.TheImpl as returned_fits
 use Rattle.renamer_c.specs.contracts.group.Group as Group
 use Rattle.renamer_c.specs.contracts.group.Group.TheInside as InGroup
-use Rattle.renamer_c.specs.contracts.floor_share.Owners as Owners
-use Rattle.renamer_c.specs.contracts.floor_share.FloorShare as FloorShare
-use Rattle.renamer_c.specs.contracts.floor_share.FloorShare.TheInside as InFloorShare
 use Rattle.renamer_c.specs.contracts.held_lane.HeldLane as HeldLane
 use Rattle.renamer_c.specs.contracts.held_lane.HeldLane.TheInside as InHeldLane
 use Rattle.renamer_c.specs.contracts.held.Held as Held
@@ -71,15 +69,9 @@ group-sync = view_sync InGroup.the_row _ _ _ _ (recorded_sync (InGroup.the_field
       (vec.the_sync _ global.the_row global_impl.ghosts place-sync heap.the_sync, tt),
     )))
 
-owners-send : IsSend (Owners.the_field).row
-owners-send = enum_send (enums.shape Owners.the_type) (
-  (group-send, tt),
-  ((arc.the_send Group.the_row global.the_row global_impl.ghosts group-send heap.the_send group-sync heap.the_sync frees, tt), tt),
-)
-
-share-send : IsSend FloorShare.the_row
-share-send = view_send InFloorShare.the_row _ _ _ _ (recorded_send (InFloorShare.the_field).row _ _ (InFloorShare.the_type).to_one
-    (struct_send (structs.shape InFloorShare.the_type) (owners-send, tt)))
+share-send : IsSend (Arc.the_row (Option.the_row Group.the_row) global.the_row global_impl.ghosts)
+share-send = arc.the_send (Option.the_row Group.the_row) global.the_row global_impl.ghosts
+    (option.the_send Group.the_row group-send) heap.the_send (option.the_sync Group.the_row group-sync) heap.the_sync frees
 
 held-lane-send : IsSend HeldLane.the_row
 held-lane-send = view_send InHeldLane.the_row _ _ _ _ (recorded_send (InHeldLane.the_field).row _ _ (InHeldLane.the_type).to_one

@@ -1,8 +1,9 @@
 -- What a lane with its share of its floor keeps.
-use Rattle.std.specs.Prelude.{◌≡◌}
+use Rattle.std.specs.Arc.{arc_value}
+use Rattle.std.specs.Prelude.{◌≡◌, Some}
 use Rattle.renamer_c.specs.declared.held_lane.HeldLane.TheInside.{Inside}
 
--- the floor is that of the lane, and its quota is known
+-- its floor is there, and is that of the lane, and its quota is known
 pub record IsHeldLane (h : Inside) : Type 0 where
-  pub own : h.lane.home ≡ h.floor
-  pub most : h.most ≡ h.floor.start.quota
+  pub own : arc_value h.floor ≡ Some h.lane.home
+  pub most : h.most ≡ h.lane.home.start.quota

@@ -1,7 +1,6 @@
 pub mod Calls
 pub mod Handles
 pub mod Holding
-pub mod InsideFloorShare
 pub mod InsideGroup
 pub mod InsideHeldLane
 pub mod InsideRecord

@@ -1,145 +1,89 @@
-//! A share of a floor: lanes own their floor together.
+//! Shares of a floor: lanes own their floor together.
 
 ghost use Rattle.std.specs.Arc.{arc_value};
-ghost use Rattle.std.specs.Prelude.{◌≡◌, IfErr, IfOk};
-ghost use Rattle.renamer_c.specs.Refusals.{NobodyBack};
-ghost use Rattle.renamer_c.specs.Returns.{IsBack};
+ghost use Rattle.std.specs.Prelude.{◌≡◌, ◌+◌, Some, length, IfErr, IfOk};
+ghost use Rattle.cn_yard.specs.Lists.{tokens_in};
+ghost use Rattle.cn_floor.specs.Lane.{FloorValue};
+ghost use Rattle.renamer_c.specs.Refusals.{NotClosed};
 
 use crate::group::Group;
-use crate::link::Link;
 use crate::refusal::Refusal;
-use cn_floor::{Floor, Lane};
-use std::alloc::Global;
-use std::marker::Model;
+use cn_floor::{Floor, Lane, Quiet};
+use std::alloc::{AllocError, Global};
 use std::sync::Arc;
 
-/// How a lane owns its floor.
-#[derive(Drop)]
-pub(crate) enum Owners {
-    /// It is the only one.
-    One(Group),
-    /// Together with others.
-    Many(Arc<Group, Global>),
+/// A share of a floor. The floor is there until its close takes it out.
+pub(crate) type FloorShare = Arc<Option<Group>, Global>;
+
+/// The floor of a share, with its places.
+pub(crate) fn group_of(share: &FloorShare) -> &Group
+    requires { (floor : FloorValue) × (arc_value share.now ≡ Some floor) }
+    ensures { arc_value share.now ≡ Some result.now }
+{
+    match &**share {
+        Some(group) => group,
+        None => unreachable!(),
+    }
 }
 
-/// A share of a floor. To contracts it is the floor.
-#[derive(Drop)]
-pub(crate) struct FloorShare {
-    owners: Owners,
+/// The floor of a share.
+pub(crate) fn floor_of(share: &FloorShare) -> &Floor<'static>
+    requires { (floor : FloorValue) × (arc_value share.now ≡ Some floor) }
+    ensures { arc_value share.now ≡ Some result.now }
+{
+    group_of(share).floor()
 }
 
-impl Model for FloorShare {
-    ghost use Rattle.cn_floor.specs.Lane.{FloorValue};
-    ghost use Rattle.renamer_c.specs.InsideFloorShare.{floor_of};
-
-    ghost Value = { FloorValue };
-
-    ghost view = { floor_of };
+/// Makes places for lanes that are handed back, if the floor has no other owner, and no places.
+///
+/// # Errors
+/// `AllocError` if they get no memory.
+fn make_places(alloc: Global, share: &mut FloorShare) -> Result<(), AllocError>
+    ensures { arc_value share.new ≡ arc_value share.old }
+{
+    if let Some(slot) = Arc::get_mut(share) {
+        if let Some(group) = slot {
+            group.make_places(alloc)?;
+        }
+    }
+    Ok(())
 }
 
-impl FloorShare {
-    /// All of a floor.
-    pub(crate) fn of(group: Group) -> FloorShare
-        ensures { result ≡ group }
-    {
-        FloorShare {
-            owners: Owners::One(group),
+/// Another share of the floor, to which lanes can then be handed back.
+///
+/// # Errors
+/// `AllocError` if the places, or one more owner, get no memory.
+pub(crate) fn share(alloc: Global, share: &mut FloorShare) -> Result<FloorShare, AllocError>
+    ensures kept { arc_value share.new ≡ arc_value share.old }
+    ensures ok { IfOk result (λ other. arc_value other ≡ arc_value share.old) }
+{
+    make_places(alloc, share)?;
+    Arc::try_clone(share)
+}
+
+/// Closes the floor by a lane that has the whole of its quota, spent or not, and nobody inside, and takes it out.
+///
+/// # Errors
+/// `LanesThere` if there are other owners, and `Memory`, with all as it was.
+pub(crate) fn close(share: &mut FloorShare, lane: Lane) -> Result<Quiet<'static>, (Refusal, Lane)>
+    requires own { arc_value share.old ≡ Some lane.home }
+    requires out { tokens_in lane.yard.lists ≡ 0 }
+    requires all { lane.view.quota + length lane.view.grants ≡ lane.home.start.quota }
+    ensures ok { IfOk result (λ quiet. (quiet.start ≡ lane.home.start) × (quiet.did ≡ lane.view)) }
+    ensures err { IfErr result (λ r. (arc_value share.new ≡ arc_value share.old) × (r.1 ≡ lane)) }
+    ensures refused { IfErr result (λ r. NotClosed (Some lane) r.0) }
+{
+    let Some(slot) = Arc::get_mut(share) else {
+        return Err((Refusal::LanesThere, lane));
+    };
+    let Some(group) = slot.take() else {
+        unreachable!()
+    };
+    match group.close(lane) {
+        Ok(quiet) => Ok(quiet),
+        Err((group, lane)) => {
+            *slot = Some(group);
+            Err((Refusal::Memory, lane))
         }
-    }
-
-    fn together(group: Arc<Group, Global>) -> FloorShare
-        ensures { result ≡ arc_value group }
-    {
-        FloorShare {
-            owners: Owners::Many(group),
-        }
-    }
-
-    /// The floor with its places.
-    fn group(&self) -> &Group
-        ensures { result.now ≡ self.now }
-    {
-        match &self.owners {
-            Owners::One(group) => group,
-            Owners::Many(group) => group,
-        }
-    }
-
-    /// The floor.
-    pub(crate) fn floor(&self) -> &Floor<'static>
-        ensures { result.now ≡ self.now }
-    {
-        self.group().floor()
-    }
-
-    /// The floor, owned together with others that may come.
-    ///
-    /// # Errors
-    /// The share, if there is no memory.
-    fn into_shared(self, alloc: Global) -> Result<Arc<Group, Global>, FloorShare>
-        ensures ok { IfOk result (λ group. arc_value group ≡ self) }
-        ensures err { IfErr result (λ back. back ≡ self) }
-    {
-        let group = match self.owners {
-            Owners::Many(group) => return Ok(group),
-            Owners::One(group) => group,
-        };
-        match group.with_places(alloc) {
-            Ok(group) => match Arc::new(alloc, group) {
-                Ok(group) => Ok(group),
-                Err(failed) => Err(FloorShare::of(failed.value)),
-            },
-            Err(group) => Err(FloorShare::of(group)),
-        }
-    }
-
-    /// Two shares of the same floor.
-    ///
-    /// # Errors
-    /// The share, if one more owner gets no memory.
-    pub(crate) fn split(self, alloc: Global) -> Result<(FloorShare, FloorShare), FloorShare>
-        ensures ok { IfOk result (λ r. (r.0 ≡ self) × (r.1 ≡ self)) }
-        ensures err { IfErr result (λ back. back ≡ self) }
-    {
-        let group = self.into_shared(alloc)?;
-        match Arc::try_clone(&group) {
-            Ok(other) => Ok((FloorShare::together(group), FloorShare::together(other))),
-            Err(_) => Err(FloorShare::together(group)),
-        }
-    }
-
-    /// The floor itself with its places.
-    ///
-    /// # Errors
-    /// The share, if there are others.
-    pub(crate) fn into_group(self) -> Result<Group, FloorShare>
-        ensures ok { IfOk result (λ group. group ≡ self) }
-        ensures err { IfErr result (λ back. back ≡ self) }
-    {
-        match self.owners {
-            Owners::One(group) => Ok(group),
-            Owners::Many(group) => match Arc::try_unwrap(group) {
-                Ok(group) => Ok(group),
-                Err(group) => Err(FloorShare::together(group)),
-            },
-        }
-    }
-
-    /// Hands a lane of the floor back, in the room that was made for it, for other lanes to take in.
-    pub(crate) fn hand_back(&self, lane: Lane, room: Box<Link>)
-        requires { IsBack self.now lane }
-    {
-        self.group().hand_back(lane, room);
-    }
-
-    /// Takes a lane of the floor that was handed back, with its room.
-    ///
-    /// # Errors
-    /// `NothingBack` or `Busy`.
-    pub(crate) fn take_back(&self) -> Result<(Lane, Box<Link>), Refusal>
-        ensures ok { IfOk result (λ r. IsBack self.now r.0) }
-        ensures refused { IfErr result NobodyBack }
-    {
-        self.group().take_back()
     }
 }

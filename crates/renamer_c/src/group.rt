@@ -127,6 +127,29 @@ fn leave(place: &Counted<Option<Returned>>, floor: &Floor<'static>, links: Optio
 #[derive(Drop)]
 struct Busy;
 
+/// Takes the lanes of a place, and marks it for this thread, which must leave it again.
+///
+/// # Errors
+/// `Busy` if another thread is at the place.
+fn take_all(
+    place: &Counted<Option<Returned>>,
+    floor: &Floor<'static>,
+) -> Result<Option<Box<Link>>, Busy>
+    requires { place.now ≡ floor.now }
+    ensures { IfOk result (λ there. IfSome there (λ b. AreBack floor.now b.value)) }
+{
+    let _ = floor;
+    let (expected, (found, claim)) = match place.load() {
+        FREE => (FREE, place.turn(FREE, TAKEN)),
+        _ => (PRESENT, place.turn(PRESENT, TAKEN)),
+    };
+    if found != expected {
+        claim.done();
+        return Err(Busy);
+    }
+    Ok(links_of(claim.put(None, MARKED)))
+}
+
 /// Takes the first lane of a place with its room, if one is there.
 ///
 /// # Errors
@@ -141,19 +164,12 @@ fn take_from(
     if place.load() == FREE {
         return Ok(None);
     }
-    let (found, claim) = place.turn(PRESENT, TAKEN);
-    if found != PRESENT {
-        claim.done();
-        return if found == FREE { Ok(None) } else { Err(Busy) };
-    }
-    match links_of(claim.put(None, MARKED)) {
-        Some(links) => {
-            let (lane, rest) = first(floor, links);
-            leave(place, floor, rest);
-            Ok(lane)
-        }
-        None => Ok(None),
-    }
+    let (taken, rest) = match take_all(place, floor)? {
+        Some(links) => first(floor, links),
+        None => (None, None),
+    };
+    leave(place, floor, rest);
+    Ok(taken)
 }
 
 impl Group {
@@ -167,24 +183,17 @@ impl Group {
         }
     }
 
-    /// The same floor, to which lanes can be handed back.
+    /// Makes places for lanes that are handed back, if there are none.
     ///
     /// # Errors
-    /// The floor as it was, if there is no memory.
-    pub(crate) fn with_places(self, alloc: Global) -> Result<Group, Group>
-        ensures ok { IfOk result (λ group. group ≡ self) }
-        ensures err { IfErr result (λ back. back ≡ self) }
+    /// `AllocError` if they get no memory.
+    pub(crate) fn make_places(&mut self, alloc: Global) -> Result<(), AllocError>
+        ensures { self.new ≡ self.old }
     {
-        if !self.places.is_empty() {
-            return Ok(self);
+        if self.places.is_empty() {
+            self.places = empty_places(alloc, &self.floor)?;
         }
-        match empty_places(alloc, &self.floor) {
-            Ok(places) => Ok(Group {
-                floor: self.floor,
-                places,
-            }),
-            Err(_) => Err(self),
-        }
+        Ok(())
     }
 
     /// The floor.
@@ -216,8 +225,8 @@ impl Group {
         }
     }
 
-    /// Hands a lane back, in the room that was made for it: into a free place, or else above the lanes at a place where
-    /// no other thread is. It goes round only while as many other threads as there are places are in the midst of a
+    /// Hands a lane back, in the room that was made for it: to the first place where no other thread is, above the
+    /// lanes that are there. It goes round only while as many other threads as there are places are in the midst of a
     /// call.
     pub(crate) fn hand_back(&self, lane: Lane, room: Box<Link>)
         requires { IsBack self.now lane }
@@ -227,32 +236,12 @@ impl Group {
         }
         for _ in 0..MOST_ROUNDS {
             for place in &self.places {
-                if place.load() != FREE {
+                let Ok(there) = take_all(place, &self.floor) else {
                     continue;
-                }
-                let (found, claim) = place.turn(FREE, TAKEN);
-                if found == FREE {
-                    let links = above(&self.floor, lane, room, None);
-                    let _ = claim.put(Some(Returned::of(links)), PRESENT);
-                    return;
-                }
-                claim.done();
-            }
-            for place in &self.places {
-                if place.load() != PRESENT {
-                    continue;
-                }
-                let (found, claim) = place.turn(PRESENT, TAKEN);
-                if found == PRESENT {
-                    let there = links_of(claim.put(None, MARKED));
-                    leave(
-                        place,
-                        &self.floor,
-                        Some(above(&self.floor, lane, room, there)),
-                    );
-                    return;
-                }
-                claim.done();
+                };
+                let links = above(&self.floor, lane, room, there);
+                leave(place, &self.floor, Some(links));
+                return;
             }
             spin_loop();
         }

@@ -17,7 +17,7 @@ ghost use Rattle.renamer_c.specs.Calls.{IsOpened, IsSplit};
 ghost use Rattle.renamer_c.specs.Questions.{number_asked};
 ghost use Rattle.renamer_c.specs.Refusals.{NotNamed, NotReserved};
 
-use crate::floor_share::FloorShare;
+use crate::floor_share::{FloorShare, floor_of, share};
 use crate::group::Group;
 use crate::link::Link;
 use crate::question::Question;
@@ -74,8 +74,8 @@ fn floor_over(
 impl HeldLane {
     /// A lane with its share of its floor.
     fn of(floor: FloorShare, lane: Lane, most: u64, room: Box<Link>) -> HeldLane
-        requires own { lane.home ≡ floor }
-        requires most { most ≡ floor.start.quota }
+        requires own { arc_value floor ≡ Some lane.home }
+        requires most { most ≡ lane.home.start.quota }
         ensures { result ≡ lane }
     {
         HeldLane {
@@ -83,6 +83,30 @@ impl HeldLane {
             lane,
             most,
             room,
+        }
+    }
+
+    /// The first lane of a floor.
+    ///
+    /// # Errors
+    /// `Memory`.
+    fn first(
+        alloc: Global,
+        floor: Floor<'static>,
+        lane: Lane,
+        most: u64,
+    ) -> Result<HeldLane, Refusal>
+        requires own { lane.home ≡ floor }
+        requires most { most ≡ lane.home.start.quota }
+        ensures ok { IfOk result (λ held. held ≡ lane) }
+        ensures memory { IfErr result (λ r. r ≡ Refusal.Memory) }
+    {
+        let Ok(room) = Box::new(alloc, Link::Empty) else {
+            return Err(Refusal::Memory);
+        };
+        match Arc::new(alloc, Some(Group::of(alloc, floor))) {
+            Ok(floor) => Ok(HeldLane::of(floor, lane, most, room)),
+            Err(_) => Err(Refusal::Memory),
         }
     }
 
@@ -104,16 +128,8 @@ impl HeldLane {
         let Ok(network) = Arc::new(alloc, network) else {
             return Err(Refusal::Memory);
         };
-        let Ok(room) = Box::new(alloc, Link::Empty) else {
-            return Err(Refusal::Memory);
-        };
         match floor_over(alloc, &network, quota, apart) {
-            Ok((floor, lane)) => Ok(HeldLane::of(
-                FloorShare::of(Group::of(alloc, floor)),
-                lane,
-                quota,
-                room,
-            )),
+            Ok((floor, lane)) => HeldLane::first(alloc, floor, lane, quota),
             Err(_) => Err(Refusal::Memory),
         }
     }
@@ -130,7 +146,7 @@ impl HeldLane {
         if self.lane.inside() != 0 {
             return Err(Refusal::StillWalking);
         }
-        match self.floor.floor().name(&mut self.lane, client, entry) {
+        match floor_of(&self.floor).name(&mut self.lane, client, entry) {
             Ok(name) => Ok(name),
             Err(LaneFault::NoSuchEntry) => Err(Refusal::NoSuchEntry),
             Err(LaneFault::QuotaSpent) => Err(Refusal::QuotaSpent),
@@ -138,33 +154,25 @@ impl HeldLane {
         }
     }
 
-    /// Splits off a lane with some of the quota: this lane, and the other.
+    /// Splits off a lane with some of the quota.
     ///
     /// # Errors
-    /// This lane as it was, if the other gets no memory.
-    pub(crate) fn split(self, alloc: Global, quota: u64) -> Result<(HeldLane, HeldLane), HeldLane>
-        requires { quota ≤ self.view.quota }
-        ensures ok { IfOk result (λ r. IsSplit self r.0 r.1 quota) }
-        ensures err { IfErr result (λ back. back ≡ self) }
+    /// `Memory`. Then nothing has changed.
+    pub(crate) fn split(&mut self, alloc: Global, quota: u64) -> Result<HeldLane, Refusal>
+        requires { quota ≤ self.old.view.quota }
+        ensures ok { IfOk result (λ other. IsSplit self.old self.new other quota) }
+        ensures err { OnErr result (self.new ≡ self.old) }
+        ensures memory { IfErr result (λ r. r ≡ Refusal.Memory) }
     {
-        let Ok(other_room) = Box::new(alloc, Link::Empty) else {
-            return Err(self);
+        let Ok(room) = Box::new(alloc, Link::Empty) else {
+            return Err(Refusal::Memory);
         };
-        let HeldLane {
-            floor,
-            mut lane,
-            most,
-            room,
-        } = self;
-        match floor.split(alloc) {
-            Ok((floor, other_floor)) => match floor.floor().split_off(&mut lane, quota) {
-                Ok(other) => Ok((
-                    HeldLane::of(floor, lane, most, room),
-                    HeldLane::of(other_floor, other, most, other_room),
-                )),
-                Err(_) => Err(HeldLane::of(floor, lane, most, room)),
-            },
-            Err(floor) => Err(HeldLane::of(floor, lane, most, room)),
+        let Ok(floor) = share(alloc, &mut self.floor) else {
+            return Err(Refusal::Memory);
+        };
+        match floor_of(&floor).split_off(&mut self.lane, quota) {
+            Ok(other) => Ok(HeldLane::of(floor, other, self.most, room)),
+            Err(_) => Err(Refusal::Memory),
         }
     }
 
@@ -175,7 +183,7 @@ impl HeldLane {
             ≡ record self.old { view = after_entered self.old.home.start result self.old.view } }
         ensures moment { HasMoment self.old.home.start self.new.view }
     {
-        self.floor.floor().entered(&mut self.lane)
+        floor_of(&self.floor).entered(&mut self.lane)
     }
 
     /// The lane.
@@ -193,8 +201,8 @@ impl HeldLane {
             Question::Quota => self.lane.quota(),
             Question::Inside => self.lane.inside(),
             Question::Grants => self.lane.grants().len() as u64,
-            Question::Entries => u64::from(self.floor.floor().network().entries()),
-            Question::Exits => u64::from(self.floor.floor().network().width()),
+            Question::Entries => u64::from(floor_of(&self.floor).network().entries()),
+            Question::Exits => u64::from(floor_of(&self.floor).network().width()),
         }
     }
 
@@ -230,16 +238,8 @@ impl HeldLane {
             × (l ≡ empty_lane l.home quota)) }
         ensures memory { IfErr result (λ r. r ≡ Refusal.Memory) }
     {
-        let Ok(room) = Box::new(alloc, Link::Empty) else {
-            return Err(Refusal::Memory);
-        };
         match Floor::open_after(alloc, words, quota) {
-            Ok((floor, lane)) => Ok(HeldLane::of(
-                FloorShare::of(Group::of(alloc, floor)),
-                lane,
-                quota,
-                room,
-            )),
+            Ok((floor, lane)) => HeldLane::first(alloc, floor, lane, quota),
             Err(_) => Err(Refusal::Memory),
         }
     }

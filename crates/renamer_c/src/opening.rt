@@ -1,6 +1,6 @@
 //! Calls that open, split and free.
 
-ghost use Rattle.std.specs.Prelude.{◌≡◌, ◌<◌, ◌≤◌, None, Some, IfErr, IfOk, OnOk};
+ghost use Rattle.std.specs.Prelude.{◌≡◌, ◌<◌, ◌≤◌, None, IfErr, IfOk, OnErr, OnOk};
 ghost use Rattle.cn_spec.specs.declared.limits.TheConstants.{MOST_CLIENTS};
 ghost use Rattle.cn_wiring.specs.Widths.{IsWidth};
 ghost use Rattle.renamer_c.specs.Calls.{Opens, Splits, number_of};
@@ -112,32 +112,27 @@ pub extern "C" fn renamer_open_apart(
     }
 }
 
-/// Splits off a lane with some of the quota: this lane, and the other in a box.
+/// Splits off a lane with some of the quota, in a box.
 ///
 /// # Errors
-/// The first that stands, with this lane as it was: `QuotaTooSmall`, `Memory`.
-fn split(
-    alloc: Global,
-    lane: HeldLane,
-    quota: u64,
-) -> Result<(HeldLane, Box<Held>), (Refusal, HeldLane)>
-    ensures ok { IfOk result (λ r. Splits (Some lane) (Some r.0) (lane_held r.1.value) quota) }
-    ensures err { IfErr result (λ r. r.1 ≡ lane) }
-    ensures refused { IfErr result (λ r. NotSplit (Some lane) quota r.0) }
+/// The first that stands: `Nothing`, `QuotaTooSmall`, `Memory`. Then nothing has changed.
+fn split(alloc: Global, held: &mut Held, quota: u64) -> Result<Box<Held>, Refusal>
+    ensures ok { IfOk result (λ b.
+        Splits (lane_held held.old) (lane_held held.new) (lane_held b.value) quota) }
+    ensures err { OnErr result (held.new ≡ held.old) }
+    ensures refused { IfErr result (NotSplit (lane_held held.old) quota) }
 {
-    if quota > lane.lane().quota() {
-        return Err((Refusal::QuotaTooSmall, lane));
-    }
-    let Ok(mut room) = Box::new(alloc, Held::Nothing) else {
-        return Err((Refusal::Memory, lane));
+    let Held::Lane(lane) = held else {
+        return Err(Refusal::Nothing);
     };
-    match lane.split(alloc, quota) {
-        Ok((lane, other)) => {
-            *room = Held::Lane(other);
-            Ok((lane, room))
-        }
-        Err(lane) => Err((Refusal::Memory, lane)),
+    if quota > lane.lane().quota() {
+        return Err(Refusal::QuotaTooSmall);
     }
+    let Ok(mut other) = Box::new(alloc, Held::Nothing) else {
+        return Err(Refusal::Memory);
+    };
+    *other = Held::Lane(lane.split(alloc, quota)?);
+    Ok(other)
 }
 
 /// Splits off another lane with some of the quota.
@@ -153,20 +148,16 @@ pub extern "C" fn renamer_split(
     ensures kept { 0 < result → (lane.new.held ≡ lane.old.held) × (other.new.held ≡ other.old.held) }
     ensures refused { 0 < result → IsRefusal (NotSplit (lane_in lane.old.held) quota) result }
 {
-    let (held, room) = match lane.take_lane(alloc) {
-        Ok(taken) => taken,
-        Err(refusal) => return refusal.status(),
+    let second = match lane.get_mut() {
+        Some(held) => split(alloc, held, quota),
+        None => Err(Refusal::Nothing),
     };
-    match split(alloc, held, quota) {
-        Ok((held, second)) => {
-            lane.put_lane(held, room);
+    match second {
+        Ok(second) => {
             other.put(second);
             DONE
         }
-        Err((refusal, held)) => {
-            lane.put_lane(held, room);
-            refusal.status()
-        }
+        Err(refusal) => refusal.status(),
     }
 }
 

@@ -6,7 +6,7 @@ ghost use Rattle.renamer_c.specs.Calls.{IsClosedBy};
 ghost use Rattle.renamer_c.specs.Refusals.{NotClosed};
 
 use super::HeldLane;
-use crate::floor_share::FloorShare;
+use crate::floor_share::{close, floor_of};
 use crate::record_of_floor::Record;
 use crate::refusal::Refusal;
 use std::alloc::Global;
@@ -37,26 +37,17 @@ impl HeldLane {
         ensures refused { IfErr result (λ r. NotClosed (Some self) r.0) }
     {
         let HeldLane {
-            floor,
+            mut floor,
             lane,
             most,
             room,
         } = self;
-        let group = match floor.into_group() {
-            Ok(group) => group,
-            Err(floor) => {
-                return Err((Refusal::LanesThere, HeldLane::of(floor, lane, most, room)));
-            }
-        };
-        match group.close(lane) {
+        match close(&mut floor, lane) {
             Ok(quiet) => {
                 quiet.quiet_laws();
                 Ok(Record::of(quiet, counts, holders))
             }
-            Err((group, lane)) => Err((
-                Refusal::Memory,
-                HeldLane::of(FloorShare::of(group), lane, most, room),
-            )),
+            Err((refusal, lane)) => Err((refusal, HeldLane::of(floor, lane, most, room))),
         }
     }
 
@@ -75,7 +66,7 @@ impl HeldLane {
         if !self.has_all() {
             return Err((Refusal::LanesMissing, self));
         }
-        let width = self.floor.floor().network().width() as usize;
+        let width = floor_of(&self.floor).network().width() as usize;
         let counts = Vec::from_elem(alloc, 0u64, width);
         let holders = Vec::from_elem(alloc, 0u64, self.lane.grants().len());
         match (counts, holders) {

@@ -10,6 +10,7 @@ ghost use Rattle.renamer_c.specs.Refusals.{NotNamedMany};
 
 use super::HeldLane;
 use crate::client::Client;
+use crate::floor_share::floor_of;
 use crate::refusal::Refusal;
 use cn_floor::{Floor, Lane};
 
@@ -104,7 +105,8 @@ impl HeldLane {
         if self.lane.inside() != 0 {
             return Err(Refusal::StillWalking);
         }
-        let entries = u64::from(self.floor.floor().network().entries());
+        let floor = floor_of(&self.floor);
+        let entries = u64::from(floor.network().entries());
         if !all_enter(clients, entries) {
             return Err(Refusal::NoSuchEntry);
         }
@@ -115,7 +117,7 @@ impl HeldLane {
         if self.lane.room() < count && self.lane.reserve(count).is_err() {
             return Err(Refusal::Memory);
         }
-        name_all(self.floor.floor(), &mut self.lane, clients);
+        name_all(floor, &mut self.lane, clients);
         Ok(())
     }
 }

@@ -5,9 +5,11 @@ ghost use Rattle.renamer_c.specs.Refusals.{NotHandedBack, NotJoined};
 ghost use Rattle.renamer_c.specs.Returns.{IsBack, IsJoined};
 
 use super::HeldLane;
+use crate::floor_share::{floor_of, group_of};
 use crate::link::Link;
 use crate::refusal::Refusal;
 use cn_floor::{JoinFault, Lane};
+use std::sync::Arc;
 
 impl HeldLane {
     /// Hands the lane back to its floor. If no other lane is there, the floor is let go.
@@ -28,8 +30,8 @@ impl HeldLane {
             most: _most,
             room,
         } = self;
-        if let Err(floor) = floor.into_group() {
-            floor.hand_back(lane, room);
+        if let Err(floor) = Arc::try_unwrap(floor) {
+            group_of(&floor).hand_back(lane, room);
         }
         Ok(())
     }
@@ -42,7 +44,7 @@ impl HeldLane {
         ensures ok { IfOk result (λ r. IsBack self.now.home r.0) }
         ensures refused { IfErr result (NotJoined (Some self.now)) }
     {
-        self.floor.take_back()
+        group_of(&self.floor).take_back()
     }
 
     /// Takes in a lane of the floor that was handed back.
@@ -65,10 +67,10 @@ impl HeldLane {
             most,
             room,
         } = self;
-        match floor.floor().join(lane, other) {
+        match floor_of(&floor).join(lane, other) {
             Ok(lane) => Ok(HeldLane::of(floor, lane, most, room)),
             Err((JoinFault::Memory, lane, other)) => {
-                floor.hand_back(other, other_room);
+                group_of(&floor).hand_back(other, other_room);
                 Err((Refusal::Memory, HeldLane::of(floor, lane, most, room)))
             }
             Err((JoinFault::StillWalking, _, _)) => unreachable!(),

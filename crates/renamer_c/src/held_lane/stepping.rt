@@ -7,6 +7,7 @@ ghost use Rattle.renamer_c.specs.Refusals.{NoLowestWire, NobodyOn, NotEntered};
 ghost use Rattle.renamer_c.specs.Sweepings.{IsSwept};
 
 use super::HeldLane;
+use crate::floor_share::floor_of;
 use crate::moved::{Moved, Swept, moved_of, swept_of};
 use crate::refusal::Refusal;
 use cn_floor::LaneFault;
@@ -21,7 +22,7 @@ impl HeldLane {
         ensures err { OnErr result (self.new ≡ self.old) }
         ensures refused { IfErr result (NotEntered (Some self.old) entry) }
     {
-        match self.floor.floor().enter(&mut self.lane, client, entry) {
+        match floor_of(&self.floor).enter(&mut self.lane, client, entry) {
             Ok(_token) => Ok(()),
             Err(LaneFault::NoSuchEntry) => Err(Refusal::NoSuchEntry),
             Err(LaneFault::QuotaSpent) => Err(Refusal::QuotaSpent),
@@ -38,7 +39,7 @@ impl HeldLane {
         ensures refused { IfErr result (NobodyOn (Some self.now) wire) }
     {
         self.lane.lane_laws();
-        let network = self.floor.floor().network();
+        let network = floor_of(&self.floor).network();
         let wires = u64::from(network.entries()) + 2 * u64::from(network.balancers());
         if wire < wires && self.lane.count(wire as u32) > 0 {
             Ok(wire as u32)
@@ -61,7 +62,7 @@ impl HeldLane {
         match self.lane.first(wire) {
             Some(token) => {
                 let client = self.lane.client_of(token);
-                let moved = self.floor.floor().step(&mut self.lane, token);
+                let moved = floor_of(&self.floor).step(&mut self.lane, token);
                 Ok(moved_of(client, moved))
             }
             None => unreachable!(),
@@ -78,7 +79,7 @@ impl HeldLane {
         ensures refused { IfErr result (NobodyOn (Some self.old) wire) }
     {
         let wire = self.wire_of_some(wire)?;
-        Ok(swept_of(self.floor.floor().sweep(&mut self.lane, wire)))
+        Ok(swept_of(floor_of(&self.floor).sweep(&mut self.lane, wire)))
     }
 
     /// The least wire on which a client of the lane stands.

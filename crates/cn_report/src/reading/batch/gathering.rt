@@ -184,7 +184,7 @@ impl Gathering {
             → AreServable entries epochs.items) }
         ensures few { IfOk result (λ epochs. (entries : ℕ) → StaysServable entries self
             → clients_of_epochs epochs.items ≤ MOST_RECORDS) }
-        ensures at { IfErr result (λ fault. fault.at ≡ self.next) }
+        ensures memory { IfErr result (λ fault. fault ≡ record { at = self.next; cause = BatchCause.Memory }) }
     {
         let mut gathering = self;
         match gathering.open_epoch(alloc, 0) {
