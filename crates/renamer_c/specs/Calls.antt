@@ -23,7 +23,7 @@ pub record IsSplit (old lane other : LaneValue) (quota : ℕ) : Type 0 where
   pub first : lane ≡ record old { view = after_look (after_split quota old.view) }
   pub second : other ≡ record (empty_lane old.home quota) { view = after_look (split_off quota old.view) }
   pub moments : HasMoment old.home.start lane.view × HasMoment old.home.start other.view
-  pub enough : quota ≤ old.view.quota
+  pub within : quota ≤ old.view.quota
 
 -- a lane was answered how many came in
 pub record IsAnswered (old new : LaneValue) (answer : ℕ) : Type 0 where
