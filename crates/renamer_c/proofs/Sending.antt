@@ -21,12 +21,12 @@ use Rattle.cn_floor.specs.contracts.floor.Floor as Floor
 use Rattle.cn_floor.proofs.floor.lane.Lane.TheSendSync as lane
 use Rattle.renamer_c.proofs.link.Link.TheLaws.TheKnot.{send-Link}
 use Rattle.renamer_c.proofs.loose.Loose.TheSendSync as loose
-use Rattle.renamer_c.proofs.record_of_floor.Record.TheSendSync as record_of
+use Rattle.renamer_c.proofs.floor_record.FloorRecord.TheSendSync as record_of
 use Rattle.renamer_c.specs.contracts.link.Link as Link
-use Rattle.renamer_c.specs.contracts.group.Returned as Returned
-use Rattle.renamer_c.specs.contracts.group.ReturnedFits.TheImpl as returned_fits
-use Rattle.renamer_c.specs.contracts.group.Group as Group
-use Rattle.renamer_c.specs.contracts.group.Group.TheInside as InGroup
+use Rattle.renamer_c.specs.contracts.floor_with_places.Returned as Returned
+use Rattle.renamer_c.specs.contracts.floor_with_places.ReturnedFits.TheImpl as returned_fits
+use Rattle.renamer_c.specs.contracts.floor_with_places.FloorWithPlaces as FloorWithPlaces
+use Rattle.renamer_c.specs.contracts.floor_with_places.FloorWithPlaces.TheInside as InFloorWithPlaces
 use Rattle.renamer_c.specs.contracts.held_lane.HeldLane as HeldLane
 use Rattle.renamer_c.specs.contracts.held_lane.HeldLane.TheInside as InHeldLane
 use Rattle.renamer_c.specs.contracts.held.Held as Held
@@ -55,23 +55,23 @@ place-sync = counted.the_sync (Option.the_row Returned.the_row) (Floor.the_row s
     (option_fits.ghosts Returned.the_row (Floor.the_row static_lft) returned_fits.ghosts option_fits.no_dict)
     (option.the_send Returned.the_row returned-send) (option.the_sync Returned.the_row returned-sync)
 
-group-send : IsSend Group.the_row
-group-send = view_send InGroup.the_row _ _ _ _ (recorded_send (InGroup.the_field).row _ _ (InGroup.the_type).to_one
-    (struct_send (structs.shape InGroup.the_type) (
+floor-with-places-send : IsSend FloorWithPlaces.the_row
+floor-with-places-send = view_send InFloorWithPlaces.the_row _ _ _ _ (recorded_send (InFloorWithPlaces.the_field).row _ _ (InFloorWithPlaces.the_type).to_one
+    (struct_send (structs.shape InFloorWithPlaces.the_type) (
       floor.the_send static_lft,
       (vec.the_send _ global.the_row global_impl.ghosts place-send heap.the_send frees, tt),
     )))
 
-group-sync : IsSync Group.the_row
-group-sync = view_sync InGroup.the_row _ _ _ _ (recorded_sync (InGroup.the_field).row _ _ (InGroup.the_type).to_one
-    (struct_sync (structs.shape InGroup.the_type) (
+floor-with-places-sync : IsSync FloorWithPlaces.the_row
+floor-with-places-sync = view_sync InFloorWithPlaces.the_row _ _ _ _ (recorded_sync (InFloorWithPlaces.the_field).row _ _ (InFloorWithPlaces.the_type).to_one
+    (struct_sync (structs.shape InFloorWithPlaces.the_type) (
       floor.the_sync static_lft,
       (vec.the_sync _ global.the_row global_impl.ghosts place-sync heap.the_sync, tt),
     )))
 
-share-send : IsSend (Arc.the_row (Option.the_row Group.the_row) global.the_row global_impl.ghosts)
-share-send = arc.the_send (Option.the_row Group.the_row) global.the_row global_impl.ghosts
-    (option.the_send Group.the_row group-send) heap.the_send (option.the_sync Group.the_row group-sync) heap.the_sync frees
+share-send : IsSend (Arc.the_row (Option.the_row FloorWithPlaces.the_row) global.the_row global_impl.ghosts)
+share-send = arc.the_send (Option.the_row FloorWithPlaces.the_row) global.the_row global_impl.ghosts
+    (option.the_send FloorWithPlaces.the_row floor-with-places-send) heap.the_send (option.the_sync FloorWithPlaces.the_row floor-with-places-sync) heap.the_sync frees
 
 held-lane-send : IsSend HeldLane.the_row
 held-lane-send = view_send InHeldLane.the_row _ _ _ _ (recorded_send (InHeldLane.the_field).row _ _ (InHeldLane.the_type).to_one

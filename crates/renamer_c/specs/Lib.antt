@@ -1,9 +1,9 @@
 pub mod Calls
 pub mod Handles
 pub mod Holding
-pub mod InsideGroup
+pub mod InsideFloorRecord
+pub mod InsideFloorWithPlaces
 pub mod InsideHeldLane
-pub mod InsideRecord
 pub mod Lends
 pub mod Links
 pub mod Many

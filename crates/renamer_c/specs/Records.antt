@@ -2,8 +2,8 @@
 use Rattle.std.specs.Prelude.{◌≡◌, ℕ, List}
 use Rattle.cn_floor.specs.Carried.{WordsValue}
 use Rattle.cn_floor.specs.Ends.{ListsHolders, QuietValue, counts_by_exit, words_after}
-use Rattle.renamer_c.specs.declared.record_of_floor.Listed.{Listed}
-use Rattle.renamer_c.specs.declared.record_of_floor.Listed.TheVariants.{Counts, Holders}
+use Rattle.renamer_c.specs.declared.floor_record.RecordList.{RecordList}
+use Rattle.renamer_c.specs.declared.floor_record.RecordList.TheVariants.{Counts, Holders}
 
 -- the words, with which another floor may begin, how many left by each exit, and the clients by rising name
 pub record RecordValue : Type 0 where
@@ -18,6 +18,6 @@ pub record IsRecordOfClosed (quiet : QuietValue) (r : RecordValue) : Type 0 wher
   pub holders : ListsHolders quiet.did.grants r.holders
 
 -- one of its lists
-abbrev pub list_of : Listed → RecordValue → List ℕ
+abbrev pub list_of : RecordList → RecordValue → List ℕ
 list_of Counts r = r.counts
 list_of Holders r = r.holders

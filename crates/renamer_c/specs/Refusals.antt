@@ -10,7 +10,7 @@ use Rattle.renamer_c.specs.Records.{RecordValue, list_of}
 use Rattle.renamer_c.specs.Returns.{IsBack}
 use Rattle.renamer_c.specs.Statuses.{status_of}
 use Rattle.renamer_c.specs.declared.client.Client.{Client}
-use Rattle.renamer_c.specs.declared.record_of_floor.Listed.{Listed}
+use Rattle.renamer_c.specs.declared.floor_record.RecordList.{RecordList}
 use Rattle.renamer_c.specs.declared.refusal.Refusal.{Refusal}
 use Rattle.renamer_c.specs.declared.refusal.Refusal.TheVariants.{Nothing, Memory, Kind, Width, Quota, NoSuchEntry, QuotaSpent, QuotaTooSmall, StillWalking, NobodyThere, LanesMissing, NothingBack, Size, Carried, LanesThere, Busy}
 
@@ -146,7 +146,7 @@ NotThere there Nothing = there ≡ None
 NotThere there r = ⊥
 
 -- why a list of the record of a closed floor is not copied: it has another size
-abbrev pub NotCopied : Option RecordValue → Listed → ℕ → Refusal → Type 0
+abbrev pub NotCopied : Option RecordValue → RecordList → ℕ → Refusal → Type 0
 NotCopied closed listed size Nothing = closed ≡ None
 NotCopied closed listed size Size = WithRecord closed (λ r. length (list_of listed r) ≢ size)
 NotCopied closed listed size r = ⊥

@@ -6,10 +6,10 @@ ghost use Rattle.renamer_c.specs.Handles.{lane_in, lane_held, record_in, record_
 ghost use Rattle.renamer_c.specs.Refusals.{IsRefusal, NotClosed, NotOpenedAfter};
 ghost use Rattle.renamer_c.specs.declared.refusal.TheConstants.{DONE};
 
+use crate::floor_record::FloorRecord;
 use crate::handle::Handle;
 use crate::held::Held;
 use crate::held_lane::HeldLane;
-use crate::record_of_floor::Record;
 use crate::refusal::{DONE, Refusal};
 use cn_spec::limits::{MOST_CARRIED, MOST_CLIENTS};
 use std::alloc::Global;
@@ -43,7 +43,7 @@ pub extern "C" fn renamer_close(alloc: Global, lane: &mut Handle, quiet: &mut Ha
 ///
 /// # Errors
 /// The first that stands: `Carried`, `Quota`, `Memory`.
-fn open_after(alloc: Global, closed: &Record, quota: u64) -> Result<Box<Held>, Refusal>
+fn open_after(alloc: Global, closed: &FloorRecord, quota: u64) -> Result<Box<Held>, Refusal>
     ensures ok { IfOk result (λ b. OpensAfter (Some closed.now) (lane_held b.value) quota) }
     ensures refused { IfErr result (NotOpenedAfter (Some closed.now) quota) }
 {

@@ -6,22 +6,22 @@ ghost use Rattle.cn_yard.specs.Lists.{tokens_in};
 ghost use Rattle.cn_floor.specs.Lane.{FloorValue};
 ghost use Rattle.renamer_c.specs.Refusals.{NotClosed};
 
-use crate::group::Group;
+use crate::floor_with_places::FloorWithPlaces;
 use crate::refusal::Refusal;
 use cn_floor::{Floor, Lane, Quiet};
 use std::alloc::{AllocError, Global};
 use std::sync::Arc;
 
 /// A share of a floor. The floor is there until its close takes it out.
-pub(crate) type FloorShare = Arc<Option<Group>, Global>;
+pub(crate) type FloorShare = Arc<Option<FloorWithPlaces>, Global>;
 
 /// The floor of a share, with its places.
-pub(crate) fn group_of(share: &FloorShare) -> &Group
+pub(crate) fn with_places(share: &FloorShare) -> &FloorWithPlaces
     requires { (floor : FloorValue) × (arc_value share.now ≡ Some floor) }
     ensures { arc_value share.now ≡ Some result.now }
 {
     match &**share {
-        Some(group) => group,
+        Some(floor) => floor,
         None => unreachable!(),
     }
 }
@@ -31,7 +31,7 @@ pub(crate) fn floor_of(share: &FloorShare) -> &Floor<'static>
     requires { (floor : FloorValue) × (arc_value share.now ≡ Some floor) }
     ensures { arc_value share.now ≡ Some result.now }
 {
-    group_of(share).floor()
+    with_places(share).floor()
 }
 
 /// Makes places for lanes that are handed back, if the floor has no other owner, and no places.
@@ -42,8 +42,8 @@ fn make_places(alloc: Global, share: &mut FloorShare) -> Result<(), AllocError>
     ensures { arc_value share.new ≡ arc_value share.old }
 {
     if let Some(slot) = Arc::get_mut(share) {
-        if let Some(group) = slot {
-            group.make_places(alloc)?;
+        if let Some(floor) = slot {
+            floor.make_places(alloc)?;
         }
     }
     Ok(())
@@ -76,13 +76,13 @@ pub(crate) fn close(share: &mut FloorShare, lane: Lane) -> Result<Quiet<'static>
     let Some(slot) = Arc::get_mut(share) else {
         return Err((Refusal::LanesThere, lane));
     };
-    let Some(group) = slot.take() else {
+    let Some(floor) = slot.take() else {
         unreachable!()
     };
-    match group.close(lane) {
+    match floor.close(lane) {
         Ok(quiet) => Ok(quiet),
-        Err((group, lane)) => {
-            *slot = Some(group);
+        Err((floor, lane)) => {
+            *slot = Some(floor);
             Err((Refusal::Memory, lane))
         }
     }

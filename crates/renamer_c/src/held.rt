@@ -9,9 +9,9 @@ ghost use Rattle.renamer_c.specs.Handles.{lane_held, record_held};
 ghost use Rattle.renamer_c.specs.Questions.{number_asked};
 ghost use Rattle.renamer_c.specs.Refusals.{NotNamed, NotReserved, NotThere, WithLane};
 
+use crate::floor_record::FloorRecord;
 use crate::held_lane::HeldLane;
 use crate::question::Question;
-use crate::record_of_floor::Record;
 use crate::refusal::Refusal;
 
 /// What a handle has.
@@ -22,7 +22,7 @@ pub enum Held {
     /// A lane.
     Lane(HeldLane),
     /// A closed floor.
-    Closed(Record),
+    Closed(FloorRecord),
 }
 
 impl Held {
@@ -76,7 +76,7 @@ impl Held {
     ///
     /// # Errors
     /// `Nothing` if there is none.
-    pub(crate) fn record(&self) -> Result<&Record, Refusal>
+    pub(crate) fn record(&self) -> Result<&FloorRecord, Refusal>
         ensures ok { IfOk result (λ closed. record_held self.now ≡ Some closed.now) }
         ensures refused { IfErr result (NotThere (record_held self.now)) }
     {

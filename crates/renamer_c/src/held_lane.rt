@@ -18,7 +18,7 @@ ghost use Rattle.renamer_c.specs.Questions.{number_asked};
 ghost use Rattle.renamer_c.specs.Refusals.{NotNamed, NotReserved};
 
 use crate::floor_share::{FloorShare, floor_of, share};
-use crate::group::Group;
+use crate::floor_with_places::FloorWithPlaces;
 use crate::link::Link;
 use crate::question::Question;
 use crate::refusal::Refusal;
@@ -104,7 +104,7 @@ impl HeldLane {
         let Ok(room) = Box::new(alloc, Link::Empty) else {
             return Err(Refusal::Memory);
         };
-        match Arc::new(alloc, Some(Group::of(alloc, floor))) {
+        match Arc::new(alloc, Some(FloorWithPlaces::of(alloc, floor))) {
             Ok(floor) => Ok(HeldLane::of(floor, lane, most, room)),
             Err(_) => Err(Refusal::Memory),
         }

@@ -6,8 +6,8 @@ ghost use Rattle.renamer_c.specs.Calls.{IsClosedBy};
 ghost use Rattle.renamer_c.specs.Refusals.{NotClosed};
 
 use super::HeldLane;
+use crate::floor_record::FloorRecord;
 use crate::floor_share::{close, floor_of};
-use crate::record_of_floor::Record;
 use crate::refusal::Refusal;
 use std::alloc::Global;
 
@@ -27,7 +27,11 @@ impl HeldLane {
     ///
     /// # Errors
     /// `LanesThere` if other lanes are, and `Memory`, with the lane as it was.
-    fn close_into(self, counts: Vec<u64>, holders: Vec<u64>) -> Result<Record, (Refusal, HeldLane)>
+    fn close_into(
+        self,
+        counts: Vec<u64>,
+        holders: Vec<u64>,
+    ) -> Result<FloorRecord, (Refusal, HeldLane)>
         requires out { tokens_in self.yard.lists ≡ 0 }
         requires all { self.view.quota + length self.view.grants ≡ self.home.start.quota }
         requires counts { length counts.items ≡ self.home.start.network.table.width }
@@ -45,7 +49,7 @@ impl HeldLane {
         match close(&mut floor, lane) {
             Ok(quiet) => {
                 quiet.quiet_laws();
-                Ok(Record::of(quiet, counts, holders))
+                Ok(FloorRecord::of(quiet, counts, holders))
             }
             Err((refusal, lane)) => Err((refusal, HeldLane::of(floor, lane, most, room))),
         }
@@ -55,7 +59,7 @@ impl HeldLane {
     ///
     /// # Errors
     /// The first that stands, with the lane as it was: `StillWalking`, `LanesMissing`, `Memory`, `LanesThere`.
-    pub(crate) fn close(self, alloc: Global) -> Result<Record, (Refusal, HeldLane)>
+    pub(crate) fn close(self, alloc: Global) -> Result<FloorRecord, (Refusal, HeldLane)>
         ensures ok { IfOk result (IsClosedBy self) }
         ensures err { IfErr result (λ r. r.1 ≡ self) }
         ensures refused { IfErr result (λ r. NotClosed (Some self) r.0) }

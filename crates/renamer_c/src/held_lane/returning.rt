@@ -5,7 +5,7 @@ ghost use Rattle.renamer_c.specs.Refusals.{NotHandedBack, NotJoined};
 ghost use Rattle.renamer_c.specs.Returns.{IsBack, IsJoined};
 
 use super::HeldLane;
-use crate::floor_share::{floor_of, group_of};
+use crate::floor_share::{floor_of, with_places};
 use crate::link::Link;
 use crate::refusal::Refusal;
 use cn_floor::{JoinFault, Lane};
@@ -31,7 +31,7 @@ impl HeldLane {
             room,
         } = self;
         if let Err(floor) = Arc::try_unwrap(floor) {
-            group_of(&floor).hand_back(lane, room);
+            with_places(&floor).hand_back(lane, room);
         }
         Ok(())
     }
@@ -44,7 +44,7 @@ impl HeldLane {
         ensures ok { IfOk result (λ r. IsBack self.now.home r.0) }
         ensures refused { IfErr result (NotJoined (Some self.now)) }
     {
-        group_of(&self.floor).take_back()
+        with_places(&self.floor).take_back()
     }
 
     /// Takes in a lane of the floor that was handed back.
@@ -70,7 +70,7 @@ impl HeldLane {
         match floor_of(&floor).join(lane, other) {
             Ok(lane) => Ok(HeldLane::of(floor, lane, most, room)),
             Err((JoinFault::Memory, lane, other)) => {
-                group_of(&floor).hand_back(other, other_room);
+                with_places(&floor).hand_back(other, other_room);
                 Err((Refusal::Memory, HeldLane::of(floor, lane, most, room)))
             }
             Err((JoinFault::StillWalking, _, _)) => unreachable!(),

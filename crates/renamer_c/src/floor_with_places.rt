@@ -63,20 +63,20 @@ impl Fits for Returned {
 /// A floor with places for lanes that are handed back, of which there are none before its first split. To contracts it
 /// is the floor.
 #[derive(Drop)]
-pub(crate) struct Group {
+pub(crate) struct FloorWithPlaces {
     floor: Floor<'static>,
     places: Vec<Counted<Option<Returned>>>,
 }
 
-impl Model for Group {
+impl Model for FloorWithPlaces {
     ghost use Rattle.cn_floor.specs.Lane.{FloorValue};
-    ghost use Rattle.renamer_c.specs.InsideGroup.{IsGroup};
+    ghost use Rattle.renamer_c.specs.InsideFloorWithPlaces.{IsFloorWithPlaces};
 
     ghost Value = { FloorValue };
 
     ghost view = { λ g. g.floor };
 
-    ghost invariant = { IsGroup };
+    ghost invariant = { IsFloorWithPlaces };
 }
 
 /// Empty places for lanes of a floor.
@@ -172,12 +172,12 @@ fn take_from(
     Ok(taken)
 }
 
-impl Group {
+impl FloorWithPlaces {
     /// A floor to which no lane can be handed back yet. It takes no memory.
-    pub(crate) fn of(alloc: Global, floor: Floor<'static>) -> Group
+    pub(crate) fn of(alloc: Global, floor: Floor<'static>) -> FloorWithPlaces
         ensures { result ≡ floor.entry }
     {
-        Group {
+        FloorWithPlaces {
             floor,
             places: Vec::new(alloc),
         }
@@ -208,18 +208,18 @@ impl Group {
     ///
     /// # Errors
     /// All as it was, if there is no memory.
-    pub(crate) fn close(self, lane: Lane) -> Result<Quiet<'static>, (Group, Lane)>
+    pub(crate) fn close(self, lane: Lane) -> Result<Quiet<'static>, (FloorWithPlaces, Lane)>
         requires own { lane.home ≡ self }
         requires out { tokens_in lane.yard.lists ≡ 0 }
         requires all { lane.view.quota + length lane.view.grants ≡ lane.home.start.quota }
         ensures ok { IfOk result (λ quiet. (quiet.start ≡ self.start) × (quiet.did ≡ lane.view)) }
         ensures err { IfErr result (λ back. (back.0 ≡ self) × (back.1 ≡ lane)) }
     {
-        let Group { floor, places } = self;
+        let FloorWithPlaces { floor, places } = self;
         match floor.close(lane) {
             Ok(quiet) => Ok(quiet),
             Err(CloseFault::StillWalking(floor, lane) | CloseFault::Memory(floor, lane)) => {
-                Err((Group { floor, places }, lane))
+                Err((FloorWithPlaces { floor, places }, lane))
             }
             Err(CloseFault::LanesMissing { .. }) => unreachable!(),
         }

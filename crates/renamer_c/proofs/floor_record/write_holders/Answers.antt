@@ -2,7 +2,7 @@ use Rattle.std.proofs.Common.{◌≡◌, ◌+◌, ◌<◌, List, length, get_or,
 use Rattle.std.specs.Prelude.{vec_len}
 use Rattle.cn_floor.specs.declared.view.Grant.{Grant}
 use Rattle.cn_floor.proofs.AtClose.Holding.{Stand, all-stand, name-low, one-more}
-use Rattle.renamer_c.proofs.record_of_floor.write_holders.Goals as goal
+use Rattle.renamer_c.proofs.floor_record.write_holders.Goals as goal
 
 abbrev none : Grant
 none = record { client = 0; exit = 0; visit = 0; name = 0 }

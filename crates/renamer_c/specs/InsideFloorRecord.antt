@@ -1,5 +1,5 @@
 -- What the record of a closed floor is to contracts.
-use Rattle.renamer_c.specs.declared.record_of_floor.Record.TheInside.{Inside}
+use Rattle.renamer_c.specs.declared.floor_record.FloorRecord.TheInside.{Inside}
 use Rattle.renamer_c.specs.Records.{RecordValue}
 
 -- its words and its lists

@@ -10,14 +10,14 @@ use std::marker::Model;
 /// What a closed floor leaves: its words, with which another may begin, how many left by each exit, and the clients by
 /// rising name.
 #[derive(Drop)]
-pub(crate) struct Record {
+pub(crate) struct FloorRecord {
     words: Words<'static>,
     counts: Vec<u64>,
     holders: Vec<u64>,
 }
 
-impl Model for Record {
-    ghost use Rattle.renamer_c.specs.InsideRecord.{record_of};
+impl Model for FloorRecord {
+    ghost use Rattle.renamer_c.specs.InsideFloorRecord.{record_of};
     ghost use Rattle.renamer_c.specs.Records.{RecordValue};
 
     ghost Value = { RecordValue };
@@ -27,7 +27,7 @@ impl Model for Record {
 
 /// The lists of a record.
 #[derive(Clone, Copy)]
-pub(crate) enum Listed {
+pub(crate) enum RecordList {
     /// How many left by each exit.
     Counts,
     /// The clients by rising name.
@@ -45,16 +45,20 @@ fn write_holders(quiet: &Quiet<'_>, holders: &mut Vec<u64>)
     }
 }
 
-impl Record {
+impl FloorRecord {
     /// That of a closed floor, in lists that are long enough.
-    pub(crate) fn of(quiet: Quiet<'static>, mut counts: Vec<u64>, mut holders: Vec<u64>) -> Record
+    pub(crate) fn of(
+        quiet: Quiet<'static>,
+        mut counts: Vec<u64>,
+        mut holders: Vec<u64>,
+    ) -> FloorRecord
         requires counts { length counts.items ≡ quiet.start.network.table.width }
         requires holders { length holders.items ≡ length quiet.did.grants }
         ensures { IsRecordOfClosed quiet.entry result }
     {
         counts.copy_from_slice(quiet.counts());
         write_holders(&quiet, &mut holders);
-        Record {
+        FloorRecord {
             words: quiet.into_words(),
             counts,
             holders,
@@ -69,12 +73,12 @@ impl Record {
     }
 
     /// One of its lists.
-    pub(crate) fn list(&self, listed: Listed) -> &[u64]
-        ensures { result.now ≡ list_of listed self.now }
+    pub(crate) fn list(&self, which: RecordList) -> &[u64]
+        ensures { result.now ≡ list_of which self.now }
     {
-        match listed {
-            Listed::Counts => self.counts.as_slice(),
-            Listed::Holders => self.holders.as_slice(),
+        match which {
+            RecordList::Counts => self.counts.as_slice(),
+            RecordList::Holders => self.holders.as_slice(),
         }
     }
 }
