@@ -1,5 +1,5 @@
 -- The command line, as clap is given it.
-use Rattle.std.specs.Prelude.{true, codes, Some, [], ◌∷◌}
+use Rattle.std.specs.Prelude.{true, codes, Option, Some, None, [], ◌∷◌}
 use Rattle.clap.specs.declared.builder.action.ArgAction.TheVariants.{SetTrue}
 use Rattle.clap.specs.Words.{App, Rule, Text, new_app, new_rule, with_rule, with_subcommand}
 
@@ -11,6 +11,11 @@ required_option name = record (new_rule name) { long = Some name; value_names = 
 abbrev pub option_with : Text → Text → Rule
 option_with default name =
     record (new_rule name) { long = Some name; value_names = 1; defaults = default ∷ [] }
+
+-- an option with one value, which has to be given if it has no default
+abbrev pub option_rule : Option Text → Text → Rule
+option_rule None name = required_option name
+option_rule (Some default) name = option_with default name
 
 -- a flag, which has no value
 abbrev pub flag_rule : Text → Rule

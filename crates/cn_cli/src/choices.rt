@@ -20,13 +20,13 @@ use std::alloc::{AllocError, Global};
 use thiserror::Error;
 
 /// Why options that clap takes ask for no job.
-#[derive(Clone, Copy, Debug, PartialEq, Eq, Error)]
+#[derive(Clone, Copy, Debug, Error)]
 pub(crate) enum ChoiceFault {
     /// They are of no subcommand that the program has.
     #[error("renamer: no such subcommand")]
     Subcommand,
     /// They name no kind of network.
-    #[error("renamer: no such network: {}, {} or {}", Kind::Bitonic.word(), Kind::Periodic.word(), Kind::Tree.word())]
+    #[error("renamer: no such network: bitonic, periodic or tree")]
     Kind,
     /// They name a kind, but no width of it that is built.
     #[error("{0}")]
@@ -35,7 +35,7 @@ pub(crate) enum ChoiceFault {
     #[error("{0}")]
     Options(OptionFault),
     /// They name no form.
-    #[error("renamer: no such form: {} or {}", Form::Report.word(), Form::Grants.word())]
+    #[error("renamer: no such form: report or grants")]
     Form,
     /// There is not the memory to read them.
     #[error("renamer: memory")]

@@ -1,9 +1,9 @@
 //! The command line as clap is given it.
 
-ghost use Rattle.std.specs.Prelude.{◌≡◌, false, true, codes, IfOk, IsOkAnd};
+ghost use Rattle.std.specs.Prelude.{◌≡◌, false, true, IfOk, IsOkAnd, option_map};
 ghost use Rattle.clap.specs.Words.{app_of, new_app, rule_of, with_rule, with_subcommand};
-ghost use Rattle.cn_cli.specs.CommandLine.{check_words, command_line, flag_rule, network_words, option_with};
-ghost use Rattle.cn_cli.specs.CommandLine.{renamer_words, required_option, run_with_values, run_words};
+ghost use Rattle.cn_cli.specs.CommandLine.{check_words, command_line, flag_rule, network_words, option_rule};
+ghost use Rattle.cn_cli.specs.CommandLine.{renamer_words, run_with_values, run_words};
 
 use crate::brief::{self, Brief, VERSION};
 use crate::help::{self, HelpTexts};
@@ -13,32 +13,26 @@ use std::alloc::{AllocError, Global};
 /// A command that is put together step by step, or a want of memory at one of the steps.
 type Draft<'a> = Result<Command<'a>, AllocError>;
 
-fn option<'a>(alloc: Global, name: &'a str, value: &'a str, help: &'a str) -> Arg<'a>
-    ensures rule { rule_of result ≡ required_option name.entry.now }
-    ensures local { result.global ≡ false }
-{
-    Arg::new(alloc, name)
-        .long(name)
-        .value_name(value)
-        .required(true)
-        .help(help)
-}
-
-fn option_or<'a>(
+/// An option with one value, which has to be given if it has no default.
+fn option<'a>(
     alloc: Global,
     name: &'a str,
     value: &'a str,
-    default: &'a str,
+    default: Option<&'a str>,
     help: &'a str,
 ) -> Arg<'a>
-    ensures rule { rule_of result ≡ option_with default.entry.now name.entry.now }
+    ensures rule { rule_of result
+        ≡ option_rule (option_map (λ text. text.now) default.entry) name.entry.now }
     ensures local { result.global ≡ false }
 {
-    Arg::new(alloc, name)
+    let arg = Arg::new(alloc, name)
         .long(name)
         .value_name(value)
-        .default_value(default)
-        .help(help)
+        .help(help);
+    match default {
+        Some(default) => arg.default_value(default),
+        None => arg.required(true),
+    }
 }
 
 fn flag<'a>(alloc: Global, name: &'a str, help: &'a str) -> Arg<'a>
@@ -51,21 +45,20 @@ fn flag<'a>(alloc: Global, name: &'a str, help: &'a str) -> Arg<'a>
         .help(help)
 }
 
-fn width_option<'a>(alloc: Global, help: &'a HelpTexts) -> Arg<'a>
-    ensures rule { rule_of result ≡ required_option (codes "width") }
-    ensures local { result.global ≡ false }
-{
-    option(alloc, "width", "W", &help.width)
-}
-
-/// The command with one more argument, if it got its memory so far. It takes a draft, so that a caller that adds
+/// The command with one more option, if it got its memory so far. It takes a draft, so that a caller that adds
 /// several has one end only.
-fn with_arg<'a>(command: Draft<'a>, arg: Arg<'a>) -> Draft<'a>
-    requires { arg.global ≡ false }
-    ensures { IfOk result (λ whole. IsOkAnd command.entry (λ before.
-        app_of whole ≡ with_rule (app_of before) (rule_of arg.entry))) }
+fn with_option<'a>(
+    command: Draft<'a>,
+    alloc: Global,
+    name: &'a str,
+    value: &'a str,
+    default: Option<&'a str>,
+    help: &'a str,
+) -> Draft<'a>
+    ensures { IfOk result (λ whole. IsOkAnd command.entry (λ before. app_of whole ≡ with_rule (app_of before)
+        (option_rule (option_map (λ text. text.now) default.entry) name.entry.now))) }
 {
-    command?.arg(arg)
+    command?.arg(option(alloc, name, value, default, help))
 }
 
 /// A command of this name with the texts of its help, which change nothing of what it reads.
@@ -90,9 +83,9 @@ fn network_command<'a>(
     ensures { IfOk result (λ command. app_of command ≡ network_words name.entry.now) }
 {
     let kinds = "The kind of network: bitonic, periodic or tree";
-    let kind = option(alloc, "network", "N", kinds);
     let command = Ok(described_command(alloc, name, brief, long));
-    with_arg(with_arg(command, kind), width_option(alloc, help))
+    let command = with_option(command, alloc, "network", "N", None, kinds);
+    with_option(command, alloc, "width", "W", None, &help.width)
 }
 
 fn run_command<'a>(alloc: Global, help: &'a HelpTexts) -> Draft<'a>
@@ -101,20 +94,17 @@ fn run_command<'a>(alloc: Global, help: &'a HelpTexts) -> Draft<'a>
     let forms = "What is written: report or grants";
     let carry = "Keep the counters of the network from epoch to epoch";
     let command = network_command(alloc, "run", brief::RUN, &help.run, help);
-    let command = with_arg(
-        command,
-        option_or(alloc, "workers", "K", "1", &help.workers),
-    );
-    let command = with_arg(command, option_or(alloc, "hand", "H", "1", &help.hand));
-    let command = with_arg(command, option_or(alloc, "form", "F", "report", forms));
-    with_arg(command, flag(alloc, "carry", carry))
+    let command = with_option(command, alloc, "workers", "K", Some("1"), &help.workers);
+    let command = with_option(command, alloc, "hand", "H", Some("1"), &help.hand);
+    let command = with_option(command, alloc, "form", "F", Some("report"), forms);
+    command?.arg(flag(alloc, "carry", carry))
 }
 
 fn check_command<'a>(alloc: Global, help: &'a HelpTexts) -> Draft<'a>
     ensures { IfOk result (λ command. app_of command ≡ check_words) }
 {
     let command = Ok(described_command(alloc, "check", brief::CHECK, &help.check));
-    with_arg(command, width_option(alloc, help))
+    with_option(command, alloc, "width", "W", None, &help.width)
 }
 
 /// The program's name and version. It has no subcommand yet, of which one has to be given.

@@ -2,17 +2,16 @@
 
 use std::alloc::{AllocError, Global};
 
-/// What clap says of a word that nothing takes begins so, and then has the word in quotes.
-const UNEXPECTED: &str = "error: unexpected argument ";
+/// What clap says of a word that nothing takes begins so. After it come the word and a quote.
+const UNEXPECTED: &str = "error: unexpected argument '";
 
 /// The word that clap did not expect, by its text, if it is no option.
 fn operand_in(text: &str) -> Option<&str> {
-    let (begin, rest) = text.split_once('\'')?;
-    let (word, _) = rest.split_once('\'')?;
-    if begin == UNEXPECTED && !word.starts_with('-') {
-        Some(word)
-    } else {
+    let (word, _) = text.strip_prefix(UNEXPECTED)?.split_once('\'')?;
+    if word.starts_with('-') {
         None
+    } else {
+        Some(word)
     }
 }
 
@@ -22,12 +21,11 @@ pub(crate) fn with_hint(
     words: &[String],
     text: String,
 ) -> Result<String, AllocError> {
-    let (Some(word), Some(job)) = (operand_in(&text), words.get(1)) else {
-        return Ok(text);
-    };
-    // Nothing is read for a wiring.
-    if job.as_str() == "show" {
-        return Ok(text);
+    match (operand_in(&text), words.get(1)) {
+        // Nothing is read for a wiring.
+        (Some(word), Some(job)) if job.as_str() != "show" => {
+            format!(in alloc; "{text}\nrenamer reads standard input: renamer {job} .. < {word}\n")
+        }
+        _ => Ok(text),
     }
-    format!(in alloc; "{text}\nrenamer reads standard input: renamer {job} .. < {word}\n")
 }

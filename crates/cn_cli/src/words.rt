@@ -83,9 +83,12 @@ impl WordsFault {
     fn of_choice(alloc: Global, fault: ChoiceFault) -> WordsFault
         ensures { IsRefusalBy fault result }
     {
+        if let ChoiceFault::Memory = fault {
+            return WordsFault::Memory;
+        }
         match format!(in alloc; "{fault}\n") {
-            Ok(text) if fault != ChoiceFault::Memory => WordsFault::Refused(text),
-            _ => WordsFault::Memory,
+            Ok(text) => WordsFault::Refused(text),
+            Err(_) => WordsFault::Memory,
         }
     }
 }

@@ -25,13 +25,26 @@ use std::marker::Model;
 
 /// One network in epochs: each gives its clients the names from 0 up, and ends when nobody is inside. The counts are
 /// cleared at the end of each ([`Epochs::new`]), or carried on ([`Epochs::carrying`]).
-#[derive(Drop)]
 pub struct Epochs<'a> {
     alloc: Global,
     network: &'a Counting,
     number: u64,
     carries: bool,
     core: Core<'a>,
+}
+
+// By hand: a derived drop of a type with a lifetime is walked field by field wherever a value is dropped, and this one
+// is a call there.
+impl Drop for Epochs<'_> {
+    fn drop(self) {
+        let Epochs {
+            alloc: _alloc,
+            network: _network,
+            number: _number,
+            carries: _carries,
+            core: _core,
+        } = self;
+    }
 }
 
 impl<'a> Model for Epochs<'a> {

@@ -17,7 +17,7 @@ pub use Rattle.cn_spec.proofs.Shares.{get-or-shares, row_is-shares}
 pub use Rattle.cn_spec.proofs.Cochains.{a_row, b-row}
 pub use Rattle.cn_spec.proofs.Flows.{map-a_cochain, map-b_cochain, map-evens, map-interleave, map-odds, times-cochains}
 pub use Rattle.cn_spec.proofs.Flows.{times-evens-odds, times-interleave}
-pub use Rattle.cn_spec.proofs.Interleave.{interleave_all, interleave_more, length-interleave}
+pub use Rattle.cn_spec.proofs.Interleave.{length-interleave}
 pub use Rattle.cn_spec.proofs.Layers.{layer-push}
 pub use Rattle.cn_spec.proofs.Rows.{back-row, evens-row, front-row, half_pow, half-row, odds-row, power_below, same-level, shorter}
 pub use Rattle.cn_spec.proofs.Tree.{tree-turn, tree-zero}

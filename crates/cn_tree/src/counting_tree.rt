@@ -74,7 +74,6 @@ fn grow(alloc: Global, draft: &mut Draft, wire: u32, level: u32) -> Result<Vec<u
 ///
 /// # Errors
 /// `AllocError` if the list gets no memory.
-#[tactic(auto, using(cn_spec::proofs::CallerLemmas::interleave_more, cn_spec::proofs::CallerLemmas::interleave_all))]
 fn interleave(alloc: Global, even: &[u32], odd: &[u32]) -> Result<Vec<u32>, AllocError>
     requires { length even.now ≡ length odd.now }
     ensures { IfOk result (λ row. row.items ≡ net.interleave even.now odd.now) }

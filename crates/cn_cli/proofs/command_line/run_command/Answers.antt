@@ -1,6 +1,8 @@
-use Rattle.std.specs.Prelude.{codes}
-use Rattle.clap.specs.Words.{app_of, rule_of, with_rule}
-use Rattle.cn_cli.specs.CommandLine.{flag_rule, network_words, option_with, run_with_values}
+use Rattle.std.proofs.Common.{◌≡◌, ◌∙◌, ap₂, refl}
+use Rattle.std.specs.Prelude.{codes, IfOk}
+use Rattle.std.proofs.lemmas.Result.{IfOk-weaker}
+use Rattle.clap.specs.Words.{app_of, with_rule}
+use Rattle.cn_cli.specs.CommandLine.{network_words, option_with, run_with_values}
 use Rattle.cn_cli.proofs.Drafts.{argued}
 use Rattle.cn_cli.proofs.command_line.run_command.Goals as goal
 
@@ -10,12 +12,13 @@ returns c =
     let workers = option_with (codes "1") (codes "workers") in
     let hand = option_with (codes "1") (codes "hand") in
     let form = option_with (codes "report") (codes "form") in
-    let with_workers = argued app_of c.network_command-command.result c.with_arg-command.result run (rule_of c.option_or.result)
-    workers c.network_command-command.ensures c.option_or.ensures.rule c.with_arg-command.ensures in
-    let with_hand = argued app_of c.with_arg-command.result c.with_arg-command-2.result (with_rule run workers)
-    (rule_of c.option_or-2.result) hand with_workers c.option_or-2.ensures.rule c.with_arg-command-2.ensures in
-    let with_form = argued app_of c.with_arg-command-2.result c.with_arg-command-3.result
-    (with_rule (with_rule run workers) hand) (rule_of c.option_or-3.result) form with_hand c.option_or-3.ensures.rule
-    c.with_arg-command-3.ensures in
-    argued app_of c.with_arg-command-3.result c.with_arg.result run_with_values (rule_of c.flag.result)
-    (flag_rule (codes "carry")) with_form c.flag.ensures.rule c.with_arg.ensures
+    let with_workers = argued app_of c.network_command-command.result c.with_option-command.result run workers workers
+    c.network_command-command.ensures refl c.with_option-command.ensures in
+    let with_hand = argued app_of c.with_option-command.result c.with_option-command-2.result (with_rule run workers)
+    hand hand with_workers refl c.with_option-command-2.ensures in
+    let with_form : IfOk c.with_option-command-3.result (λ draft. app_of draft ≡ run_with_values) =
+    argued app_of c.with_option-command-2.result c.with_option-command-3.result
+    (with_rule (with_rule run workers) hand) form form with_hand refl c.with_option-command-3.ensures in
+    let was : app_of c.in_ok-command.field-0 ≡ run_with_values = rw c.in_ok-command.was at with_form in
+    IfOk-weaker c.arg.result _ _
+    (λ whole adds. adds.shape c.flag.ensures.local ∙ ap₂ with_rule was c.flag.ensures.rule) c.arg.ensures

@@ -3,8 +3,11 @@ use Rattle.std.proofs.lemmas.List.{get_or-map, length-map}
 use Rattle.cn_report.specs.declared.reading.granting.NamedEpoch.{NamedEpoch}
 use Rattle.cn_report.specs.Reading.Told.{with_shares}
 use Rattle.cn_report.specs.Writing.Tight.{tight_line}
-use Rattle.cn_report.proofs.WritingLemmas.Pieces.{put-cut, put-next}
+use Rattle.cn_report.proofs.WritingLemmas.Pieces.{put-cut, put-last, put-next, put-none}
 use Rattle.cn_report.proofs.writing.tight.send_named_epochs.Goals as goal
+
+pub loop-epoch-init : goal.loop-epoch-init
+loop-epoch-init g c = put-none
 
 pub loop-epoch-preserved : goal.loop-epoch-preserved
 loop-epoch-preserved g c =
@@ -19,3 +22,9 @@ loop-epoch-preserved g c =
 pub returns-then-has_failed : goal.returns-then-has_failed
 returns-then-has_failed g c =
     put-cut tight_line (map (with_shares c.args.width) c.args.epochs.now) c.loop-epoch.epoch-index (sym c.has_failed.ensures ∙ c.if-has_failed.true) c.loop-epoch.invariant
+
+pub returns : goal.returns
+returns g c =
+    let part = with_shares c.args.width in
+    let many = length-map c.args.epochs.now part in
+    put-last tight_line (map part c.args.epochs.now) c.loop-epoch.epoch-index (omega (arith, many, c.loop-epoch-test.false)) c.loop-epoch.invariant

@@ -1,8 +1,8 @@
-use Rattle.std.proofs.Common.{◌≡◌}
+use Rattle.std.proofs.Common.{◌≡◌, ◌∙◌, ap}
 use Rattle.std.specs.Prelude.{IsOkAnd, Result, Ok}
 use Rattle.std.proofs.lemmas.Result.{IfOk-weaker}
-use Rattle.clap.specs.Words.{App, Rule, app_of, rule_of, with_rule}
-use Rattle.cn_cli.proofs.command_line.with_arg.Goals as goal
+use Rattle.clap.specs.Words.{App, Rule, app_of, with_rule}
+use Rattle.cn_cli.proofs.command_line.with_option.Goals as goal
 
 -- the command that got its memory is the one that the argument is added to
 added : {C E : Type 0} (app : C → App) (made : Result C E) (before : C) (whole : App) (rule : Rule) → made ≡ Ok before
@@ -13,5 +13,5 @@ pub returns : goal.returns
 returns c =
     let was : c.args.command ≡ Ok c.in_ok-command.field-0 = c.in_ok-command.was in
     IfOk-weaker c.arg.result _ _
-    (λ whole adds. added app_of c.args.command c.in_ok-command.field-0 (app_of whole) (rule_of c.args.arg) was
-    (adds.shape c.requires)) c.arg.ensures
+    (λ whole adds. added app_of c.args.command c.in_ok-command.field-0 (app_of whole) _ was
+    (adds.shape c.option.ensures.local ∙ ap (with_rule (app_of c.in_ok-command.field-0)) c.option.ensures.rule)) c.arg.ensures
