@@ -26,7 +26,7 @@ pub(crate) enum ChoiceFault {
     #[error("renamer: no such subcommand")]
     Subcommand,
     /// They name no kind of network.
-    #[error("renamer: no such network: bitonic, periodic or tree")]
+    #[error("renamer: no such network: {}, {} or {}", Kind::Bitonic.word(), Kind::Periodic.word(), Kind::Tree.word())]
     Kind,
     /// They name a kind, but no width of it that is built.
     #[error("{0}")]
@@ -35,7 +35,7 @@ pub(crate) enum ChoiceFault {
     #[error("{0}")]
     Options(OptionFault),
     /// They name no form.
-    #[error("renamer: no such form: report or grants")]
+    #[error("renamer: no such form: {} or {}", Form::Report.word(), Form::Grants.word())]
     Form,
     /// There is not the memory to read them.
     #[error("renamer: memory")]

@@ -168,9 +168,7 @@ fn run_beside<G: Gate + Sync, R: Threads + Wait + Sync>(
             ensures { OnOk result (AreHoldersOf false network.entry.now.table.width second.entry.now back.exit.now) }
         { run_beside(rt, alloc, network, second, others, gate, back) },
     );
-    one?;
-    other?;
-    Ok(())
+    one.and(other)
 }
 
 /// Runs the epochs of a batch on a network, as the options say: who has which name, epoch after epoch, each by rising

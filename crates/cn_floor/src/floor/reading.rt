@@ -32,7 +32,7 @@ fn copy_row(table: &Closed<(), Global>, words: &mut [u64])
 }
 
 /// Copies the words of a closed table over a list of as many.
-// Inlined where the table is a local, words side by side are one copy of memory.
+// Inlined to where the table is a local, so that its words are copied several at once.
 #[inline]
 pub(super) fn copy_words(table: &Closed<(), Global>, stride: usize, list: &mut Vec<u64>)
     requires spaced { IsSpaced stride (slots_items table.now.words) }
@@ -59,7 +59,7 @@ fn copy_by_stride(table: &Closed<(), Global>, stride: usize, words: &mut [u64])
 }
 
 /// Copies the words of a closed table in which they lie apart.
-#[inline(never)]
+#[inline]
 fn copy_apart(table: &Closed<(), Global>, stride: usize, words: &mut [u64])
     requires spaced { IsSpaced stride (slots_items table.now.words) }
     requires full { IsFull table.now.words }
