@@ -185,7 +185,7 @@ static void tell_where(void) {
                run.calls, call_names[run.call], run.place, run.status);
 }
 
-/* Shows how often each call returned which status, and says how many of the header's statuses did not come. */
+/* Shows how often each call returned which status, and says how many that are looked for did not come. */
 static int tell_statuses(void) {
     int missing = 0;
     for (int call = 0; call < CALL_COUNT; call++) {
@@ -193,7 +193,7 @@ static int tell_statuses(void) {
         for (uint32_t status = 0; status < STATUSES; status++)
             if (listed[call] >> status & 1) {
                 printf(", %" PRIu64 " of %" PRIu32, run.by_status[call][status], status);
-                missing += run.by_status[call][status] == 0;
+                missing += status != RENAMER_CARRIED && run.by_status[call][status] == 0;
             }
         printf("\n");
     }
@@ -218,5 +218,5 @@ int main(int count, char **words) {
         run_episode(seed, episode);
     networks_free();
     is_over = 1;
-    return count == 3 && tell_statuses() > 1 && most >= 1000000;
+    return count == 3 && tell_statuses() > 0 && most >= 1000000;
 }
