@@ -18,6 +18,8 @@ pub mod InsideCounters
 pub mod InsideFloor
 pub mod InsideLeftovers
 pub mod InsideClosedFloor
+pub mod Receipts
+pub mod InsideReceipts
 pub mod InsideQuiet
 pub mod Laws
 pub mod Lone

@@ -16,7 +16,7 @@ use Rattle.cn_report.proofs.CallerLemmas.{known-map}
 use Rattle.cn_report.specs.Writing.Written.{HasWritten, First, Nothing, Whole, Written}
 use Rattle.cn_nets.specs.Net.{Description, IsNetworkOf}
 use Rattle.cn_cli.specs.declared.options.Form.{Form}
-use Rattle.cn_renamer.specs.Headline.{AreServed, IsRunOf, IsRunOfKnown, IsServed, clients_before_next, text_in}
+use Rattle.cn_renamer.specs.Headline.{AreServed, IsInOrder, IsRunInOrder, IsRunInOrderOfKnown, IsRunOf, IsRunOfKnown, IsServed, clients_before_next, text_in}
 
 -- who holds the names of an epoch that was served are as many as its clients
 pub as-many : (width m : ℕ) (epoch : BatchEpoch) (r : EpochRecord) → IsServed width m epoch r → length r.holders.items ≡ r.clients
@@ -107,3 +107,23 @@ pub written-as : {W : Type 0} (contents : W → Option (List ℕ)) (old new : W)
 written-as contents old new P Q more Whole (text, is, grows) = (text, more text is, grows)
 written-as contents old new P Q more (First count) (text, is, few, grows) = (text, more text is, few, grows)
 written-as contents old new P Q more Nothing same = same
+
+-- and of one whose names follow the order of the batch, if those of each epoch do
+pub run-in-order-is : (net : Description) (form : Form) (carry : Bool) (network : Network) → IsNetworkOf net network
+    → (known : Option (List ℕ)) (epochs : List BatchEpoch) → IfSome known (λ bytes. IsBatch network.table.entries (records_of bytes) epochs)
+    → (records : List EpochRecord) → AreServed carry network.table.width 0 epochs records → AllZip IsInOrder epochs records
+    → (text : List ℕ) → text ≡ text_in form network records → IsRunInOrderOfKnown net form carry known text
+run-in-order-is net form carry network built known epochs batch records served ordered text written =
+    known-map known (λ bytes. IsBatch network.table.entries (records_of bytes) epochs) (λ bytes. IsRunInOrder net form carry bytes text)
+    batch (λ bytes is. record {
+      run = record {
+        epochs = epochs;
+        batch = subst (λ (entries : ℕ). IsBatch entries (records_of bytes) epochs) built.2.entries is;
+        network = network;
+        built = built;
+        records = records;
+        served = served;
+        written = written;
+      };
+      ordered = ordered;
+    })

@@ -1,6 +1,9 @@
 pub mod Accepted
+pub mod Asked
 pub mod Built
+pub mod Floors
 pub mod Headline
+pub mod InOrder
 pub mod Kept
 pub mod OneText
 pub mod Refused

@@ -1,8 +1,8 @@
 -- The epochs of a batch that were run.
-use Rattle.std.proofs.Common.{◌≡◌, ℕ, ◌+◌, ◌<◌, ◌≤◌, All, Bool, false, Option, List, [], ◌∷◌, ◌++◌, drop, length, take, refl, subst, sym, arith, append-nil, ◌∙◌}
+use Rattle.std.proofs.Common.{◌≡◌, ℕ, ◌+◌, ◌<◌, ◌≤◌, All, Bool, false, ap, Option, List, [], ◌∷◌, ◌++◌, drop, length, take, refl, subst, sym, arith, append-nil, ◌∙◌}
 use Rattle.std.specs.Prelude.{IfSome}
-use Rattle.std.specs.List.{flat_map}
-use Rattle.std.proofs.lemmas.List.{drop_at, take_at}
+use Rattle.std.specs.List.{AllZip, flat_map}
+use Rattle.std.proofs.lemmas.List.{drop_at, length-map, take_at}
 use Rattle.std.proofs.lemmas.List.Concat.{flat_map-append}
 use Rattle.std.proofs.lemmas.List.Elements.{All-drop, All-head, All-take}
 use Rattle.std.proofs.lemmas.List.Sums.{sum_by-cons, sum_by-take-drop}
@@ -17,9 +17,10 @@ use Rattle.cn_report.specs.Writing.Records.{AreRecordsOf}
 use Rattle.cn_report.specs.Writing.Written.{HasWritten, Written}
 use Rattle.cn_nets.specs.Net.{Description, IsNetworkOf}
 use Rattle.cn_cli.specs.declared.options.Form.{Form}
-use Rattle.cn_renamer.specs.Headline.{AreServed, IsRunOfKnown, IsServed, text_in}
+use Rattle.cn_renamer.specs.Headline.{AreServed, IsInOrder, IsRunInOrderOfKnown, IsRunOfKnown, IsServed, ids_of, text_in}
 use Rattle.cn_renamer.specs.Running.{AreHoldersOf, MayRunAll}
-use Rattle.cn_renamer.proofs.Headline.{as-many, none-served, run-is, served-both, served-next, written-as}
+use Rattle.cn_ledger.specs.declared.client.Client.{Client}
+use Rattle.cn_renamer.proofs.Headline.{as-many, none-served, run-in-order-is, run-is, served-both, served-next, written-as}
 
 -- before the first epoch nobody holds one
 pub none-listed : (carry : Bool) (w : ℕ) → AreHoldersOf carry w [] []
@@ -104,3 +105,39 @@ run-written contents old new net form carry network built known epochs batch hol
     subst (λ (xs : List ℕ). AreRecordsOf carry w 0 epochs records xs) (sym listed.listed) (records-of carry w 0 epochs records listed.served) in
     written-as contents old new (λ text. text ≡ text_in form network records) (IsRunOfKnown net form carry known)
     (λ text is. run-is net form carry network built known epochs batch records listed.served text is) written (writes records theirs)
+
+-- ---- in order
+
+-- the clients of one more epoch stand after the others
+pub ids-next : (epochs : List BatchEpoch) (epoch : BatchEpoch) → flat_map ids_of (epochs ++ epoch ∷ []) ≡ flat_map ids_of epochs ++ ids_of epoch
+ids-next epochs epoch = flat_map-append ids_of epochs (epoch ∷ []) ∙ ap (λ (xs : List ℕ). flat_map ids_of epochs ++ xs) (append-nil (ids_of epoch))
+
+-- if the list of all holders has the clients in the order of the batch, so have the records
+pub in-order : (carry : Bool) (w m : ℕ) (epochs : List BatchEpoch) (records : List EpochRecord) (holders : List ℕ) → AreRecordsOf carry w m epochs records holders
+    → holders ≡ flat_map ids_of epochs → AllZip IsInOrder epochs records
+unfolding AreRecordsOf
+in-order carry w m [] [] holders are is = tt
+in-order carry w m [] (r ∷ records) holders are is = absurd are
+in-order carry w m (e ∷ epochs) [] holders are is = absurd are
+in-order carry w m (e ∷ epochs) (r ∷ records) holders (one, rest) is =
+    let k : ℕ = length e.clients.items in
+    let many : length (ids_of e) ≡ k = length-map e.clients.items (λ (c : Client). c.id) in
+    let others : List ℕ = flat_map ids_of epochs in (
+      one.holders ∙ ap (take k) is ∙ take_at (ids_of e) others k many,
+      in-order carry w (when carry (m + k)) epochs records (drop k holders) rest (ap (drop k) is ∙ drop_at (ids_of e) others k many),
+    )
+
+-- and what is written of them is what a run writes whose names follow that order
+pub run-in-order-written : {W : Type 0} (contents : W → Option (List ℕ)) (old new : W) (net : Description) (form : Form) (carry : Bool) (network : Network) → IsNetworkOf net network
+    → (known : Option (List ℕ)) (epochs : List BatchEpoch) → IfSome known (λ bytes. IsBatch network.table.entries (records_of bytes) epochs)
+    → (holders : List ℕ) → AreHoldersOf carry network.table.width epochs holders → holders ≡ flat_map ids_of epochs
+    → (written : Written)
+    → ((records : List EpochRecord) → AreRecordsOf carry network.table.width 0 epochs records holders → HasWritten contents (λ text. text ≡ text_in form network records) written old new)
+    → HasWritten contents (IsRunInOrderOfKnown net form carry known) written old new
+run-in-order-written contents old new net form carry network built known epochs batch holders listed is written writes =
+    let w : ℕ = network.table.width in
+    let records : List EpochRecord = listed.records in
+    let theirs : AreRecordsOf carry w 0 epochs records holders =
+    subst (λ (xs : List ℕ). AreRecordsOf carry w 0 epochs records xs) (sym listed.listed) (records-of carry w 0 epochs records listed.served) in
+    written-as contents old new (λ text. text ≡ text_in form network records) (IsRunInOrderOfKnown net form carry known)
+    (λ text same. run-in-order-is net form carry network built known epochs batch records listed.served (in-order carry w 0 epochs records holders theirs is) text same) written (writes records theirs)

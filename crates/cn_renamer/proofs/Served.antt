@@ -1,7 +1,9 @@
 -- The record of an epoch that was run.
 use Rattle.std.proofs.Common.{◌≡◌, ℕ, ◌+◌, ◌-◌, ◌^◌, ◌<◌, ◌≤◌, Global, List, Vec, ap, get_or, length, map, refl, sym, ◌∙◌, arith}
 use Rattle.std.specs.List.Sorted.{IsPermutation}
-use Rattle.std.proofs.lemmas.List.FromFn.{length-map-range_with_len}
+use Rattle.std.proofs.lemmas.Grind.{same_number_lists}
+use Rattle.std.proofs.lemmas.List.{get_or-map, length-map}
+use Rattle.std.proofs.lemmas.List.FromFn.{get_or-range_with_len, length-map-range_with_len}
 use Rattle.std.proofs.lemmas.List.Sorted.{IsPermutation-trans}
 use Rattle.cn_spec.specs.Step.{shares_after}
 use Rattle.cn_spec.specs.Sums.{times}
@@ -14,7 +16,7 @@ use Rattle.cn_floor.specs.declared.view.Grant.{Grant}
 use Rattle.cn_floor.specs.Carried.{WordsValue, client_count}
 use Rattle.cn_floor.specs.Ends.{ListsHolders, QuietValue, counts_by_exit}
 use Rattle.cn_walk.specs.Runs.{IsRunAfter}
-use Rattle.cn_walk.specs.Walks.{AreFor}
+use Rattle.cn_walk.specs.Walks.{AreFor, AreInOrder}
 use Rattle.cn_report.specs.Reading.Batch.{MayCome}
 use Rattle.cn_report.specs.declared.reading.batch.BatchEpoch.{BatchEpoch}
 use Rattle.cn_renamer.specs.Running.{AreHoldersOfOne}
@@ -69,3 +71,17 @@ served-by entries width m epoch before quiet holders come wide after narrow run 
       };
       listed = refl;
     }
+
+-- clients who got the names from 0 up in their order hold them so
+pub held-in-order : (clients : List Client) (grants : List Grant) (holders : List ℕ) → AreInOrder 0 clients grants → ListsHolders grants holders → holders ≡ map (λ (c : Client). c.id) clients
+held-in-order clients grants holders order lists =
+    let client : Grant → ℕ = λ g. g.client in
+    let name : Grant → ℕ = λ g. g.name in
+    let d : Grant = record { client = 0; exit = 0; visit = 0; name = 0 } in
+    let many : length grants ≡ length clients = sym (length-map grants client) ∙ ap (λ (xs : List ℕ). length xs) order.clients_are ∙ length-map clients (λ (c : Client). c.id) in
+    same_number_lists holders (map client grants) (lists.all ∙ sym (length-map grants client)) (λ k low.
+    let less : k < length grants = omega (arith, low, lists.all) in
+    let at : (get_or grants k d).name ≡ k =
+    sym (get_or-map name grants k d 0 less) ∙ ap (λ (ns : List ℕ). get_or ns k 0) order.names_are ∙ get_or-range_with_len 0 (length clients) k 0 (omega (arith, less, many)) ∙ omega arith in
+    ap (λ (n : ℕ). get_or holders n 0) (sym at) ∙ lists.by_name k d less ∙ sym (get_or-map client grants k d 0 less))
+    ∙ order.clients_are

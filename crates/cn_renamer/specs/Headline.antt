@@ -4,6 +4,7 @@
 -- share of m+k clients minus its share of m. Without carry m is 0, and both are one. (At every moment before that the
 -- rule of the floor holds: `cn_floor`'s `KeepsRule`.)
 use Rattle.std.specs.Prelude.{ℕ, ◌≡◌, ◌+◌, ◌≤◌, [], ◌∷◌, Bool, IfSome, List, Option, length, map, ⊤}
+use Rattle.std.specs.List.{AllZip}
 use Rattle.std.specs.List.Sorted.{IsPermutation}
 use Rattle.cn_spec.specs.Step.{shares, shares_after}
 use Rattle.cn_spec.specs.Sums.{times, when}
@@ -58,6 +59,23 @@ pub record IsRunOf (net : Description) (form : Form) (carry : Bool) (bytes text 
 -- this text is that of a run of the bytes that a reader has left, if they are known
 abbrev pub IsRunOfKnown : Description → Form → Bool → Option (List ℕ) → List ℕ → Type 0
 IsRunOfKnown net form carry known text = IfSome known (λ bytes. IsRunOf net form carry bytes text)
+
+-- the clients of an epoch, in the order of the batch
+abbrev pub ids_of : BatchEpoch → List ℕ
+ids_of epoch = map (λ c. c.id) epoch.clients.items
+
+-- the names of an epoch follow the order of the batch: its n-th client, counted from 0, holds the name n
+abbrev pub IsInOrder : BatchEpoch → EpochRecord → Type 0
+IsInOrder epoch r = r.holders.items ≡ ids_of epoch
+
+-- so do those of each epoch of a run
+pub record IsRunInOrder (net : Description) (form : Form) (carry : Bool) (bytes text : List ℕ) : Type 0 where
+  pub run : IsRunOf net form carry bytes text
+  pub ordered : AllZip IsInOrder run.epochs run.records
+
+-- this text is that of such a run of the bytes that a reader has left, if they are known
+abbrev pub IsRunInOrderOfKnown : Description → Form → Bool → Option (List ℕ) → List ℕ → Type 0
+IsRunInOrderOfKnown net form carry known text = IfSome known (λ bytes. IsRunInOrder net form carry bytes text)
 
 -- what a check of the grant list says of an epoch of a run: its number, its k clients, and for each exit how many of
 -- its names n have `n % w` equal to the exit, which is the exit's share, with carry too

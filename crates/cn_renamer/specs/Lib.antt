@@ -1,5 +1,6 @@
 pub mod Check
 pub mod Lines
+pub mod Floors
 pub mod Headline
 pub mod Outputs
 pub mod Performing

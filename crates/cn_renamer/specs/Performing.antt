@@ -14,7 +14,7 @@ use Rattle.cn_renamer.specs.declared.output_fault.OutputFault.TheVariants as out
 use Rattle.cn_renamer.specs.Check.{IsCheckFault, IsCheckOfKnown, status_of_check, until_check}
 use Rattle.cn_renamer.specs.Outputs.{until_output}
 use Rattle.cn_renamer.specs.Replay.{IsReplayFault, IsReplayOfKnown, status_of_replay, until_replay}
-use Rattle.cn_renamer.specs.Headline.{IsRunOfKnown}
+use Rattle.cn_renamer.specs.Headline.{IsRunInOrderOfKnown, IsRunOfKnown}
 use Rattle.cn_renamer.specs.Serve.{IsServeFault, status_of_serve, until_serve}
 use Rattle.cn_renamer.specs.Show.{IsWiringOf}
 
@@ -23,9 +23,13 @@ abbrev pub IsBuiltFor : Job → Type 0
 IsBuiltFor (job.Check width) = IsWidth width
 IsBuiltFor other = Unit {0}
 
--- the text of a job, by the bytes that its reader has left, if they are known
+-- the text of a job, by the bytes that its reader has left, if they are known; of a run by one worker with one client in
+-- hand the names follow the order of the batch
 abbrev pub IsTextOf : Job → Option (List ℕ) → List ℕ → Type 0
-IsTextOf (job.Run options) known text = IsRunOfKnown options.net options.form options.carry known text
+IsTextOf (job.Run options) known text =
+    IsRunOfKnown options.net options.form options.carry known text
+    × (options.workers ≡ 1 → options.hand ≡ 1
+    → IsRunInOrderOfKnown options.net options.form options.carry known text)
 IsTextOf (job.Replay net) known text = IsReplayOfKnown net known text
 IsTextOf (job.Check width) known text = IsCheckOfKnown width known text
 IsTextOf (job.Show net) known text = IsWiringOf net text

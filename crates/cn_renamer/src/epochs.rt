@@ -1,17 +1,20 @@
 //! The epochs of a batch, run by many workers: one after another, or beside one another.
 
 ghost use Rattle.std.specs.Prelude.{◌≡◌, ◌+◌, ◌++◌, ◌<◌, ◌≤◌, ℕ, IfOk, OnOk, false, length, take};
+ghost use Rattle.std.specs.List.{flat_map};
 ghost use Rattle.cn_spec.specs.declared.limits.TheConstants.{MOST_CARRIED, MOST_RECORDS};
 ghost use Rattle.cn_spec.specs.Sums.{when};
-ghost use Rattle.cn_floor.specs.Carried.{client_count};
+ghost use Rattle.cn_floor.specs.Carried.{client_count, zero_words};
 ghost use Rattle.cn_report.specs.Reading.Batch.{MayCome, clients_of_epochs};
+ghost use Rattle.cn_renamer.specs.Floors.{AreHoldersOnFloors, HasRunEpoch};
+ghost use Rattle.cn_renamer.specs.Headline.{ids_of};
 ghost use Rattle.cn_renamer.specs.Running.{AreHoldersOf, AreHoldersOfOne, MayRunAll, crew_for};
 ghost use Rattle.cn_walk.specs.Crew.{IsCrew};
 ghost use denote.Param.Send.{IsSync};
 
 use cn_cli::Options;
 use cn_report::BatchEpoch;
-use cn_walk::{Crew, Gate, RunFault, Runner};
+use cn_walk::{Crew, Gate, Receipts, RunFault, Runner};
 use cn_wiring::Counting;
 use std::alloc::{AllocError, Global};
 use std::sync::Wait;
@@ -26,6 +29,8 @@ fn crew_for(crew: Crew, epochs: usize, clients: usize) -> Crew
     requires { IsCrew crew }
     ensures crew { IsCrew result }
     ensures few { result ≡ crew_for crew epochs clients }
+    ensures one { crew.workers ≡ 1 → result.workers ≡ 1 }
+    ensures hand { result.hand ≡ crew.hand }
 {
     if epochs > 1 && clients < FEW_CLIENTS {
         Crew { workers: 1, ..crew }
@@ -34,7 +39,8 @@ fn crew_for(crew: Crew, epochs: usize, clients: usize) -> Crew
     }
 }
 
-/// Runs the next epoch of a batch by a crew, and writes who has which name: the runner for the epoch after it.
+/// Runs the next epoch of a batch by a crew, and writes who has which name: the runner for the epoch after it, and the
+/// receipt of its floor.
 fn serve_epoch<'n, G: Gate + Sync, R: Threads + Wait + Sync>(
     rt: &R,
     alloc: Global,
@@ -43,7 +49,7 @@ fn serve_epoch<'n, G: Gate + Sync, R: Threads + Wait + Sync>(
     crew: Crew,
     gate: &G,
     holders: &mut [u64],
-) -> Result<Runner<'n>, AllocError>
+) -> Result<(Runner<'n>, Receipts), AllocError>
     requires come { MayCome runner.words.network.table.entries epoch.now.clients.items }
     requires few { client_count runner.words ≤ MOST_CARRIED }
     requires crew { IsCrew crew }
@@ -51,9 +57,11 @@ fn serve_epoch<'n, G: Gate + Sync, R: Threads + Wait + Sync>(
     ensures served { OnOk result
         (AreHoldersOfOne runner.entry.words.network.table.width (client_count runner.entry.words)
         epoch.now holders.new) }
-    ensures network { IfOk result (λ r. r.words.network ≡ runner.entry.words.network) }
-    ensures carries { IfOk result (λ r. r.carries ≡ runner.entry.carries) }
-    ensures came { IfOk result (λ r. client_count r.words
+    ensures in_order { crew.workers ≡ 1 → crew.hand ≡ 1 → OnOk result (holders.new ≡ ids_of epoch.now) }
+    ensures floor { IfOk result (λ r. HasRunEpoch runner.entry r.0 epoch.now r.1 holders.new) }
+    ensures network { IfOk result (λ r. r.0.words.network ≡ runner.entry.words.network) }
+    ensures carries { IfOk result (λ r. r.0.carries ≡ runner.entry.carries) }
+    ensures came { IfOk result (λ r. client_count r.0.words
         ≡ client_count runner.entry.words + when runner.entry.carries (length epoch.now.clients.items)) }
 {
     runner.words().words_laws();
@@ -61,7 +69,7 @@ fn serve_epoch<'n, G: Gate + Sync, R: Threads + Wait + Sync>(
     match ended {
         Ok(closed) => {
             closed.list_holders(holders);
-            Ok(runner)
+            Ok((runner, closed.receipt()))
         }
         Err(fault) => {
             // An epoch of a batch is refused only for want of memory.
@@ -72,7 +80,7 @@ fn serve_epoch<'n, G: Gate + Sync, R: Threads + Wait + Sync>(
 }
 
 /// Runs epochs one after another by a crew, and writes who has which name. Each begins with the words of the runner, by
-/// which nobody came, or if it carries with those of the one before.
+/// which nobody came, or if it carries with those of the one before. The receipts are of their floors.
 fn run_in_turn<'n, G: Gate + Sync, R: Threads + Wait + Sync>(
     rt: &R,
     alloc: Global,
@@ -81,24 +89,30 @@ fn run_in_turn<'n, G: Gate + Sync, R: Threads + Wait + Sync>(
     crew: Crew,
     gate: &G,
     holders: &mut [u64],
-) -> Result<(), AllocError>
+) -> Result<Receipts, AllocError>
     requires nobody { client_count first.words ≡ 0 }
     requires epochs { MayRunAll first.words.network.table.entries epochs.now (length holders.old) }
     requires crew { IsCrew crew }
-    ensures { OnOk result (AreHoldersOf first.entry.carries first.entry.words.network.table.width
+    ensures listed { OnOk result (AreHoldersOf first.entry.carries first.entry.words.network.table.width
         epochs.now holders.new) }
+    ensures floors { IfOk result (λ floors.
+        AreHoldersOnFloors first.entry.carries first.entry.words epochs.now floors holders.new) }
+    ensures in_order { crew.workers ≡ 1 → crew.hand ≡ 1
+        → OnOk result (holders.new ≡ flat_map ids_of epochs.now) }
 {
     let mut runner = first;
+    let mut receipts = Receipts::none();
     let mut at = 0;
     for epoch in epochs {
         let end = at + epoch.clients.len();
         let workers = crew_for(crew, epochs.len(), end - at);
         let own = &mut holders[at..end];
-        let next = serve_epoch(rt, alloc, runner, epoch, workers, gate, own)?;
+        let (next, receipt) = serve_epoch(rt, alloc, runner, epoch, workers, gate, own)?;
         runner = next;
+        receipts = receipts.and(receipt);
         at = end;
     }
-    Ok(())
+    Ok(receipts)
 }
 
 /// How many clients epochs have.
@@ -130,7 +144,7 @@ fn cut(epochs: &[BatchEpoch], wanted: usize) -> (usize, usize)
 
 /// Runs epochs that carry nothing by a crew, and writes who has which name: two parts of the epochs beside each other,
 /// each by a part of the crew, and so on in each. One worker runs its epochs one after another, and one epoch is run by
-/// the whole crew. If no thread can be had the parts are run one after the other.
+/// the whole crew. If no thread can be had the parts are run one after the other. The receipts are of their floors.
 fn run_beside<G: Gate + Sync, R: Threads + Wait + Sync>(
     rt: &R,
     alloc: Global,
@@ -139,10 +153,14 @@ fn run_beside<G: Gate + Sync, R: Threads + Wait + Sync>(
     crew: Crew,
     gate: &G,
     holders: &mut [u64],
-) -> Result<(), AllocError>
+) -> Result<Receipts, AllocError>
     requires epochs { MayRunAll network.now.table.entries epochs.now (length holders.old) }
     requires crew { IsCrew crew }
-    ensures { OnOk result (AreHoldersOf false network.now.table.width epochs.now holders.new) }
+    ensures listed { OnOk result (AreHoldersOf false network.now.table.width epochs.now holders.new) }
+    ensures floors { IfOk result (λ floors.
+        AreHoldersOnFloors false (zero_words network.now) epochs.now floors holders.new) }
+    ensures in_order { crew.workers ≡ 1 → crew.hand ≡ 1
+        → OnOk result (holders.new ≡ flat_map ids_of epochs.now) }
 {
     if epochs.len() < 2 || crew.workers < 2 {
         let runner = Runner::new(alloc, network, false)?;
@@ -160,19 +178,25 @@ fn run_beside<G: Gate + Sync, R: Threads + Wait + Sync>(
         &mut ||
             requires { IsSync R.row × IsSync G.row × IsCrew crew
                 × MayRunAll network.now.table.entries first.now (length front.now) }
-            ensures { OnOk result (AreHoldersOf false network.entry.now.table.width first.entry.now front.exit.now) }
+            ensures listed { OnOk result (AreHoldersOf false network.entry.now.table.width first.entry.now front.exit.now) }
+            ensures floors { IfOk result (λ floors.
+                AreHoldersOnFloors false (zero_words network.entry.now) first.entry.now floors front.exit.now) }
         { run_beside(rt, alloc, network, first, crew, gate, front) },
         &mut ||
             requires { IsSync R.row × IsSync G.row × IsCrew others
                 × MayRunAll network.now.table.entries second.now (length back.now) }
-            ensures { OnOk result (AreHoldersOf false network.entry.now.table.width second.entry.now back.exit.now) }
+            ensures listed { OnOk result (AreHoldersOf false network.entry.now.table.width second.entry.now back.exit.now) }
+            ensures floors { IfOk result (λ floors.
+                AreHoldersOnFloors false (zero_words network.entry.now) second.entry.now floors back.exit.now) }
         { run_beside(rt, alloc, network, second, others, gate, back) },
     );
-    one.and(other)
+    let (floors, others) = (one?, other?);
+    Ok(floors.and(others))
 }
 
 /// Runs the epochs of a batch on a network, as the options say: who has which name, epoch after epoch, each by rising
-/// name. Epochs that carry counters run one after another, others beside one another.
+/// name; and the receipts of the floors on which they were named. Epochs that carry counters run one after another,
+/// others beside one another.
 pub(crate) fn run_epochs<G: Gate + Sync, R: Threads + Wait + Sync>(
     rt: &R,
     alloc: Global,
@@ -180,11 +204,15 @@ pub(crate) fn run_epochs<G: Gate + Sync, R: Threads + Wait + Sync>(
     options: &Options,
     epochs: &[BatchEpoch],
     gate: &G,
-) -> Result<Vec<u64>, AllocError>
+) -> Result<(Vec<u64>, Receipts), AllocError>
     requires may { MayRunAll network.now.table.entries epochs.now (clients_of_epochs epochs.now) }
-    ensures listed { IfOk result (λ holders.
-        AreHoldersOf options.now.carry network.now.table.width epochs.now holders.items) }
-    ensures many { IfOk result (λ holders. clients_of_epochs epochs.now ≡ length holders.items) }
+    ensures listed { IfOk result (λ r.
+        AreHoldersOf options.now.carry network.now.table.width epochs.now r.0.items) }
+    ensures floors { IfOk result (λ r.
+        AreHoldersOnFloors options.now.carry (zero_words network.now) epochs.now r.1 r.0.items) }
+    ensures in_order { options.now.workers ≡ 1 → options.now.hand ≡ 1
+        → IfOk result (λ r. r.0.items ≡ flat_map ids_of epochs.now) }
+    ensures many { IfOk result (λ r. clients_of_epochs epochs.now ≡ length r.0.items) }
 {
     let mut holders = vec![in alloc; 0; clients_in(epochs)]?;
     let crew = Crew {
@@ -192,11 +220,11 @@ pub(crate) fn run_epochs<G: Gate + Sync, R: Threads + Wait + Sync>(
         workers: options.workers(),
         hand: options.hand(),
     };
-    if options.carries() {
+    let receipts = if options.carries() {
         let runner = Runner::new(alloc, network, true)?;
-        run_in_turn(rt, alloc, runner, epochs, crew, gate, &mut holders)?;
+        run_in_turn(rt, alloc, runner, epochs, crew, gate, &mut holders)?
     } else {
-        run_beside(rt, alloc, network, epochs, crew, gate, &mut holders)?;
-    }
-    Ok(holders)
+        run_beside(rt, alloc, network, epochs, crew, gate, &mut holders)?
+    };
+    Ok((holders, receipts))
 }

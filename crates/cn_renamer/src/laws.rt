@@ -11,11 +11,13 @@ ghost use Rattle.cn_report.specs.Reading.Records.{records_of};
 ghost use Rattle.cn_report.specs.Reading.Told.{names_in, told_epochs};
 ghost use Rattle.cn_report.specs.declared.reading.batch.BatchEpoch.{BatchEpoch};
 ghost use Rattle.cn_nets.specs.Net.{Description, entries_of};
+ghost use Rattle.cn_cli.specs.declared.options.Form.{Form};
 ghost use Rattle.cn_cli.specs.declared.options.Form.TheVariants.{Grants};
-ghost use Rattle.cn_renamer.specs.Headline.{IsRunOf, IsServed, served_epoch};
+ghost use Rattle.cn_renamer.specs.Headline.{IsRunInOrder, IsRunOf, IsServed, served_epoch};
 ghost use Rattle.cn_renamer.specs.Replay.{IsReplayOf, IsReplayOfCommands, IsReplayText};
 ghost use Rattle.cn_renamer.specs.Show.{IsWiringOf};
 
+use cn_report::laws::batch_is_one;
 use cn_spec::laws::first_shares_are_shares;
 
 /// On one network commands have one text; so have commands, and the bytes of a schedule, on a network given by its kind
@@ -43,6 +45,17 @@ pub fn counts_are_shares()
         → r.counts.items ≡ shares (length epoch.clients.items) w }
 {
     first_shares_are_shares();
+}
+
+/// A run whose names follow the order of the batch has one text: by one worker with one client in hand
+/// [`crate::serve`] writes a function of the bytes that it reads, the network, the form, and whether counters are
+/// carried.
+pub fn a_run_in_order_has_one_text()
+    ensures { (net : Description) (form : Form) (carry : Bool) (bytes text other : List ℕ)
+        → IsRunInOrder net form carry bytes text → IsRunInOrder net form carry bytes other
+        → text ≡ other }
+{
+    batch_is_one();
 }
 
 /// What a run writes in the grants form, with carry or without, is a list that a check takes for tight; and a check by

@@ -7,8 +7,9 @@ ghost use Rattle.cn_report.specs.Reading.Batch.{AnswersBatch, AreServable, clien
 ghost use Rattle.cn_report.specs.Reading.Records.{records_of};
 ghost use Rattle.cn_report.specs.Writing.Pieces.{nothing_put};
 ghost use Rattle.cn_report.specs.Writing.Records.{AreRecordsOf};
-ghost use Rattle.cn_report.specs.Writing.Written.{First, HasWritten, written_by};
-ghost use Rattle.cn_renamer.specs.Headline.{IsRunOfKnown, text_in};
+ghost use Rattle.cn_report.specs.Writing.Written.{First, HasWritten, Whole, written_by};
+ghost use Rattle.cn_renamer.specs.Floors.{IsRunOnFloorsOfKnown};
+ghost use Rattle.cn_renamer.specs.Headline.{IsRunInOrderOfKnown, IsRunOfKnown, text_in};
 ghost use Rattle.cn_renamer.specs.Serve.{IsServeFault, until_serve};
 
 use crate::epochs::run_epochs;
@@ -18,7 +19,7 @@ use cn_report::{
     Batch, BatchEpoch, BatchFault, EmitFault, Pieces, read_batch, read_batch_by_two, write_grants,
     write_report,
 };
-use cn_walk::Gate;
+use cn_walk::{Gate, Receipts};
 use cn_wiring::Counting;
 use std::alloc::Global;
 use std::hash::RandomState;
@@ -94,6 +95,10 @@ fn write_epochs<W: Write>(
 /// Attiya, Bar-Noy, Dolev, Peleg, Reischuk, JACM 1990). It holds of every interleaving of the workers' steps; which
 /// client holds which name is theirs to settle.
 ///
+/// **In order.** By one worker with one client in hand the n-th client of each epoch, counted from 0, gets the name n:
+/// names follow the order of the batch, and what is written is a function of what is read
+/// ([`crate::laws::a_run_in_order_has_one_text`]).
+///
 /// If the options carry counters, no word is cleared between epochs. Then in each epoch of k clients after m the count
 /// of exit i is its share of m + k clients minus its share of m. The names are still 0 to k-1, each below the number of
 /// clients that entered in the epoch.
@@ -117,12 +122,44 @@ pub fn serve<I: Read + Drop, W: Write, G: Gate + Sync, R: Threads + Wait + Sync>
 ) -> Result<(), ServeFault>
     ensures headline { let Is = IsRunOfKnown options.now.net options.now.form options.now.carry (I.remaining reader) in
         HasWritten W.contents Is (written_by until_serve result) writer.old writer.new }
+    ensures in_order { options.now.workers ≡ 1 → options.now.hand ≡ 1
+        → let Is = IsRunInOrderOfKnown options.now.net options.now.form options.now.carry (I.remaining reader) in
+        HasWritten W.contents Is (written_by until_serve result) writer.old writer.new }
+    ensures refused { IfErr result (IsServeFault options.now.net (I.remaining reader)) }
+{
+    let _receipts = serve_with_receipts(rt, alloc, reader, writer, options, state, gate)?;
+    Ok(())
+}
+
+/// Does what [`serve`] does, and returns the receipts of the floors: what it has written has of each epoch the counts by
+/// exit of a closed floor on which the clients of the epoch walked, and nobody else, and the names that these were granted
+/// there.
+///
+/// # Errors
+/// Those of [`serve`].
+pub fn serve_with_receipts<I: Read + Drop, W: Write, G: Gate + Sync, R: Threads + Wait + Sync>(
+    rt: &R,
+    alloc: Global,
+    reader: I,
+    writer: &mut W,
+    options: &Options,
+    state: RandomState,
+    gate: &G,
+) -> Result<Receipts, ServeFault>
+    ensures headline { let Is = IsRunOfKnown options.now.net options.now.form options.now.carry (I.remaining reader) in
+        HasWritten W.contents Is (written_by until_serve result) writer.old writer.new }
+    ensures in_order { options.now.workers ≡ 1 → options.now.hand ≡ 1
+        → let Is = IsRunInOrderOfKnown options.now.net options.now.form options.now.carry (I.remaining reader) in
+        HasWritten W.contents Is (written_by until_serve result) writer.old writer.new }
+    ensures floors { IfOk result (λ floors. let net = options.now.net in
+        let Is = IsRunOnFloorsOfKnown net options.now.form options.now.carry floors (I.remaining reader) in
+        HasWritten W.contents Is Whole writer.old writer.new) }
     ensures refused { IfErr result (IsServeFault options.now.net (I.remaining reader)) }
 {
     let network = options.net().build(alloc)?;
     let batch = read_by_options(rt, alloc, reader, &network, options, state)?;
-    let holders = run_epochs(rt, alloc, &network, options, &batch.epochs, gate)?;
+    let (holders, receipts) = run_epochs(rt, alloc, &network, options, &batch.epochs, gate)?;
     let pieces = Pieces::new(alloc)?;
     write_epochs(writer, pieces, &network, options, &batch.epochs, &holders)?;
-    Ok(())
+    Ok(receipts)
 }

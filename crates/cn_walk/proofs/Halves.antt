@@ -8,7 +8,7 @@ use Rattle.cn_ledger.specs.declared.client.Client.{Client}
 use Rattle.cn_walk.specs.declared.forking.Lanes.{Lanes}
 use Rattle.cn_walk.specs.declared.forking.Lanes.TheVariants.{One, Halves'}
 use Rattle.cn_floor.specs.declared.view.Grant.{Grant}
-use Rattle.cn_walk.specs.Halves.{AreOf, AreReady, HasNothing, IsPair, IsReady, first_position, together, whole}
+use Rattle.cn_walk.specs.Halves.{AreOf, AreReady, HasNothing, IsOne, IsPair, IsReady, first_position, together, whole}
 use Rattle.cn_floor.specs.Lane.{FloorValue, LaneValue, empty_lane, with_room}
 use Rattle.cn_floor.specs.Views.{after_look, after_split, split_off}
 use Rattle.cn_walk.specs.Walks.{WalksAll}
@@ -111,3 +111,8 @@ pair-ready home n at r left right lanes is less room a b rest =
 pub some_so : {X : Type 0} (P Q : X → Type 0) (o : Option X) → ((x : X) → P x → Q x) → IfSome o P → IfSome o Q
 some_so P Q None f p = search rules
 some_so P Q (Some x) f p = f x p
+
+-- one worker has a single lane
+pub one-worker : (k w from to : ℕ) (lanes : Lanes) → to ≤ from + 1 → AreOf k w from to lanes → IsOne lanes
+one-worker k w from to (One lane worker) few is = tt
+one-worker k w from to (Halves' at p left q right) few (m, low, high, is, one, two) = absurd (omega (arith, few, low, high))

@@ -1,5 +1,6 @@
 -- A quiet floor on which nobody but these clients walked.
-use Rattle.std.proofs.Common.{◌≡◌, ℕ, ◌+◌, ◌-◌, ◌*◌, ◌/◌, ◌<◌, List, ◌++◌, length, get_or, map, sym, refl, ap, ◌∙◌, subst, arith}
+use Rattle.std.proofs.Common.{◌≡◌, ℕ, ◌+◌, ◌-◌, ◌*◌, ◌/◌, ◌<◌, List, [], ◌++◌, length, get_or, map, sym, refl, ap, ◌∙◌, subst, arith}
+use Rattle.std.proofs.lemmas.List.Sorted.{IsPermutation-refl}
 use Rattle.std.proofs.lemmas.Nat.{div-mul-add}
 use Rattle.cn_spec.specs.Step.{IsEachBelow, shares_after}
 use Rattle.cn_spec.specs.Sums.{Agree, times}
@@ -15,11 +16,11 @@ use Rattle.cn_floor.specs.declared.view.View.{View}
 use Rattle.cn_floor.specs.Carried.{WordsValue, client_count, words_before, zero_words}
 use Rattle.cn_floor.specs.Closing.{IsMissing}
 use Rattle.cn_floor.specs.Ends.{IsClosedFloor, QuietValue}
-use Rattle.cn_walk.specs.Halves.{HasNothing, first_position}
+use Rattle.cn_walk.specs.Halves.{HasNothing, IsReady, first_position}
 use Rattle.cn_floor.specs.Lane.{FloorValue, IsIdle, LaneValue, empty_lane}
 use Rattle.cn_walk.specs.Runs.{IsRun, IsRunAfter}
 use Rattle.cn_floor.specs.Views.{base}
-use Rattle.cn_walk.specs.Walks.{AreFor, WalksAll}
+use Rattle.cn_walk.specs.Walks.{AreFor, AreInOrder, GrantsInOrder, IsSole, WalksAll}
 use Rattle.cn_floor.specs.Words.{count_in, entered_in}
 use Rattle.cn_floor.proofs.AtClose.Closings.{map-same}
 use Rattle.cn_floor.proofs.InLane.Yards.{nobody-in}
@@ -101,3 +102,18 @@ from-zero network clients q is =
       named = λ j d l. let p = is.named j d l in (p.0, omega (arith, p.1, nobody));
       theirs = is.theirs;
     }
+
+-- ---- in order
+
+-- a lane that is ready for all whom its floor may let in is the sole one
+pub new-sole : (home : FloorValue) (k : ℕ) (a : LaneValue) → home.start.quota ≡ k → IsReady home k a → IsSole a
+new-sole home k a whole ready = record {
+  quota = omega (arith, whole, ready.quota, ap (λ (h : FloorValue). h.start.quota) ready.home_is);
+  names = subst (λ (gs : List Grant). IsEachBelow (length gs) (map (λ (g : Grant). g.name) gs)) (sym ready.nothing.grants) (IsPermutation-refl []);
+}
+
+-- where the lane had nothing, its grants are in order if those of the walk are
+pub all-in-order : (a b : LaneValue) (clients : List Client) → HasNothing a → GrantsInOrder a b clients → AreInOrder 0 clients b.view.grants
+all-in-order a b clients none (more, grants, is) =
+    let same : b.view.grants ≡ more = grants ∙ ap (λ (gs : List Grant). gs ++ more) none.grants in
+    subst (λ (gs : List Grant). AreInOrder 0 clients gs) (sym same) (subst (λ (n : ℕ). AreInOrder n clients more) (ap (λ (gs : List Grant). length gs) none.grants) is)

@@ -1,5 +1,5 @@
 -- The lanes of many workers, in halves.
-use Rattle.std.specs.Prelude.{◌≡◌, ℕ, ◌+◌, ◌-◌, ◌*◌, ◌/◌, ◌<◌, ◌≤◌, All, List, [], length}
+use Rattle.std.specs.Prelude.{◌≡◌, ℕ, ◌+◌, ◌-◌, ◌*◌, ◌/◌, ◌<◌, ◌≤◌, All, List, [], length, ⊤}
 use Rattle.cn_ledger.specs.declared.client.Client.{Client}
 use Rattle.cn_yard.specs.Lists.{tokens_in}
 use Rattle.cn_walk.specs.declared.forking.Lanes.{Lanes}
@@ -22,6 +22,11 @@ together lane other = record lane {
 abbrev pub whole : Lanes → LaneValue
 whole (One lane worker) = lane
 whole (Halves' at p left q right) = together (whole left) (whole right)
+
+-- it is a single lane
+abbrev pub IsOne : Lanes → Type 0
+IsOne (One lane worker) = ⊤
+IsOne (Halves' at p left q right) = ⊥
 
 -- a lane that has done nothing
 pub record HasNothing (lane : LaneValue) : Type 0 where

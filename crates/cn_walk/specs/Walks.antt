@@ -1,5 +1,7 @@
 -- What a walk of clients makes of a lane.
-use Rattle.std.specs.Prelude.{◌≡◌, ℕ, ◌+◌, ◌-◌, ◌*◌, ◌++◌, ◌==◌, List, count_by, length, map, sum_by}
+use Rattle.std.specs.Prelude.{◌≡◌, ℕ, ◌+◌, ◌-◌, ◌*◌, ◌≤◌, ◌++◌, ◌==◌, List, count_by, length, map, sum_by}
+use Rattle.std.specs.List.{range_with_len}
+use Rattle.cn_spec.specs.Step.{IsEachBelow}
 use Rattle.cn_spec.specs.Sums.{sum_below}
 use Rattle.cn_ledger.specs.declared.client.Client.{Client}
 use Rattle.cn_yard.specs.Lists.{on, tokens_in}
@@ -22,6 +24,25 @@ pub record WalksAll (old new : LaneValue) (clients : List Client) : Type 0 where
   pub entries : new.view.entries ≡ old.view.entries ++ map (λ c. c.entry) clients
   pub seen : new.view.seen ≡ old.view.seen
   pub grants : (more : List Grant) × (new.view.grants ≡ old.view.grants ++ more) × AreFor clients more
+
+-- ---- in their order
+
+-- the grants are the clients' in their order, with the names from one on in theirs
+pub record AreInOrder (from : ℕ) (clients : List Client) (grants : List Grant) : Type 0 where
+  pub clients_are : map (λ g. g.client) grants ≡ map (λ c. c.id) clients
+  pub names_are : map (λ g. g.name) grants ≡ range_with_len from (length clients)
+
+-- so are the grants that a lane has more
+abbrev pub GrantsInOrder : LaneValue → LaneValue → List Client → Type 0
+GrantsInOrder old new clients =
+    (more : List Grant) × (new.view.grants ≡ old.view.grants ++ more)
+    × AreInOrder (length old.view.grants) clients more
+
+-- nobody comes in by another lane: this one has the whole quota of its floor, spent or not; and its names are those
+-- below the number of its grants, each once
+pub record IsSole (lane : LaneValue) : Type 0 where
+  pub quota : lane.home.start.quota ≤ lane.view.quota + length lane.view.entries
+  pub names : IsEachBelow (length lane.view.grants) (map (λ g. g.name) lane.view.grants)
 
 -- ---- while they walk
 

@@ -2,8 +2,8 @@
 
 ghost use Rattle.std.specs.Prelude.{◌≡◌, ◌+◌, ◌-◌, ◌*◌, ◌/◌, ◌<◌, ◌≤◌, All, IfSome, length};
 ghost use Rattle.cn_spec.specs.declared.limits.TheConstants.{MOST_CLIENTS};
-ghost use Rattle.cn_walk.specs.Halves.{AreOf, AreReady, HasNothing, IsPair, MayWalk, first_position, whole};
-ghost use Rattle.cn_walk.specs.Walks.{WalksAll};
+ghost use Rattle.cn_walk.specs.Halves.{AreOf, AreReady, HasNothing, IsOne, IsPair, MayWalk, first_position, whole};
+ghost use Rattle.cn_walk.specs.Walks.{GrantsInOrder, IsSole, WalksAll};
 ghost use denote.Param.Send.{IsSync};
 
 use crate::crew::Crew;
@@ -102,7 +102,9 @@ pub(crate) fn walk_lanes<F: SharedFloor + Sync, G: Gate + Sync, R: Threads + Wai
     requires entries { All (λ c.
         c.entry < (F.home floor.now).start.network.table.entries) clients.now }
     requires hand { 0 < crew.hand }
-    ensures { WalksAll (whole lanes) result clients.now }
+    ensures walked { WalksAll (whole lanes) result clients.now }
+    ensures in_order { crew.hand ≡ 1 → IsOne lanes → IsSole (whole lanes)
+        → GrantsInOrder (whole lanes) result clients.now }
 {
     match lanes {
         Lanes::One(lane, worker) => {

@@ -9,7 +9,7 @@ mod walking;
 
 pub use cn_floor::{
     CloseFault, ClosedFloor, Floor, Gate, Grant, JoinFault, Lane, LaneFault, Leftovers, Moment,
-    OpenFault, OpenGate, Opening, Passage, Quiet, SplitFault, Start, Sweep, View, Words,
+    OpenFault, OpenGate, Opening, Passage, Quiet, Receipts, SplitFault, Start, Sweep, View, Words,
 };
 pub use crew::Crew;
 pub use runner::Runner;

@@ -5,6 +5,7 @@ ghost use Rattle.cn_spec.specs.declared.limits.TheConstants.{MOST_CARRIED};
 ghost use Rattle.cn_floor.specs.Carried.{client_count, words_before, zero_words};
 ghost use Rattle.cn_walk.specs.Runner.{next_runner};
 ghost use Rattle.cn_walk.specs.Runs.{IsRefused, IsRunAfter, MayRun};
+ghost use Rattle.cn_walk.specs.Walks.{AreInOrder};
 
 use crate::crew::Crew;
 use crate::running::{RunFault, may_run, walk_floor};
@@ -77,6 +78,8 @@ impl<'a> Runner<'a> {
     ) -> (Runner<'a>, Result<ClosedFloor<'a>, RunFault>)
         requires few { client_count self.words ≤ MOST_CARRIED }
         ensures run { IfOk result.1 (λ closed. IsRunAfter self.entry.words clients.now closed) }
+        ensures in_order { crew.workers ≡ 1 → crew.hand ≡ 1
+            → IfOk result.1 (λ closed. AreInOrder 0 clients.now closed.did.grants) }
         ensures next { IfOk result.1 (λ closed. result.0 ≡ next_runner self.entry closed) }
         ensures back { OnErr result.1 (result.0 ≡ self.entry) }
         ensures refused { IfErr result.1 (IsRefused self.entry.words.network.table.entries
@@ -109,6 +112,8 @@ fn walk_after<'a, G: Gate + Sync, R: Threads + Wait + Sync>(
     requires few { client_count leftovers ≤ MOST_CARRIED }
     requires allowed { MayRun leftovers.network.table.entries clients.now crew.workers crew.hand }
     ensures run { IfOk result (λ r. IsRunAfter leftovers.entry clients.now r.0) }
+    ensures in_order { crew.workers ≡ 1 → crew.hand ≡ 1
+        → IfOk result (λ r. AreInOrder 0 clients.now r.0.did.grants) }
     ensures began { IfOk result (λ r. words_before r.0.start ≡ leftovers.entry) }
     ensures leftovers { IfOk result (λ r. r.1 ≡ leftovers.entry) }
     ensures back { IfErr result (λ back. back ≡ leftovers.entry) }

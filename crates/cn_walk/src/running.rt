@@ -5,6 +5,7 @@ ghost use Rattle.cn_spec.specs.declared.limits.TheConstants.{MOST_CARRIED};
 ghost use Rattle.cn_floor.specs.Carried.{client_count, words_before, zero_words};
 ghost use Rattle.cn_floor.specs.Lane.{IsIdle, empty_lane};
 ghost use Rattle.cn_walk.specs.Runs.{IsRefused, IsRun, IsRunAfter, MayRun};
+ghost use Rattle.cn_walk.specs.Walks.{AreInOrder};
 
 use crate::crew::Crew;
 use crate::forking::{make_lanes, walk_lanes};
@@ -76,6 +77,8 @@ pub(crate) fn walk_floor<'a, G: Gate + Sync, R: Threads + Wait + Sync>(
     requires quota { floor.start.quota ≡ length clients.now }
     requires allowed { MayRun floor.start.network.table.entries clients.now crew.workers crew.hand }
     ensures run { IfOk result (λ r. IsRunAfter (words_before floor.entry.start) clients.now r.0) }
+    ensures in_order { crew.workers ≡ 1 → crew.hand ≡ 1
+        → IfOk result (λ r. AreInOrder 0 clients.now r.0.did.grants) }
     ensures began { IfOk result (λ r. words_before r.0.start ≡ words_before floor.entry.start) }
     ensures leftovers { IfOk result (λ r. r.1 ≡ words_before floor.entry.start) }
     ensures back { IfErr result (λ back. back ≡ words_before floor.entry.start) }
@@ -120,6 +123,8 @@ fn walk_to_quiet<'a, G: Gate + Sync, R: Threads + Wait + Sync>(
     requires allowed { MayRun floor.start.network.table.entries clients.now crew.workers crew.hand }
     ensures run { IfOk result (λ quiet.
         IsRunAfter (words_before floor.entry.start) clients.now quiet) }
+    ensures in_order { crew.workers ≡ 1 → crew.hand ≡ 1
+        → IfOk result (λ quiet. AreInOrder 0 clients.now quiet.did.grants) }
     ensures refused { IfErr result (λ fault. fault ≡ RunFault.Memory) }
 {
     match walk_floor(rt, alloc, floor, lane, clients, crew, gate) {
@@ -140,6 +145,8 @@ fn walk_to_quiet<'a, G: Gate + Sync, R: Threads + Wait + Sync>(
 /// It returns only if the gate lets each worker on. A gate that waits for another worker may never do so, if that
 /// worker gets no thread. It is [`run_epoch_after`] of words that are all 0.
 ///
+/// By one worker with one client in hand the clients get the names from 0 up in their order.
+///
 /// # Errors
 /// The first that stands: `Workers`, `Hand`, `TooMany`, `NoSuchEntry`, `Memory`. Then no worker is left running.
 pub fn run_epoch<'a, G: Gate + Sync, R: Threads + Wait + Sync>(
@@ -152,6 +159,8 @@ pub fn run_epoch<'a, G: Gate + Sync, R: Threads + Wait + Sync>(
     gate: &G,
 ) -> Result<Quiet<'a>, RunFault>
     ensures run { IfOk result (λ quiet. IsRun network.now clients.now quiet) }
+    ensures in_order { workers ≡ 1 → hand ≡ 1
+        → IfOk result (λ quiet. AreInOrder 0 clients.now quiet.did.grants) }
     ensures zero { IfOk result (λ quiet. IsRunAfter (zero_words network.now) clients.now quiet) }
     ensures refused { IfErr result (λ fault.
         IsRefused network.now.table.entries clients.now workers hand fault) }
@@ -186,6 +195,8 @@ pub fn run_epoch_after<'a, G: Gate + Sync, R: Threads + Wait + Sync>(
 ) -> Result<Quiet<'a>, RunFault>
     requires few { client_count words.now ≤ MOST_CARRIED }
     ensures run { IfOk result (λ quiet. IsRunAfter words.now clients.now quiet) }
+    ensures in_order { workers ≡ 1 → hand ≡ 1
+        → IfOk result (λ quiet. AreInOrder 0 clients.now quiet.did.grants) }
     ensures refused { IfErr result (λ fault.
         IsRefused words.now.network.table.entries clients.now workers hand fault) }
     ensures allowed { OnOk result (MayRun words.now.network.table.entries clients.now workers hand) }

@@ -2,7 +2,8 @@
 
 ghost use Rattle.std.specs.Prelude.{◌≡◌, ℕ, ◌+◌, ◌<◌, ◌≤◌, [], All, length};
 ghost use Rattle.cn_yard.specs.Lists.{IsLowest, tokens_in};
-ghost use Rattle.cn_walk.specs.Walks.{WalksAll, Walks, inside_by, steps_left};
+ghost use Rattle.cn_floor.specs.Steps.{HasMoment};
+ghost use Rattle.cn_walk.specs.Walks.{GrantsInOrder, IsSole, WalksAll, Walks, inside_by, steps_left};
 
 use cn_floor::{Floor, Gate, Lane, Moment, pass_alone};
 use cn_ledger::Client;
@@ -24,7 +25,8 @@ fn walk_in<'a, G: Gate, R: Wait>(
     requires quota { length clients.now ≤ lane.old.view.quota }
     requires room { length clients.now ≤ lane.old.room }
     requires hand { tokens_in lane.old.yard.lists + length clients.now ≤ _hand }
-    ensures { Walks lane.old lane.new clients.now }
+    ensures walked { Walks lane.old lane.new clients.now }
+    ensures moment { 0 < length clients.now → HasMoment floor.now.start lane.new.view }
 {
     floor.start_laws();
     for client in clients {
@@ -68,6 +70,7 @@ fn walk_out<'a, G: Gate, R: Wait>(rt: &R, floor: &Floor<'a>, lane: &mut Lane, ga
     ensures walked { Walks lane.old lane.new [] }
     ensures out { tokens_in lane.new.yard.lists ≡ 0 }
     ensures nobody { (f : ℕ → ℕ) → inside_by f lane.new.view ≡ 0 }
+    ensures moment { HasMoment floor.now.start lane.old.view → HasMoment floor.now.start lane.new.view }
 {
     lane.lane_laws();
     let mut from = 0;
@@ -92,6 +95,9 @@ fn walk_out<'a, G: Gate, R: Wait>(rt: &R, floor: &Floor<'a>, lane: &mut Lane, ga
 /// Nobody is inside before; the lane's room and quota are at least the number of clients, each entry is one of the
 /// network's, and `hand` is at least 1. It takes no memory and refuses nothing, but returns only if the gate lets it
 /// on.
+///
+/// With one client in hand, in a lane that has the whole quota of its floor, the clients get the next names in their
+/// order.
 pub fn walk_all<'a, G: Gate, R: Wait>(
     rt: &R,
     floor: &Floor<'a>,
@@ -107,8 +113,10 @@ pub fn walk_all<'a, G: Gate, R: Wait>(
     requires quota { length clients.now ≤ lane.view.quota }
     requires room { length clients.now ≤ lane.room }
     requires hand { 0 < hand }
-    ensures { WalksAll lane result clients.now }
+    ensures walked { WalksAll lane result clients.now }
+    ensures in_order { hand ≡ 1 → IsSole lane → GrantsInOrder lane result clients.now }
 {
+    floor.start_laws();
     lane.lane_laws();
     let mut rest = clients;
     while !rest.is_empty() {

@@ -1,6 +1,6 @@
 //! A closed floor, before anybody asks what has risen.
 
-ghost use Rattle.std.specs.Prelude.{◌≡◌, IfOk, length};
+ghost use Rattle.std.specs.Prelude.{◌≡◌, IfOk, [], ◌∷◌, length};
 ghost use Rattle.cn_floor.specs.Carried.{words_before};
 ghost use Rattle.cn_floor.specs.Ends.{IsClosedFloor, ListsHolders};
 ghost use Rattle.cn_floor.specs.Words.{word_count};
@@ -11,6 +11,7 @@ use super::leftovers::Leftovers;
 use super::network_ref::NetworkRef;
 use super::quiet::Quiet;
 use super::reading::copy_words;
+use super::receipts::Receipts;
 use super::words::Words;
 use super::zeros;
 use crate::view::Grant;
@@ -63,6 +64,13 @@ impl<'a> ClosedFloor<'a> {
     {
         self.closed_laws();
         put_holders(self.grants.as_slice(), holders);
+    }
+
+    /// That it was closed.
+    pub fn receipt(&self) -> Receipts
+        ensures { result ≡ self.now ∷ [] }
+    {
+        Receipts::of_one(&self.lane, &self.table, &self.stride)
     }
 
     /// Copies its words over a list of as many.

@@ -1,4 +1,4 @@
-use Rattle.std.proofs.Common.{rules, ◌≡◌, ◌≤◌, ◌+◌, ◌-◌, ◌∷◌, ◌++◌, [], ℕ, Bool, List, ap, arith, drop, length, subst, sym, take, ◌∙◌}
+use Rattle.std.proofs.Common.{rules, ◌≡◌, ◌≤◌, ◌+◌, ◌-◌, ◌∷◌, ◌++◌, [], ℕ, Bool, List, ap, arith, drop, length, refl, subst, sym, take, ◌∙◌}
 use Rattle.std.proofs.lemmas.Grind.{common_steps}
 use Rattle.std.proofs.lemmas.List.{length-drop, length-take-le}
 use Rattle.std.proofs.lemmas.List.Sums.{sum_by_push, sum_by-take-le}
@@ -6,12 +6,18 @@ use Rattle.std.proofs.lemmas.Slice.{take-put_mid}
 use borrow.Rule.Slice.PartMut.{put_mid, same_len_mid}
 use Rattle.cn_spec.specs.Sums.{when}
 use Rattle.cn_wiring.specs.Network.{Network}
-use Rattle.cn_floor.specs.Carried.{client_count}
+use Rattle.cn_floor.specs.Carried.{WordsValue, client_count}
+use Rattle.cn_floor.specs.Ends.{QuietValue}
+use Rattle.cn_walk.specs.Runner.{RunnerValue, next_words}
 use Rattle.cn_report.specs.Reading.Batch.{clients_of_epochs}
 use Rattle.cn_report.specs.declared.reading.batch.BatchEpoch.{BatchEpoch}
+use Rattle.cn_renamer.specs.Floors.{AreHoldersOnFloor, AreHoldersOnFloors, HasRunEpoch, words_after_floors}
 use Rattle.cn_renamer.specs.Running.{AreHoldersOf, AreHoldersOfOne}
+use Rattle.cn_renamer.proofs.Floors.{held-next, none-held, words-more}
 use Rattle.cn_renamer.proofs.Headline.{as-many, when-more}
-use Rattle.cn_renamer.proofs.Running.{listed-next, none-listed}
+use Rattle.std.specs.List.{flat_map}
+use Rattle.cn_renamer.specs.Headline.{ids_of}
+use Rattle.cn_renamer.proofs.Running.{ids-next, listed-next, none-listed}
 use Rattle.cn_renamer.proofs.epochs.run_in_turn.Goals as goal
 
 pub loop-epoch-init : goal.loop-epoch-init
@@ -22,6 +28,10 @@ loop-epoch-init g c = record {
   at = search rules;
   places = c.requires.epochs.all;
   listed = none-listed c.args.first.carries c.args.first.words.network.table.width;
+  after = ap (words_after_floors c.args.first.carries c.args.first.words) (sym c.none-receipts.ensures);
+  floors = subst (λ (fs : List QuietValue). AreHoldersOnFloors c.args.first.carries c.args.first.words [] fs []) (sym c.none-receipts.ensures)
+      (none-held c.args.first.carries c.args.first.words);
+  ordered = λ worker hand. refl;
 }
 
 pub loop-epoch-preserved : goal.loop-epoch-preserved
@@ -51,6 +61,13 @@ loop-epoch-preserved g c =
     let listed : AreHoldersOf carry width (take i epochs ++ epoch ∷ []) (take at old ++ own) =
     subst (λ (xs : List ℕ). AreHoldersOf carry width (take i epochs ++ epoch ∷ []) (take at old ++ xs)) one.listed
     (listed-next carry width (take i epochs) epoch one.made (take at old) before.listed one.served) in
+    let began : WordsValue = c.args.first.words in
+    let receipts : List QuietValue = c.loop-epoch.receipts in
+    let ran : HasRunEpoch c.loop-epoch.runner c.in_ok-next.next epoch c.in_ok-next.receipt own = c.in_ok-next.ensures.floor in
+    let grown : receipts ++ ran.floor ∷ [] ≡ c.and-receipts.result = ap (λ (fs : List QuietValue). receipts ++ fs) (sym ran.receipt) ∙ sym c.and-receipts.ensures in
+    let held : AreHoldersOnFloors carry began (take i epochs ++ epoch ∷ []) (receipts ++ ran.floor ∷ []) (take at old ++ own) =
+    held-next carry began (take i epochs) receipts (take at old) epoch ran.floor own before.floors
+    (subst (λ (w : WordsValue). AreHoldersOnFloor w epoch ran.floor own) before.after ran.walked) in
     record {
       network = c.in_ok-next.ensures.network ∙ before.network;
       carries = c.in_ok-next.ensures.carries ∙ before.carries;
@@ -65,4 +82,15 @@ loop-epoch-preserved g c =
           ∙ before.places;
       listed = subst (λ (es : List BatchEpoch). AreHoldersOf carry width es (take (at + c.len.result) put)) front
           (subst (λ (xs : List ℕ). AreHoldersOf carry width (take i epochs ++ epoch ∷ []) xs) (sym written) listed);
+      after = ap (λ (r : RunnerValue). r.words) ran.goes_on
+          ∙ (λ x. next_words (before.carries x) (before.after x) ran.floor)
+          ∙ sym (words-more carry began receipts ran.floor)
+          ∙ ap (words_after_floors carry began) grown;
+      floors = subst (λ (es : List BatchEpoch). AreHoldersOnFloors carry began es c.and-receipts.result (take (at + c.len.result) put)) front
+          (subst (λ (xs : List ℕ). AreHoldersOnFloors carry began (take i epochs ++ epoch ∷ []) c.and-receipts.result xs) (sym written)
+          (subst (λ (fs : List QuietValue). AreHoldersOnFloors carry began (take i epochs ++ epoch ∷ []) fs (take at old ++ own)) grown held));
+      ordered = λ worker hand.
+          let order : own ≡ ids_of epoch = c.in_ok-next.ensures.in_order
+          (c.crew_for-workers.ensures.one worker) (c.crew_for-workers.ensures.hand ∙ hand) in
+          written ∙ (λ x. before.ordered worker hand x ++ order x) ∙ sym (ids-next (take i epochs) epoch) ∙ ap (λ (es : List BatchEpoch). flat_map ids_of es) front;
     }

@@ -2,14 +2,14 @@ use Rattle.std.proofs.Common.{◌≡◌, ℕ, ◌-◌, List, length, sym, ap, �
 use Rattle.std.specs.Prelude.{IfOk}
 use Rattle.cn_ledger.specs.declared.client.Client.{Client}
 use Rattle.cn_walk.specs.declared.forking.Lanes.{Lanes}
-use Rattle.cn_walk.specs.Halves.{AreReady, IsReady, together, whole}
+use Rattle.cn_walk.specs.Halves.{AreReady, IsOne, IsReady, together, whole}
 use Rattle.cn_floor.specs.Lane.{FloorValue, LaneValue}
 use Rattle.cn_walk.specs.Walks.{WalksAll}
 use Rattle.cn_walk.proofs.Halves.{both-walked, whole-ready}
 use Rattle.cn_walk.proofs.forking.+fn-walk_lanes-join+arg2+fn-walk_lanes-join+arg3+walk_lanes.Goals as goal
 
-pub returns-in-Ok : goal.returns-in-Ok
-returns-in-Ok g t c =
+pub returns-in-Ok-clause-walked : goal.returns-in-Ok-clause-walked
+returns-in-Ok-clause-walked g t c =
     let left = c.into_inner-left.ensures in
     let right = c.into_inner-right.ensures in
     let a : LaneValue = whole c.into_inner-left.result in
@@ -27,3 +27,6 @@ returns-in-Ok g t c =
     subst (λ (l : LaneValue). WalksAll l c.in-Ok.lane c.args.clients.now) (sym lanes)
     (subst (λ (l : LaneValue). WalksAll (together a b) l c.args.clients.now) (sym joined)
     (subst (λ (xs : List Client). WalksAll (together a b) (together c.join-lane.result.0 c.join-lane.result.1) xs) (sym cut) done))
+
+pub returns-in-Ok-clause-in_order : goal.returns-in-Ok-clause-in_order
+returns-in-Ok-clause-in_order g t c one alone sole = absurd (subst IsOne c.in-Halves.is alone)

@@ -1,9 +1,11 @@
-use Rattle.std.proofs.Common.{rules, ℕ, arith, length, subst}
+use Rattle.std.proofs.Common.{rules, ℕ, arith, length, subst, sym}
 use Rattle.cn_floor.specs.declared.floor.closing.CloseFault.{CloseFault}
 use Rattle.cn_floor.specs.Closing.{IsCloseRefused}
 use Rattle.cn_walk.specs.Halves.{AreReady, whole}
-use Rattle.cn_walk.proofs.Halves.{whole-ready}
-use Rattle.cn_walk.proofs.Runs.{all-first, all-theirs, new-nothing, none-missing, ran}
+use Rattle.cn_floor.specs.declared.view.View.{View}
+use Rattle.cn_walk.specs.Walks.{AreInOrder}
+use Rattle.cn_walk.proofs.Halves.{one-worker, whole-ready}
+use Rattle.cn_walk.proofs.Runs.{all-first, all-in-order, all-theirs, new-nothing, new-sole, none-missing, ran}
 use Rattle.cn_walk.proofs.running.walk_floor.Goals as goal
 
 pub make_lanes-requires-clause-nothing : goal.make_lanes-requires-clause-nothing
@@ -18,7 +20,7 @@ unreachable-requires-in-Err-LanesMissing g c =
     let k : ℕ = length c.args.clients.now in
     let ready = subst (λ (n : ℕ). AreReady c.args.floor n c.in-Some.lanes) (all-first k c.args.crew.workers (search rules)) c.in-Some.ensures.ready in
     let none = (whole-ready c.args.floor k c.in-Some.lanes ready).nothing in
-    let theirs = (all-theirs (whole c.in-Some.lanes) c.walk_lanes-lane.result c.args.clients.now none c.walk_lanes-lane.ensures).1 in
+    let theirs = (all-theirs (whole c.in-Some.lanes) c.walk_lanes-lane.result c.args.clients.now none c.walk_lanes-lane.ensures.walked).1 in
     let why = subst (λ (f : CloseFault). IsCloseRefused c.args.floor c.walk_lanes-lane.result f) c.in-Err-LanesMissing.field-0-is c.in-Err-LanesMissing.ensures.refused in
     none-missing c.args.floor.start c.walk_lanes-lane.result.view c.in-Err-LanesMissing._entered why.3
     (omega (arith, theirs.as_many, c.requires.quota))
@@ -29,4 +31,12 @@ returns-in-Ok-clause-run g c =
     let ready = subst (λ (n : ℕ). AreReady c.args.floor n c.in-Some.lanes) (all-first k c.args.crew.workers (search rules)) c.in-Some.ensures.ready in
     let none = (whole-ready c.args.floor k c.in-Some.lanes ready).nothing in
     let quiet = c.in-Ok.ensures.closed in
-    ran c.in-Ok.closed c.args.floor.start (whole c.in-Some.lanes) c.walk_lanes-lane.result c.args.clients.now quiet.0 c.closed_laws.ensures quiet.1 none c.walk_lanes-lane.ensures
+    ran c.in-Ok.closed c.args.floor.start (whole c.in-Some.lanes) c.walk_lanes-lane.result c.args.clients.now quiet.0 c.closed_laws.ensures quiet.1 none c.walk_lanes-lane.ensures.walked
+
+pub returns-in-Ok-clause-in_order : goal.returns-in-Ok-clause-in_order
+returns-in-Ok-clause-in_order g c worker hand =
+    let k : ℕ = length c.args.clients.now in
+    let ready = whole-ready c.args.floor k c.in-Some.lanes (subst (λ (n : ℕ). AreReady c.args.floor n c.in-Some.lanes) (all-first k c.args.crew.workers (search rules)) c.in-Some.ensures.ready) in
+    let alone = one-worker k c.args.crew.workers 0 c.args.crew.workers c.in-Some.lanes (omega (arith, worker)) c.in-Some.ensures.workers in
+    let order = c.walk_lanes-lane.ensures.in_order hand alone (new-sole c.args.floor k (whole c.in-Some.lanes) c.requires.quota ready) in
+    subst (λ (v : View). AreInOrder 0 c.args.clients.now v.grants) (sym c.in-Ok.ensures.closed.1) (all-in-order (whole c.in-Some.lanes) c.walk_lanes-lane.result c.args.clients.now ready.nothing order)

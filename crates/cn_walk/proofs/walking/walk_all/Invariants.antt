@@ -1,7 +1,7 @@
 use Rattle.std.proofs.Common.{◌≡◌, ℕ, ◌<◌, ◌≤◌, All, length}
 use Rattle.cn_yard.specs.Lists.{tokens_in}
 use Rattle.cn_floor.specs.Lane.{LaneValue}
-use Rattle.cn_walk.specs.Walks.{Walks, inside_by}
+use Rattle.cn_walk.specs.Walks.{GrantsInOrder, IsSole, Walks, inside_by}
 use Rattle.cn_walk.proofs.walking.walk_all.Given as goal
 
 -- those that are left make the whole walk
@@ -14,6 +14,7 @@ invariant-loop-rest g l = record {
   quota : length l.rest ≤ l.lane.view.quota;
   room : length l.rest ≤ l.lane.room;
   walks : (last : LaneValue) → Walks l.lane last l.rest → Walks l.initial.lane last l.clients;
+  ordered : l.hand ≡ 1 → IsSole l.initial.lane → IsSole l.lane × ((last : LaneValue) → GrantsInOrder l.lane last l.rest → GrantsInOrder l.initial.lane last l.clients);
 }
 
 abbrev pub decreases-loop-rest : goal.decreases-loop-rest

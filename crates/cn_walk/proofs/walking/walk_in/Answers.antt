@@ -1,15 +1,25 @@
-use Rattle.std.proofs.Common.{rules, ◌<◌, ◌∙◌, ap, subst, sym}
+use Rattle.std.proofs.Common.{rules, ◌<◌, ◌∙◌, ap, subst, sym, arith}
 use Rattle.cn_wiring.specs.Table.{IsWellFormed}
 use Rattle.cn_floor.specs.Lane.{FloorValue}
-use Rattle.cn_walk.proofs.Walks.{IsHeld, comes, comes-next}
+use Rattle.cn_floor.specs.Steps.{HasMoment}
+use Rattle.cn_walk.proofs.Ordered.{moment-after}
+use Rattle.cn_walk.proofs.Walks.{IsHeld, comes, comes-next, stays}
 use Rattle.cn_walk.proofs.walking.walk_in.Goals as goal
+
+pub loop-client-init : goal.loop-client-init
+loop-client-init g c = record { walks = stays c.args.lane.now; moment = λ low. absurd (omega (arith, low)) }
 
 pub loop-client-preserved : goal.loop-client-preserved
 loop-client-preserved g c =
     let laws = c.lane_laws.ensures in
+    let was = c.loop-client.invariant in
     let held : IsHeld c.loop-client.lane = record { start = laws.start; tokens = laws.tokens; wires = laws.wires; once = laws.once; there = laws.there } in
-    let home = ap (λ (h : FloorValue). h.start.network.table.entries) (c.loop-client.invariant.home ∙ c.requires.own) in
+    let home = ap (λ (h : FloorValue). h.start.network.table.entries) (was.walks.home ∙ c.requires.own) in
     let formed : IsWellFormed c.loop-client.lane.home.start.network.table =
-    subst (λ (h : FloorValue). IsWellFormed h.start.network.table) (sym (c.loop-client.invariant.home ∙ c.requires.own)) c.start_laws.ensures.network.formed in
+    subst (λ (h : FloorValue). IsWellFormed h.start.network.table) (sym (was.walks.home ∙ c.requires.own)) c.start_laws.ensures.network.formed in
     let some : 0 < c.loop-client.lane.view.quota = search rules in
-    comes-next _ _ _ _ (record { id = 0; entry = 0 }) _ c.loop-client-test.true c.loop-client.invariant (comes _ _ _ _ _ formed held some (search rules) c.in-Ok.ensures.ok)
+    let came = c.in-Ok.ensures.ok in
+    record {
+      walks = comes-next _ _ _ _ (record { id = 0; entry = 0 }) _ c.loop-client-test.true was.walks (comes _ _ _ _ _ formed held some (search rules) came);
+      moment = λ _. subst (λ (h : FloorValue). HasMoment h.start c.enter.new.lane.view) (was.walks.home ∙ c.requires.own) (moment-after _ _ _ _ came.step);
+    }

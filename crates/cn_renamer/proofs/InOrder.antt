@@ -1,0 +1,90 @@
+-- A run whose names follow the order of the batch has one text.
+use Rattle.std.proofs.Common.{◌≡◌, ℕ, ◌+◌, Bool, List, [], ◌∷◌, ◌++◌, length, map, sum_by, ap, sym, refl, arith, ◌∙◌}
+use Rattle.std.specs.List.{AllZip, flat_map}
+use Rattle.std.proofs.lemmas.List.{length-map}
+use Rattle.std.proofs.lemmas.List.Sums.{sum_by-cons}
+use Rattle.cn_spec.specs.Step.{shares_after}
+use Rattle.cn_spec.specs.Sums.{when}
+use Rattle.cn_wiring.specs.Network.{Network}
+use Rattle.cn_ledger.specs.declared.client.Client.{Client}
+use Rattle.cn_record.specs.declared.record.EpochRecord.{EpochRecord}
+use Rattle.cn_report.specs.Reading.Batch.{plain_epoch}
+use Rattle.cn_report.specs.declared.reading.batch.BatchEpoch.{BatchEpoch}
+use Rattle.cn_report.specs.Writing.Grants.{grant_lines, grants_header}
+use Rattle.cn_report.specs.Writing.Outcome.{exit_lines, name_lines}
+use Rattle.cn_report.specs.Writing.Report.{epoch_line, epoch_lines, report_end}
+use Rattle.cn_report.specs.Writing.Text.{heading}
+use Rattle.cn_nets.specs.Net.{Description}
+use Rattle.cn_nets.proofs.CallerLemmas.{one-network}
+use Rattle.cn_cli.specs.declared.options.Form.{Form}
+use Rattle.cn_cli.specs.declared.options.Form.TheVariants.{Report, Grants}
+use Rattle.cn_renamer.specs.Headline.{AreServed, IsInOrder, IsRunInOrder, text_in}
+
+-- what texts show of a record
+record Told : Type 0 where
+  number : ℕ
+  clients : ℕ
+  counts : List ℕ
+  holders : List ℕ
+
+abbrev told : EpochRecord → Told
+told r = record { number = r.number; clients = r.clients; counts = r.counts.items; holders = r.holders.items }
+
+abbrev told_lines : ℕ → Told → List ℕ
+told_lines width t = epoch_line t.number t.clients ++ (exit_lines width t.counts ++ name_lines t.clients t.holders)
+
+abbrev told_grants : Told → List ℕ
+told_grants t = grant_lines t.number t.clients t.holders
+
+abbrev told_text : Form → Network → List Told → List ℕ
+told_text Report network ts = heading network ++ flat_map (told_lines network.table.width) ts ++ report_end (length ts) (sum_by (λ (t : Told). t.clients) ts)
+told_text Grants network ts = grants_header ++ flat_map told_grants ts
+
+flat-told : (g : EpochRecord → List ℕ) (f : Told → List ℕ) → ((r : EpochRecord) → g r ≡ f (told r)) → (records : List EpochRecord) → flat_map g records ≡ flat_map f (map told records)
+flat-told g f same [] = refl
+flat-told g f same (r ∷ records) = λ i. same r i ++ flat-told g f same records i
+
+sum-told : (records : List EpochRecord) → sum_by (λ (r : EpochRecord). r.clients) records ≡ sum_by (λ (t : Told). t.clients) (map told records)
+sum-told [] = refl
+sum-told (r ∷ records) =
+    omega (arith, sum_by-cons (λ (x : EpochRecord). x.clients) r records, sum_by-cons (λ (t : Told). t.clients) (told r) (map told records), sum-told records)
+
+text-told : (form : Form) (network : Network) (records : List EpochRecord) → text_in form network records ≡ told_text form network (map told records)
+text-told Report network records =
+    let lines : flat_map (epoch_lines network.table.width) records ≡ flat_map (told_lines network.table.width) (map told records) =
+    flat-told (epoch_lines network.table.width) (told_lines network.table.width) (λ r. refl) records in
+    λ i. heading network ++ lines i ++ report_end (sym (length-map records told) i) (sum-told records i)
+text-told Grants network records =
+    ap (λ (xs : List ℕ). grants_header ++ xs) (flat-told (λ r. grant_lines r.number r.clients r.holders.items) told_grants (λ r. refl) records)
+
+-- it follows from the batch
+abbrev told_of : Bool → ℕ → ℕ → List (ℕ × List Client) → List Told
+told_of carry w m [] = []
+told_of carry w m (e ∷ epochs) =
+    record { number = e.0; clients = length e.1; counts = shares_after m (length e.1) w; holders = map (λ (c : Client). c.id) e.1 }
+    ∷ told_of carry w (when carry (m + length e.1)) epochs
+
+told-served : (carry : Bool) (w m : ℕ) (epochs : List BatchEpoch) (records : List EpochRecord) → AreServed carry w m epochs records → AllZip IsInOrder epochs records
+    → map told records ≡ told_of carry w m (map plain_epoch epochs)
+unfolding AreServed
+told-served carry w m [] [] served ordered = refl
+told-served carry w m [] (r ∷ records) served ordered = absurd served
+told-served carry w m (e ∷ epochs) [] served ordered = absurd served
+told-served carry w m (e ∷ epochs) (r ∷ records) (one, rest) (order, others) =
+    let counts : r.counts.items ≡ shares_after m (length e.clients.items) w = one.counts ∙ ap (λ (k : ℕ). shares_after m k w) one.clients in
+    λ i. record { number = one.number i; clients = one.clients i; counts = counts i; holders = order i }
+    ∷ told-served carry w (when carry (m + length e.clients.items)) epochs records rest others i
+
+pub one-text-in-order : (net : Description) (form : Form) (carry : Bool) (bytes text other : List ℕ) (one : IsRunInOrder net form carry bytes text) (another : IsRunInOrder net form carry bytes other)
+    → map plain_epoch one.run.epochs ≡ map plain_epoch another.run.epochs → text ≡ other
+one-text-in-order net form carry bytes text other one another same =
+    let networks = one-network net one.run.network another.run.network one.run.built another.run.built in
+    let first = told-served carry one.run.network.table.width 0 one.run.epochs one.run.records one.run.served one.ordered in
+    let second = told-served carry another.run.network.table.width 0 another.run.epochs another.run.records another.run.served another.ordered in
+    one.run.written
+    ∙ text-told form one.run.network one.run.records
+    ∙ ap (told_text form one.run.network) first
+    ∙ (λ i. told_text form (networks i) (told_of carry (networks i).table.width 0 (same i)))
+    ∙ sym (ap (told_text form another.run.network) second)
+    ∙ sym (text-told form another.run.network another.run.records)
+    ∙ sym another.run.written
