@@ -65,8 +65,8 @@ MOST = {
     LIBRARY + "handle.rt": {"std::ptr::null_mut": ANY, "unsafe": 2, "*mut": 4, "take_back": 2},
     LIBRARY + "loose.rt": {"unsafe": 3, "*mut": 1},
 }
-# The crates of which no function is proved by hand: such a proof may give ghost data any value.
-NOT_BY_HAND = ("cn_floor", "cn_walk", "cn_renamer")
+# The crates of which functions may be proved by hand: such a proof may give ghost data any value.
+BY_HAND = {"renamer_c"}
 # The words that stand nowhere else: what shares, waits or names anew and needs no path, as it is of the language or of
 # std's prelude.
 NOWHERE = ("extern", "forever", "macro_rules", "static", "unsafe", "*mut", "*const", "CondvarTimeouts", "Eprint",
