@@ -18,26 +18,26 @@ PATHS = {
 }
 FLOOR, LIBRARY = "cn_floor/src/floor/", "renamer_c/src/"
 ARC, CLOSED, SNAPSHOT = "std::sync::Arc", "atomic_table::Closed", "std::snapshot::Snapshot"
-PLACES = ("Counted", "Counted::new", "Fits", "FREE", "MARKED", "PRESENT", "TAKEN")
-# What a file, or the files of a folder, may have beside these, and how often at most. A word by itself, as that of a
-# method, is counted in all of the crate. So a floor has one table and these steps on it, lanes these places, a network
-# and a floor these owners, and ghost data is made here only.
+# What a file, or the files of a folder, may have beside these, and how often at most: paths; and words, some with the
+# dot or the colons before them, which are counted in all of the crate. So a floor has one table and these steps on it,
+# lanes these places, a network and a floor these owners, and ghost data is made here only.
 MOST = {
     # The floor's table, its kinds of steps, and the steps.
     FLOOR: {"atomic_table::Seat": ANY},
     FLOOR + "plays.rt": {f"atomic_table::{name}": times
                          for name, times in (("Join", 3), ("Play", 7), ("Split", 3), ("TableRule", 2))},
-    FLOOR + "counters.rt": {"atomic_table::Table": 2, "shared": 6, "fetch_add": 4, "join_seat": 1, "split_seat": 1,
+    FLOOR + "counters.rt": {"atomic_table::Table": 2, ".shared": 6, ".fetch_add": 4, ".join_seat": 1, ".split_seat": 1,
                             CLOSED: ANY, SNAPSHOT: ANY, SNAPSHOT + "::of": 2},
-    FLOOR + "counters/looking.rt": {"shared": 4, "load": 2, "join_seat": 1, "split_seat": 1},
-    FLOOR + "counters/spreading.rt": {"atomic_table::Table": 2, "atomic_table::Table::of_words": 2, "shared": 4},
-    FLOOR + "sharing.rt": {"split_seat": 2},
+    FLOOR + "counters/looking.rt": {".shared": 4, ".load": 2, ".join_seat": 1, ".split_seat": 1},
+    FLOOR + "counters/spreading.rt": {"atomic_table::Table": 2, "atomic_table::Table::of_words": 2, ".shared": 4},
+    FLOOR + "sharing.rt": {".split_seat": 1},
     # Its network, which several may own.
-    FLOOR + "network_ref.rt": {ARC: ANY, ARC + "::try_clone": 1, "clone": 0, "share": 1, "shared": 2},
-    FLOOR + "words.rt": {ARC: ANY, "copy": 2, "share": 2, "shared": 1, "share_network": 1},
-    FLOOR + "opening.rt": {ARC: ANY, "copy": 3},
+    FLOOR + "network_ref.rt": {ARC: ANY, ARC + "::try_clone": 1, ".clone": 0, "::clone": 0, "::share": 0,
+                               "::shared": 1},
+    FLOOR + "words.rt": {ARC: ANY, ".share": 2, "::shared": 1},
+    FLOOR + "opening.rt": {ARC: ANY, ".copy": 1},
     # Its close, and the receipts.
-    FLOOR + "closing.rt": {"share_network": 3, SNAPSHOT: ANY, SNAPSHOT + "::of": 1},
+    FLOOR + "closing.rt": {".share_network": 2, SNAPSHOT: ANY, SNAPSHOT + "::of": 1},
     FLOOR + "closed_floor.rt": {CLOSED: ANY, SNAPSHOT: ANY, "of_one": 1},
     FLOOR + "quiet.rt": {SNAPSHOT: ANY},
     FLOOR + "reading.rt": {CLOSED: ANY},
@@ -51,18 +51,18 @@ MOST = {
     "renamer/src/main.rt": {"HostRuntime": 1, "Input": 1, "Print": 1, "std::env": ANY, "std::env::Env": ANY,
                             "std::env::args": 1, "std::io::writer": 1, "std::process::ExitCode": ANY,
                             "std::process::ExitCode::from": 1},
-    # The library's places for lanes that were handed back, and who goes there.
-    LIBRARY + "floor_with_places.rt": {**{f"counted_slot::{name}": ANY for name in PLACES}, "std::hint::spin_loop": ANY,
-                                       "counted_slot::Counted": 6, "turn": 3, "load": 2, "leave": 3, "take_all": 3,
-                                       "take_from": 2, "hand_back": 1, "make_places": 1, "take_back": 1},
-    LIBRARY + "floor_share.rt": {ARC: ANY, ARC + "::get_mut": 2, ARC + "::try_clone": 1, "clone": 0, "make_places": 3,
-                                 "share": ANY, "with_places": 2},
-    LIBRARY + "held_lane.rt": {ARC: ANY, ARC + "::new": 2, "share": 2, "hand_back": 1},
-    LIBRARY + "held_lane/returning.rt": {ARC: ANY, ARC + "::try_unwrap": 1, "hand_back": 3, "take_back": 2,
+    # The library's places for lanes that were handed back, who goes there, and who owns a floor.
+    LIBRARY: {f"counted_slot::{name}": ANY for name in ("Fits", "FREE", "MARKED", "PRESENT", "TAKEN")},
+    LIBRARY + "floor_with_places.rt": {"counted_slot::Counted": 6, "counted_slot::Counted::new": 1, ".turn": 3,
+                                       ".load": 2, "leave": 3, "take_all": 3, "take_from": 2, "make_places": 1,
+                                       "std::hint::spin_loop": ANY},
+    LIBRARY + "floor_share.rt": {ARC: ANY, ARC + "::get_mut": 2, ARC + "::try_clone": 1, ".clone": 0, "::clone": 0,
+                                 "make_places": 3, "share": ANY, "with_places": 2},
+    LIBRARY + "held_lane.rt": {ARC: ANY, ARC + "::new": 2, "share": 2, ".hand_back": 1},
+    LIBRARY + "held_lane/returning.rt": {ARC: ANY, ARC + "::try_unwrap": 1, ".hand_back": 2, ".take_back": 1,
                                          "with_places": 4},
-    LIBRARY + "joining.rt": {"hand_back": 1, "take_back": 1},
-    # Handles of C.
-    LIBRARY + "handle.rt": {"std::ptr::null_mut": ANY, "unsafe": 2, "*mut": 4, "take_back": 2},
+    LIBRARY + "handle.rt": {".take_back": 1, "std::ptr::null_mut": ANY, "unsafe": 2, "*mut": 4},
+    LIBRARY + "joining.rt": {".hand_back": 1, ".take_back": 1},
     LIBRARY + "loose.rt": {"unsafe": 3, "*mut": 1},
 }
 # The crates of which functions may be proved by hand: such a proof may give ghost data any value.
@@ -88,5 +88,5 @@ def anywhere(path):
 def counted_in(place):
     """The words that a crate has only where MOST says so."""
     crate = place.partition("/")[0] + "/"
-    listed = (what for where, row in MOST.items() if where.startswith(crate) for what in row if "::" not in what)
+    listed = (what for where, row in MOST.items() if where.startswith(crate) for what in row if "::" not in what[1:])
     return dict.fromkeys((*NOWHERE, *listed), 0)

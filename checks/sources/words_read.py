@@ -73,7 +73,8 @@ class Source:
         """A path: what is not ours is listed, and is not reached by a module of ours that uses it."""
         name = "::".join(path)
         if path[0] in self.ours:
-            if "*" in path or allowed.BY_THEIR_PATH & set(path) or self.aliases & set(path[:-1]):
+            of_modules = {name for module, name in zip(path, path[1:]) if not module[0].isupper()}
+            if "*" in path or allowed.BY_THEIR_PATH & of_modules or self.aliases & set(path[:-1]):
                 self.refuse(name)
             return
         self.times[name] += 1
@@ -139,13 +140,14 @@ class Source:
         """Judges a word by those around it, and counts it."""
         before, word, after = self.words[at - 1], self.words[at], self.words[at + 1 : at + 2] or ("",)
         self.times[word + after[0] if word == "*" else word] += 1
+        if before in (".", "::"):
+            self.times[before + word] += 1
         if word == "::" and (not NAME.match(before) or before in KEYWORDS):
             self.refuse(f"{before} ::")
         if word == "mod" and after[0] in allowed.KIT:
             self.refuse(f"mod {after[0]}")
-        if word in self.counted and word == "shared" and before not in ("fn", "::"):
-            if before != "." or self.words[at + 1 : at + 3] not in allowed.OF_A_TABLE:
-                self.refuse(f"{before}shared{''.join(self.words[at + 1 : at + 3])}")
+        if before + word == ".shared" and self.words[at + 1 : at + 3] not in allowed.OF_A_TABLE:
+            self.refuse(f".shared{''.join(self.words[at + 1 : at + 3])}")
         if word == "!" and NAME.match(before) and after[0] in ("(", "[", "{") and before not in allowed.MACROS:
             self.refuse(f"{before}!")
         if word == "[" and "#" in (before, self.words[at - 2] * (before == "!")) and after[0] not in allowed.ATTRIBUTES:
