@@ -118,8 +118,10 @@ Output with `--form grants`, a grant list for `renamer check`:
 
 The clients of an epoch are shared out among K workers. Each worker brings in
 its next clients until it has H tokens in hand, walks them all out, and goes on
-so. With one worker the batch and H settle the output; with several it is open
-which client gets which name.
+so. With one worker the batch and H settle the output. By one worker with one
+token in hand (the defaults) names follow the order of the batch, and a run can
+be repeated byte for byte. With several workers it is open which client gets
+which name.
 
 With `--carry` the network's counters are not cleared between epochs. The k
 clients of an epoch after m earlier ones have the names 0 to k-1 as ever, and

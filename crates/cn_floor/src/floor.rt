@@ -47,9 +47,9 @@ pub use words::Words;
 /// client comes in, passes a balancer and leaves by one atomic add each, without a lock.
 ///
 /// A lane belongs to the floor that made it, and each call has the condition that its lanes are its own. Only
-/// [`Floor::open`] and its like, [`Floor::split`], [`Floor::split_off`], [`Floor::join`], [`Floor::close`],
-/// [`Floor::close_for`], and a [`Floor::enter`], a [`Floor::name`] or a [`Floor::name_all`] without room take memory.
-/// Lanes can be sent to threads, and a floor can be shared by them.
+/// [`Floor::open`] and its like, [`Floor::close`], [`Floor::close_for`], and a [`Floor::join`], a [`Floor::enter`], a
+/// [`Floor::name`] or a [`Floor::name_all`] without room take memory. Lanes can be sent to threads, and a floor can be
+/// shared by them.
 pub struct Floor<'a> {
     alloc: Global,
     /// How many clients came before it began.

@@ -1,163 +1,186 @@
 -- The floors on which the clients of a run walked.
-use Rattle.std.proofs.Common.{◌≡◌, ℕ, ◌+◌, Bool, true, false, ap, Option, List, [], ◌∷◌, ◌++◌, drop, length, take, refl, subst, sym, append-nil, ◌∙◌}
-use Rattle.std.specs.Prelude.{IfSome}
-use Rattle.std.specs.List.{flat_map}
+use Rattle.std.proofs.Common.{◌≡◌, ℕ, ◌+◌, ◌≤◌, All, Bool, true, false, ap, List, [], ◌∷◌, ◌++◌, drop, length, take, refl, subst, sym, arith, append-nil, ◌∙◌}
+use Rattle.std.specs.List.{AllZip, flat_map}
 use Rattle.std.proofs.lemmas.List.{drop_at, take_at}
 use Rattle.std.proofs.lemmas.List.Concat.{flat_map-append}
-use Rattle.cn_spec.specs.Step.{shares_after}
+use Rattle.std.proofs.lemmas.List.Elements.{All-head, All-tail}
+use Rattle.std.proofs.lemmas.List.Sums.{sum_by-cons}
 use Rattle.cn_spec.specs.Sums.{when}
+use Rattle.cn_spec.specs.declared.limits.TheConstants.{MOST_ENDS}
 use Rattle.cn_wiring.specs.Network.{Network}
 use Rattle.cn_record.specs.declared.record.EpochRecord.{EpochRecord}
-use Rattle.cn_floor.specs.Carried.{WordsValue, client_count, zero_words}
+use Rattle.cn_floor.specs.Carried.{WordsValue, client_count, words_before}
 use Rattle.cn_floor.specs.Ends.{ListsHolders, QuietValue}
 use Rattle.cn_floor.specs.Words.{clients_in}
-use Rattle.cn_floor.proofs.AtMoments.Openings.{none-came}
-use Rattle.cn_walk.specs.Runner.{next_words}
-use Rattle.cn_report.specs.Reading.Batch.{IsBatch}
-use Rattle.cn_report.specs.Reading.Records.{records_of}
+use Rattle.cn_walk.specs.Runner.{RunnerValue, next_runner, next_words}
+use Rattle.cn_walk.specs.Runs.{IsRunAfter}
+use Rattle.cn_walk.specs.declared.crew.Crew.{Crew}
+use Rattle.cn_report.specs.Reading.Batch.{MayCome, clients_of_epochs}
 use Rattle.cn_report.specs.declared.reading.batch.BatchEpoch.{BatchEpoch}
 use Rattle.cn_report.specs.Writing.Records.{AreRecordsOf}
-use Rattle.cn_report.specs.Writing.Written.{HasWritten, Written}
-use Rattle.cn_report.proofs.CallerLemmas.{known-map}
-use Rattle.cn_nets.specs.Net.{Description, IsNetworkOf}
-use Rattle.cn_cli.specs.declared.options.Form.{Form}
-use Rattle.cn_renamer.specs.Floors.{AreHoldersOnFloor, AreHoldersOnFloors, AreOfFloors, AreWalked, IsRunOnFloors, IsRunOnFloorsOfKnown, words_after_floors}
-use Rattle.cn_renamer.specs.Headline.{text_in}
-use Rattle.cn_renamer.specs.Running.{AreHoldersOf}
-use Rattle.cn_renamer.proofs.Headline.{written-as}
-use Rattle.cn_renamer.proofs.Running.{records-of}
+use Rattle.cn_renamer.specs.Floors.{AreOfRunner, HaveWalked, IsOfFloor, WalkedOn, runner_after}
+use Rattle.cn_renamer.specs.Headline.{AreServed, ids_of}
+use Rattle.cn_renamer.proofs.Served.{IsMadeOf, made-of}
 
--- the words after one more floor
-pub words-more : (carry : Bool) (before : WordsValue) (floors : List QuietValue) (floor : QuietValue)
-    → words_after_floors carry before (floors ++ floor ∷ []) ≡ next_words carry (words_after_floors carry before floors) floor
-words-more carry before [] floor = refl
-words-more carry before (f ∷ floors) floor = words-more carry (next_words carry before f) floors floor
+-- ---- one after another
 
--- one more epoch
-walked-more : (carry : Bool) (before : WordsValue) (epochs : List BatchEpoch) (floors : List QuietValue) (lists : List (List ℕ)) (e : BatchEpoch) (floor : QuietValue) (h : List ℕ)
-    → AreWalked carry before epochs floors lists → AreHoldersOnFloor (words_after_floors carry before floors) e floor h
-    → AreWalked carry before (epochs ++ e ∷ []) (floors ++ floor ∷ []) (lists ++ h ∷ [])
-unfolding AreWalked
-walked-more carry before [] [] [] e floor h walked one = (one, tt)
-walked-more carry before [] [] (x ∷ lists) e floor h walked one = absurd walked
-walked-more carry before [] (f ∷ floors) lists e floor h walked one = absurd walked
-walked-more carry before (x ∷ epochs) [] lists e floor h walked one = absurd walked
-walked-more carry before (x ∷ epochs) (f ∷ floors) [] e floor h walked one = absurd walked
-walked-more carry before (x ∷ epochs) (f ∷ floors) (y ∷ lists) e floor h (first, rest) one =
-    (first, walked-more carry (next_words carry before f) epochs floors lists e floor h rest one)
+zip-both : {A B : Type 0} (R : A → B → Type 0) (xs : List A) (ys : List B) (us : List A) (vs : List B) → AllZip R xs ys → AllZip R us vs → AllZip R (xs ++ us) (ys ++ vs)
+zip-both R [] [] us vs one other = other
+zip-both R [] (y ∷ ys) us vs one other = absurd one
+zip-both R (x ∷ xs) [] us vs one other = absurd one
+zip-both R (x ∷ xs) (y ∷ ys) us vs (first, rest) other = (first, zip-both R xs ys us vs rest other)
 
--- without carry epochs may run apart from those after them
-walked-both : (before : WordsValue) (first : List BatchEpoch) (fs : List QuietValue) (xs : List (List ℕ)) (second : List BatchEpoch) (gs : List QuietValue) (ys : List (List ℕ))
-    → AreWalked false before first fs xs → AreWalked false before second gs ys → AreWalked false before (first ++ second) (fs ++ gs) (xs ++ ys)
-unfolding AreWalked
-walked-both before [] [] [] second gs ys one other = other
-walked-both before [] [] (x ∷ xs) second gs ys one other = absurd one
-walked-both before [] (f ∷ fs) xs second gs ys one other = absurd one
-walked-both before (e ∷ first) [] xs second gs ys one other = absurd one
-walked-both before (e ∷ first) (f ∷ fs) [] second gs ys one other = absurd one
-walked-both before (e ∷ first) (f ∷ fs) (x ∷ xs) second gs ys (one, rest) other = (one, walked-both before first fs xs second gs ys rest other)
+began-both : (runner : RunnerValue) (fs gs : List QuietValue) → AreOfRunner runner fs → AreOfRunner (runner_after runner fs) gs → AreOfRunner runner (fs ++ gs)
+unfolding AreOfRunner
+began-both runner [] gs one other = other
+began-both runner (f ∷ fs) gs (first, rest) other = (first, began-both (next_runner runner f) fs gs rest other)
 
-none-walked : (carry : Bool) (before : WordsValue) → AreWalked carry before [] [] []
-unfolding AreWalked
-none-walked carry before = tt
+pub after-both : (runner : RunnerValue) (fs gs : List QuietValue) → runner_after runner (fs ++ gs) ≡ runner_after (runner_after runner fs) gs
+after-both runner [] gs = refl
+after-both runner (f ∷ fs) gs = after-both (next_runner runner f) fs gs
 
--- the same of the holders in one list
-pub none-held : (carry : Bool) (before : WordsValue) → AreHoldersOnFloors carry before [] [] []
-none-held carry before = record { lists = []; walked = none-walked carry before; listed = refl }
+-- without carry the runner stays as it was
+pub stays : (words : WordsValue) (floors : List QuietValue) → runner_after (record { words = words; carries = false }) floors ≡ record { words = words; carries = false }
+stays words [] = refl
+stays words (f ∷ floors) = stays words floors
 
-pub held-next : (carry : Bool) (before : WordsValue) (epochs : List BatchEpoch) (floors : List QuietValue) (holders : List ℕ) (e : BatchEpoch) (floor : QuietValue) (own : List ℕ)
-    → AreHoldersOnFloors carry before epochs floors holders → AreHoldersOnFloor (words_after_floors carry before floors) e floor own
-    → AreHoldersOnFloors carry before (epochs ++ e ∷ []) (floors ++ floor ∷ []) (holders ++ own)
-held-next carry before epochs floors holders e floor own held one = record {
-  lists = held.lists ++ own ∷ [];
-  walked = walked-more carry before epochs floors held.lists e floor own held.walked one;
-  listed = (λ i. held.listed i ++ sym (append-nil own) i) ∙ sym (flat_map-append (λ (list : List ℕ). list) held.lists (own ∷ []));
-}
+-- nobody has walked
+pub none-walked : (crew : Crew) (runner : RunnerValue) → HaveWalked crew runner [] [] []
+unfolding AreOfRunner
+none-walked crew runner = record { began = tt; walked = tt; lists = []; listed = tt; all = refl; in_order = λ worker hand. refl }
 
-pub held-both : (before : WordsValue) (epochs first second : List BatchEpoch) (fs gs : List QuietValue) (xs ys : List ℕ) → epochs ≡ first ++ second
-    → AreHoldersOnFloors false before first fs xs → AreHoldersOnFloors false before second gs ys → AreHoldersOnFloors false before epochs (fs ++ gs) (xs ++ ys)
-held-both before epochs first second fs gs xs ys both a b = record {
+-- one epoch has
+pub one-walked : (crew : Crew) (runner : RunnerValue) (epoch : BatchEpoch) (floor : QuietValue) (holders : List ℕ) → IsRunAfter runner.words epoch.clients.items floor → ListsHolders floor.did.grants holders
+    → (crew.workers ≡ 1 → crew.hand ≡ 1 → holders ≡ ids_of epoch) → HaveWalked crew runner (epoch ∷ []) (floor ∷ []) holders
+unfolding AreOfRunner
+one-walked crew runner epoch floor holders run lists order =
+    let began : words_before floor.start ≡ runner.words = λ i. record { network = run.over i; words = run.after i } in
+    record {
+      began = (began, tt);
+      walked = (subst (λ (w : WordsValue). IsRunAfter w epoch.clients.items floor) (sym began) run, tt);
+      lists = holders ∷ [];
+      listed = (lists, tt);
+      all = sym (append-nil holders);
+      in_order = λ worker hand. order worker hand ∙ sym (append-nil (ids_of epoch));
+    }
+
+-- some have, and then others; if one worker with one client in hand did it, so did both crews
+pub walked-both : (crew one other : Crew) (runner : RunnerValue) (first second : List BatchEpoch) (fs gs : List QuietValue) (xs ys : List ℕ)
+    → HaveWalked one runner first fs xs → HaveWalked other (runner_after runner fs) second gs ys
+    → (crew.workers ≡ 1 → crew.hand ≡ 1 → (one.workers ≡ 1) × (one.hand ≡ 1) × (other.workers ≡ 1) × (other.hand ≡ 1))
+    → HaveWalked crew runner (first ++ second) (fs ++ gs) (xs ++ ys)
+walked-both crew one other runner first second fs gs xs ys a b sole = record {
+  began = began-both runner fs gs a.began b.began;
+  walked = zip-both WalkedOn first fs second gs a.walked b.walked;
   lists = a.lists ++ b.lists;
-  walked = subst (λ (es : List BatchEpoch). AreWalked false before es (fs ++ gs) (a.lists ++ b.lists)) (sym both)
-      (walked-both before first fs a.lists second gs b.lists a.walked b.walked);
-  listed = (λ i. a.listed i ++ b.listed i) ∙ sym (flat_map-append (λ (list : List ℕ). list) a.lists b.lists);
+  listed = zip-both (λ (f : QuietValue) (list : List ℕ). ListsHolders f.did.grants list) fs a.lists gs b.lists a.listed b.listed;
+  all = (λ i. a.all i ++ b.all i) ∙ sym (flat_map-append (λ (list : List ℕ). list) a.lists b.lists);
+  in_order = λ worker hand.
+      let both = sole worker hand in
+      (λ i. a.in_order both.0 both.1 i ++ b.in_order both.2 both.3 i) ∙ sym (flat_map-append ids_of first second);
 }
 
--- how many clients the words after a floor count
-next-came : (carry : Bool) (before : WordsValue) (m : ℕ) (e : BatchEpoch) (floor : QuietValue) (h : List ℕ) → AreHoldersOnFloor before e floor h → client_count before ≡ m → when carry m ≡ m
-    → client_count (next_words carry before floor) ≡ when carry (m + length e.clients.items)
-next-came true before m e floor h one count none =
-    ap (λ (n : Network). clients_in n.table floor.words) one.run.over ∙ one.run.came ∙ ap (λ (k : ℕ). k + length e.clients.items) count
-next-came false before m e floor h one count none = count ∙ sym none
+-- without carry others have that began as they did
+pub beside : (crew one other : Crew) (words : WordsValue) (epochs first second : List BatchEpoch) (fs gs : List QuietValue) (xs ys : List ℕ) → epochs ≡ first ++ second → 2 ≤ crew.workers
+    → HaveWalked one (record { words = words; carries = false }) first fs xs → HaveWalked other (record { words = words; carries = false }) second gs ys
+    → HaveWalked crew (record { words = words; carries = false }) epochs (fs ++ gs) (xs ++ ys)
+beside crew one other words epochs first second fs gs xs ys both many a b =
+    let runner : RunnerValue = record { words = words; carries = false } in
+    subst (λ (es : List BatchEpoch). HaveWalked crew runner es (fs ++ gs) (xs ++ ys)) (sym both)
+    (walked-both crew one other runner first second fs gs xs ys a (subst (λ (r : RunnerValue). HaveWalked other r second gs ys) (sym (stays words fs)) b)
+    (λ worker hand. absurd (omega (arith, many, worker))))
+
+one-held : (epoch : BatchEpoch) (floors : List QuietValue) (lists : List (List ℕ)) (holders : List ℕ) → AllZip WalkedOn (epoch ∷ []) floors
+    → AllZip (λ (f : QuietValue) (list : List ℕ). ListsHolders f.did.grants list) floors lists → holders ≡ flat_map (λ (list : List ℕ). list) lists
+    → length holders ≡ length epoch.clients.items
+one-held epoch [] lists holders walked listed all = absurd walked
+one-held epoch (f ∷ []) [] holders walked listed all = absurd listed
+one-held epoch (f ∷ []) (h ∷ []) holders walked listed all = ap (λ (xs : List ℕ). length xs) (all ∙ append-nil h) ∙ listed.0.all ∙ walked.0.theirs.as_many
+one-held epoch (f ∷ []) (h ∷ i ∷ lists) holders walked listed all = absurd listed.1
+one-held epoch (f ∷ g ∷ floors) lists holders walked listed all = absurd walked.1
+
+-- as many hold names as came
+pub many-held : (crew : Crew) (runner : RunnerValue) (epoch : BatchEpoch) (floors : List QuietValue) (holders : List ℕ) → HaveWalked crew runner (epoch ∷ []) floors holders
+    → length holders ≡ length epoch.clients.items
+many-held crew runner epoch floors holders walked = one-held epoch floors walked.lists holders walked.walked walked.listed walked.all
+
+-- ---- the runner's words
+
+next-network : (carry : Bool) (words : WordsValue) (floor : QuietValue) → words_before floor.start ≡ words → (next_words carry words floor).network ≡ words.network
+next-network true words floor began = ap (λ (w : WordsValue). w.network) began
+next-network false words floor began = refl
+
+next-few : (carry : Bool) (words : WordsValue) (epoch : BatchEpoch) (floor : QuietValue) → words_before floor.start ≡ words → WalkedOn epoch floor
+    → client_count (next_words carry words floor) ≤ client_count words + length epoch.clients.items
+next-few true words epoch floor began walked = omega (arith, walked.came, ap client_count began)
+next-few false words epoch floor began walked = omega arith
+
+-- they are of its network, and count no more than came
+pub same-network : (runner : RunnerValue) (floors : List QuietValue) → AreOfRunner runner floors → (runner_after runner floors).words.network ≡ runner.words.network
+unfolding AreOfRunner
+same-network runner [] began = refl
+same-network runner (f ∷ floors) (first, rest) = same-network (next_runner runner f) floors rest ∙ next-network runner.carries runner.words f first
+
+pub few-came : (runner : RunnerValue) (epochs : List BatchEpoch) (floors : List QuietValue) → AreOfRunner runner floors → AllZip WalkedOn epochs floors
+    → client_count (runner_after runner floors).words ≤ client_count runner.words + clients_of_epochs epochs
+unfolding AreOfRunner
+few-came runner [] [] began walked = omega arith
+few-came runner [] (f ∷ floors) began walked = absurd walked
+few-came runner (e ∷ epochs) [] began walked = absurd walked
+few-came runner (e ∷ epochs) (f ∷ floors) (first, began) (one, rest) =
+    omega (arith, few-came (next_runner runner f) epochs floors began rest, next-few runner.carries runner.words e f first one, sum_by-cons (λ (x : BatchEpoch). length x.clients.items) e epochs)
+
+-- ---- the records
+
+-- records of these epochs, and of these floors, that are made of the list of all holders
+pub record AreMadeOf (carry : Bool) (w m : ℕ) (epochs : List BatchEpoch) (floors : List QuietValue) (holders : List ℕ) : Type 0 where
+  pub records : List EpochRecord
+  pub served : AreServed carry w m epochs records
+  pub on : AllZip IsOfFloor floors records
+  pub are : AreRecordsOf carry w m epochs records holders
+
+next-came : (carry : Bool) (words : WordsValue) (m : ℕ) (epoch : BatchEpoch) (floor : QuietValue) → words_before floor.start ≡ words → WalkedOn epoch floor → client_count words ≡ m → when carry m ≡ m
+    → client_count (next_words carry words floor) ≡ when carry (m + length epoch.clients.items)
+next-came true words m epoch floor began walked count none = walked.came ∙ ap (λ (k : ℕ). k + length epoch.clients.items) (ap client_count began ∙ count)
+next-came false words m epoch floor began walked count none = count ∙ sym none
 
 when-again : (carry : Bool) (n : ℕ) → when carry (when carry n) ≡ when carry n
 when-again false n = refl
 when-again true n = refl
 
-when-zero : (carry : Bool) → when carry 0 ≡ 0
+pub when-zero : (carry : Bool) → when carry 0 ≡ 0
 when-zero false = refl
 when-zero true = refl
 
--- the network stays the same
-next-network : (carry : Bool) (before : WordsValue) (e : BatchEpoch) (floor : QuietValue) (h : List ℕ) → AreHoldersOnFloor before e floor h → (next_words carry before floor).network ≡ before.network
-next-network true before e floor h one = one.run.over
-next-network false before e floor h one = refl
-
--- records that are made of the list of all holders are those of the floors
-of-floors : (carry : Bool) (w m : ℕ) (before : WordsValue) (epochs : List BatchEpoch) (floors : List QuietValue) (lists : List (List ℕ)) (records : List EpochRecord) (holders : List ℕ)
-    → before.network.table.width ≡ w → client_count before ≡ m → when carry m ≡ m
-    → AreWalked carry before epochs floors lists → holders ≡ flat_map (λ (list : List ℕ). list) lists
-    → AreRecordsOf carry w m epochs records holders → AreOfFloors carry before epochs floors records
-unfolding AreWalked AreRecordsOf AreOfFloors
-of-floors carry w m before [] [] [] [] holders wide count none walked listed are = tt
-of-floors carry w m before [] [] [] (r ∷ records) holders wide count none walked listed are = absurd are
-of-floors carry w m before [] [] (h ∷ lists) records holders wide count none walked listed are = absurd walked
-of-floors carry w m before [] (f ∷ floors) lists records holders wide count none walked listed are = absurd walked
-of-floors carry w m before (e ∷ epochs) [] lists records holders wide count none walked listed are = absurd walked
-of-floors carry w m before (e ∷ epochs) (f ∷ floors) [] records holders wide count none walked listed are = absurd walked
-of-floors carry w m before (e ∷ epochs) (f ∷ floors) (h ∷ lists) [] holders wide count none walked listed are = absurd are
-of-floors carry w m before (e ∷ epochs) (f ∷ floors) (h ∷ lists) (r ∷ records) holders wide count none (one, rest) listed (is, others) =
+pub records-made : (carry : Bool) (entries w m : ℕ) (words : WordsValue) (epochs : List BatchEpoch) (floors : List QuietValue) (lists : List (List ℕ))
+    → words.network.table.width ≡ w → client_count words ≡ m → when carry m ≡ m → w ≤ MOST_ENDS
+    → All (λ (e : BatchEpoch). MayCome entries e.clients.items) epochs
+    → AreOfRunner (record { words = words; carries = carry }) floors → AllZip WalkedOn epochs floors
+    → AllZip (λ (f : QuietValue) (list : List ℕ). ListsHolders f.did.grants list) floors lists
+    → AreMadeOf carry w m epochs floors (flat_map (λ (list : List ℕ). list) lists)
+unfolding AreOfRunner AreServed AreRecordsOf
+records-made carry entries w m words [] [] [] wide count none narrow come began walked listed = record { records = []; served = tt; on = tt; are = tt }
+records-made carry entries w m words [] [] (h ∷ lists) wide count none narrow come began walked listed = absurd listed
+records-made carry entries w m words [] (f ∷ floors) lists wide count none narrow come began walked listed = absurd walked
+records-made carry entries w m words (e ∷ epochs) [] lists wide count none narrow come began walked listed = absurd walked
+records-made carry entries w m words (e ∷ epochs) (f ∷ floors) [] wide count none narrow come began walked listed = absurd listed
+records-made carry entries w m words (e ∷ epochs) (f ∷ floors) (h ∷ lists) wide count none narrow come (first, began) (one, walked) (lists_it, listed) =
     let k : ℕ = length e.clients.items in
     let tail : List ℕ = flat_map (λ (list : List ℕ). list) lists in
-    let many : length h ≡ k = one.lists.all ∙ one.run.theirs.as_many in
-    let own : take k holders ≡ h = ap (take k) listed ∙ take_at h tail k many in (
-      record {
-        run = one.run;
-        counts = is.counts ∙ (λ i. shares_after (sym count i) (is.clients i) (sym wide i)) ∙ sym one.run.counts;
-        holders = subst (λ (xs : List ℕ). ListsHolders f.did.grants xs) (sym (is.holders ∙ own)) one.lists;
-      },
-      of-floors carry w (when carry (m + k)) (next_words carry before f) epochs floors lists records (drop k holders)
-          (ap (λ (n : Network). n.table.width) (next-network carry before e f h one) ∙ wide)
-          (next-came carry before m e f h one count none)
-          (when-again carry (m + k)) rest (ap (drop k) listed ∙ drop_at h tail k many) others,
-    )
-
--- what is written of every list of records of these epochs is what a run writes that walked on these floors
-pub run-on-floors-written : {W : Type 0} (contents : W → Option (List ℕ)) (old new : W) (net : Description) (form : Form) (carry : Bool) (network : Network) → IsNetworkOf net network
-    → (known : Option (List ℕ)) (epochs : List BatchEpoch) → IfSome known (λ bytes. IsBatch network.table.entries (records_of bytes) epochs)
-    → (holders : List ℕ) → AreHoldersOf carry network.table.width epochs holders
-    → (floors : List QuietValue) → AreHoldersOnFloors carry (zero_words network) epochs floors holders
-    → (written : Written)
-    → ((records : List EpochRecord) → AreRecordsOf carry network.table.width 0 epochs records holders → HasWritten contents (λ text. text ≡ text_in form network records) written old new)
-    → HasWritten contents (IsRunOnFloorsOfKnown net form carry floors known) written old new
-run-on-floors-written contents old new net form carry network built known epochs batch holders listed floors held written writes =
-    let w : ℕ = network.table.width in
-    let records : List EpochRecord = listed.records in
-    let theirs : AreRecordsOf carry w 0 epochs records holders =
-    subst (λ (xs : List ℕ). AreRecordsOf carry w 0 epochs records xs) (sym listed.listed) (records-of carry w 0 epochs records listed.served) in
-    let on : AreOfFloors carry (zero_words network) epochs floors records =
-    of-floors carry w 0 (zero_words network) epochs floors held.lists records holders refl (none-came network.table) (when-zero carry) held.walked held.listed theirs in
-    written-as contents old new (λ text. text ≡ text_in form network records) (IsRunOnFloorsOfKnown net form carry floors known)
-    (λ text same. known-map known (λ bytes. IsBatch network.table.entries (records_of bytes) epochs) (λ bytes. IsRunOnFloors net form carry floors bytes text)
-    batch (λ bytes is. record {
-      run = record {
-        epochs = epochs;
-        batch = subst (λ (entries : ℕ). IsBatch entries (records_of bytes) epochs) built.2.entries is;
-        network = network;
-        built = built;
-        records = records;
-        served = listed.served;
-        written = same;
-      };
-      theirs = on;
-    })) written (writes records theirs)
+    let many : length h ≡ k = lists_it.all ∙ one.theirs.as_many in
+    let run : IsRunAfter words e.clients.items f = subst (λ (b : WordsValue). IsRunAfter b e.clients.items f) first one in
+    let its : IsMadeOf w m e f h = made-of entries w m e words f h (All-head (λ (x : BatchEpoch). MayCome entries x.clients.items) e epochs come) wide count narrow run lists_it in
+    let others : AreMadeOf carry w (when carry (m + k)) epochs floors tail =
+    records-made carry entries w (when carry (m + k)) (next_words carry words f) epochs floors lists
+    (ap (λ (n : Network). n.table.width) (next-network carry words f first) ∙ wide)
+    (next-came carry words m e f first one count none)
+    (when-again carry (m + k)) narrow (All-tail (λ (x : BatchEpoch). MayCome entries x.clients.items) e epochs come) began walked listed in
+    record {
+      records = its.made ∷ others.records;
+      served = (its.served, others.served);
+      on = (its.on, others.on);
+      are = (
+        record { number = its.served.number; clients = its.served.clients; counts = its.served.counts; holders = its.listed ∙ sym (take_at h tail k many) },
+        subst (λ (xs : List ℕ). AreRecordsOf carry w (when carry (m + k)) epochs others.records xs) (sym (drop_at h tail k many)) others.are,
+      );
+    }

@@ -19,7 +19,8 @@ use Rattle.cn_walk.specs.Runs.{IsRunAfter}
 use Rattle.cn_walk.specs.Walks.{AreFor, AreInOrder}
 use Rattle.cn_report.specs.Reading.Batch.{MayCome}
 use Rattle.cn_report.specs.declared.reading.batch.BatchEpoch.{BatchEpoch}
-use Rattle.cn_renamer.specs.Running.{AreHoldersOfOne}
+use Rattle.cn_renamer.specs.Floors.{IsOfFloor}
+use Rattle.cn_renamer.specs.Headline.{IsServed}
 
 -- what has risen at an exit's word
 abbrev risen : QuietValue → ℕ → ℕ
@@ -44,31 +45,37 @@ module _ (clients : List Client) (grants : List Grant) (theirs : AreFor clients 
 abbrev vector-of : {X : Type 0} → Vec X Global → (ns : List ℕ) → length ns < 2 ^ 63 → Vec ℕ Global
 vector-of v ns few = record { ptr = v.ptr; len = length ns; cap = length ns; alloc = v.alloc; items = ns; ok = (refl, omega arith); small = few }
 
--- the holders of a run of an epoch's clients are those of its names, and the record that has them, and the counts of the
--- floor, is that of its epoch, served after so many clients
-pub served-by : (entries width m : ℕ) (epoch : BatchEpoch) (before : WordsValue) (quiet : QuietValue) (holders : List ℕ) → MayCome entries epoch.clients.items
-    → before.network.table.width ≡ width → client_count before ≡ m → width ≤ MOST_ENDS → IsRunAfter before epoch.clients.items quiet → ListsHolders quiet.did.grants holders
-    → AreHoldersOfOne width m epoch holders
-served-by entries width m epoch before quiet holders come wide after narrow run lists =
-    let counts : List ℕ = counts_by_exit quiet.start quiet.words in
-    let exits : length counts ≡ width = length-map-range_with_len (risen quiet) 0 quiet.start.network.table.width ∙ ap (λ (n : Network). n.table.width) run.over ∙ wide in
+-- the record of an epoch whose clients walked on a floor, and of its floor; these hold its names
+pub record IsMadeOf (w m : ℕ) (epoch : BatchEpoch) (floor : QuietValue) (holders : List ℕ) : Type 0 where
+  pub made : EpochRecord
+  pub served : IsServed w m epoch made
+  pub on : IsOfFloor floor made
+  pub listed : made.holders.items ≡ holders
+
+-- if m clients came before it, such a record is that of the epoch, served after them
+pub made-of : (entries w m : ℕ) (epoch : BatchEpoch) (before : WordsValue) (floor : QuietValue) (holders : List ℕ) → MayCome entries epoch.clients.items
+    → before.network.table.width ≡ w → client_count before ≡ m → w ≤ MOST_ENDS → IsRunAfter before epoch.clients.items floor → ListsHolders floor.did.grants holders
+    → IsMadeOf w m epoch floor holders
+made-of entries w m epoch before floor holders come wide after narrow run lists =
+    let counts : List ℕ = counts_by_exit floor.start floor.words in
+    let exits : length counts ≡ w = length-map-range_with_len (risen floor) 0 floor.start.network.table.width ∙ ap (λ (n : Network). n.table.width) run.over ∙ wide in
     let many : length holders < 2 ^ 63 = omega (arith, lists.all, run.theirs.as_many, come.few) in
-    let r : EpochRecord = record {
-      number = epoch.number;
-      clients = length epoch.clients.items;
-      counts = vector-of epoch.clients counts (omega (arith, exits, narrow));
-      holders = vector-of epoch.clients holders many;
-    } in
     let clients : List Client = epoch.clients.items in
     record {
-      made = r;
+      made = record {
+        number = epoch.number;
+        clients = length clients;
+        counts = vector-of epoch.clients counts (omega (arith, exits, narrow));
+        holders = vector-of epoch.clients holders many;
+      };
       served = record {
         number = refl;
         clients = refl;
         counts = run.counts ∙ (λ x. shares_after (after x) (length clients) (wide x));
-        holders = own clients quiet.did.grants run.theirs holders lists;
-        once = once clients quiet.did.grants run.theirs holders lists come.once;
+        holders = own clients floor.did.grants run.theirs holders lists;
+        once = once clients floor.did.grants run.theirs holders lists come.once;
       };
+      on = record { counts = refl; holders = lists };
       listed = refl;
     }
 

@@ -1,14 +1,11 @@
 //! The epochs of a batch, run by many workers: one after another, or beside one another.
 
-ghost use Rattle.std.specs.Prelude.{◌≡◌, ◌+◌, ◌++◌, ◌<◌, ◌≤◌, ℕ, IfOk, OnOk, false, length, take};
-ghost use Rattle.std.specs.List.{flat_map};
+ghost use Rattle.std.specs.Prelude.{◌≡◌, ◌+◌, ◌<◌, ◌≤◌, [], ◌∷◌, ℕ, IfOk, false, length, take};
 ghost use Rattle.cn_spec.specs.declared.limits.TheConstants.{MOST_CARRIED, MOST_RECORDS};
-ghost use Rattle.cn_spec.specs.Sums.{when};
-ghost use Rattle.cn_floor.specs.Carried.{client_count, zero_words};
+ghost use Rattle.cn_floor.specs.Carried.{client_count};
 ghost use Rattle.cn_report.specs.Reading.Batch.{MayCome, clients_of_epochs};
-ghost use Rattle.cn_renamer.specs.Floors.{AreHoldersOnFloors, HasRunEpoch};
-ghost use Rattle.cn_renamer.specs.Headline.{ids_of};
-ghost use Rattle.cn_renamer.specs.Running.{AreHoldersOf, AreHoldersOfOne, MayRunAll, crew_for};
+ghost use Rattle.cn_renamer.specs.Floors.{HaveWalked, new_runner, runner_after};
+ghost use Rattle.cn_renamer.specs.Running.{MayRunAll, crew_for, crew_of};
 ghost use Rattle.cn_walk.specs.Crew.{IsCrew};
 ghost use denote.Param.Send.{IsSync};
 
@@ -54,17 +51,9 @@ fn serve_epoch<'n, G: Gate + Sync, R: Threads + Wait + Sync>(
     requires few { client_count runner.words ≤ MOST_CARRIED }
     requires crew { IsCrew crew }
     requires places { length holders.old ≡ length epoch.now.clients.items }
-    ensures served { OnOk result
-        (AreHoldersOfOne runner.entry.words.network.table.width (client_count runner.entry.words)
-        epoch.now holders.new) }
-    ensures in_order { crew.workers ≡ 1 → crew.hand ≡ 1 → OnOk result (holders.new ≡ ids_of epoch.now) }
-    ensures floor { IfOk result (λ r. HasRunEpoch runner.entry r.0 epoch.now r.1 holders.new) }
-    ensures network { IfOk result (λ r. r.0.words.network ≡ runner.entry.words.network) }
-    ensures carries { IfOk result (λ r. r.0.carries ≡ runner.entry.carries) }
-    ensures came { IfOk result (λ r. client_count r.0.words
-        ≡ client_count runner.entry.words + when runner.entry.carries (length epoch.now.clients.items)) }
+    ensures walked { IfOk result (λ r. HaveWalked crew runner.entry (epoch.now ∷ []) r.1 holders.new) }
+    ensures next { IfOk result (λ r. r.0 ≡ runner_after runner.entry r.1) }
 {
-    runner.words().words_laws();
     let (runner, ended) = runner.run(rt, alloc, &epoch.clients, crew, gate);
     match ended {
         Ok(closed) => {
@@ -93,12 +82,7 @@ fn run_in_turn<'n, G: Gate + Sync, R: Threads + Wait + Sync>(
     requires nobody { client_count first.words ≡ 0 }
     requires epochs { MayRunAll first.words.network.table.entries epochs.now (length holders.old) }
     requires crew { IsCrew crew }
-    ensures listed { OnOk result (AreHoldersOf first.entry.carries first.entry.words.network.table.width
-        epochs.now holders.new) }
-    ensures floors { IfOk result (λ floors.
-        AreHoldersOnFloors first.entry.carries first.entry.words epochs.now floors holders.new) }
-    ensures in_order { crew.workers ≡ 1 → crew.hand ≡ 1
-        → OnOk result (holders.new ≡ flat_map ids_of epochs.now) }
+    ensures { IfOk result (λ floors. HaveWalked crew first.entry epochs.now floors holders.new) }
 {
     let mut runner = first;
     let mut receipts = Receipts::none();
@@ -156,11 +140,8 @@ fn run_beside<G: Gate + Sync, R: Threads + Wait + Sync>(
 ) -> Result<Receipts, AllocError>
     requires epochs { MayRunAll network.now.table.entries epochs.now (length holders.old) }
     requires crew { IsCrew crew }
-    ensures listed { OnOk result (AreHoldersOf false network.now.table.width epochs.now holders.new) }
-    ensures floors { IfOk result (λ floors.
-        AreHoldersOnFloors false (zero_words network.now) epochs.now floors holders.new) }
-    ensures in_order { crew.workers ≡ 1 → crew.hand ≡ 1
-        → OnOk result (holders.new ≡ flat_map ids_of epochs.now) }
+    ensures { IfOk result (λ floors.
+        HaveWalked crew (new_runner false network.now) epochs.now floors holders.new) }
 {
     if epochs.len() < 2 || crew.workers < 2 {
         let runner = Runner::new(alloc, network, false)?;
@@ -178,16 +159,14 @@ fn run_beside<G: Gate + Sync, R: Threads + Wait + Sync>(
         &mut ||
             requires { IsSync R.row × IsSync G.row × IsCrew crew
                 × MayRunAll network.now.table.entries first.now (length front.now) }
-            ensures listed { OnOk result (AreHoldersOf false network.entry.now.table.width first.entry.now front.exit.now) }
-            ensures floors { IfOk result (λ floors.
-                AreHoldersOnFloors false (zero_words network.entry.now) first.entry.now floors front.exit.now) }
+            ensures { IfOk result (λ floors.
+                HaveWalked crew (new_runner false network.entry.now) first.entry.now floors front.exit.now) }
         { run_beside(rt, alloc, network, first, crew, gate, front) },
         &mut ||
             requires { IsSync R.row × IsSync G.row × IsCrew others
                 × MayRunAll network.now.table.entries second.now (length back.now) }
-            ensures listed { OnOk result (AreHoldersOf false network.entry.now.table.width second.entry.now back.exit.now) }
-            ensures floors { IfOk result (λ floors.
-                AreHoldersOnFloors false (zero_words network.entry.now) second.entry.now floors back.exit.now) }
+            ensures { IfOk result (λ floors.
+                HaveWalked others (new_runner false network.entry.now) second.entry.now floors back.exit.now) }
         { run_beside(rt, alloc, network, second, others, gate, back) },
     );
     let (floors, others) = (one?, other?);
@@ -206,12 +185,8 @@ pub(crate) fn run_epochs<G: Gate + Sync, R: Threads + Wait + Sync>(
     gate: &G,
 ) -> Result<(Vec<u64>, Receipts), AllocError>
     requires may { MayRunAll network.now.table.entries epochs.now (clients_of_epochs epochs.now) }
-    ensures listed { IfOk result (λ r.
-        AreHoldersOf options.now.carry network.now.table.width epochs.now r.0.items) }
-    ensures floors { IfOk result (λ r.
-        AreHoldersOnFloors options.now.carry (zero_words network.now) epochs.now r.1 r.0.items) }
-    ensures in_order { options.now.workers ≡ 1 → options.now.hand ≡ 1
-        → IfOk result (λ r. r.0.items ≡ flat_map ids_of epochs.now) }
+    ensures walked { IfOk result (λ r. HaveWalked (crew_of options.now)
+        (new_runner options.now.carry network.now) epochs.now r.1 r.0.items) }
     ensures many { IfOk result (λ r. clients_of_epochs epochs.now ≡ length r.0.items) }
 {
     let mut holders = vec![in alloc; 0; clients_in(epochs)]?;

@@ -8,7 +8,7 @@ use crate::checking::check;
 use crate::fault::Fault;
 use crate::output_fault::OutputFault;
 use crate::replaying::replay;
-use crate::serving::serve;
+use crate::serving::serve_with_receipts;
 use crate::showing::show;
 use crate::writing::write_text;
 use cn_cli::{Job, WordsFault, parse_words};
@@ -43,7 +43,8 @@ pub fn perform<I: Read + Drop, W: Write, S: RandomSource, R: Threads + Wait + Sy
     match job {
         Job::Run(options) => {
             let state = RandomState::new(source)?;
-            Ok(serve(rt, alloc, reader, writer, &options, state, &OpenGate)?)
+            serve_with_receipts(rt, alloc, reader, writer, &options, state, &OpenGate)?;
+            Ok(())
         }
         Job::Replay(net) => {
             let state = RandomState::new(source)?;

@@ -7,7 +7,7 @@ ghost use Rattle.cn_walk.specs.Crew.{IsCrew, nearest_part};
 /// Workers whose numbers follow one another, with so many clients in hand each.
 #[derive(Clone, Copy, Debug, PartialEq, Eq)]
 pub struct Crew {
-    /// The number by which the first asks the gate.
+    /// The number by which the first asks the gate; the others have those that follow, and after `u32::MAX` comes 0.
     pub first: u32,
     /// How many they are.
     pub workers: u32,

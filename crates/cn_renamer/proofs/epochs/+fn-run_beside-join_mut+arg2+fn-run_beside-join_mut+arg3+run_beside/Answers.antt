@@ -2,8 +2,8 @@ use Rattle.std.proofs.Common.{rules, ◌≡◌, ◌+◌, List, ℕ, arith, drop,
 use Rattle.std.proofs.lemmas.List.Sums.{sum_by-take-le}
 use Rattle.cn_report.specs.declared.reading.batch.BatchEpoch.{BatchEpoch}
 use Rattle.cn_renamer.specs.Running.{MayRunAll}
-use Rattle.cn_renamer.proofs.Floors.{held-both}
-use Rattle.cn_renamer.proofs.Running.{listed-both, may-back, may-front, some-client}
+use Rattle.cn_renamer.proofs.Floors.{beside}
+use Rattle.cn_renamer.proofs.Running.{may-back, may-front, some-client}
 use Rattle.cn_renamer.proofs.epochs.+fn-run_beside-join_mut+arg2+fn-run_beside-join_mut+arg3+run_beside.Goals as goal
 
 pub split-requires-clause-part : goal.split-requires-clause-part
@@ -29,8 +29,8 @@ join_mut-one-requires-after_bounds g t c κs within =
     let back : MayRunAll entries c.split_at.result.1.now n = subst (λ (es : List BatchEpoch). MayRunAll entries es n) (sym c.split_at.ensures.back) second in
     search rules
 
-pub returns-clause-listed : goal.returns-clause-listed
-returns-clause-listed g t c = let both = c.split_at.ensures.by_index.0 in search (rules, listed-both)
-
-pub returns-clause-floors : goal.returns-clause-floors
-returns-clause-floors g t c = let both = c.split_at.ensures.by_index.0 in search (rules, held-both)
+pub returns : goal.returns
+returns g t c =
+    let both = c.split_at.ensures.by_index.0 in
+    let many = c.if-crew-lt2.false in
+    search (rules, beside)
