@@ -5,7 +5,7 @@ ghost use Rattle.cn_spec.specs.declared.limits.TheConstants.{MOST_CARRIED, MOST_
 ghost use Rattle.cn_floor.specs.Carried.{client_count};
 ghost use Rattle.cn_report.specs.Reading.Batch.{MayCome, clients_of_epochs};
 ghost use Rattle.cn_renamer.specs.Floors.{HaveWalked, new_runner, runner_after};
-ghost use Rattle.cn_renamer.specs.Running.{MayRunAll, crew_for, crew_of};
+ghost use Rattle.cn_renamer.specs.Running.{MayRunAll, clients_of_half, crew_for, crew_of};
 ghost use Rattle.cn_walk.specs.Crew.{IsCrew};
 ghost use denote.Param.Send.{IsSync};
 
@@ -17,20 +17,22 @@ use std::alloc::{AllocError, Global};
 use std::sync::Wait;
 use std::thread::{Threads, join_mut};
 
-/// An epoch of fewer clients is over before threads have started for it.
-const FEW_CLIENTS: usize = 128;
+/// How many clients of a worker pay for its thread: fewer are walked in less time than a thread takes to start.
+const CLIENTS_FOR_A_THREAD: usize = 8192;
 
-/// Who of a crew run an epoch of so many clients, one of so many that run one after another: if there are others, and
-/// it has few clients, the first worker; else all.
+/// Who of a crew run an epoch of so many clients, one of so many that run one after another: if there are others, no
+/// more workers than its clients pay for, and one at least; else all.
 fn crew_for(crew: Crew, epochs: usize, clients: usize) -> Crew
     requires { IsCrew crew }
     ensures crew { IsCrew result }
-    ensures few { result ≡ crew_for crew epochs clients }
+    ensures paid { result ≡ crew_for crew epochs clients }
     ensures one { crew.workers ≡ 1 → result.workers ≡ 1 }
     ensures hand { result.hand ≡ crew.hand }
 {
-    if epochs > 1 && clients < FEW_CLIENTS {
-        Crew { workers: 1, ..crew }
+    if epochs > 1 {
+        let paid = (clients / CLIENTS_FOR_A_THREAD).max(1);
+        let workers = paid.min(crew.workers as usize) as u32;
+        Crew { workers, ..crew }
     } else {
         crew
     }
@@ -107,23 +109,28 @@ fn clients_in(epochs: &[BatchEpoch]) -> usize
     epochs.iter().map(|epoch| epoch.clients.len()).sum()
 }
 
-/// Where epochs are cut in two, each part with one at least: how many come before the cut, and how many clients these
-/// have. It is the first place at which so many clients are reached.
-fn cut(epochs: &[BatchEpoch], wanted: usize) -> (usize, usize)
+/// Where epochs with so many clients are cut in two for a crew, each part with one at least: how many come before the
+/// cut, and how many clients these have. It is the first place at which they have those of half the crew, of an odd one
+/// of the smaller half.
+fn cut(epochs: &[BatchEpoch], crew: Crew, clients: usize) -> (usize, usize)
     requires two { 2 ≤ length epochs.now }
+    requires crew { IsCrew crew }
     requires few { clients_of_epochs epochs.now ≤ MOST_RECORDS }
+    requires all { clients ≡ clients_of_epochs epochs.now }
     ensures both { (0 < result.0) × (result.0 < length epochs.now) }
     ensures clients { result.1 ≡ clients_of_epochs (take result.0 epochs.now) }
-    ensures reached { result.0 + 1 < length epochs.now → wanted ≤ result.1 }
-    ensures first { (at : ℕ) → 0 < at → at < result.0 → clients_of_epochs (take at epochs.now) < wanted }
+    ensures reached { result.0 + 1 < length epochs.now → clients_of_half crew clients ≤ result.1 }
+    ensures first { (at : ℕ) → 0 < at → at < result.0
+        → clients_of_epochs (take at epochs.now) < clients_of_half crew clients }
 {
+    let wanted = clients * (crew.workers / 2) as usize / crew.workers as usize;
     let mut at = 1;
-    let mut clients = epochs[0].clients.len();
-    while clients < wanted && at + 1 < epochs.len() {
-        clients += epochs[at].clients.len();
+    let mut before = epochs[0].clients.len();
+    while before < wanted && at + 1 < epochs.len() {
+        before += epochs[at].clients.len();
         at += 1;
     }
-    (at, clients)
+    (at, before)
 }
 
 /// Runs epochs that carry nothing by a crew, and writes who has which name: two parts of the epochs beside each other,
@@ -148,9 +155,7 @@ fn run_beside<G: Gate + Sync, R: Threads + Wait + Sync>(
         return run_in_turn(rt, alloc, runner, epochs, crew, gate, holders);
     }
     let clients = holders.len();
-    // The first part is to have the clients of half the crew, of an odd one the smaller half.
-    let wanted = clients * (crew.workers / 2) as usize / crew.workers as usize;
-    let (at, reached) = cut(epochs, wanted);
+    let (at, reached) = cut(epochs, crew, clients);
     let (crew, others) = crew.split(reached, clients);
     let (first, second) = epochs.split_at(at);
     let (front, back) = holders.split_at_mut(reached);

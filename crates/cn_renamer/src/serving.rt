@@ -84,9 +84,9 @@ fn write_epochs<W: Write>(
 /// ([`crate::laws::written_grants_are_accepted`]).
 ///
 /// As many workers run them as the options have, each with so many clients in hand, each epoch as
-/// [`cn_walk::Runner::run`] does. If the options carry counters, the epochs run one after another, each by all workers,
-/// but if there are several those of fewer than 128 clients by one. Else each has a floor of its own, and they run
-/// beside one another: with several workers and epochs these are cut in two parts, and the workers by the clients of
+/// [`cn_walk::Runner::run`] does. If the options carry counters, the epochs run one after another, each of several by
+/// one worker for each 8,192 of its clients, so far as there are workers, and by one at least. Else each has a floor of
+/// its own, and they run beside one another: with several workers and epochs these are cut in two parts, and the workers by the clients of
 /// each, and so on in each part, so that a worker has epochs that it runs one after another, or an epoch several
 /// workers. With several workers two threads read the batch.
 ///
