@@ -32,7 +32,8 @@ WORDS = {
     "lane_after_lane.c": {None: ["100000"], "others": ["2000"]},
 }
 VALGRIND = ["valgrind", "-q", "--leak-check=full", "--error-exitcode=9"]
-SECONDS = 120
+# So long may a command run, which takes a minute or two if nothing else runs.
+SECONDS = 1800
 # How much is shown of what a command printed that failed.
 MOST_SAID = 600
 
@@ -109,7 +110,7 @@ def run_program(program, folder, sanitizer=None):
     """Compiles and runs a program, under a sanitizer if one is named."""
     flags, environment = SANITIZERS[sanitizer] if sanitizer else ([], {})
     made = compiled(program, folder, sanitizer or "plain", flags)
-    printed = run([made, *program.words(sanitizer)], seconds=SECONDS * (5 if program.is_long else 1), **environment)
+    printed = run([made, *program.words(sanitizer)], **environment)
     if program.prints and printed != program.prints:
         raise Wrong(f"it printed {printed!r}, not {program.prints!r}")
 
@@ -124,7 +125,7 @@ def run_by_second(program, folder):
 def run_on_arm(program, folder):
     """Runs a program in C that is made for ARM, as an emulator of that processor runs it."""
     made = compiled(program, folder, "arm", [], ARM_CC, OUT / ARM)
-    printed = run([ARM_RUN, "-L", ARM_HOME, made, *program.words("others")], seconds=10 * SECONDS)
+    printed = run([ARM_RUN, "-L", ARM_HOME, made, *program.words("others")])
     if program.prints and printed != program.prints:
         raise Wrong(f"it printed {printed!r}, not {program.prints!r}")
 

@@ -24,7 +24,6 @@ class Case:
     name: str
     words: list = dataclasses.field(default_factory=list)
     status: int = 0
-    seconds: int = 30
     # How many threads it is to ask for, if that is told, and whether it gets none.
     threads: int | None = None
     refused: bool = False
@@ -113,7 +112,7 @@ class Reader:
         case = self.case
         if mark == "words":
             case.words = rest.split()
-        elif mark in ("status", "seconds", "stack"):
+        elif mark in ("status", "stack"):
             setattr(case, mark, int(rest))
         elif mark == "threads":
             count, _, refused = rest.partition(" ")

@@ -4,7 +4,7 @@ import cases
 # A table, and the values that differ from those of a new case, by the rules at the head of checks/program/cases.table.
 READ = [
     ("case a\nwords run --width 2\n", {"words": ["run", "--width", "2"]}),
-    ("case a\n\n# no line\nstatus 3\nseconds 5\n", {"status": 3, "seconds": 5}),
+    ("case a\n\n# no line\nstatus 3\nstack 5\n", {"status": 3, "stack": 5}),
     ("case a\nthreads 7\nstack 128\n", {"threads": 7, "stack": 128}),
     ("case a\nthreads 20 refused\n", {"threads": 20, "refused": True}),
     ("case a\nby the script\n", {"by_script": True}),

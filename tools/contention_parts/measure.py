@@ -4,6 +4,7 @@ import pathlib
 import shutil
 import subprocess
 import tempfile
+import time
 
 from contention_parts.model import Network, Prices
 from picture_parts.lines import Fault
@@ -43,6 +44,24 @@ class Machine:
         ends = [f"{network.word(end)} {int(end.is_exit)}" for end in network.ends]
         text = "\n".join([f"{network.entries} {network.balancers} {len(ends)}", *ends])
         return 1000 / self.asked("walk", threads, stride, text=text)
+
+
+class Others:
+    """What other programs take of the machine, from when this is made on."""
+
+    def __init__(self):
+        self.began, self.ticks = time.monotonic(), self.ticks_so_far()
+
+    @staticmethod
+    def ticks_so_far() -> float:
+        """Returns for how many ticks processors were busy, or kept away by the host, but for this program."""
+        user, nice, system, _, _, *others = map(int, pathlib.Path("/proc/stat").read_text().split()[1:9])
+        return user + nice + system + sum(others) - sum(os.times()[:4]) * os.sysconf("SC_CLK_TCK")
+
+    def took(self) -> float:
+        """Returns how many processors they took, on average."""
+        seconds = (self.ticks_so_far() - self.ticks) / os.sysconf("SC_CLK_TCK")
+        return seconds / (time.monotonic() - self.began)
 
 
 def processors_here() -> int:
