@@ -12,6 +12,12 @@ pub record WordsValue : Type 0 where
   pub network : Network
   pub words : List ℕ
 
+-- what a floor leaves for the next as contracts see it: the words with which that begins, and how many records of its
+-- yard are free
+pub record LeftoversValue : Type 0 where
+  pub words : WordsValue
+  pub spare : ℕ
+
 -- how many clients they count
 abbrev pub client_count : WordsValue → ℕ
 client_count w = clients_in w.network.table w.words

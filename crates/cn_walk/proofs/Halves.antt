@@ -67,13 +67,13 @@ first-later k w a b some h = le-div (a * k / w) (b * k) w some (omega (arith, di
 -- workers before, or after, who have no clients: the lanes are of them too
 pub none_before : (k w from middle to : ℕ) (lanes : Lanes) → from ≤ middle → first_position k w middle ≡ first_position k w from → AreOf k w middle to lanes → AreOf k w from to lanes
 none_before k w from middle to (One lane worker) before same (low, high, first, last) = (omega (arith, before, low), high, first ∙ same, last)
-none_before k w from middle to (Halves' at p left q right) before same (m, low, high, is, one, two) =
-    (m, omega (arith, before, low), high, is ∙ ap (λ (n : ℕ). first_position k w m - n) same, none_before k w from middle m left before same one, two)
+none_before k w from middle to (Halves' at p left q right) before same (m, low, high, is, some, less, one, two) =
+    (m, omega (arith, before, low), high, is ∙ ap (λ (n : ℕ). first_position k w m - n) same, some, omega (arith, less, same), none_before k w from middle m left before same one, two)
 
 pub none_after : (k w from middle to : ℕ) (lanes : Lanes) → middle ≤ to → first_position k w middle ≡ first_position k w to → AreOf k w from middle lanes → AreOf k w from to lanes
 none_after k w from middle to (One lane worker) after same (low, high, first, last) = (low, omega (arith, after, high), first, last ∙ same)
-none_after k w from middle to (Halves' at p left q right) after same (m, low, high, is, one, two) =
-    (m, low, omega (arith, after, high), is, one, none_after k w m middle to right after same two)
+none_after k w from middle to (Halves' at p left q right) after same (m, low, high, is, some, less, one, two) =
+    (m, low, omega (arith, after, high), is, some, omega (arith, less, same), one, none_after k w m middle to right after same two)
 
 -- a lane for which more is reserved, of which some is split off, and the one that is split off
 pub reserved-nothing : (n : ℕ) (a b : LaneValue) → HasNothing a → b ≡ with_room n a → HasNothing b
@@ -115,4 +115,4 @@ some_so P Q (Some x) f p = f x p
 -- one worker has a single lane
 pub one-worker : (k w from to : ℕ) (lanes : Lanes) → to ≤ from + 1 → AreOf k w from to lanes → IsOne lanes
 one-worker k w from to (One lane worker) few is = tt
-one-worker k w from to (Halves' at p left q right) few (m, low, high, is, one, two) = absurd (omega (arith, few, low, high))
+one-worker k w from to (Halves' at p left q right) few (m, low, high, is, some, less, one, two) = absurd (omega (arith, few, low, high))

@@ -49,13 +49,15 @@ AreReady home clients (Halves' at p left q right) =
     × AreReady home at left × AreReady home (clients - at) right
 
 -- they are the lanes of the workers from `from` up to, not including, `to` of w: a single lane is that of one of them,
--- who has all their clients; and the clients that are counted for each half are those of its workers among k
+-- who has all their clients; and the clients that are counted for each half are those of its workers among k, and
+-- neither half has none
 abbrev pub AreOf : ℕ → ℕ → ℕ → ℕ → Lanes → Type 0
 AreOf k w from to (One lane worker) =
     (from ≤ worker) × (worker < to)
     × (first_position k w worker ≡ first_position k w from) × (first_position k w (worker + 1) ≡ first_position k w to)
 AreOf k w from to (Halves' at p left q right) =
     (middle : ℕ) × (from < middle) × (middle < to) × (at ≡ first_position k w middle - first_position k w from)
+    × (0 < at) × (at < first_position k w to - first_position k w from)
     × AreOf k w from middle left × AreOf k w middle to right
 
 -- these clients may be walked through the lanes
@@ -68,7 +70,8 @@ pub record IsPair (at : ℕ) (left right lanes : Lanes) : Type 0 where
   pub whole_is : whole lanes ≡ together (whole left) (whole right)
   pub ready : (home : FloorValue) (n : ℕ) → IsReady home n (together (whole left) (whole right)) → at ≤ n
       → AreReady home at left → AreReady home (n - at) right → AreReady home n lanes
-  -- and if the halves are of workers that follow one another, the lanes are of all these
+  -- and if the halves are of workers that follow one another, and each has clients, the lanes are of all these
   pub of : (k w from middle to : ℕ) → from < middle → middle < to
       → at ≡ first_position k w middle - first_position k w from
+      → 0 < at → at < first_position k w to - first_position k w from
       → AreOf k w from middle left → AreOf k w middle to right → AreOf k w from to lanes

@@ -4,4 +4,4 @@ use Rattle.cn_walk.specs.Runner.{RunnerValue}
 
 -- a runner as contracts see it
 abbrev pub runner_of : Inside → RunnerValue
-runner_of r = record { words = r.leftovers; carries = r.carries }
+runner_of r = record { words = r.leftovers.words; carries = r.carries }

@@ -109,14 +109,14 @@ fn walk_after<'a, G: Gate + Sync, R: Threads + Wait + Sync>(
     crew: Crew,
     gate: &G,
 ) -> Result<(ClosedFloor<'a>, Leftovers<'a>), Leftovers<'a>>
-    requires few { client_count leftovers ≤ MOST_CARRIED }
-    requires allowed { MayRun leftovers.network.table.entries clients.now crew.workers crew.hand }
-    ensures run { IfOk result (λ r. IsRunAfter leftovers.entry clients.now r.0) }
+    requires few { client_count leftovers.words ≤ MOST_CARRIED }
+    requires allowed { MayRun leftovers.words.network.table.entries clients.now crew.workers crew.hand }
+    ensures run { IfOk result (λ r. IsRunAfter leftovers.entry.words clients.now r.0) }
     ensures in_order { crew.workers ≡ 1 → crew.hand ≡ 1
         → IfOk result (λ r. AreInOrder 0 clients.now r.0.did.grants) }
-    ensures began { IfOk result (λ r. words_before r.0.start ≡ leftovers.entry) }
-    ensures leftovers { IfOk result (λ r. r.1 ≡ leftovers.entry) }
-    ensures back { IfErr result (λ back. back ≡ leftovers.entry) }
+    ensures began { IfOk result (λ r. words_before r.0.start ≡ leftovers.entry.words) }
+    ensures leftovers { IfOk result (λ r. r.1.words ≡ leftovers.entry.words) }
+    ensures back { IfErr result (λ back. back.words ≡ leftovers.entry.words) }
 {
     let (floor, lane) = Floor::open_on(alloc, leftovers, clients.len() as u64)?;
     walk_floor(rt, alloc, floor, lane, clients, crew, gate)
@@ -124,8 +124,8 @@ fn walk_after<'a, G: Gate + Sync, R: Threads + Wait + Sync>(
 
 /// The runner after an epoch.
 fn runner_after<'a>(closed: &ClosedFloor<'a>, leftovers: Leftovers<'a>, carries: bool) -> Runner<'a>
-    requires { leftovers ≡ words_before closed.now.start }
-    ensures { result ≡ next_runner (record { words = leftovers.entry; carries = carries }) closed.now }
+    requires { leftovers.words ≡ words_before closed.now.start }
+    ensures { result ≡ next_runner (record { words = leftovers.entry.words; carries = carries }) closed.now }
 {
     let leftovers = if carries {
         leftovers.go_on_from(closed)

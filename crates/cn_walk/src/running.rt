@@ -80,8 +80,8 @@ pub(crate) fn walk_floor<'a, G: Gate + Sync, R: Threads + Wait + Sync>(
     ensures in_order { crew.workers ≡ 1 → crew.hand ≡ 1
         → IfOk result (λ r. AreInOrder 0 clients.now r.0.did.grants) }
     ensures began { IfOk result (λ r. words_before r.0.start ≡ words_before floor.entry.start) }
-    ensures leftovers { IfOk result (λ r. r.1 ≡ words_before floor.entry.start) }
-    ensures back { IfErr result (λ back. back ≡ words_before floor.entry.start) }
+    ensures leftovers { IfOk result (λ r. r.1.words ≡ words_before floor.entry.start) }
+    ensures back { IfErr result (λ back. back.words ≡ words_before floor.entry.start) }
 {
     let (many, workers) = (clients.len() as u32, crew.workers);
     let Some(lanes) = make_lanes(alloc, &floor, lane, many, workers, 0, workers) else {

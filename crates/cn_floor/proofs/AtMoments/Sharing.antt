@@ -190,9 +190,9 @@ joins start id other v w idle idle' out = joins-sum start id other v w (after_jo
 -- ---- look
 
 -- a lane may look: it learns of a moment at which it has its view
-pub looks : (start : Start) (slots id i : ℕ) (me : Me (Unit {0}) View) (is : Start) → is ≡ start → me.1 ≡ []
-    → Allows (HoldsAt start) slots id me i (λ n. n) (λ n new. (new.1 ≡ []) × Looks is me.0 new.0)
-looks start slots id i me is same no_slot s kept homes at fits =
+pub looks : (start : Start) (slots id i word : ℕ) (me : Me (Unit {0}) View) (is : Start) → word ≡ 0 → is ≡ start → me.1 ≡ []
+    → Allows (HoldsAt start) slots id me i (λ n. n) (λ n new. (word ≡ 0) × (new.1 ≡ []) × Looks is me.0 new.0)
+looks start slots id i word me is first same no_slot s kept homes at fits =
     let v : View = me.0 in
     let w : View = after_look v in
     let after : HoldsAt start (record { words = s.words; homes = s.homes; views = set s.views id w }) =
@@ -204,6 +204,7 @@ looks start slots id i me is same no_slot s kept homes at fits =
       tt,
       subst (λ (x : List ℕ). HoldsAt start record { words = x; homes = s.homes; views = set s.views id w }) (sym (set-get_or s.words i 0)) after,
       (
+        first,
         no_slot,
         subst (λ (z : Start). Looks z v w) (sym same) (
           refl,

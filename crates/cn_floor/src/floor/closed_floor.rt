@@ -97,7 +97,7 @@ impl<'a> ClosedFloor<'a> {
     /// # Errors
     /// `AllocError` if the list gets no memory.
     pub fn into_quiet(self, leftovers: Leftovers<'a>) -> Result<Quiet<'a>, AllocError>
-        requires { leftovers ≡ words_before self.start }
+        requires { leftovers.words ≡ words_before self.start }
         ensures { IfOk result (λ quiet. quiet ≡ self.entry) }
     {
         let room = self.room_for_words()?;

@@ -79,7 +79,7 @@ impl<'a> Floor<'a> {
 
     /// Gives up the floor, for the words with which it began.
     pub fn give_up(self) -> Leftovers<'a>
-        ensures { result ≡ words_before self.entry.start }
+        ensures { result.words ≡ words_before self.entry.start }
     {
         let Floor {
             alloc: _alloc,
@@ -94,14 +94,15 @@ impl<'a> Floor<'a> {
     }
 
     /// Ends the floor as [`Floor::close`] does, and leaves what the next one may take: the words with which it began,
-    /// and the yard of its lane.
+    /// and the yard of its lane, with its free records.
     ///
     /// # Errors
     /// As those of [`Floor::close`].
     pub fn close_for(self, lane: Lane) -> Result<(ClosedFloor<'a>, Leftovers<'a>), CloseFault<'a>>
         requires own { lane.home ≡ self }
         ensures closed { IfOk result (λ r. (r.0.start ≡ self.entry.start) × (r.0.did ≡ lane.view)) }
-        ensures leftovers { IfOk result (λ r. r.1 ≡ words_before self.entry.start) }
+        ensures leftovers { IfOk result (λ r. r.1.words ≡ words_before self.entry.start) }
+        ensures spare { IfOk result (λ r. r.1.spare ≡ lane.yard.spare) }
         ensures out { IfOk result (λ r. tokens_in lane.yard.lists ≡ 0) }
         ensures refused { IfErr result (λ f. IsCloseRefused self.entry lane f) }
     {
@@ -124,7 +125,8 @@ impl<'a> Floor<'a> {
         requires out { tokens_in lane.yard.lists ≡ 0 }
         requires network { network ≡ self.start.network }
         ensures closed { IfOk result (λ r. (r.0.start ≡ self.entry.start) × (r.0.did ≡ lane.view)) }
-        ensures leftovers { IfOk result (λ r. r.1 ≡ words_before self.entry.start) }
+        ensures leftovers { IfOk result (λ r. r.1.words ≡ words_before self.entry.start) }
+        ensures spare { IfOk result (λ r. r.1.spare ≡ lane.yard.spare) }
         ensures refused { IfErr result (λ f. IsCloseRefused self.entry lane f) }
     {
         let told = Snapshot::of(&lane);

@@ -82,6 +82,7 @@ impl Counters {
             ≡ record { network = network.now; quota = quota; words = words.now.items }) }
         ensures seat { IfOk result (λ r. (r.1.table_id ≡ r.0.table)
             × (r.1.me ≡ (empty_view r.0.start quota, []))) }
+        ensures spaced { IfOk result (λ r. r.0.table.words ≡ stride * word_count network.now.table) }
     {
         let about = Opening {
             network: Snapshot::of(network),

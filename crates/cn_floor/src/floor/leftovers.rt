@@ -3,6 +3,7 @@
 ghost use Rattle.std.specs.Prelude.{◌≡◌, IfOk, IfSome};
 ghost use Rattle.cn_floor.specs.Carried.{client_count, zero_words};
 ghost use Rattle.cn_floor.specs.Ends.{words_after};
+ghost use Rattle.cn_floor.specs.InsideLeftovers.{spare_in};
 ghost use Rattle.cn_floor.specs.Lane.{IsIdle};
 
 use super::closed_floor::ClosedFloor;
@@ -22,12 +23,12 @@ pub struct Leftovers<'a> {
 }
 
 impl<'a> Model for Leftovers<'a> {
-    ghost use Rattle.cn_floor.specs.Carried.{WordsValue};
-    ghost use Rattle.cn_floor.specs.InsideLeftovers.{KeepsLeftovers};
+    ghost use Rattle.cn_floor.specs.Carried.{LeftoversValue};
+    ghost use Rattle.cn_floor.specs.InsideLeftovers.{KeepsLeftovers, leftovers_of};
 
-    ghost Value = { WordsValue };
+    ghost Value = { LeftoversValue };
 
-    ghost view = { λ l. l.words };
+    ghost view = { leftovers_of };
 
     ghost invariant = { KeepsLeftovers };
 }
@@ -38,8 +39,8 @@ impl<'a> Leftovers<'a> {
     /// # Errors
     /// `AllocError` if they get no memory.
     pub fn new(alloc: Global, network: &'a Counting) -> Result<Leftovers<'a>, AllocError>
-        ensures zero { IfOk result (λ leftovers. leftovers ≡ zero_words network.now) }
-        ensures nobody { IfOk result (λ leftovers. client_count leftovers ≡ 0) }
+        ensures zero { IfOk result (λ leftovers. leftovers.words ≡ zero_words network.now) }
+        ensures nobody { IfOk result (λ leftovers. client_count leftovers.words ≡ 0) }
     {
         Ok(Leftovers {
             words: Words::zero(alloc, network)?,
@@ -49,14 +50,14 @@ impl<'a> Leftovers<'a> {
 
     /// The words with which the next floor begins.
     pub fn words(&self) -> &Words<'a>
-        ensures { result.now ≡ self.now }
+        ensures { result.now ≡ self.now.words }
     {
         &self.words
     }
 
     /// The words with which the next floor would begin.
     pub(super) fn into_words(self) -> Words<'a>
-        ensures { result ≡ self.entry }
+        ensures { result ≡ self.entry.words }
     {
         let Leftovers { words, yard: _yard } = self;
         words
@@ -64,8 +65,9 @@ impl<'a> Leftovers<'a> {
 
     /// The words with which the next floor begins, and the yard for its lane, if there is one.
     pub(super) fn into_parts(self) -> (Words<'a>, Option<Yard>)
-        ensures words { result.0 ≡ self.entry }
-        ensures yard { IfSome result.1 (λ yard. IsIdle self.entry.network yard.lists) }
+        ensures words { result.0 ≡ self.entry.words }
+        ensures yard { IfSome result.1 (λ yard. IsIdle self.entry.words.network yard.lists) }
+        ensures spare { spare_in result.1 ≡ self.entry.spare }
     {
         let Leftovers { words, yard } = self;
         (words, yard)
@@ -73,8 +75,8 @@ impl<'a> Leftovers<'a> {
 
     /// The same yard, with the words of a closed floor over the same network in place of its own. It takes no memory.
     pub fn go_on_from(self, closed: &ClosedFloor<'_>) -> Leftovers<'a>
-        requires { closed.now.start.network ≡ self.network }
-        ensures { result ≡ words_after closed.now }
+        requires { closed.now.start.network ≡ self.words.network }
+        ensures { result ≡ record { words = words_after closed.now; spare = self.entry.spare } }
     {
         let Leftovers { words, yard } = self;
         Leftovers {

@@ -1,21 +1,25 @@
 //! How a floor begins.
 
 ghost use Rattle.std.specs.Arc.{arc_value};
-ghost use Rattle.std.specs.Prelude.{◌≡◌, ◌+◌, ◌<◌, ◌≤◌, ◌↔◌, length, replicate, IfErr, IfOk, IfSome, IsErrOf};
+ghost use Rattle.std.specs.Prelude.{◌≡◌, ◌+◌, ◌*◌, ◌<◌, ◌≤◌, ◌↔◌, length, replicate, IfErr, IfOk, IfSome, IsErrOf};
 ghost use Rattle.cn_spec.specs.declared.limits.TheConstants.{MOST_CARRIED, MOST_CLIENTS};
 ghost use Rattle.cn_wiring.specs.Network.{IsNetwork};
 ghost use Rattle.cn_yard.specs.Lists.{empty, tokens_in};
 ghost use Rattle.cn_floor.specs.Carried.{client_count, start_after};
+ghost use Rattle.cn_floor.specs.InsideLeftovers.{spare_in};
 ghost use Rattle.cn_floor.specs.Lane.{IsIdle, empty_lane};
 ghost use Rattle.cn_floor.specs.Rule.{IsCarried};
+ghost use Rattle.cn_floor.specs.Spacing.{stride_of};
 ghost use Rattle.cn_floor.specs.Views.{base};
 ghost use Rattle.cn_floor.specs.Words.{clients_in, word_count};
+ghost use Rattle.cn_floor.specs.declared.floor.counters.TheConstants.{MOST_STRIDE};
 
 use super::Floor;
 use super::counters::Counters;
 use super::lane::Lane;
 use super::leftovers::Leftovers;
 use super::network_ref::NetworkRef;
+use super::spacing::Spacing;
 use super::words::Words;
 use crate::fault::OpenFault;
 use cn_spec::limits::MOST_CLIENTS;
@@ -67,10 +71,11 @@ fn quota_fits(quota: u64) -> Result<(), OpenFault>
     Ok(())
 }
 
-/// The yard that is there, or else a new one.
+/// The yard that is there, with its free records, or else a new one.
 fn spare_yard(alloc: Global, network: &Counting, spare: Option<Yard>) -> Yard
     requires { IfSome spare (λ yard. IsIdle network.now yard.lists) }
-    ensures { IsIdle network.now result.lists }
+    ensures idle { IsIdle network.now result.lists }
+    ensures spare { result.spare ≡ spare_in spare }
 {
     match spare {
         Some(yard) => yard,
@@ -95,11 +100,12 @@ impl<'a> Floor<'a> {
             ≡ replicate (word_count network.now.table) 0) }
         ensures base { IfOk result (λ r. base r.0.start ≡ 0) }
         ensures lane { IfOk result (λ r. r.1 ≡ empty_lane r.0 quota) }
+        ensures spaced { IfOk result (λ r. r.0.table.words ≡ word_count network.now.table) }
         ensures quota { IsErrOf result OpenFault.Quota ↔ (MOST_CLIENTS < quota) }
     {
         quota_fits(quota)?;
         let words = Words::zero(alloc, network)?;
-        Floor::open_words(alloc, words, quota)
+        Floor::open_words(alloc, words, Spacing::Packed, quota)
     }
 
     /// A floor as [`Floor::open`] opens it, which shares the network with the caller by count: it borrows nothing, so a
@@ -118,11 +124,12 @@ impl<'a> Floor<'a> {
             ≡ replicate (word_count (arc_value network.now).table) 0) }
         ensures base { IfOk result (λ r. base r.0.start ≡ 0) }
         ensures lane { IfOk result (λ r. r.1 ≡ empty_lane r.0 quota) }
+        ensures spaced { IfOk result (λ r. r.0.table.words ≡ word_count (arc_value network.now).table) }
         ensures quota { IsErrOf result OpenFault.Quota ↔ (MOST_CLIENTS < quota) }
     {
         quota_fits(quota)?;
-        let words = Words::zero_shared(alloc, network)?;
-        Floor::open_words(alloc, words, quota)
+        let shared = Words::zero_shared(alloc, network)?;
+        Floor::open_words(alloc, shared, Spacing::Packed, quota)
     }
 
     /// A floor as [`Floor::open`] opens it, whose words lie 128 bytes apart in memory, with zeros between: two threads
@@ -142,11 +149,13 @@ impl<'a> Floor<'a> {
             ≡ replicate (word_count network.now.table) 0) }
         ensures base { IfOk result (λ r. base r.0.start ≡ 0) }
         ensures lane { IfOk result (λ r. r.1 ≡ empty_lane r.0 quota) }
+        ensures spaced { IfOk result (λ r. r.0.table.words
+            ≡ MOST_STRIDE * word_count network.now.table) }
         ensures quota { IsErrOf result OpenFault.Quota ↔ (MOST_CLIENTS < quota) }
     {
         quota_fits(quota)?;
-        let words = Words::zero(alloc, network)?.apart();
-        Floor::open_words(alloc, words, quota)
+        let words = Words::zero(alloc, network)?;
+        Floor::open_words(alloc, words, Spacing::Apart, quota)
     }
 
     /// A floor as [`Floor::open_shared`] opens it, whose words lie as those of [`Floor::open_apart`].
@@ -164,11 +173,13 @@ impl<'a> Floor<'a> {
             ≡ replicate (word_count (arc_value network.now).table) 0) }
         ensures base { IfOk result (λ r. base r.0.start ≡ 0) }
         ensures lane { IfOk result (λ r. r.1 ≡ empty_lane r.0 quota) }
+        ensures spaced { IfOk result (λ r. r.0.table.words
+            ≡ MOST_STRIDE * word_count (arc_value network.now).table) }
         ensures quota { IsErrOf result OpenFault.Quota ↔ (MOST_CLIENTS < quota) }
     {
         quota_fits(quota)?;
-        let words = Words::zero_shared(alloc, network)?.apart();
-        Floor::open_words(alloc, words, quota)
+        let shared = Words::zero_shared(alloc, network)?;
+        Floor::open_words(alloc, shared, Spacing::Apart, quota)
     }
 
     /// A floor over the network of these words, which goes on from them: its numbers and visits begin with theirs, and
@@ -189,7 +200,7 @@ impl<'a> Floor<'a> {
     {
         quota_fits(quota)?;
         let copy = words.copy(alloc)?;
-        Floor::open_words(alloc, copy, quota)
+        Floor::open_words(alloc, copy, words.spacing, quota)
     }
 
     /// A floor that goes on from what another left, and takes the words and the yard of that. Over leftovers of nobody
@@ -204,45 +215,52 @@ impl<'a> Floor<'a> {
         leftovers: Leftovers<'a>,
         quota: u64,
     ) -> Result<(Floor<'a>, Lane), Leftovers<'a>>
-        requires few { (client_count leftovers ≤ MOST_CARRIED) × (quota ≤ MOST_CLIENTS) }
-        ensures floor { IfOk result (λ r. r.0.start ≡ start_after leftovers.entry quota) }
+        requires few { (client_count leftovers.words ≤ MOST_CARRIED) × (quota ≤ MOST_CLIENTS) }
+        ensures floor { IfOk result (λ r. r.0.start ≡ start_after leftovers.entry.words quota) }
         ensures lane { IfOk result (λ r. r.1 ≡ record (empty_lane r.0 quota) { yard = r.1.yard }) }
-        ensures idle { IfOk result (λ r. IsIdle leftovers.entry.network r.1.yard.lists) }
-        ensures back { IfErr result (λ back. back ≡ leftovers.entry) }
+        ensures idle { IfOk result (λ r. IsIdle leftovers.entry.words.network r.1.yard.lists) }
+        ensures spare { IfOk result (λ r. r.1.yard.spare ≡ leftovers.entry.spare) }
+        ensures back { IfErr result (λ back. back.words ≡ leftovers.entry.words) }
     {
         let (words, yard) = leftovers.into_parts();
         let yard = spare_yard(alloc, words.network(), yard);
-        match Floor::begin(alloc, words, quota, yard) {
+        let spacing = words.spacing;
+        match Floor::begin(alloc, words, spacing, quota, yard) {
             Ok(opened) => Ok(opened),
             Err(words) => Err(Leftovers { words, yard: None }),
         }
     }
 
-    /// A floor that goes on from these words.
+    /// A floor that goes on from these words, which lie so in it and in each that goes on from it.
     ///
     /// # Errors
     /// `Memory`.
     fn open_words(
         alloc: Global,
         words: Words<'a>,
+        spacing: Spacing,
         quota: u64,
     ) -> Result<(Floor<'a>, Lane), OpenFault>
         requires few { (client_count words ≤ MOST_CARRIED) × (quota ≤ MOST_CLIENTS) }
         ensures floor { IfOk result (λ r. r.0.start ≡ start_after words.entry quota) }
         ensures lane { IfOk result (λ r. r.1 ≡ empty_lane r.0 quota) }
+        ensures spaced { IfOk result (λ r. r.0.table.words
+            ≡ stride_of spacing * word_count words.entry.network.table) }
         ensures memory { IfErr result (λ fault. fault ≡ OpenFault.Memory) }
     {
         let yard = yard_for(alloc, words.network());
-        match Floor::begin(alloc, words, quota, yard) {
+        match Floor::begin(alloc, words, spacing, quota, yard) {
             Ok(opened) => Ok(opened),
             Err(_words) => Err(OpenFault::Memory),
         }
     }
 
-    /// A floor that goes on from these words, with this yard for its lane. If it gets no memory the words come back.
+    /// A floor that goes on from these words, which lie so in it and in each that goes on from it, with this yard for
+    /// its lane. If it gets no memory the words come back.
     fn begin(
         alloc: Global,
         words: Words<'a>,
+        spacing: Spacing,
         quota: u64,
         yard: Yard,
     ) -> Result<(Floor<'a>, Lane), Words<'a>>
@@ -250,9 +268,11 @@ impl<'a> Floor<'a> {
         requires idle { IsIdle words.network yard.lists }
         ensures floor { IfOk result (λ r. r.0.start ≡ start_after words.entry quota) }
         ensures lane { IfOk result (λ r. r.1 ≡ record (empty_lane r.0 quota) { yard = yard }) }
+        ensures spaced { IfOk result (λ r. r.0.table.words
+            ≡ stride_of spacing * word_count words.entry.network.table) }
         ensures back { IfErr result (λ back. back ≡ words.entry) }
     {
-        let stride = words.spacing.stride();
+        let stride = spacing.stride();
         let made = Counters::new(alloc, words.network(), quota, &words.words, stride);
         let Ok((counters, seat)) = made else {
             return Err(words);
@@ -267,7 +287,7 @@ impl<'a> Floor<'a> {
         let floor = Floor {
             alloc,
             base: words.clients,
-            before: words,
+            before: words.spaced(spacing),
             counters,
         };
         Ok((floor, lane))

@@ -224,5 +224,5 @@ impl<T: LoadOf> Play<(), View> for LookPlay<T> {
     ghost use Rattle.std.specs.Prelude.{◌≡◌, []};
     ghost use Rattle.cn_floor.specs.Plays.{Looks};
 
-    ghost then = { λ _ me n new. (new.1 ≡ []) × Looks T.start me.0 new.0 };
+    ghost then = { λ step me n new. (step.word ≡ 0) × (new.1 ≡ []) × Looks T.start me.0 new.0 };
 }

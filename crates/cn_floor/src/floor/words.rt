@@ -83,8 +83,8 @@ impl<'a> Words<'a> {
         })
     }
 
-    /// The same words; those of a floor that goes on from them lie apart.
-    pub(super) fn apart(self) -> Words<'a>
+    /// The same words; those of a floor that goes on from them lie so.
+    pub(super) fn spaced(self, spacing: Spacing) -> Words<'a>
         ensures { result ≡ self.entry }
     {
         let Words {
@@ -97,7 +97,7 @@ impl<'a> Words<'a> {
             network,
             words,
             clients,
-            spacing: Spacing::Apart,
+            spacing,
         }
     }
 
@@ -122,21 +122,15 @@ impl<'a> Words<'a> {
     }
 
     /// These words, overwritten by those of a floor that is closed over the same network.
-    pub(super) fn overwritten(self, closed: &ClosedFloor<'_>) -> Words<'a>
+    pub(super) fn overwritten(mut self, closed: &ClosedFloor<'_>) -> Words<'a>
         requires { closed.now.start.network ≡ self.network }
         ensures { result ≡ words_after closed.now }
     {
         self.words_laws();
-        let Words {
-            network,
-            words: mut list,
-            clients: _clients,
-            spacing,
-        } = self;
         closed.closed_laws();
-        let clients = closed.clients;
-        closed.copy_words(&mut list);
-        Words::closed(network, list, clients, spacing)
+        closed.copy_words(&mut self.words);
+        self.clients = closed.clients;
+        self
     }
 
     /// The same words once more.

@@ -1,9 +1,11 @@
 //! What can be wrong with a batch.
 
 ghost use Rattle.std.specs.Prelude.{◌≡◌, Some};
+ghost use Rattle.cn_report.specs.declared.reading.batch_fault.BatchCause.TheVariants as causes;
 ghost use Rattle.cn_report.specs.Reading.Batch.{batch_cause_name, batch_cause_of_row};
 
 use crate::reading::rows::RowFault;
+use std::alloc::AllocError;
 use std::fmt;
 
 /// What is wrong with a record of a batch. Of several causes the first in this order is given, except that `Memory` may
@@ -69,6 +71,14 @@ impl From<RowFault> for BatchCause {
     }
 }
 
+impl From<AllocError> for BatchCause {
+    ghost from_gives = { λ _ cause. cause ≡ causes.Memory };
+
+    fn from(_error: AllocError) -> Self {
+        BatchCause::Memory
+    }
+}
+
 /// The first record of a batch with a cause, and its first cause.
 #[derive(Clone, Copy, Debug, PartialEq, Eq)]
 pub struct BatchFault {
@@ -76,4 +86,16 @@ pub struct BatchFault {
     pub at: u64,
     /// What is wrong with it.
     pub cause: BatchCause,
+}
+
+// Want of memory before the first record is read.
+impl From<AllocError> for BatchFault {
+    ghost from_gives = { λ _ fault. fault ≡ record { at = 0; cause = causes.Memory } };
+
+    fn from(_error: AllocError) -> Self {
+        BatchFault {
+            at: 0,
+            cause: BatchCause::Memory,
+        }
+    }
 }

@@ -109,10 +109,7 @@ pub fn read_schedule<R: Read + Drop>(
         MatchResult result (λ commands.
         IsSchedule (records_of text) commands.items) (IsScheduleFault (records_of text))) }
 {
-    let Ok(mut rows) = open_rows(alloc, reader) else {
-        let cause = ScheduleCause::Memory;
-        return Err(ScheduleFault { at: 0, cause });
-    };
+    let mut rows = open_rows(alloc, reader)?;
     let mut row = ByteRecord::new(alloc);
     take_commands(alloc, &mut rows, &mut row)
 }

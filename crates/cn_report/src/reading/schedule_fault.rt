@@ -1,9 +1,11 @@
 //! What can be wrong with a schedule.
 
 ghost use Rattle.std.specs.Prelude.{◌≡◌, Some};
+ghost use Rattle.cn_report.specs.declared.reading.schedule_fault.ScheduleCause.TheVariants as causes;
 ghost use Rattle.cn_report.specs.Reading.Schedule.{cause_name, cause_of_row};
 
 use crate::reading::rows::RowFault;
+use std::alloc::AllocError;
 use std::fmt;
 
 /// What is wrong with a record of a schedule. Of several causes the first in this order is given, except that `Memory`
@@ -64,4 +66,16 @@ pub struct ScheduleFault {
     pub at: u64,
     /// What is wrong with it.
     pub cause: ScheduleCause,
+}
+
+// Want of memory before the first record is read.
+impl From<AllocError> for ScheduleFault {
+    ghost from_gives = { λ _ fault. fault ≡ record { at = 0; cause = causes.Memory } };
+
+    fn from(_error: AllocError) -> Self {
+        ScheduleFault {
+            at: 0,
+            cause: ScheduleCause::Memory,
+        }
+    }
 }

@@ -57,10 +57,7 @@ impl<R: Read + Drop> ArrivalReader<R> {
             (λ source. HasHeader R.remaining source text) (IsBatchFault entries (records_of text))) }
         ensures entries { IfOk result (λ source. source.entries ≡ entries) }
     {
-        let Ok(mut rows) = open_rows(alloc, reader) else {
-            let cause = BatchCause::Memory;
-            return Err(BatchFault { at: 0, cause });
-        };
+        let mut rows = open_rows(alloc, reader)?;
         let mut row = ByteRecord::new(alloc);
         match read_header(&mut rows, &mut row) {
             Ok(heading) => Ok(ArrivalReader {

@@ -1,6 +1,6 @@
 //! The epochs of a batch, as its records come.
 
-ghost use Rattle.std.specs.Prelude.{◌≡◌, ℕ, ◌≤◌, ◌+◌, ◌⊎◌, ◌∷◌, ◌++◌, [], List, None, Some, MatchResult, OnErr, OnOk, IfErr, IfOk};
+ghost use Rattle.std.specs.Prelude.{◌≡◌, ℕ, ◌≤◌, ◌+◌, ◌⊎◌, ◌∷◌, ◌++◌, [], List, None, Some, MatchResult, OnErr, OnOk, IfErr, IfOk, vec_capacity};
 ghost use Rattle.cn_spec.specs.declared.limits.TheConstants.{MOST_RECORDS};
 ghost use Rattle.cn_report.specs.declared.reading.batch.arrival.Arrival.{Arrival};
 ghost use Rattle.cn_report.specs.declared.reading.batch.heading.Heading.{Heading};
@@ -54,12 +54,13 @@ impl Gathering {
         self.next
     }
 
-    /// Ends the latest epoch, if it has clients, and opens another.
+    /// Ends the latest epoch, if it has clients, and opens another, which has no memory yet.
     fn open_epoch(&mut self, alloc: Global, number: u64) -> Result<(), AllocError>
         ensures turned { OnOk result ((self.new.ended.items ≡ ended_after self.old)
             × (self.new.latest.number ≡ number) × (self.new.latest.clients.items ≡ [])
             × (self.new.standing.keys ≡ [])) }
         ensures next { self.new.next ≡ self.old.next }
+        ensures small { vec_capacity self.new.latest.clients ≡ 0 }
     {
         let next = BatchEpoch {
             number,
@@ -140,9 +141,7 @@ impl Gathering {
         if arrival.entry >= u64::from(entries) {
             return Err(BatchCause::EntryRange);
         }
-        if self.turn_to(alloc, arrival.epoch).is_err() {
-            return Err(BatchCause::Memory);
-        }
+        self.turn_to(alloc, arrival.epoch)?;
         let client = Client {
             id: arrival.client,
             entry: arrival.entry,

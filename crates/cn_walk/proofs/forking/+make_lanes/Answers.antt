@@ -102,8 +102,18 @@ returns-clause-workers t c =
     let w : ℕ = c.args.workers in
     let at : ℕ = c.first_position-2.result - c.first_position-first.result in
     let part : at ≡ first_position k w middle - first_position k w c.args.from = omega (arith, c.first_position-2.ensures.value, c.first_position-first.ensures.value) in
+    let some : 0 < at = omega (arith, c.if-at-eq0.false) in
+    let less : at < first_position k w c.args.to - first_position k w c.args.from =
+    omega (
+      arith,
+      c.if-at-own.false,
+      first-later k w middle c.args.to (omega (arith, range)) (omega (arith, range)),
+      c.first_position.ensures.value,
+      c.first_position-first.ensures.value,
+      c.first_position-2.ensures.value,
+    ) in
     some_so (λ (lanes : Lanes). IsPair at c.in_ok-left.left c.in_ok-right.right lanes) (λ (lanes : Lanes). AreOf k w c.args.from c.args.to lanes) c.pair.result
-    (λ lanes is. is.of k w c.args.from middle c.args.to (omega (arith, c.if-to-from-eq1.false, range)) (omega (arith, c.if-to-from-eq1.false, range)) part c.in_ok-left.ensures.workers c.in_ok-right.ensures.workers)
+    (λ lanes is. is.of k w c.args.from middle c.args.to (omega (arith, c.if-to-from-eq1.false, range)) (omega (arith, c.if-to-from-eq1.false, range)) part some less c.in_ok-left.ensures.workers c.in_ok-right.ensures.workers)
     c.pair.ensures
 
 pub overflow_sub-at : goal.overflow_sub-at

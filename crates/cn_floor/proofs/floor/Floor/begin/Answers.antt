@@ -1,4 +1,4 @@
-use Rattle.std.proofs.Common.{◌≡◌, ℕ, ◌≤◌, length, [], replicate, sym, ap, ◌∙◌, subst, arith}
+use Rattle.std.proofs.Common.{◌≡◌, ℕ, ◌*◌, ◌≤◌, length, [], replicate, sym, ap, ◌∙◌, subst, arith}
 use Rattle.std.proofs.lemmas.List.{length-replicate}
 use Rattle.cn_spec.specs.declared.limits.TheConstants.{MOST_CARRIED, MOST_CLIENTS}
 use Rattle.cn_yard.specs.Lists.{tokens_in}
@@ -6,6 +6,7 @@ use Rattle.cn_floor.specs.declared.view.View.{View}
 use Rattle.cn_floor.specs.Carried.{IsClosed, WordsValue, client_count, start_after, words_before}
 use Rattle.cn_floor.specs.Rule.{IsStart}
 use Rattle.cn_floor.specs.Views.{base, empty_view}
+use Rattle.cn_floor.specs.Words.{word_count}
 use Rattle.cn_floor.proofs.InLane.Yards.{nobody-in}
 use Rattle.cn_floor.proofs.floor.Floor.begin.Goals as goal
 
@@ -20,7 +21,7 @@ new-made-requires-clause-began c =
     subst (λ (w : WordsValue). IsStart (start_after w c.args.quota)) same
     (begun c.args.words c.args.quota (subst IsClosed c.words.view_is c.words.invariant.closed) c.requires.few.0 c.requires.few.1)
 
-module _ (c : goal.After-new) where
+module _ (c : goal.After-spaced) where
   floor : c.in-Ok.counters.start ≡ start_after c.args.words c.args.quota
   floor =
       let network : c.network.result.now ≡ c.words.inside.network = c.network.ensures ∙ ap (λ (w : WordsValue). w.network) (sym c.words.view_is) in
@@ -47,7 +48,7 @@ invariant_of-floor c =
     let is = floor c in
     record {
       base = c.words.invariant.clients ∙ ap client_count c.words.view_is ∙ ap base (sym is);
-      before = ap words_before (sym is);
+      before = c.spaced.ensures ∙ ap words_before (sym is);
       began = subst IsStart (sym is) (begun c.args.words c.args.quota (subst IsClosed c.words.view_is c.words.invariant.closed) c.requires.few.0 c.requires.few.1);
     }
 
@@ -69,3 +70,7 @@ invariant_of-lane c =
       room = omega (arith, nobody, ap length c.new.ensures.items);
       spare = omega arith;
     }
+
+pub returns-clause-spaced : goal.returns-clause-spaced
+returns-clause-spaced c =
+    c.in-Ok.ensures.spaced ∙ (λ i. c.stride-stride.ensures.exact i * word_count (c.network.ensures i).table)

@@ -1,4 +1,4 @@
-use Rattle.std.proofs.Common.{◌≡◌, [], ◌*◌, rules, sym, ap, ◌∙◌, arith}
+use Rattle.std.proofs.Common.{◌≡◌, ℕ, [], ◌*◌, rules, sym, refl, ap, ◌∙◌, arith}
 use Rattle.cn_floor.specs.Lane.{FloorValue}
 use Rattle.cn_floor.specs.Plays.{Looks}
 use Rattle.cn_floor.specs.Rule.{start_of}
@@ -13,6 +13,6 @@ load-requires g c =
     let first : 0 ≡ c.self.inside.stride * 0 = omega arith in (
       search rules,
       there c.self.inside c.self.invariant first (omega arith),
-      at-word c.self.inside c.self.invariant (λ n. n) (λ n new. (new.1 ≡ []) × Looks g.T.LoadOf.start c.args.seat.now.me.0 new.0)
-          first (looks (start_of key) _ _ 0 c.args.seat.now.me g.T.LoadOf.start (c.requires.hears ∙ about) c.requires.slots),
+      at-word c.self.inside c.self.invariant (λ n. n) (λ n new. (◌≡◌ {A = ℕ} 0 0) × (new.1 ≡ []) × Looks g.T.LoadOf.start c.args.seat.now.me.0 new.0)
+          first (looks (start_of key) _ _ 0 0 c.args.seat.now.me g.T.LoadOf.start refl (c.requires.hears ∙ about) c.requires.slots),
     )

@@ -3,8 +3,8 @@ use Rattle.cn_report.specs.Reading.Records.{HasRead}
 use Rattle.cn_report.proofs.ReadingLemmas.FirstFaults.{known-map}
 use Rattle.cn_report.proofs.reading.batch.arrivals.ArrivalReader.open.Goals as goal
 
-pub returns-in-Ok-read_header-clause-header : goal.returns-in-Ok-read_header-clause-header
-returns-in-Ok-read_header-clause-header g c =
-    known-map (g.R.Read.remaining c.args.reader) (λ text. HasRead g.R.Read.remaining c.in-Ok.rows.value text []) _ c.in-Ok.ensures.opened (λ text read.
-    let (fields, now, heads) = rw c.deref_mut.ensures.value at c.in-Ok-read_header.ensures.ok text read in
+pub returns-in-Ok-clause-header : goal.returns-in-Ok-clause-header
+returns-in-Ok-clause-header g c =
+    known-map (g.R.Read.remaining c.args.reader) (λ text. HasRead g.R.Read.remaining c.in_ok-rows.rows.value text []) _ c.in_ok-rows.ensures.opened (λ text read.
+    let (fields, now, heads) = rw c.deref_mut.ensures.value at c.in-Ok.ensures.ok text read in
     record { fields = fields; read = now; heads = heads })
