@@ -18,6 +18,7 @@ PATHS = {
 }
 FLOOR, LIBRARY = "cn_floor/src/floor/", "renamer_c/src/"
 ARC, CLOSED, SNAPSHOT = "std::sync::Arc", "atomic_table::Closed", "std::snapshot::Snapshot"
+COUNT = "std::sync::atomic::AtomicU64"
 # What a file, or the files of a folder, may have beside these, and how often at most: paths; and words, some with the
 # dot or the colons before them, which are counted in all of the crate. So a floor has one table and these steps on it,
 # lanes these places, a network and a floor these owners, and ghost data is made here only.
@@ -51,16 +52,22 @@ MOST = {
     "renamer/src/main.rt": {"HostRuntime": 1, "Input": 1, "Print": 1, "std::env": ANY, "std::env::Env": ANY,
                             "std::env::args": 1, "std::io::writer": 1, "std::process::ExitCode": ANY,
                             "std::process::ExitCode::from": 1},
-    # The library's places for lanes that were handed back, who goes there, and who owns a floor.
-    LIBRARY: {f"counted_slot::{name}": ANY for name in ("Fits", "FREE", "MARKED", "PRESENT", "TAKEN")},
-    LIBRARY + "floor_with_places.rt": {"counted_slot::Counted": 6, "counted_slot::Counted::new": 1, ".turn": 3,
-                                       ".load": 2, "leave": 3, "take_all": 3, "take_from": 2, "make_places": 1,
-                                       "std::hint::spin_loop": ANY},
-    LIBRARY + "floor_share.rt": {ARC: ANY, ARC + "::get_mut": 2, ARC + "::try_clone": 1, ".clone": 0, "::clone": 0,
-                                 "make_places": 3, "share": ANY, "with_places": 2},
-    LIBRARY + "held_lane.rt": {ARC: ANY, ARC + "::new": 2, "share": 2, ".hand_back": 1},
+    # The library's places for lanes that were handed back, their count, who goes there, and who owns a floor.
+    LIBRARY: {f"counted_slot::{name}": ANY
+              for name in ("Fits", "FREE", "MARKED", "MOST_READERS", "ONE_READER", "PRESENT", "TAKEN")},
+    LIBRARY + "place_row.rt": {"counted_slot::Counted": 2, "counted_slot::Counted::new": 1, ".turn": 4, ".load": 4},
+    LIBRARY + "rows.rt": {"counted_slot::Counted": 9, "counted_slot::Counted::new": 1, ".turn": 2, ".load": 2,
+                          ".leave": 1},
+    LIBRARY + "places.rt": {ARC: ANY, ARC + "::new": 1, ARC + "::try_clone": 1},
+    LIBRARY + "floor_with_places.rt": {"counted_slot::Counted": 2, COUNT: 2, COUNT + "::new": 1,
+                                       "std::sync::atomic::Ordering::SeqCst": 4, ".fetch_add": 1, ".fetch_sub": 1,
+                                       ".load": 1, ".hand_back": 1},
+    LIBRARY + "floor_share.rt": {ARC: ANY, ARC + "::get_mut": 2, ".clone": 0, "::clone": 0, "with_places": 2},
+    LIBRARY + "held_lane.rt": {ARC: ANY, ARC + "::new": 2, ARC + "::try_clone": 1, ".hand_back": 1, ".share": 1,
+                               "with_places": 2},
     LIBRARY + "held_lane/returning.rt": {ARC: ANY, ARC + "::try_unwrap": 1, ".hand_back": 2, ".take_back": 1,
                                          "with_places": 4},
+    LIBRARY + "held.rt": {".take_back": 1},
     LIBRARY + "handle.rt": {".take_back": 1, "std::ptr::null_mut": ANY, "unsafe": 2, "*mut": 4},
     LIBRARY + "joining.rt": {".hand_back": 1, ".take_back": 1},
     LIBRARY + "loose.rt": {"unsafe": 3, "*mut": 1},
