@@ -30,15 +30,15 @@ record Told : Type 0 where
 abbrev told : EpochRecord → Told
 told r = record { number = r.number; clients = r.clients; counts = r.counts.items; holders = r.holders.items }
 
-abbrev told_lines : ℕ → Told → List ℕ
-told_lines width t = epoch_line t.number t.clients ++ (exit_lines width t.counts ++ name_lines t.clients t.holders)
+abbrev told-lines : ℕ → Told → List ℕ
+told-lines width t = epoch_line t.number t.clients ++ (exit_lines width t.counts ++ name_lines t.clients t.holders)
 
-abbrev told_grants : Told → List ℕ
-told_grants t = grant_lines t.number t.clients t.holders
+abbrev told-grants : Told → List ℕ
+told-grants t = grant_lines t.number t.clients t.holders
 
 abbrev told_text : Form → Network → List Told → List ℕ
-told_text Report network ts = heading network ++ flat_map (told_lines network.table.width) ts ++ report_end (length ts) (sum_by (λ (t : Told). t.clients) ts)
-told_text Grants network ts = grants_header ++ flat_map told_grants ts
+told_text Report network ts = heading network ++ flat_map (told-lines network.table.width) ts ++ report_end (length ts) (sum_by (λ (t : Told). t.clients) ts)
+told_text Grants network ts = grants_header ++ flat_map told-grants ts
 
 flat-told : (g : EpochRecord → List ℕ) (f : Told → List ℕ) → ((r : EpochRecord) → g r ≡ f (told r)) → (records : List EpochRecord) → flat_map g records ≡ flat_map f (map told records)
 flat-told g f same [] = refl
@@ -51,11 +51,11 @@ sum-told (r ∷ records) =
 
 text-told : (form : Form) (network : Network) (records : List EpochRecord) → text_in form network records ≡ told_text form network (map told records)
 text-told Report network records =
-    let lines : flat_map (epoch_lines network.table.width) records ≡ flat_map (told_lines network.table.width) (map told records) =
-    flat-told (epoch_lines network.table.width) (told_lines network.table.width) (λ r. refl) records in
+    let lines : flat_map (epoch_lines network.table.width) records ≡ flat_map (told-lines network.table.width) (map told records) =
+    flat-told (epoch_lines network.table.width) (told-lines network.table.width) (λ r. refl) records in
     λ i. heading network ++ lines i ++ report_end (sym (length-map records told) i) (sum-told records i)
 text-told Grants network records =
-    ap (λ (xs : List ℕ). grants_header ++ xs) (flat-told (λ r. grant_lines r.number r.clients r.holders.items) told_grants (λ r. refl) records)
+    ap (λ (xs : List ℕ). grants_header ++ xs) (flat-told (λ r. grant_lines r.number r.clients r.holders.items) told-grants (λ r. refl) records)
 
 -- it follows from the batch
 abbrev told_of : Bool → ℕ → ℕ → List (ℕ × List Client) → List Told

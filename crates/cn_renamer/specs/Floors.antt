@@ -33,8 +33,9 @@ pub record IsOfFloor (floor : QuietValue) (r : EpochRecord) : Type 0 where
   pub counts : r.counts.items ≡ counts_by_exit floor.start floor.words
   pub holders : ListsHolders floor.did.grants r.holders.items
 
--- this text is that of a run of the bytes, and its records are those of these floors, on which the clients walked, epoch
--- by epoch; with carry each floor went on from the words of the one before, without it each began with words that are 0
+-- this text is that of a run of the bytes, and its records are those of these floors, on which the clients walked,
+-- epoch by epoch; with carry each floor went on from the words of the one before, without it each began with words that
+-- are 0
 pub record IsRunOnFloors (net : Description) (form : Form) (carry : Bool) (floors : List QuietValue)
     (bytes text : List ℕ) : Type 0 where
   pub run : IsRunOf net form carry bytes text
@@ -50,9 +51,9 @@ IsRunOnFloorsOfKnown net form carry floors known text =
 
 -- ---- while they run
 
--- the clients of these epochs walked on these floors of a runner, and these are the holders of all their names: those of
--- the first epoch by rising name, then those of the next. By a crew of one worker with one client in hand they follow
--- the order of the batch
+-- the clients of these epochs walked on these floors of a runner, and these are the holders of all their names: those
+-- of the first epoch by rising name, then those of the next. By a crew of one worker with one client in hand they
+-- follow the order of the batch
 pub record HaveWalked (crew : Crew) (runner : RunnerValue) (epochs : List BatchEpoch) (floors : List QuietValue)
     (holders : List ℕ) : Type 0 where
   pub began : AreOfRunner runner floors
