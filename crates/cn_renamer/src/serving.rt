@@ -86,9 +86,9 @@ fn write_epochs<W: Write>(
 /// As many workers run them as the options have, each with so many clients in hand, each epoch as
 /// [`cn_walk::Runner::run`] does. If the options carry counters, the epochs run one after another, each of several by
 /// one worker for each 8,192 of its clients, so far as there are workers, and by one at least. Else each has a floor of
-/// its own, and they run beside one another: with several workers and epochs these are cut in two parts, and the workers by the clients of
-/// each, and so on in each part, so that a worker has epochs that it runs one after another, or an epoch several
-/// workers. With several workers two threads read the batch.
+/// its own, and they run beside one another: with several workers and epochs these are cut in two parts, and the
+/// workers by the clients of each, and so on in each part, so that a worker has epochs that it runs one after another,
+/// or an epoch several workers. With several workers two threads read the batch.
 ///
 /// **The headline.** Of each epoch of k clients exit i of w has the count ceiling((k - i) / w), and the clients have
 /// the names 0 to k-1, each once (Aspnes, Herlihy, Shavit, *Counting Networks*, JACM 1994, section 2; renaming by
