@@ -19,11 +19,13 @@ pub record MayRunAll (entries : ℕ) (epochs : List BatchEpoch) (places : ℕ) :
 abbrev pub crew_of : Settings → Crew
 crew_of options = record { first = 0; workers = options.workers; hand = options.hand }
 
--- who of a crew run an epoch of so many clients, one of so many that run one after another: if there are others, no more
--- workers than its clients pay for, and one at least; else all
+-- who of a crew run an epoch of so many clients, one of so many that run one after another: if there are others, no
+-- more workers than its clients pay for, and one at least; else all
 abbrev pub crew_for : Crew → ℕ → ℕ → Crew
 crew_for crew epochs clients =
-    if nat_lt 1 epochs then record crew { workers = min (max (clients / CLIENTS_FOR_A_THREAD) 1) crew.workers } else crew
+    if nat_lt 1 epochs
+    then record crew { workers = min (max (clients / CLIENTS_FOR_A_THREAD) 1) crew.workers }
+    else crew
 
 -- how many of so many clients are those of half a crew, of an odd one of the smaller half
 abbrev pub clients_of_half : Crew → ℕ → ℕ
