@@ -1,5 +1,5 @@
 -- The floors on which the clients of a run walked.
-use Rattle.std.proofs.Common.{◌≡◌, ℕ, ◌+◌, ◌≤◌, All, Bool, true, false, ap, List, [], ◌∷◌, ◌++◌, drop, length, take, refl, subst, sym, arith, append-nil, ◌∙◌}
+use Rattle.std.proofs.Common.{◌≡◌, ℕ, ◌+◌, ◌≤◌, All, Bool, true, false, ap, List, [], ◌∷◌, ◌++◌, length, refl, subst, sym, arith, append-nil, ◌∙◌}
 use Rattle.std.specs.List.{AllZip, flat_map}
 use Rattle.std.proofs.lemmas.List.{drop_at, take_at}
 use Rattle.std.proofs.lemmas.List.Concat.{flat_map-append}
@@ -11,7 +11,6 @@ use Rattle.cn_wiring.specs.Network.{Network}
 use Rattle.cn_record.specs.declared.record.EpochRecord.{EpochRecord}
 use Rattle.cn_floor.specs.Carried.{WordsValue, client_count, words_before}
 use Rattle.cn_floor.specs.Ends.{ListsHolders, QuietValue}
-use Rattle.cn_floor.specs.Words.{clients_in}
 use Rattle.cn_walk.specs.Runner.{RunnerValue, next_runner, next_words}
 use Rattle.cn_walk.specs.Runs.{IsRunAfter}
 use Rattle.cn_walk.specs.declared.crew.Crew.{Crew}

@@ -1,22 +1,13 @@
 -- What a run has written of the epochs of its batch.
-use Rattle.std.proofs.Common.{◌≡◌, ℕ, ◌+◌, Bool, true, false, List, [], ◌∷◌, ◌++◌, Option, length, arith, refl, subst, ◌∙◌, sym}
-use Rattle.std.specs.Prelude.{IfSome}
+use Rattle.std.proofs.Common.{◌≡◌, ℕ, Bool, List, [], ◌∷◌, Option, length, ◌∙◌, sym}
 use Rattle.std.specs.List.{AllZip}
 use Rattle.std.proofs.lemmas.List.{length-map}
 use Rattle.std.proofs.lemmas.List.Sorted.{length_permutation}
-use Rattle.std.proofs.lemmas.List.Sums.{sum_by-cons}
-use Rattle.cn_spec.specs.Sums.{when}
-use Rattle.cn_wiring.specs.Network.{Network}
 use Rattle.cn_ledger.specs.declared.client.Client.{Client}
 use Rattle.cn_record.specs.declared.record.EpochRecord.{EpochRecord}
-use Rattle.cn_report.specs.Reading.Batch.{IsBatch, clients_of_epochs}
-use Rattle.cn_report.specs.Reading.Records.{records_of}
 use Rattle.cn_report.specs.declared.reading.batch.BatchEpoch.{BatchEpoch}
-use Rattle.cn_report.proofs.CallerLemmas.{known-map}
 use Rattle.cn_report.specs.Writing.Written.{HasWritten, First, Nothing, Whole, Written}
-use Rattle.cn_nets.specs.Net.{Description, IsNetworkOf}
-use Rattle.cn_cli.specs.declared.options.Form.{Form}
-use Rattle.cn_renamer.specs.Headline.{AreServed, IsInOrder, IsRunInOrder, IsRunInOrderOfKnown, IsRunOf, IsRunOfKnown, IsServed, clients_before_next, text_in}
+use Rattle.cn_renamer.specs.Headline.{AreServed, IsServed, clients_before_next}
 
 -- who holds the names of an epoch that was served are as many as its clients
 pub as-many : (width m : ℕ) (epoch : BatchEpoch) (r : EpochRecord) → IsServed width m epoch r → length r.holders.items ≡ r.clients
