@@ -405,11 +405,13 @@ fn words_are_done(rt: HostRuntime) {
     assert_eq!(rt; wrong_line(&rt, rt.alloc()), None);
 }
 
-/// Whether a fault is printed with this line, and ends with this status, even if nothing can be printed.
+/// Whether a fault is printed with this line, and ends with this status; also if the one write that fails is the first,
+/// after which no other is tried.
 fn is_told(alloc: Global, fault: Fault, line: &[u8], status: u8) -> bool {
     let done = Err(fault);
-    let mut full = Narrow::new(alloc, 0, Then::Fails(io::ErrorKind::BrokenPipe));
-    ends_with(alloc, &done, line, status) && end(&done, &mut full) == status
+    let mut full = Narrow::new(alloc, 0, Then::FailsOnce);
+    let ends = end(&done, &mut full) == status && full.taken.is_empty();
+    ends && ends_with(alloc, &done, line, status)
 }
 
 /// A replay's fault, at this line.
