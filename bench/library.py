@@ -11,7 +11,9 @@ entries. Rows `apart` are of floors whose words lie 128 bytes apart.
 One thread is compared by processor time, in uncontended adds, and on two networks to a walk in plain Rust, which makes as
 many adds as a name is, each on the word that the last one's number leads to; several by the clock, each way to the add by
 as many threads. A ratio is the median over ten rounds, in which all ways run in turn; a run is the median of five epochs after
-a first, in which its memory comes from the system. It measures the names only, and not what is made before. The rows of
+a first, in which its memory comes from the system. It measures the names only, and not what is made before. Rows of
+lanes are what a lane takes without a name, by one thread: split off, handed back and joined, with as many there as the row
+says; the same of every eighth by turns, while the others are out; and a join while none is back. The rows of
 slabs are left out if the folder of crates has none.
 """
 import statistics
@@ -20,6 +22,10 @@ import measure
 
 NETWORKS = (("tree", 2), ("tree", 64), ("bitonic", 8), ("bitonic", 64))
 THREADS = {1: "one thread", 2: "two threads", 4: "four threads"}
+# How many lanes are there.
+LANES = (1, 8, 64, 1000, 100000)
+BY_LANES = {"lanes": "split off, handed back and joined", "eighth": "with seven eighths of them out",
+            "none": "a join with none back"}
 TABLE, ADD, REFUSED = "a mutex and table", "the add", "a refused call"
 # How many adds a name is.
 ADDS = {"tree 64": 8, "bitonic 64": 23}
@@ -65,6 +71,8 @@ def rows(bench):
     jobs = {(way, threads): [*words, str(threads)] for way, words in found.items() for threads in THREADS}
     jobs |= {(way, threads): [namers, *words, str(threads)] for way, words in ALL_OVER.items() for threads in (2, 4)}
     jobs[REFUSED, 1] = [namers, "refused", "1"]
+    jobs |= {(f"{lanes} lane{'s' * (lanes > 1)}, {what}", 1): [namers, word, str(lanes), "1"]
+             for word, what in BY_LANES.items() for lanes in LANES}
     jobs |= {(f"a plain walk of {adds} adds", 1): [namers, "walk", str(adds), "1"] for adds in ADDS.values()}
     spent = measured(bench, jobs)
     for way, threads in jobs:

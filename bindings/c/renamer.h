@@ -21,8 +21,8 @@
  * after them it is none.
  *
  * STATUSES. Each call takes any numbers, any sizes and any handle, also one that is none, and returns a status. A call
- * that does not return RENAMER_DONE has changed nothing: no handle, no floor, no number or array of the caller's. Of
- * several causes the first in the order of the call's list is returned.
+ * that does not return RENAMER_DONE has changed nothing: no handle, no floor, no number or array of the caller's; only
+ * renamer_join_all may have taken in some lanes. Of several causes the first in the order of the call's list is returned.
  *
  * THREADS. Calls on different handles may run at once in any threads, also on lanes of one floor. Calls on one handle may
  * not overlap, but for those that take it as `const`: they only ask, and write nothing to it, so any number of threads
@@ -52,9 +52,6 @@ extern "C" {
 /* How many clients a floor lets in at most, and how many may have come before a floor that goes on from others. */
 #define RENAMER_MOST_CLIENTS 262144
 #define RENAMER_MOST_CARRIED 2147483648
-
-/* No limit any more: any number of lanes may be handed back and not joined yet. It is here for programs that name it. */
-#define RENAMER_MOST_RETURNED 64
 
 /* A lane of a floor, or none: a thread's own part of the floor, by which it lets clients in. */
 typedef struct renamer_lane {
@@ -134,12 +131,10 @@ typedef enum renamer_status {
     RENAMER_NOTHING_BACK = 12,   /* no lane of the floor was handed back */
     RENAMER_SIZE = 13,           /* the array has the wrong size */
     RENAMER_CARRIED = 14,        /* more clients came before than RENAMER_MOST_CARRIED */
-    RENAMER_NO_PLACE = 15,       /* no call returns it any more: each lane has its place from its split on */
-    RENAMER_LANES_THERE = 16,    /* other lanes of the floor are there still, with nothing of it */
-    RENAMER_BUSY = 17            /* other threads are in the midst of handing lanes back or joining them: join again */
+    RENAMER_LANES_THERE = 15     /* other lanes of the floor are there still, with nothing of it */
 } renamer_status;
 
-/* A sentence that says what a status means, and what is allowed. */
+/* What a status means, and what is allowed. */
 static inline const char *renamer_explain(uint32_t status) {
     switch (status) {
     case RENAMER_DONE: return "the call is done";
@@ -157,9 +152,7 @@ static inline const char *renamer_explain(uint32_t status) {
     case RENAMER_NOTHING_BACK: return "no lane of the floor was handed back";
     case RENAMER_SIZE: return "the array has another size than what is to be written into it";
     case RENAMER_CARRIED: return "too many clients came before: 2147483648 at most";
-    case RENAMER_NO_PLACE: return "there is no place for a lane that is handed back";
     case RENAMER_LANES_THERE: return "other lanes of the floor are there still, with nothing of it: hand them back";
-    case RENAMER_BUSY: return "other threads are handing lanes back or joining them: join again";
     default: return "there is no such status";
     }
 }
@@ -173,8 +166,8 @@ uint32_t renamer_version(void);
 uint32_t renamer_open(renamer_lane *lane, uint32_t kind, uint32_t width, uint64_t quota);
 
 /* Opens a floor as renamer_open does, whose words lie 128 bytes apart in memory and not 8: so threads that go by two ends at
-   once do not wait for one cache line. That is for machines of many processors: the words take 16 times the memory, and with
-   few processors nothing is gained. The words of a floor that goes on from it lie apart too.
+   once do not wait for one cache line. That is for machines of many processors: the words take 16 times the memory, and by one
+   thread a name takes 1.5 to 1.7 times as long on wide networks. The words of a floor that goes on from it lie apart too.
    RENAMER_KIND, _WIDTH, _QUOTA, _MEMORY. One thread at a time. */
 uint32_t renamer_open_apart(renamer_lane *lane, uint32_t kind, uint32_t width, uint64_t quota);
 
@@ -200,7 +193,8 @@ uint32_t renamer_name(renamer_lane *lane, uint64_t client, uint64_t entry, uint6
 
 /* Names clients by one call. Those who follow one another in the list by one entry, up to 64 of them, come in by one atomic
    add and go on together, by one more for all that are on a wire; one who has none of its entry beside it walks as by
-   renamer_name. So clients by one entry cost few adds each, and a list by entries in turn as many as single calls.
+   renamer_name. So a list by entries in turn costs as many adds as single calls. Of 64 by one entry each costs 2 adds in
+   place of 8 on tree 64, 10 of 23 on bitonic 64, 25 of 38 on bitonic 256, and 32 of 38 on periodic 64.
    Copies their grants, in the order in which they left, which has not to be that of the clients; they are the lane's last
    ones too. Takes memory only if the lane has less room.
    RENAMER_NONE, _SIZE (there are not as many grants as clients), _STILL_WALKING, _NO_SUCH_ENTRY, _QUOTA_SPENT,
@@ -250,22 +244,28 @@ uint32_t renamer_grant_count(const renamer_lane *lane, uint64_t *count);
 uint32_t renamer_grants(const renamer_lane *lane, uint64_t first, renamer_grant *grants, size_t size);
 
 /* Hands the lane back to its floor, from any thread: its quota, its grants and all that it did. The lane is none then, and
-   another lane of the floor may take it in by renamer_join. It takes no memory, and any number of lanes may be back. If it was
-   the only lane, the floor is freed.
+   another lane of the floor may take it in by renamer_join. It takes no memory, and any number of lanes may be back. It is a
+   few atomic steps, whatever other threads do and wherever they are stopped. If it was the only lane, the floor is freed.
    RENAMER_NONE, _STILL_WALKING. One thread at a time. */
 uint32_t renamer_hand_back(renamer_lane *lane);
 
 /* Takes one lane of the same floor in that was handed back: its quota is added, and its grants come after the lane's own.
-   Which of several, is not said. Takes no memory if the lane has room for these grants, and has that much less room then.
-   RENAMER_NONE, _NOTHING_BACK, _BUSY (only while other threads hand lanes back or join them), _MEMORY.
-   One thread at a time. */
+   Which of several, is not said. Any lane may take in any other. Takes no memory if the lane has room for these grants, and
+   has that much less room then. RENAMER_NOTHING_BACK says that at one moment of the call no lane was back: each whose
+   hand-back had returned was taken by another join. A thread that is stopped in a call keeps from others no lane but the one
+   that it hands back or takes in. A join looks again only if a lane came back or was taken meanwhile.
+   RENAMER_NONE, _NOTHING_BACK, _MEMORY. One thread at a time. */
 uint32_t renamer_join(renamer_lane *lane);
+
+/* Takes in lanes as renamer_join does, one after another, and is done once it finds none back. With another status some may
+   have been taken in; the call may be made again. RENAMER_NONE, _MEMORY. One thread at a time. */
+uint32_t renamer_join_all(renamer_lane *lane);
 
 /* Closes the floor. The lane must have all of it, and no other may be there: each that was split off was handed back or
    freed, and those that had quota or grants were joined. So after the threads have ended
 
-       while (renamer_join(&lane) == RENAMER_DONE) {}
-       renamer_close(&lane, &quiet);
+       if (renamer_join_all(&lane) == RENAMER_DONE)
+           renamer_close(&lane, &quiet);
 
    closes it. The lane is none then. RENAMER_NONE, _STILL_WALKING, _LANES_MISSING, _MEMORY, _LANES_THERE.
    One thread at a time. */

@@ -48,9 +48,7 @@ enum class status : std::uint32_t {
     nothing_back = RENAMER_NOTHING_BACK,
     size = RENAMER_SIZE,
     carried = RENAMER_CARRIED,
-    no_place = RENAMER_NO_PLACE,
-    lanes_there = RENAMER_LANES_THERE,
-    busy = RENAMER_BUSY
+    lanes_there = RENAMER_LANES_THERE
 };
 
 /* A sentence that says what a status means, and what is allowed. */
@@ -187,12 +185,7 @@ class lane {
     status hand_back() noexcept { return status(renamer_hand_back(&handle)); }
     status join() noexcept { return status(renamer_join(&handle)); }
 
-    /* Takes in all lanes that were handed back; status::memory or status::busy if one of them could not be. */
-    status join_all() noexcept {
-        status joined = join();
-        while (joined == status::done) joined = join();
-        return joined == status::nothing_back ? status::done : joined;
-    }
+    status join_all() noexcept { return status(renamer_join_all(&handle)); }
 
     status close(quiet &closed) noexcept { return status(renamer_close(&handle, &closed.handle)); }
 

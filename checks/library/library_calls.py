@@ -1,6 +1,7 @@
 """Compares the header of the library with the crate that it is built from, with the Rust crate over it, and with the
-symbols of the archive: calls with what they take and return, structs with their fields, numbers, statuses, versions; and
-what the archive wants with what docs/EMBEDDING.md says of that.
+symbols of the archive: calls with what they take and return, structs with their fields, numbers, statuses, limits,
+versions; the header for C++ with that for C; what each status is said to mean with TEXTS; and what the archive wants with
+what docs/EMBEDDING.md says of that.
 
 A call is a list of the types that it takes, in the words of Rust, and what it returns. A slice of the proved crate is a
 pointer and a size, and a handle is a handle in all three.
@@ -11,11 +12,42 @@ import subprocess
 
 ROOT = pathlib.Path(__file__).resolve().parents[2]
 HEADER = ROOT / "bindings" / "c" / "renamer.h"
+OBJECTS = HEADER.with_suffix(".hpp")
 RUST = ROOT / "bindings" / "rust"
 CRATE = ROOT / "crates" / "renamer_c" / "src"
 OF_C = {"uint32_t": "u32", "uint64_t": "u64", "size_t": "usize", "void": None}
 COMMENT = re.compile(r"/\*.*?\*/|//[^\n]*", re.S)
 EXTERN = r'extern "C" \{(.*?)^\}'
+# The limits of a floor.
+LIMITS = {"MOST_CLIENTS": 262144, "MOST_CARRIED": 2147483648}
+# What is said of each status: in C, and in Rust, if an error has it.
+TEXTS = {
+    "DONE": ("the call is done", None),
+    "NONE": ("the handle is none: it was not opened, or it was freed, handed back or closed", None),
+    "MEMORY": ("the system gave no memory, or room for more than 1048576 clients was asked for",
+               "the system gave no memory"),
+    "KIND": ("there is no such network: RENAMER_BITONIC, RENAMER_PERIODIC or RENAMER_TREE",
+             "there is no such network: bitonic, periodic or tree"),
+    "WIDTH": ("there is no network of this width: 2, 4, 8, 16, 32, 64, 128 or 256",) * 2,
+    "QUOTA": ("the quota is more than a floor takes: 262144 at most",) * 2,
+    "NO_SUCH_ENTRY": ("there is no such entry: a tree has only entry 0, others those below their width",) * 2,
+    "QUOTA_SPENT": ("the lane may let in no more clients, or not so many: renamer_quota says how many",
+                    "the quota of the lane is spent"),
+    "QUOTA_TOO_SMALL": ("the lane has less quota than is to be split off: renamer_quota says how much",
+                        "there is less quota than is to be split off"),
+    "STILL_WALKING": ("the lane has clients inside: let them out by renamer_step or renamer_sweep",
+                      "the lane has clients inside"),
+    "NOBODY_THERE": ("no client of the lane is there: renamer_lowest says on which wire one is",
+                     "no client of the lane is there"),
+    "LANES_MISSING": ("other lanes have quota, names or clients of the floor: hand them back and join them",
+                      "other lanes have quota, names or clients of the floor"),
+    "NOTHING_BACK": ("no lane of the floor was handed back",) * 2,
+    "SIZE": ("the array has another size than what is to be written into it",
+             "a slice has another size than what is to be written into it"),
+    "CARRIED": ("too many clients came before: 2147483648 at most",) * 2,
+    "LANES_THERE": ("other lanes of the floor are there still, with nothing of it: hand them back",
+                    "other lanes of the floor are there still, with nothing of it"),
+}
 
 
 def code(path):
@@ -139,18 +171,40 @@ def wrong_numbers():
     crate |= {name: int(number) for name, number in re.findall(r"const (\w+): u32 = (\d+);", crate_code())}
     rust = {snake(name): int(number) for name, number in re.findall(r"^    (\w+) = (\d+),", rust_code(), re.M)}
     for name, number in header.items():
-        # No call returns it any more.
-        if name != "NO_PLACE" and crate.get({"NONE": "NOTHING"}.get(name, name)) != number:
+        if crate.get({"NONE": "NOTHING"}.get(name, name)) != number:
             wrong.append(f"{name} is {number} in the header, and {crate.get(name)} in the proved crate")
-        if rust.get(name) != number and name not in ("DONE", "NONE", "KIND"):
+        if rust.get(name) != number and name not in ("DONE", "NONE"):
             wrong.append(f"{name} is {number} in the header, and {rust.get(name)} in the Rust crate")
     wrong += [f"{name} of the Rust crate is not in the header" for name in rust.keys() - header.keys()]
-    limits = dict(re.findall(r"#define RENAMER_(MOST_\w+) (\d+)", code(HEADER)))
-    found = re.findall(r"const (MOST_\w+): u64 = ([\d_]+);", rust_code())
-    own = {name: number.replace("_", "") for name, number in found}
-    if limits != own or not limits:
-        wrong.append(f"the limits are {limits} in the header, and {own} in the Rust crate")
     return wrong
+
+
+def wrong_limits():
+    """The limits that header or Rust crate has otherwise, or has not."""
+    found = {"the header": re.findall(r"#define RENAMER_(MOST_\w+) (\d+)", code(HEADER)),
+             "the Rust crate": re.findall(r"const (MOST_\w+): u64 = ([\d_]+);", rust_code())}
+    limits = {where: {name: int(number) for name, number in both} for where, both in found.items()}
+    return [f"the limits are {own} in {where}" for where, own in limits.items() if own != LIMITS]
+
+
+# ---- names and texts
+
+def wrong_objects():
+    """What the header for C++ has under another name than that for C, or has not."""
+    names = re.findall(r"^    (\w+) = RENAMER_(\w+)", code(OBJECTS), re.M)
+    wrong = [f"{own} is RENAMER_{name} in renamer.hpp" for own, name in names if own.upper() != name]
+    missing = statuses_of_header().keys() - {name for _, name in names}
+    return [*wrong, *(f"renamer.hpp has no {name.lower()}" for name in sorted(missing))]
+
+
+def wrong_texts():
+    """What is said of statuses otherwise than TEXTS has it."""
+    c = dict(re.findall(r'case RENAMER_(\w+): return "([^"]*)";', HEADER.read_text()))
+    rust = re.findall(r'Error::(\w+) => \{?\s*(?:out\.write_str\(|write!\(out, )"([^"]*)"\)', rust_code())
+    rust = {snake(name): re.sub(r"\{(\w+)\}", lambda limit: str(LIMITS[limit[1]]), text) for name, text in rust}
+    wanted = {name: text for name, (_, text) in TEXTS.items() if text}
+    return [*differences("the text of", c, {"TEXTS": {name: text for name, (text, _) in TEXTS.items()}}),
+            *differences("the text in Rust of", rust, {"TEXTS": wanted})]
 
 
 def wrong_versions():
@@ -185,4 +239,4 @@ def wrong(archive):
     found += [f"the archive shows {name}, and the header does not" for name in sorted(defined - calls.keys())]
     found += [f"the archive has no {name}" for name in sorted(calls.keys() - defined)]
     found += [f"{name}: the archive wants it, or docs/EMBEDDING.md says so" for name in sorted(wanted ^ said_to_be_wanted())]
-    return [*found, *wrong_numbers(), *wrong_versions()]
+    return [*found, *wrong_numbers(), *wrong_limits(), *wrong_objects(), *wrong_texts(), *wrong_versions()]

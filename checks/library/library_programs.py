@@ -49,7 +49,7 @@ class NotTried(Exception):
 @dataclasses.dataclass
 class Program:
     """A program in C or C++: its source, what else it is made of, and what it prints, if that is one text. A long one
-    takes a minute, and is not run under sanitizers."""
+    takes a minute or stops its own threads, and runs neither under sanitizers nor on ARM."""
 
     source: pathlib.Path
     others: tuple = ()
@@ -69,6 +69,7 @@ FUZZ = Program(C / "tests" / "fuzz.c", (C / "tests" / "model.c", *sorted((C / "t
 EPOCHS = "".join(f"epoch {epoch}: {2 * epoch + 2} clients in the first rows\n" for epoch in (1, 2, 3))
 PROGRAMS = (
     Program(C / "tests" / "carried.c", is_long=True),
+    Program(C / "tests" / "frozen.c", is_long=True),
     Program(C / "examples" / "pool.c", prints="622 workers have the numbers 0 to 621\n"),
     Program(C / "examples" / "table.c", prints=EPOCHS),
     Program(C / "examples" / "lanes.cpp", prints="3000 clients have the names 0 to 2999\n"),

@@ -5,6 +5,11 @@
 //!     namers walk ADDS THREADS ROUNDS
 //!     namers name|apart|many|all-over NETWORK WIDTH THREADS ROUNDS
 //!
+//! Or what a lane takes by itself, without a name, if so many are there: to be split off, handed back and joined by another,
+//! all of them or an eighth by turns; or a join while none is back.
+//!
+//!     namers lanes|eighth|none LANES 1 ROUNDS
+//!
 //! By `name`, `apart` and `many` each thread lets its clients in by entries of its own, by `all-over` each by all entries.
 //! By `apart` the words of the floor lie apart.
 mod timing;
@@ -154,13 +159,57 @@ fn refused(threads: u64) -> Spent {
     spent
 }
 
+/// Splits off lanes, hands all back, and joins them.
+fn come_and_go(count: u64) -> Spent {
+    let turns = CLIENTS / count;
+    let mut rest = Floor::open(Kind::Tree, 2, 1).expect("there is memory").into_lane();
+    let (spent, _) = in_threads(vec![&mut rest], |rest| {
+        for _ in 0..turns {
+            let lanes: Vec<Lane> = (0..count).map(|_| rest.split(0).expect("there is memory")).collect();
+            drop(lanes);
+            (0..count).for_each(|_| rest.join().expect("a lane is back"));
+        }
+        0
+    });
+    spent.for_each_of(turns * count)
+}
+
+/// Hands every eighth lane back, joins these and splits off as many, by turns; the others are out meanwhile.
+fn every_eighth(count: u64) -> Spent {
+    let (turns, back) = (8 * CLIENTS / count, count.div_ceil(8));
+    let mut rest = Floor::open(Kind::Tree, 2, 1).expect("there is memory").into_lane();
+    let mut lanes: Vec<Option<Lane>> = (0..count).map(|_| Some(rest.split(0).expect("there is memory"))).collect();
+    let (spent, _) = in_threads(vec![(&mut rest, &mut lanes)], |(rest, lanes)| {
+        for turn in 0..turns {
+            let of_turn = || (turn as usize % 8..count.max(8) as usize).step_by(8).map(|lane| lane % count as usize);
+            of_turn().for_each(|lane| drop(lanes[lane].take()));
+            (0..back).for_each(|_| rest.join().expect("a lane is back"));
+            of_turn().for_each(|lane| lanes[lane] = Some(rest.split(0).expect("there is memory")));
+        }
+        0
+    });
+    spent.for_each_of(turns * back)
+}
+
+/// Joins while so many lanes are out and none is back.
+fn none_back(count: u64) -> Spent {
+    let mut rest = Floor::open(Kind::Tree, 2, 1).expect("there is memory").into_lane();
+    let _lanes: Vec<Lane> = (0..count).map(|_| rest.split(0).expect("there is memory")).collect();
+    let (spent, refused) = in_threads(vec![&mut rest], |rest| {
+        (0..CLIENTS).filter(|_| black_box(rest.join()) == Err(Error::NothingBack)).count() as u64
+    });
+    assert_eq!(refused, CLIENTS);
+    spent
+}
+
 fn number<N: std::str::FromStr>(word: &str) -> N {
     word.parse().unwrap_or_else(|_| usage())
 }
 
 fn usage() -> ! {
     eprintln!("namers: add|table|refused THREADS ROUNDS, walk ADDS THREADS ROUNDS, or");
-    eprintln!("        name|apart|many|all-over bitonic|periodic|tree WIDTH THREADS ROUNDS");
+    eprintln!("        name|apart|many|all-over bitonic|periodic|tree WIDTH THREADS ROUNDS, or");
+    eprintln!("        lanes|eighth|none LANES 1 ROUNDS");
     process::exit(2)
 }
 
@@ -192,6 +241,9 @@ fn main() {
             Box::new(move |threads| name(Floor::open, kind(network), number(width), Entering::AllOver, threads))
         }
         ["many", network, width, ..] => Box::new(move |threads| many(kind(network), number(width), threads)),
+        ["lanes", count, ..] => Box::new(move |_| come_and_go(number(count))),
+        ["eighth", count, ..] => Box::new(move |_| every_eighth(number(count))),
+        ["none", count, ..] => Box::new(move |_| none_back(number(count))),
         _ => usage(),
     };
     let [.., threads, rounds] = words[..] else { usage() };

@@ -13,6 +13,14 @@ pub struct Spent {
     pub processor: f64,
 }
 
+impl Spent {
+    /// What so many parts took, as if they were as many as clients.
+    pub fn for_each_of(self, parts: u64) -> Spent {
+        let times = CLIENTS as f64 / parts as f64;
+        Spent { clock: self.clock * times, processor: self.processor * times }
+    }
+}
+
 #[repr(C)]
 struct Timespec {
     seconds: i64,

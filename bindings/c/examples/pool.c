@@ -48,8 +48,7 @@ static void *start_workers(void *argument) {
 static void close_floor(renamer_lane *rest, uint64_t count) {
     static uint64_t holders[MOST];
     renamer_quiet quiet = RENAMER_NO_QUIET_YET;
-    while (renamer_join(rest) == RENAMER_DONE) {
-    }
+    must(renamer_join_all(rest), "renamer_join_all");
     must(renamer_close(rest, &quiet), "renamer_close");
     must(renamer_holders(&quiet, holders, count), "renamer_holders");
     for (uint64_t number = 0; number < MOST; number++)

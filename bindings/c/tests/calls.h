@@ -38,6 +38,7 @@ enum { LANES = 32, QUIETS = 8, STATUSES = RENAMER_LANES_THERE + 1, UNSET = 0xa5 
     X(grants, STATUS(NONE) | STATUS(SIZE))                                                                             \
     X(hand_back, STATUS(NONE) | STATUS(STILL_WALKING))                                                                 \
     X(join, STATUS(NONE) | STATUS(NOTHING_BACK) | STATUS(MEMORY))                                                      \
+    X(join_all, STATUS(NONE) | STATUS(MEMORY))                                                                         \
     X(close, STATUS(NONE) | STATUS(STILL_WALKING) | STATUS(LANES_MISSING) | STATUS(MEMORY) | STATUS(LANES_THERE))      \
     X(quiet_exits, STATUS(NONE))                                                                                       \
     X(quiet_clients, STATUS(NONE))                                                                                     \
@@ -113,6 +114,7 @@ void call_split(void);
 void call_reserve(void);
 void call_hand_back(void);
 void call_join(void);
+void call_join_all(void);
 void call_close(void);
 void call_free(void);
 void call_free_quiet(void);
@@ -129,11 +131,10 @@ void call_holders(void);
 void call_number(void);
 void call_quiet_number(void);
 
-/* All that a lane says of itself is asked. Lanes are handed back to a floor until it has no place. All lanes that were
-   handed back are joined. All clients of a lane are let out. All is freed. */
+/* All that a lane says of itself is asked. More lanes are handed back to a floor than a row of places has. All clients of
+   a lane are let out. All is freed. */
 void call_all_of_lane(void);
 void call_many_back(void);
-void call_join_all(void);
 void call_let_out(void);
 void call_free_all(void);
 

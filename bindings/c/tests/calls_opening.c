@@ -125,11 +125,11 @@ void call_hand_back(void) {
     hand_back(some_handle());
 }
 
-/* More lanes come back than a floor has places for them. */
+/* More lanes come back than a row of places has. */
 void call_many_back(void) {
-    enum { MANY = 80 };
     struct handle *handle = some_handle(), *other = &handles[LANES];
-    for (int lanes = 0; lanes < MANY && handle->model; lanes++) {
+    uint64_t many = drawn(16) ? 80 : 1000;
+    for (uint64_t lanes = 0; lanes < many && handle->model; lanes++) {
         split(handle, drawn(2), other);
         if (other->model)
             hand_back(other);
@@ -139,8 +139,8 @@ void call_many_back(void) {
 
 /* ---- joins */
 
-/* The lane took one in that was handed back: one with the quota and the grants that it has more now. */
-static void judge_joined(struct handle *handle) {
+/* The lane took one in that was handed back, or all: with the quota and the grants that it has more now. */
+static void judge_joined(struct handle *handle, int (*join)(struct lane *, uint64_t, const renamer_grant *, size_t)) {
     struct lane *lane = handle->model;
     uint64_t quota, count, room = lane->room;
     long asked = run.asked;
@@ -150,39 +150,42 @@ static void judge_joined(struct handle *handle) {
     count -= lane->granted;
     grants = unset_array(count, sizeof *grants);
     CHECK(MADE_WITH_MEMORY(grants, (&handle->lane, lane->granted, grants, count)) == RENAMER_DONE);
-    CHECK(lane_join(lane, quota - lane->quota, grants, count));
+    CHECK(join(lane, quota - lane->quota, grants, count));
     CHECK(room < count || asked == 0);
     judge_lane(handle, count < 64);
     free(grants);
 }
 
-static int join(struct handle *handle) {
+void call_join(void) {
+    struct handle *handle = some_handle();
     struct lane *lane = handle->model;
     uint32_t wanted = RENAMER_NONE, status = MADE(join, (&handle->lane));
     show("");
     if (lane)
         wanted = lane->floor->back ? RENAMER_DONE : RENAMER_NOTHING_BACK;
     if (is_done(status, wanted, 0)) {
-        judge_joined(handle);
-        return 1;
+        judge_joined(handle, lane_join);
+        return;
     }
     judge_refused(handle);
     if (status != RENAMER_MEMORY)
-        return 0;
+        return;
     /* What was not taken in for want of memory is there for the next call. */
     CHECK(MADE_WITH_MEMORY(join, (&handle->lane)) == RENAMER_DONE);
-    judge_joined(handle);
-    return 1;
-}
-
-void call_join(void) {
-    join(some_handle());
+    judge_joined(handle, lane_join);
 }
 
 void call_join_all(void) {
     struct handle *handle = some_handle();
-    while (join(handle)) {
+    uint32_t status = MADE(join_all, (&handle->lane));
+    show("");
+    if (!is_done(status, handle->model ? RENAMER_DONE : RENAMER_NONE, 0)) {
+        if (!handle->model)
+            return;
+        /* Some may be taken in by now: the next call takes the rest. */
+        CHECK(MADE_WITH_MEMORY(join_all, (&handle->lane)) == RENAMER_DONE);
     }
+    judge_joined(handle, lane_join_all);
 }
 
 /* ---- closes */

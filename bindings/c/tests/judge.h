@@ -32,11 +32,8 @@ static inline uint64_t share(uint64_t k, uint64_t w, uint64_t i) {
 /* Takes in all lanes that are back, and closes the floor, which has named so many clients. */
 static inline void close_floor(renamer_lane *lane, uint64_t clients) {
     renamer_quiet quiet = RENAMER_NO_QUIET_YET;
-    uint32_t joined;
     uint64_t named;
-    while ((joined = renamer_join(lane)) == RENAMER_DONE) {
-    }
-    CHECK(joined == RENAMER_NOTHING_BACK);
+    CHECK(renamer_join_all(lane) == RENAMER_DONE && renamer_join(lane) == RENAMER_NOTHING_BACK);
     CHECK(renamer_close(lane, &quiet) == RENAMER_DONE);
     CHECK(renamer_quiet_clients(&quiet, &named) == RENAMER_DONE && named == clients);
     renamer_free_quiet(&quiet);

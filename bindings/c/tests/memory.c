@@ -128,6 +128,29 @@ static void give_back(uint32_t kind, uint32_t width) {
     renamer_free_quiet(&quiet);
 }
 
+/* If a lane gets no memory to take in all that are back, some may be in; what closes the floor then says which are not. The
+   call takes in the rest once there is memory. */
+static void join_all(uint32_t kind, uint32_t width) {
+    renamer_lane lane = RENAMER_NO_LANE_YET, other = RENAMER_NO_LANE_YET;
+    renamer_quiet quiet = RENAMER_NO_QUIET_YET;
+    uint64_t name;
+    CHECK(renamer_open(&lane, kind, width, 9) == RENAMER_DONE);
+    for (uint64_t first = 0; first < 9; first += 3) {
+        CHECK(renamer_split(&lane, 3, &other) == RENAMER_DONE);
+        for (uint64_t client = first; client < first + 3; client++)
+            CHECK(renamer_name(&other, client, 0, &name) == RENAMER_DONE);
+        CHECK(renamer_hand_back(&other) == RENAMER_DONE);
+    }
+    growths_refuse(0, LONG_MAX);
+    CHECK(renamer_join_all(&lane) == RENAMER_MEMORY && renamer_close(&lane, &quiet) == RENAMER_LANES_MISSING);
+    growths_refuse(0, 0);
+    EACH_GROWTH(renamer_join_all(&lane), lane.at != NULL);
+    CHECK(seen_of(&lane).grants == 9);
+    NO_GROWTH(renamer_join_all(&lane));
+    CHECK(renamer_close(&lane, &quiet) == RENAMER_DONE);
+    renamer_free_quiet(&quiet);
+}
+
 static void run_floor(uint32_t kind, uint32_t width) {
     renamer_lane lane = RENAMER_NO_LANE_YET, other = RENAMER_NO_LANE_YET;
     renamer_quiet quiet = RENAMER_NO_QUIET_YET;
@@ -170,7 +193,7 @@ int main(void) {
     long live = growths_live();
     for (uint32_t kind = 0; kind < KINDS; kind++)
         for (uint32_t level = 1; level <= 4; level++)
-            run_floor(kind, (uint32_t)1 << level), give_back(kind, (uint32_t)1 << level);
+            run_floor(kind, 1u << level), give_back(kind, 1u << level), join_all(kind, 1u << level);
     CHECK(growths_live() == live);
     printf("%ld calls were refused their memory\n", refusals);
     return 0;

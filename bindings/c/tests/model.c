@@ -244,6 +244,23 @@ int lane_join(struct lane *lane, uint64_t quota, const renamer_grant *grants, si
     return 0;
 }
 
+int lane_join_all(struct lane *lane, uint64_t quota, const renamer_grant *grants, size_t count) {
+    while (lane->floor->back) {
+        struct lane *other = lane->floor->back;
+        while (other && (other->granted > count || memcmp(other->grants, grants, other->granted * sizeof *grants) != 0))
+            other = other->next;
+        if (!other || other->quota > quota)
+            return 0;
+        size_t taken = other->granted;
+        quota -= other->quota;
+        if (!lane_join(lane, other->quota, grants, taken))
+            return 0;
+        grants += taken;
+        count -= taken;
+    }
+    return !quota && !count;
+}
+
 struct quiet *lane_close(struct lane *lane) {
     struct floor *floor = lane->floor;
     struct quiet *quiet = new_block(sizeof *quiet);

@@ -72,6 +72,8 @@ renamer_swept lane_sweep(struct lane *lane, uint64_t wire);
 void lane_let_go(struct lane *lane);
 /* Takes in a lane that was handed back with such a quota and such grants, if one was. */
 int lane_join(struct lane *lane, uint64_t quota, const renamer_grant *grants, size_t count);
+/* The same of all lanes that are back, in any order. */
+int lane_join_all(struct lane *lane, uint64_t quota, const renamer_grant *grants, size_t count);
 /* Closes the floor of a lane that has all of it. */
 struct quiet *lane_close(struct lane *lane);
 

@@ -47,7 +47,7 @@ static void refused() {
     CHECK(lane.name(17, 4, name) == status::no_such_entry);
     CHECK(lane.close(quiet) == status::done);
     CHECK(quiet.clients(name) == status::done && name == 0);
-    for (std::uint32_t number = 0; number <= RENAMER_BUSY; number++)
+    for (std::uint32_t number = 0; number <= RENAMER_LANES_THERE; number++)
         CHECK(std::strlen(renamer::explain(status(number))) > 10);
 }
 

@@ -1,7 +1,7 @@
 /*
  * Eight threads or a hundred name 262,144 clients on each of many floors, over random networks that go on from random
  * counters: by names, by lists, and by single steps and sweeps, with lanes that are split off, handed back and taken in
- * while others walk.
+ * while others walk. Before that all threads at once split off lanes with nothing, up to ten each, and hand them back.
  * Then one lane takes all in and closes the floor. Each name is judged when it is given, by how many came in so far; and
  * each floor by its names, by the grants of that lane, and by the counts and clients of the closed floor.
  *
@@ -15,7 +15,7 @@
 #include <string.h>
 #include <time.h>
 
-enum { FEW_THREADS = 8, MOST_THREADS = 100, MOST_WIDTH = 256, MOST_BEFORE = 1000 };
+enum { FEW_THREADS = 8, MOST_THREADS = 100, MOST_WIDTH = 256, MOST_BEFORE = 1000, HELD = 10, TURNS = 2000 };
 
 static struct thread threads[MOST_THREADS];
 
@@ -38,9 +38,7 @@ static const char *name_some(struct thread *thread, renamer_lane *lane, uint64_t
 static const char *join_one(struct thread *thread, renamer_lane *lane) {
     uint32_t status = renamer_join(lane);
     thread->did[JOINS] += status == RENAMER_DONE;
-    thread->did[BUSY] += status == RENAMER_BUSY;
-    return status == RENAMER_DONE || status == RENAMER_NOTHING_BACK || status == RENAMER_BUSY ? NULL
-                                                                                             : "renamer_join was refused";
+    return status == RENAMER_DONE || status == RENAMER_NOTHING_BACK ? NULL : "renamer_join was refused";
 }
 
 static const char *hand_back(struct thread *thread, renamer_lane *lane) {
@@ -65,11 +63,31 @@ static const char *name_by_another(struct thread *thread, uint64_t first, uint64
     return wrong ? wrong : hand_back(thread, &other);
 }
 
+/* Splits off lanes and hands them back, by turns, and takes in what other threads hand back. */
+static const char *come_and_go(struct thread *thread) {
+    renamer_lane held[HELD] = {RENAMER_NO_LANE_YET};
+    const char *wrong = NULL;
+    for (int turn = 0; turn < TURNS && !wrong; turn++) {
+        renamer_lane *lane = &held[drawn(thread, HELD)];
+        if (lane->at)
+            wrong = drawn(thread, 4) ? hand_back(thread, lane) : join_one(thread, lane);
+        else if (renamer_split(&thread->lane, 0, lane) != RENAMER_DONE)
+            wrong = "renamer_split was refused";
+        else
+            thread->did[SPLITS]++;
+        if (!wrong && drawn(thread, 2))
+            wrong = join_one(thread, &thread->lane);
+    }
+    for (int at = 0; at < HELD && !wrong; at++)
+        wrong = held[at].at ? hand_back(thread, &held[at]) : NULL;
+    return wrong;
+}
+
 /* Names all clients of a thread, part by part: by its lane, or by one that is split off meanwhile. */
 static void *name_all(void *argument) {
     struct thread *thread = argument;
     uint64_t first = thread->first, left = thread->count, most = 1 + left / 8;
-    const char *wrong = NULL;
+    const char *wrong = come_and_go(thread);
     while (left && !wrong) {
         uint64_t part = 1 + drawn(thread, left < most ? left : most);
         wrong = drawn(thread, 4) ? name_by_another(thread, first, part) : name_some(thread, &thread->lane, first, part);
@@ -116,9 +134,7 @@ static const char *run_threads(renamer_lane *rest, int threads_there, uint64_t *
         CHECK(pthread_join(threads[t].id, NULL) == 0);
         wrong = wrong ? wrong : threads[t].wrong;
     }
-    while (!wrong && renamer_join(rest) == RENAMER_DONE)
-        threads[0].did[JOINS]++;
-    return wrong;
+    return !wrong && renamer_join_all(rest) != RENAMER_DONE ? "renamer_join_all was refused" : wrong;
 }
 
 /* Judges what the lane was given that took all in: each client one name, and each name that of its exit and visit. */
@@ -180,7 +196,7 @@ static const char *run_floor(uint64_t seed) {
 
 static void print_calls(void) {
     static const char *const calls[CALLS] = {"names",  "lists",      "names in lists", "enters",    "steps", "sweeps",
-                                             "splits", "lanes back", "lanes joined",   "busy joins"};
+                                             "splits", "lanes back", "lanes joined"};
     for (int call = 0; call < CALLS; call++) {
         uint64_t all = 0;
         for (int t = 0; t < MOST_THREADS; t++)

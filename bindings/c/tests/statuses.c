@@ -31,7 +31,7 @@ static void none(renamer_lane *lane, renamer_quiet *quiet) {
     CHECK(renamer_sweep(lane, 0, &swept) == RENAMER_NONE);
     CHECK(renamer_lowest(lane, &number) == RENAMER_NONE);
     CHECK(renamer_hand_back(lane) == RENAMER_NONE);
-    CHECK(renamer_join(lane) == RENAMER_NONE);
+    CHECK(renamer_join(lane) == RENAMER_NONE && renamer_join_all(lane) == RENAMER_NONE);
     CHECK(renamer_close(lane, quiet) == RENAMER_NONE);
     CHECK(renamer_quiet_exits(quiet, &number) == RENAMER_NONE);
     CHECK(renamer_quiet_clients(quiet, &number) == RENAMER_NONE);
@@ -233,7 +233,7 @@ static void many_back(void) {
 
 /* Each status has a sentence of its own. */
 static void explained(void) {
-    for (uint32_t status = 0; status <= RENAMER_BUSY + 1; status++)
+    for (uint32_t status = 0; status <= RENAMER_LANES_THERE + 1; status++)
         for (uint32_t other = 0; other < status; other++)
             CHECK(strlen(renamer_explain(status)) > 10 && strcmp(renamer_explain(status), renamer_explain(other)));
 }

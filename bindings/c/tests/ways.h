@@ -10,7 +10,7 @@
 enum { ALL = RENAMER_MOST_CLIENTS, MOST_PART = 128, RECENT = 16 };
 
 /* How often what was done. */
-enum { NAMES, LISTS, LISTED, ENTERS, STEPS, SWEEPS, SPLITS, BACK, JOINS, BUSY, CALLS };
+enum { NAMES, LISTS, LISTED, ENTERS, STEPS, SWEEPS, SPLITS, BACK, JOINS, CALLS };
 
 struct thread {
     pthread_t id;

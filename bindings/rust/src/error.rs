@@ -36,16 +36,12 @@ pub enum Error {
     Size = 13,
     /// More clients came before than [`MOST_CARRIED`](crate::MOST_CARRIED).
     Carried = 14,
-    /// No call returns it: there is a place for each lane that is handed back.
-    NoPlace = 15,
     /// Other lanes of the floor are there still, with nothing of it.
-    LanesThere = 16,
-    /// Other threads are in the midst of handing lanes back or joining them: join again.
-    Busy = 17,
+    LanesThere = 15,
 }
 
 impl Error {
-    const ALL: [Error; 16] = [
+    const ALL: [Error; 14] = [
         Error::Memory,
         Error::Kind,
         Error::Width,
@@ -59,9 +55,7 @@ impl Error {
         Error::NothingBack,
         Error::Size,
         Error::Carried,
-        Error::NoPlace,
         Error::LanesThere,
-        Error::Busy,
     ];
 
     /// The error with this number.
@@ -88,9 +82,7 @@ impl fmt::Display for Error {
             Error::NothingBack => out.write_str("no lane of the floor was handed back"),
             Error::Size => out.write_str("a slice has another size than what is to be written into it"),
             Error::Carried => write!(out, "too many clients came before: {MOST_CARRIED} at most"),
-            Error::NoPlace => out.write_str("there is no place for a lane that is handed back"),
             Error::LanesThere => out.write_str("other lanes of the floor are there still, with nothing of it"),
-            Error::Busy => out.write_str("other threads are handing lanes back or joining them: join again"),
         }
     }
 }

@@ -139,7 +139,7 @@ impl Floor {
     /// Takes in all lanes that were dropped or handed back: their quota is the floor's again.
     ///
     /// # Errors
-    /// [`Error::Memory`]. Then some are taken in, and it can be called again.
+    /// [`Error::Memory`]. Then some may be taken in, and it can be called again.
     pub fn join_all(&self) -> Result<(), Error> {
         self.rest().join_all()
     }

@@ -3,7 +3,6 @@ use crate::raw::RawLane;
 use crate::{Error, Moved, Quiet, Refused, Swept};
 use std::fmt;
 use std::sync::Arc;
-use std::thread;
 
 /// A client that is to come in.
 #[derive(Clone, Copy, Debug, Default, PartialEq, Eq, Hash)]
@@ -194,26 +193,17 @@ impl Lane {
     /// ```
     ///
     /// # Errors
-    /// [`Error::NothingBack`]; [`Error::Busy`] if other threads are in the midst of handing lanes back or joining them;
-    /// [`Error::Memory`]. Then nothing has changed.
+    /// [`Error::NothingBack`], [`Error::Memory`]. Then nothing has changed.
     pub fn join(&mut self) -> Result<(), Error> {
         self.raw.join()
     }
 
-    /// Takes in all lanes of the same floor that were handed back. While other threads are in the midst of handing lanes back
-    /// or joining them, it lets them go on, and looks again.
+    /// Takes in lanes of the same floor that were handed back, until none is back.
     ///
     /// # Errors
-    /// [`Error::Memory`]. Then some are taken in, and it can be called again.
+    /// [`Error::Memory`]. Then some may be taken in, and it can be called again.
     pub fn join_all(&mut self) -> Result<(), Error> {
-        loop {
-            match self.join() {
-                Ok(()) => {}
-                Err(Error::Busy) => thread::yield_now(),
-                Err(Error::NothingBack) => return Ok(()),
-                Err(error) => return Err(error),
-            }
-        }
+        self.raw.join_all()
     }
 
     /// Closes the floor. The lane must have all of it, and no other may be there: if other lanes have some of the quota or

@@ -55,10 +55,6 @@ pub const MOST_CLIENTS: u64 = 262_144;
 /// How many clients may have come in before a floor that goes on from others.
 pub const MOST_CARRIED: u64 = 2_147_483_648;
 
-/// No limit any more: any number of lanes of a floor may be handed back and not joined yet. It is here for programs that name
-/// it.
-pub const MOST_RETURNED: u64 = 64;
-
 /// The version of the library: major * 1,000,000 + minor * 1,000 + patch.
 #[must_use]
 pub fn version() -> u32 {

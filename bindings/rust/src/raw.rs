@@ -58,6 +58,7 @@ extern "C" {
     fn renamer_grants(lane: *const Handle, first: u64, grants: *mut Grant, size: usize) -> u32;
     fn renamer_hand_back(lane: *mut Handle) -> u32;
     fn renamer_join(lane: *mut Handle) -> u32;
+    fn renamer_join_all(lane: *mut Handle) -> u32;
     fn renamer_close(lane: *mut Handle, quiet: *mut Handle) -> u32;
     fn renamer_quiet_exits(quiet: *const Handle, exits: *mut u64) -> u32;
     fn renamer_quiet_clients(quiet: *const Handle, clients: *mut u64) -> u32;
@@ -239,6 +240,12 @@ impl RawLane {
     pub(crate) fn join(&mut self) -> Result<(), Error> {
         // SAFETY: `&mut` is the only way to the handle.
         done(unsafe { renamer_join(&raw mut self.0) })
+    }
+
+    /// Joins until no lane is back.
+    pub(crate) fn join_all(&mut self) -> Result<(), Error> {
+        // SAFETY: `&mut` is the only way to the handle.
+        done(unsafe { renamer_join_all(&raw mut self.0) })
     }
 
     /// Closes the floor: the lane is none then.

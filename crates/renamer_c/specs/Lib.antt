@@ -1,13 +1,15 @@
 pub mod Calls
+pub mod Ended
 pub mod Handles
 pub mod Holding
 pub mod InsideFloorRecord
 pub mod InsideFloorWithPlaces
 pub mod InsideHeldLane
 pub mod Lends
-pub mod Links
+pub mod Looking
 pub mod Many
 pub mod Moves
+pub mod Placing
 pub mod Questions
 pub mod Records
 pub mod Refusals

@@ -12,7 +12,7 @@ use Rattle.renamer_c.specs.Statuses.{status_of}
 use Rattle.renamer_c.specs.declared.client.Client.{Client}
 use Rattle.renamer_c.specs.declared.floor_record.RecordList.{RecordList}
 use Rattle.renamer_c.specs.declared.refusal.Refusal.{Refusal}
-use Rattle.renamer_c.specs.declared.refusal.Refusal.TheVariants.{Nothing, Memory, Kind, Width, Quota, NoSuchEntry, QuotaSpent, QuotaTooSmall, StillWalking, NobodyThere, LanesMissing, NothingBack, Size, Carried, LanesThere, Busy}
+use Rattle.renamer_c.specs.declared.refusal.Refusal.TheVariants.{Nothing, Memory, Kind, Width, Quota, NoSuchEntry, QuotaSpent, QuotaTooSmall, StillWalking, NobodyThere, LanesMissing, NothingBack, Size, Carried, LanesThere}
 
 -- a status that is one of these refusals
 abbrev pub IsRefusal : (Refusal → Type 0) → ℕ → Type 0
@@ -102,19 +102,18 @@ NotHandedBack lane Nothing = lane ≡ None
 NotHandedBack lane StillWalking = WithLane lane (λ l. 0 < tokens_in l.yard.lists)
 NotHandedBack lane r = ⊥
 
--- no lane that was handed back was found: there was none, or other threads were at the places of such lanes
-abbrev pub NobodyBack : Refusal → Type 0
-NobodyBack NothingBack = ⊤
-NobodyBack Busy = ⊤
-NobodyBack r = ⊥
-
 -- why no lane is taken in: none that was handed back was found, or one has more grants than there is room for
 abbrev pub NotJoined : Option LaneValue → Refusal → Type 0
 NotJoined lane Nothing = lane ≡ None
 NotJoined lane NothingBack = WithLane lane (λ l. ⊤)
-NotJoined lane Busy = WithLane lane (λ l. ⊤)
 NotJoined lane Memory = WithLane lane (λ l. (m : LaneValue) × IsBack l.home m × (l.room < length m.view.grants))
 NotJoined lane r = ⊥
+
+-- why not all that were handed back are taken in, by a lane that took in some: of the rest one has more grants than
+-- there is room for
+abbrev pub NotJoinedAll : Option LaneValue → Refusal → Type 0
+NotJoinedAll lane NothingBack = ⊥
+NotJoinedAll lane r = NotJoined lane r
 
 -- with nobody inside, a lane has the floor's whole quota, spent or not
 abbrev pub HasAll : LaneValue → Type 0

@@ -1,5 +1,5 @@
 -- Lanes that are handed back to their floor, and taken into others.
-use Rattle.std.specs.Prelude.{◌≡◌, ◌-◌, Option, Some, length}
+use Rattle.std.specs.Prelude.{◌≡◌, ◌-◌, ℕ, zero, suc, Option, Some, length}
 use Rattle.cn_yard.specs.Lists.{tokens_in}
 use Rattle.cn_floor.specs.Lane.{FloorValue, LaneValue}
 use Rattle.cn_floor.specs.Steps.{HasMoment}
@@ -26,3 +26,12 @@ Joins old new = (l k m : LaneValue) × (old ≡ Some l) × (new ≡ Some k) × I
 -- a lane was there, with nobody inside
 abbrev pub HandsBack : Option LaneValue → Type 0
 HandsBack old = (l : LaneValue) × (old ≡ Some l) × IsBack l.home l
+
+-- the same of as many lanes, one after another
+abbrev pub JoinsTimes : ℕ → Option LaneValue → Option LaneValue → Type 0
+JoinsTimes zero old new = new ≡ old
+JoinsTimes (suc n) old new = (mid : Option LaneValue) × JoinsTimes n old mid × Joins mid new
+
+-- what a handle has took in any number of lanes, one after another
+abbrev pub JoinsAll : Option LaneValue → Option LaneValue → Type 0
+JoinsAll old new = (n : ℕ) × JoinsTimes n old new

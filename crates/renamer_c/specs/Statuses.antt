@@ -1,7 +1,7 @@
 -- The statuses of refused calls.
 use Rattle.std.specs.Prelude.{ℕ}
 use Rattle.renamer_c.specs.declared.refusal.Refusal.{Refusal}
-use Rattle.renamer_c.specs.declared.refusal.Refusal.TheVariants.{Nothing, Memory, Kind, Width, Quota, NoSuchEntry, QuotaSpent, QuotaTooSmall, StillWalking, NobodyThere, LanesMissing, NothingBack, Size, Carried, LanesThere, Busy}
+use Rattle.renamer_c.specs.declared.refusal.Refusal.TheVariants.{Nothing, Memory, Kind, Width, Quota, NoSuchEntry, QuotaSpent, QuotaTooSmall, StillWalking, NobodyThere, LanesMissing, NothingBack, Size, Carried, LanesThere}
 
 -- the status that a call answers with a refusal, as renamer.h has them
 abbrev pub status_of : Refusal → ℕ
@@ -19,5 +19,4 @@ status_of LanesMissing = 11
 status_of NothingBack = 12
 status_of Size = 13
 status_of Carried = 14
-status_of LanesThere = 16
-status_of Busy = 17
+status_of LanesThere = 15

@@ -9,7 +9,7 @@ ghost use Rattle.renamer_c.specs.Refusals.{NotClosed};
 use crate::floor_with_places::FloorWithPlaces;
 use crate::refusal::Refusal;
 use cn_floor::{Floor, Lane, Quiet};
-use std::alloc::{AllocError, Global};
+use std::alloc::Global;
 use std::sync::Arc;
 
 /// A share of a floor. The floor is there until its close takes it out.
@@ -32,33 +32,6 @@ pub(crate) fn floor_of(share: &FloorShare) -> &Floor<'static>
     ensures { arc_value share.now ≡ Some result.now }
 {
     with_places(share).floor()
-}
-
-/// Makes places for lanes that are handed back, if the floor has no other owner, and no places.
-///
-/// # Errors
-/// `AllocError` if they get no memory.
-fn make_places(alloc: Global, share: &mut FloorShare) -> Result<(), AllocError>
-    ensures { arc_value share.new ≡ arc_value share.old }
-{
-    if let Some(slot) = Arc::get_mut(share) {
-        if let Some(floor) = slot {
-            floor.make_places(alloc)?;
-        }
-    }
-    Ok(())
-}
-
-/// Another share of the floor, to which lanes can then be handed back.
-///
-/// # Errors
-/// `AllocError` if the places, or one more owner, get no memory.
-pub(crate) fn share(alloc: Global, share: &mut FloorShare) -> Result<FloorShare, AllocError>
-    ensures kept { arc_value share.new ≡ arc_value share.old }
-    ensures ok { IfOk result (λ other. arc_value other ≡ arc_value share.old) }
-{
-    make_places(alloc, share)?;
-    Arc::try_clone(share)
 }
 
 /// Closes the floor by a lane that has the whole of its quota, spent or not, and nobody inside, and takes it out.

@@ -7,12 +7,16 @@ ghost use Rattle.std.specs.Prelude.{◌≡◌, Some, IfErr, IfOk, OnErr, OnOk};
 ghost use Rattle.renamer_c.specs.Calls.{Answers, Names, Reserves};
 ghost use Rattle.renamer_c.specs.Handles.{lane_held, record_held};
 ghost use Rattle.renamer_c.specs.Questions.{number_asked};
-ghost use Rattle.renamer_c.specs.Refusals.{NotNamed, NotReserved, NotThere, WithLane};
+ghost use Rattle.renamer_c.specs.Placing.{IsPlaceOf};
+ghost use Rattle.renamer_c.specs.Refusals.{NotJoined, NotNamed, NotReserved, NotThere, WithLane};
+ghost use Rattle.renamer_c.specs.Returns.{IsBack};
 
 use crate::floor_record::FloorRecord;
 use crate::held_lane::HeldLane;
+use crate::places::Place;
 use crate::question::Question;
 use crate::refusal::Refusal;
+use cn_floor::Lane;
 
 /// What a handle has.
 #[derive(Drop)]
@@ -54,6 +58,22 @@ impl Held {
     {
         match self {
             Held::Lane(lane) => Ok(lane.entered()),
+            _ => Err(Refusal::Nothing),
+        }
+    }
+
+    /// Takes a lane out of those that were handed back to the floor of the lane that is there, with its place.
+    ///
+    /// # Errors
+    /// `Nothing` if no lane is there, else `NothingBack`.
+    pub(crate) fn take_back(&mut self) -> Result<(Lane, Place), Refusal>
+        ensures kept { self.new ≡ self.old }
+        ensures ok { IfOk result (λ r. WithLane (lane_held self.old)
+            (λ l. IsBack l.home r.0 × IsPlaceOf l.home r.1)) }
+        ensures refused { IfErr result (NotJoined (lane_held self.old)) }
+    {
+        match self {
+            Held::Lane(lane) => lane.take_back(),
             _ => Err(Refusal::Nothing),
         }
     }

@@ -6,7 +6,7 @@ mod returning;
 mod stepping;
 
 ghost use Rattle.std.specs.Arc.{arc_value};
-ghost use Rattle.std.specs.Prelude.{◌≡◌, ◌≤◌, Some, IfErr, IfOk, OnErr, OnOk};
+ghost use Rattle.std.specs.Prelude.{◌≡◌, ◌≤◌, Some, IfErr, IfOk, IfSome, OnErr, OnOk};
 ghost use Rattle.cn_spec.specs.declared.limits.TheConstants.{MOST_CARRIED, MOST_CLIENTS, MOST_ROOM};
 ghost use Rattle.cn_floor.specs.Carried.{client_count, start_after};
 ghost use Rattle.cn_floor.specs.Lane.{empty_lane, with_room};
@@ -14,18 +14,19 @@ ghost use Rattle.cn_floor.specs.Named.{IsNamed};
 ghost use Rattle.cn_floor.specs.Steps.{HasMoment, IsAnswer};
 ghost use Rattle.cn_floor.specs.Views.{after_entered, base};
 ghost use Rattle.renamer_c.specs.Calls.{IsOpened, IsSplit};
+ghost use Rattle.renamer_c.specs.Placing.{IsNearOf, IsPlaceOf};
 ghost use Rattle.renamer_c.specs.Questions.{number_asked};
 ghost use Rattle.renamer_c.specs.Refusals.{NotNamed, NotReserved};
 
-use crate::floor_share::{FloorShare, floor_of, share};
+use crate::floor_share::{FloorShare, floor_of, with_places};
 use crate::floor_with_places::FloorWithPlaces;
-use crate::link::Link;
+use crate::places::{Near, Place};
 use crate::question::Question;
 use crate::refusal::Refusal;
 use cn_floor::{Floor, Lane, LaneFault, OpenFault, Words};
 use cn_spec::limits::MOST_ROOM;
 use cn_wiring::Counting;
-use std::alloc::Global;
+use std::alloc::{AllocError, Global};
 use std::marker::Model;
 use std::sync::Arc;
 
@@ -35,8 +36,10 @@ pub(crate) struct HeldLane {
     lane: Lane,
     /// How many clients the floor may let in.
     most: u64,
-    /// Room for the lane among those that are handed back.
-    room: Box<Link>,
+    /// Its place, to which it is handed back.
+    place: Place,
+    /// Where it found a place last, its own or another lane's.
+    near: Option<Near>,
 }
 
 impl Model for HeldLane {
@@ -73,16 +76,19 @@ fn floor_over(
 
 impl HeldLane {
     /// A lane with its share of its floor.
-    fn of(floor: FloorShare, lane: Lane, most: u64, room: Box<Link>) -> HeldLane
+    fn of(floor: FloorShare, lane: Lane, most: u64, place: Place, near: Option<Near>) -> HeldLane
         requires own { arc_value floor ≡ Some lane.home }
         requires most { most ≡ lane.home.start.quota }
+        requires place { IsPlaceOf lane.home place }
+        requires near { IfSome near (IsNearOf lane.home) }
         ensures { result ≡ lane }
     {
         HeldLane {
             floor,
             lane,
             most,
-            room,
+            place,
+            near,
         }
     }
 
@@ -101,11 +107,15 @@ impl HeldLane {
         ensures ok { IfOk result (λ held. held ≡ lane) }
         ensures memory { IfErr result (λ r. r ≡ Refusal.Memory) }
     {
-        let Ok(room) = Box::new(alloc, Link::Empty) else {
+        let Ok(floor) = FloorWithPlaces::new(alloc, floor) else {
             return Err(Refusal::Memory);
         };
-        match Arc::new(alloc, Some(FloorWithPlaces::of(alloc, floor))) {
-            Ok(floor) => Ok(HeldLane::of(floor, lane, most, room)),
+        let mut near = None;
+        let Ok(place) = floor.own_place(alloc, &mut near) else {
+            return Err(Refusal::Memory);
+        };
+        match Arc::new(alloc, Some(floor)) {
+            Ok(floor) => Ok(HeldLane::of(floor, lane, most, place, near)),
             Err(_) => Err(Refusal::Memory),
         }
     }
@@ -154,6 +164,19 @@ impl HeldLane {
         }
     }
 
+    /// Another share of the floor, and a place for another lane.
+    ///
+    /// # Errors
+    /// `AllocError` if they get no memory.
+    fn share(&mut self, alloc: Global) -> Result<(FloorShare, Place), AllocError>
+        ensures kept { self.new ≡ self.old }
+        ensures floor { IfOk result (λ r. arc_value r.0 ≡ Some self.old.home) }
+        ensures place { IfOk result (λ r. IsPlaceOf self.old.home r.1) }
+    {
+        let place = with_places(&self.floor).own_place(alloc, &mut self.near)?;
+        Ok((Arc::try_clone(&self.floor)?, place))
+    }
+
     /// Splits off a lane with some of the quota.
     ///
     /// # Errors
@@ -164,14 +187,11 @@ impl HeldLane {
         ensures err { OnErr result (self.new ≡ self.old) }
         ensures memory { IfErr result (λ r. r ≡ Refusal.Memory) }
     {
-        let Ok(room) = Box::new(alloc, Link::Empty) else {
-            return Err(Refusal::Memory);
-        };
-        let Ok(floor) = share(alloc, &mut self.floor) else {
+        let Ok((floor, place)) = self.share(alloc) else {
             return Err(Refusal::Memory);
         };
         match floor_of(&floor).split_off(&mut self.lane, quota) {
-            Ok(other) => Ok(HeldLane::of(floor, other, self.most, room)),
+            Ok(other) => Ok(HeldLane::of(floor, other, self.most, place, None)),
             Err(_) => Err(Refusal::Memory),
         }
     }
@@ -250,7 +270,8 @@ impl HeldLane {
             floor: _floor,
             lane: _lane,
             most: _most,
-            room: _room,
+            place: _place,
+            near: _near,
         } = self;
     }
 }

@@ -1,13 +1,13 @@
 //! Calls that hand lanes back to their floor, and take them into others.
 
-ghost use Rattle.std.specs.Prelude.{◌≡◌, ◌<◌, None};
+ghost use Rattle.std.specs.Prelude.{◌≡◌, ◌<◌, None, IfErr, OnErr, OnOk};
 ghost use Rattle.renamer_c.specs.Handles.{lane_in};
-ghost use Rattle.renamer_c.specs.Refusals.{IsRefusal, NotHandedBack, NotJoined};
-ghost use Rattle.renamer_c.specs.Returns.{HandsBack, Joins};
+ghost use Rattle.renamer_c.specs.Refusals.{IsRefusal, NotHandedBack, NotJoined, NotJoinedAll};
+ghost use Rattle.renamer_c.specs.Returns.{HandsBack, Joins, JoinsAll};
 ghost use Rattle.renamer_c.specs.declared.refusal.TheConstants.{DONE};
 
 use crate::handle::Handle;
-use crate::refusal::DONE;
+use crate::refusal::{DONE, Refusal};
 use std::alloc::Global;
 
 /// Hands a lane back to its floor, for other lanes to take in.
@@ -23,10 +23,35 @@ pub extern "C" fn renamer_hand_back(alloc: Global, lane: &mut Handle) -> u32
         Err(refusal) => return refusal.status(),
     };
     match held.hand_back() {
-        Ok(()) => DONE,
+        Ok(_) => DONE,
         Err((refusal, held)) => {
             lane.put_lane(held, room);
             refusal.status()
+        }
+    }
+}
+
+/// Takes in a lane of the same floor that was handed back. If none was, the lane stays where it is.
+///
+/// # Errors
+/// The first that stands: `Nothing`, `NothingBack`, `Memory`. Then nothing has changed.
+fn join_one(alloc: Global, lane: &mut Handle) -> Result<(), Refusal>
+    ensures joined { OnOk result (Joins (lane_in lane.old.held) (lane_in lane.new.held)) }
+    ensures kept { OnErr result (lane.new.held ≡ lane.old.held) }
+    ensures refused { IfErr result (NotJoined (lane_in lane.old.held)) }
+{
+    let (other, other_place) = lane.take_back()?;
+    let Ok((held, room)) = lane.take_lane(alloc) else {
+        unreachable!()
+    };
+    match held.join(other, other_place) {
+        Ok(held) => {
+            lane.put_lane(held, room);
+            Ok(())
+        }
+        Err((refusal, held)) => {
+            lane.put_lane(held, room);
+            Err(refusal)
         }
     }
 }
@@ -38,21 +63,27 @@ pub extern "C" fn renamer_join(alloc: Global, lane: &mut Handle) -> u32
     ensures kept { 0 < result → lane.new.held ≡ lane.old.held }
     ensures refused { 0 < result → IsRefusal (NotJoined (lane_in lane.old.held)) result }
 {
-    let (other, other_room) = match lane.take_back() {
-        Ok(back) => back,
-        Err(refusal) => return refusal.status(),
-    };
-    let Ok((held, room)) = lane.take_lane(alloc) else {
-        unreachable!()
-    };
-    match held.join(other, other_room) {
-        Ok(held) => {
-            lane.put_lane(held, room);
-            DONE
-        }
-        Err((refusal, held)) => {
-            lane.put_lane(held, room);
-            refusal.status()
+    match join_one(alloc, lane) {
+        Ok(()) => DONE,
+        Err(refusal) => refusal.status(),
+    }
+}
+
+/// How many lanes one call takes in at most: for centuries.
+const MOST_JOINS: u64 = u64::MAX;
+
+/// Takes in lanes of the same floor that were handed back, one after another, until none is back.
+#[unsafe(no_mangle)]
+pub extern "C" fn renamer_join_all(alloc: Global, lane: &mut Handle) -> u32
+    ensures joined { JoinsAll (lane_in lane.old.held) (lane_in lane.new.held) }
+    ensures refused { 0 < result → IsRefusal (NotJoinedAll (lane_in lane.new.held)) result }
+{
+    for _ in 0..MOST_JOINS {
+        match join_one(alloc, lane) {
+            Ok(()) => {}
+            Err(Refusal::NothingBack) => return DONE,
+            Err(refusal) => return refusal.status(),
         }
     }
+    DONE
 }

@@ -41,8 +41,6 @@ pub enum Refusal {
     Carried,
     /// Other lanes are there still, with none of the floor's quota.
     LanesThere,
-    /// Other threads are in the midst of handing lanes back or joining them.
-    Busy,
 }
 
 impl Refusal {
@@ -66,8 +64,7 @@ impl Refusal {
             Refusal::NothingBack => 12,
             Refusal::Size => 13,
             Refusal::Carried => 14,
-            Refusal::LanesThere => 16,
-            Refusal::Busy => 17,
+            Refusal::LanesThere => 15,
         }
     }
 }

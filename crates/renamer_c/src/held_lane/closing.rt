@@ -44,14 +44,17 @@ impl HeldLane {
             mut floor,
             lane,
             most,
-            room,
+            place,
+            near,
         } = self;
         match close(&mut floor, lane) {
             Ok(quiet) => {
                 quiet.quiet_laws();
                 Ok(FloorRecord::of(quiet, counts, holders))
             }
-            Err((refusal, lane)) => Err((refusal, HeldLane::of(floor, lane, most, room))),
+            Err((refusal, lane)) => {
+                Err((refusal, HeldLane::of(floor, lane, most, place, near)))
+            },
         }
     }
 

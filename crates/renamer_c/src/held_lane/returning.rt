@@ -1,23 +1,38 @@
 //! Lanes that are handed back, and taken into others.
 
-ghost use Rattle.std.specs.Prelude.{◌≡◌, Some, IfErr, IfOk, OnOk};
+ghost use Rattle.std.specs.Prelude.{◌≡◌, Some, IfErr, IfOk};
+ghost use Rattle.renamer_c.specs.Ended.{EndsSomewhere};
+ghost use Rattle.renamer_c.specs.Placing.{IsPlaceOf};
 ghost use Rattle.renamer_c.specs.Refusals.{NotHandedBack, NotJoined};
 ghost use Rattle.renamer_c.specs.Returns.{IsBack, IsJoined};
 
 use super::HeldLane;
 use crate::floor_share::{floor_of, with_places};
-use crate::link::Link;
+use crate::floor_with_places::FloorWithPlaces;
+use crate::place_row::Miss;
+use crate::places::Place;
 use crate::refusal::Refusal;
 use cn_floor::{JoinFault, Lane};
 use std::sync::Arc;
+
+/// Where a lane went that was handed back.
+#[derive(Drop)]
+pub(crate) enum Handed {
+    /// To its place, whose word says so.
+    AtPlace(u64),
+    /// Nowhere, since its floor has no other lane, and goes too.
+    WithFloor(Option<FloorWithPlaces>),
+    /// Nowhere, since its place was not its own, which no call makes it.
+    Missed(Miss),
+}
 
 impl HeldLane {
     /// Hands the lane back to its floor. If no other lane is there, the floor is let go.
     ///
     /// # Errors
     /// `StillWalking`, with the lane as it was.
-    pub(crate) fn hand_back(self) -> Result<(), (Refusal, HeldLane)>
-        ensures ok { OnOk result (IsBack self.home self) }
+    pub(crate) fn hand_back(self) -> Result<Handed, (Refusal, HeldLane)>
+        ensures ok { IfOk result (λ handed. IsBack self.home self × EndsSomewhere handed) }
         ensures err { IfErr result (λ r. r.1 ≡ self) }
         ensures refused { IfErr result (λ r. NotHandedBack (Some self) r.0) }
     {
@@ -28,35 +43,44 @@ impl HeldLane {
             floor,
             lane,
             most: _most,
-            room,
+            place,
+            near: _near,
         } = self;
-        if let Err(floor) = Arc::try_unwrap(floor) {
-            with_places(&floor).hand_back(lane, room);
+        match Arc::try_unwrap(floor) {
+            Ok(floor) => Ok(Handed::WithFloor(floor)),
+            Err(floor) => match with_places(&floor).hand_back(place, lane) {
+                Ok(word) => Ok(Handed::AtPlace(word)),
+                Err(miss) => Ok(Handed::Missed(miss)),
+            },
         }
-        Ok(())
     }
 
-    /// Takes a lane out of those of the floor that were handed back, with its room.
+    /// Takes a lane out of those of the floor that were handed back, with its place.
     ///
     /// # Errors
-    /// `NothingBack` or `Busy`.
-    pub(crate) fn take_back(&self) -> Result<(Lane, Box<Link>), Refusal>
-        ensures ok { IfOk result (λ r. IsBack self.now.home r.0) }
-        ensures refused { IfErr result (NotJoined (Some self.now)) }
+    /// `NothingBack`.
+    pub(crate) fn take_back(&mut self) -> Result<(Lane, Place), Refusal>
+        ensures kept { self.new ≡ self.old }
+        ensures ok { IfOk result (λ r. IsBack self.old.home r.0 × IsPlaceOf self.old.home r.1) }
+        ensures refused { IfErr result (NotJoined (Some self.old)) }
     {
-        with_places(&self.floor).take_back()
+        match with_places(&self.floor).take_back(&mut self.near) {
+            Ok(back) => Ok(back),
+            Err(_) => Err(Refusal::NothingBack),
+        }
     }
 
     /// Takes in a lane of the floor that was handed back.
     ///
     /// # Errors
-    /// `Memory`, with the lane as it was: the other is handed back again, in this room.
+    /// `Memory`, with the lane as it was: the other is handed back again, to its place.
     pub(crate) fn join(
         self,
         other: Lane,
-        other_room: Box<Link>,
+        other_place: Place,
     ) -> Result<HeldLane, (Refusal, HeldLane)>
-        requires { IsBack self.home other }
+        requires back { IsBack self.home other }
+        requires place { IsPlaceOf self.home other_place }
         ensures ok { IfOk result (λ r. IsJoined self r other) }
         ensures err { IfErr result (λ r. r.1 ≡ self) }
         ensures refused { IfErr result (λ r. NotJoined (Some self) r.0) }
@@ -65,13 +89,15 @@ impl HeldLane {
             floor,
             lane,
             most,
-            room,
+            place,
+            near,
         } = self;
         match floor_of(&floor).join(lane, other) {
-            Ok(lane) => Ok(HeldLane::of(floor, lane, most, room)),
+            Ok(lane) => Ok(HeldLane::of(floor, lane, most, place, near)),
             Err((JoinFault::Memory, lane, other)) => {
-                with_places(&floor).hand_back(other, other_room);
-                Err((Refusal::Memory, HeldLane::of(floor, lane, most, room)))
+                let _ = with_places(&floor).hand_back(other_place, other);
+                let lane = HeldLane::of(floor, lane, most, place, near);
+                Err((Refusal::Memory, lane))
             }
             Err((JoinFault::StillWalking, _, _)) => unreachable!(),
         }
