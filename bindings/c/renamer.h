@@ -23,6 +23,7 @@
  * STATUSES. Each call takes any numbers, any sizes and any handle, also one that is none, and returns a status. A call
  * that does not return RENAMER_DONE has changed nothing: no handle, no floor, no number or array of the caller's; only
  * renamer_join_all may have taken in some lanes. Of several causes the first in the order of the call's list is returned.
+ * It is a number of 32 bits and no renamer_status, since C99 leaves the size of an enumeration to the compiler.
  *
  * THREADS. Calls on different handles may run at once in any threads, also on lanes of one floor. Calls on one handle may
  * not overlap, but for those that take it as `const`: they only ask, and write nothing to it, so any number of threads
@@ -42,8 +43,28 @@
 #include <stddef.h>
 #include <stdint.h>
 
+/* What a compiler warns of at a call: a status that is not looked at, and NULL where something is to stand. */
+#ifdef __GNUC__
+#define RENAMER_NO_NULL __attribute__((nonnull))
+#else
+#define RENAMER_NO_NULL
+#endif
+#if (defined(__cplusplus) && __cplusplus >= 201703L) || (defined(__STDC_VERSION__) && __STDC_VERSION__ >= 202311L)
+#define RENAMER_CALL [[nodiscard]] RENAMER_NO_NULL
+#elif defined(__GNUC__)
+#define RENAMER_CALL __attribute__((warn_unused_result)) RENAMER_NO_NULL
+#else
+#define RENAMER_CALL
+#endif
+
 #ifdef __cplusplus
 extern "C" {
+#endif
+
+/* The calls stand in another library, or in an archive that hides them: with either this is so, whatever visibility a
+   program is compiled with. */
+#ifdef __GNUC__
+#pragma GCC visibility push(default)
 #endif
 
 /* The version of this header: major * 1000000 + minor * 1000 + patch. renamer_version returns that of the library. */
@@ -64,14 +85,16 @@ typedef struct renamer_quiet {
 } renamer_quiet;
 
 /* Handles that are none: where they are declared, and to be assigned. */
-#define RENAMER_NO_LANE_YET {0}
-#define RENAMER_NO_QUIET_YET {0}
 #ifdef __cplusplus
+#define RENAMER_NO_LANE_YET {}
+#define RENAMER_NO_QUIET_YET {}
 #define RENAMER_NO_LANE renamer_lane()
 #define RENAMER_NO_QUIET renamer_quiet()
 #else
-#define RENAMER_NO_LANE ((renamer_lane){0})
-#define RENAMER_NO_QUIET ((renamer_quiet){0})
+#define RENAMER_NO_LANE_YET {NULL}
+#define RENAMER_NO_QUIET_YET {NULL}
+#define RENAMER_NO_LANE ((renamer_lane){NULL})
+#define RENAMER_NO_QUIET ((renamer_quiet){NULL})
 #endif
 
 /* A client that is to come in, and by which entry. */
@@ -134,28 +157,8 @@ typedef enum renamer_status {
     RENAMER_LANES_THERE = 15     /* other lanes of the floor are there still, with nothing of it */
 } renamer_status;
 
-/* What a status means, and what is allowed. */
-static inline const char *renamer_explain(uint32_t status) {
-    switch (status) {
-    case RENAMER_DONE: return "the call is done";
-    case RENAMER_NONE: return "the handle is none: it was not opened, or it was freed, handed back or closed";
-    case RENAMER_MEMORY: return "the system gave no memory, or room for more than 1048576 clients was asked for";
-    case RENAMER_KIND: return "there is no such network: RENAMER_BITONIC, RENAMER_PERIODIC or RENAMER_TREE";
-    case RENAMER_WIDTH: return "there is no network of this width: 2, 4, 8, 16, 32, 64, 128 or 256";
-    case RENAMER_QUOTA: return "the quota is more than a floor takes: 262144 at most";
-    case RENAMER_NO_SUCH_ENTRY: return "there is no such entry: a tree has only entry 0, others those below their width";
-    case RENAMER_QUOTA_SPENT: return "the lane may let in no more clients, or not so many: renamer_quota says how many";
-    case RENAMER_QUOTA_TOO_SMALL: return "the lane has less quota than is to be split off: renamer_quota says how much";
-    case RENAMER_STILL_WALKING: return "the lane has clients inside: let them out by renamer_step or renamer_sweep";
-    case RENAMER_NOBODY_THERE: return "no client of the lane is there: renamer_lowest says on which wire one is";
-    case RENAMER_LANES_MISSING: return "other lanes have quota, names or clients of the floor: hand them back and join them";
-    case RENAMER_NOTHING_BACK: return "no lane of the floor was handed back";
-    case RENAMER_SIZE: return "the array has another size than what is to be written into it";
-    case RENAMER_CARRIED: return "too many clients came before: 2147483648 at most";
-    case RENAMER_LANES_THERE: return "other lanes of the floor are there still, with nothing of it: hand them back";
-    default: return "there is no such status";
-    }
-}
+/* A sentence that says what a status means, and what is allowed. It is there as long as the program runs. */
+const char *renamer_explain(uint32_t status);
 
 /* The version of the library, as RENAMER_VERSION. */
 uint32_t renamer_version(void);
@@ -163,23 +166,23 @@ uint32_t renamer_version(void);
 /* Opens a floor over a network. The lane has the whole quota: as many clients may come in, over all lanes. The handle must be
    none or have something: one that was never set holds a pointer to nowhere, which the call frees.
    RENAMER_KIND, _WIDTH, _QUOTA, _MEMORY. One thread at a time. */
-uint32_t renamer_open(renamer_lane *lane, uint32_t kind, uint32_t width, uint64_t quota);
+RENAMER_CALL uint32_t renamer_open(renamer_lane *lane, uint32_t kind, uint32_t width, uint64_t quota);
 
 /* Opens a floor as renamer_open does, whose words lie 128 bytes apart in memory and not 8: so threads that go by two ends at
    once do not wait for one cache line. That is for machines of many processors: the words take 16 times the memory, and by one
    thread a name takes 1.5 to 1.7 times as long on wide networks. The words of a floor that goes on from it lie apart too.
    RENAMER_KIND, _WIDTH, _QUOTA, _MEMORY. One thread at a time. */
-uint32_t renamer_open_apart(renamer_lane *lane, uint32_t kind, uint32_t width, uint64_t quota);
+RENAMER_CALL uint32_t renamer_open_apart(renamer_lane *lane, uint32_t kind, uint32_t width, uint64_t quota);
 
 /* Splits off another lane of the same floor, with so much of the quota; the lane keeps all else. Other lanes may walk
    meanwhile, and the lane may have clients inside. On every network the other lane takes less than 1,000 bytes, until a
    client comes in by renamer_enter or renamer_name_many, or renamer_reserve makes room: then a list for each wire too.
    RENAMER_NONE, _QUOTA_TOO_SMALL, _MEMORY. One thread at a time. */
-uint32_t renamer_split(renamer_lane *lane, uint64_t quota, renamer_lane *other);
+RENAMER_CALL uint32_t renamer_split(renamer_lane *lane, uint64_t quota, renamer_lane *other);
 
 /* Makes room for so many clients more: they come in, and get their names, without further memory. At most 1048576.
    RENAMER_NONE, _MEMORY (also if it is more than that). One thread at a time. */
-uint32_t renamer_reserve(renamer_lane *lane, uint64_t clients);
+RENAMER_CALL uint32_t renamer_reserve(renamer_lane *lane, uint64_t clients);
 
 /* Names a client: lets it in by an entry and walks it out. Takes memory only if the lane has no room, and then only for
    its grant. Identities are any numbers, and are not compared: a client that is named twice gets two names.
@@ -189,7 +192,7 @@ uint32_t renamer_reserve(renamer_lane *lane, uint64_t clients);
    including, (t + 1) * w / n. That network is two of half the width, on the lower and the upper half of the entries, and a
    merger. So threads with halves or quarters of the entries meet only in mergers.
    RENAMER_NONE, _STILL_WALKING, _NO_SUCH_ENTRY, _QUOTA_SPENT, _MEMORY. One thread at a time. */
-uint32_t renamer_name(renamer_lane *lane, uint64_t client, uint64_t entry, uint64_t *name);
+RENAMER_CALL uint32_t renamer_name(renamer_lane *lane, uint64_t client, uint64_t entry, uint64_t *name);
 
 /* Names clients by one call. Those who follow one another in the list by one entry, up to 64 of them, come in by one atomic
    add and go on together, by one more for all that are on a wire; one who has none of its entry beside it walks as by
@@ -199,55 +202,56 @@ uint32_t renamer_name(renamer_lane *lane, uint64_t client, uint64_t entry, uint6
    ones too. Takes memory only if the lane has less room.
    RENAMER_NONE, _SIZE (there are not as many grants as clients), _STILL_WALKING, _NO_SUCH_ENTRY, _QUOTA_SPENT,
    _MEMORY. One thread at a time. */
-uint32_t renamer_name_many(renamer_lane *lane, const renamer_client *clients, size_t client_count, renamer_grant *grants,
-                           size_t grant_count);
+RENAMER_CALL uint32_t renamer_name_many(renamer_lane *lane, const renamer_client *clients, size_t client_count, renamer_grant *grants,
+                                        size_t grant_count);
 
-/* Single steps, for a program that is to say in which order clients walk. The clients of a lane stand on the network's
+/* Lets a client in by an entry: it stands last on the wire with the entry's number. Takes memory only if the lane has no
+   room.
+
+   Single steps are for a program that is to say in which order clients walk. The clients of a lane stand on the network's
    wires, in the order in which they came there. Wires have numbers: wire i begins at entry i, and each other one at a
    balancer, with a greater number than the wires that end there. So sweeping the lowest wire again and again lets all out.
-
-   Lets a client in by an entry: it stands last on the wire with the entry's number. Takes memory only if the lane has no
-   room. RENAMER_NONE, _NO_SUCH_ENTRY, _QUOTA_SPENT, _MEMORY. One thread at a time. */
-uint32_t renamer_enter(renamer_lane *lane, uint64_t client, uint64_t entry);
+   RENAMER_NONE, _NO_SUCH_ENTRY, _QUOTA_SPENT, _MEMORY. One thread at a time. */
+RENAMER_CALL uint32_t renamer_enter(renamer_lane *lane, uint64_t client, uint64_t entry);
 
 /* Lets the lane's first client on a wire go by the wire's end, through a balancer or out with its name, by one atomic add.
    RENAMER_NONE, _NOBODY_THERE. One thread at a time. */
-uint32_t renamer_step(renamer_lane *lane, uint64_t wire, renamer_moved *moved);
+RENAMER_CALL uint32_t renamer_step(renamer_lane *lane, uint64_t wire, renamer_moved *moved);
 
 /* Lets all of the lane's clients on a wire go by the wire's end, by one atomic add. If they left, the lane's last grants
    are theirs, in their order. RENAMER_NONE, _NOBODY_THERE. One thread at a time. */
-uint32_t renamer_sweep(renamer_lane *lane, uint64_t wire, renamer_swept *swept);
+RENAMER_CALL uint32_t renamer_sweep(renamer_lane *lane, uint64_t wire, renamer_swept *swept);
 
 /* The least wire on which a client of the lane stands. RENAMER_NONE, _NOBODY_THERE (nobody of the lane is inside). */
-uint32_t renamer_lowest(const renamer_lane *lane, uint64_t *wire);
+RENAMER_CALL uint32_t renamer_lowest(const renamer_lane *lane, uint64_t *wire);
 
 /* How many clients came in by all lanes, as far as this one can know: more than each name that it was given, no less
    than its earlier answers, and never more than came in.
    RENAMER_NONE. */
-uint32_t renamer_entered(const renamer_lane *lane, uint64_t *entered);
+RENAMER_CALL uint32_t renamer_entered(const renamer_lane *lane, uint64_t *entered);
 
 /* How many clients more the lane may let in. RENAMER_NONE. */
-uint32_t renamer_quota(const renamer_lane *lane, uint64_t *quota);
+RENAMER_CALL uint32_t renamer_quota(const renamer_lane *lane, uint64_t *quota);
 
 /* How many clients of the lane are inside. RENAMER_NONE. */
-uint32_t renamer_inside(const renamer_lane *lane, uint64_t *inside);
+RENAMER_CALL uint32_t renamer_inside(const renamer_lane *lane, uint64_t *inside);
 
 /* How many entries the network of the lane's floor has, and how many exits. RENAMER_NONE. */
-uint32_t renamer_entries(const renamer_lane *lane, uint64_t *entries);
-uint32_t renamer_exits(const renamer_lane *lane, uint64_t *exits);
+RENAMER_CALL uint32_t renamer_entries(const renamer_lane *lane, uint64_t *entries);
+RENAMER_CALL uint32_t renamer_exits(const renamer_lane *lane, uint64_t *exits);
 
 /* How many grants the lane has. RENAMER_NONE. */
-uint32_t renamer_grant_count(const renamer_lane *lane, uint64_t *count);
+RENAMER_CALL uint32_t renamer_grant_count(const renamer_lane *lane, uint64_t *count);
 
 /* Copies size grants of the lane, in the order in which they were given, from the grant with the index first on.
    RENAMER_NONE, _SIZE (there are fewer than first + size). */
-uint32_t renamer_grants(const renamer_lane *lane, uint64_t first, renamer_grant *grants, size_t size);
+RENAMER_CALL uint32_t renamer_grants(const renamer_lane *lane, uint64_t first, renamer_grant *grants, size_t size);
 
 /* Hands the lane back to its floor, from any thread: its quota, its grants and all that it did. The lane is none then, and
    another lane of the floor may take it in by renamer_join. It takes no memory, and any number of lanes may be back. It is a
    few atomic steps, whatever other threads do and wherever they are stopped. If it was the only lane, the floor is freed.
    RENAMER_NONE, _STILL_WALKING. One thread at a time. */
-uint32_t renamer_hand_back(renamer_lane *lane);
+RENAMER_CALL uint32_t renamer_hand_back(renamer_lane *lane);
 
 /* Takes one lane of the same floor in that was handed back: its quota is added, and its grants come after the lane's own.
    Which of several, is not said. Any lane may take in any other. Takes no memory if the lane has room for these grants, and
@@ -255,43 +259,47 @@ uint32_t renamer_hand_back(renamer_lane *lane);
    hand-back had returned was taken by another join. A thread that is stopped in a call keeps from others no lane but the one
    that it hands back or takes in. A join looks again only if a lane came back or was taken meanwhile.
    RENAMER_NONE, _NOTHING_BACK, _MEMORY. One thread at a time. */
-uint32_t renamer_join(renamer_lane *lane);
+RENAMER_CALL uint32_t renamer_join(renamer_lane *lane);
 
 /* Takes in lanes as renamer_join does, one after another, and is done once it finds none back. With another status some may
    have been taken in; the call may be made again. RENAMER_NONE, _MEMORY. One thread at a time. */
-uint32_t renamer_join_all(renamer_lane *lane);
+RENAMER_CALL uint32_t renamer_join_all(renamer_lane *lane);
 
 /* Closes the floor. The lane must have all of it, and no other may be there: each that was split off was handed back or
    freed, and those that had quota or grants were joined. So after the threads have ended
 
-       if (renamer_join_all(&lane) == RENAMER_DONE)
-           renamer_close(&lane, &quiet);
+       if (renamer_join_all(&lane) != RENAMER_DONE || renamer_close(&lane, &quiet) != RENAMER_DONE)
+           return 1;
 
    closes it. The lane is none then. RENAMER_NONE, _STILL_WALKING, _LANES_MISSING, _MEMORY, _LANES_THERE.
    One thread at a time. */
-uint32_t renamer_close(renamer_lane *lane, renamer_quiet *quiet);
+RENAMER_CALL uint32_t renamer_close(renamer_lane *lane, renamer_quiet *quiet);
 
 /* How many clients left by each exit is a list of as many numbers as there are exits; who has which name is a list of as
    many clients as came in. These two return the sizes. RENAMER_NONE. */
-uint32_t renamer_quiet_exits(const renamer_quiet *quiet, uint64_t *exits);
-uint32_t renamer_quiet_clients(const renamer_quiet *quiet, uint64_t *clients);
+RENAMER_CALL uint32_t renamer_quiet_exits(const renamer_quiet *quiet, uint64_t *exits);
+RENAMER_CALL uint32_t renamer_quiet_clients(const renamer_quiet *quiet, uint64_t *clients);
 
 /* Copies how many left by each exit: counts[i] is that of exit i. RENAMER_NONE, _SIZE (counts has not that size). */
-uint32_t renamer_counts(const renamer_quiet *quiet, uint64_t *counts, size_t size);
+RENAMER_CALL uint32_t renamer_counts(const renamer_quiet *quiet, uint64_t *counts, size_t size);
 
 /* Copies who has which name: holders[n] is the client with name n. RENAMER_NONE, _SIZE (holders has not that size). */
-uint32_t renamer_holders(const renamer_quiet *quiet, uint64_t *holders, size_t size);
+RENAMER_CALL uint32_t renamer_holders(const renamer_quiet *quiet, uint64_t *holders, size_t size);
 
 /* Opens a floor that goes on from the counters of a closed one, over the same network; its names begin at 0 again. The
    closed floor stays as it is.
    RENAMER_NONE, _CARRIED, _QUOTA, _MEMORY. One thread at a time. */
-uint32_t renamer_open_after(renamer_lane *lane, const renamer_quiet *quiet, uint64_t quota);
+RENAMER_CALL uint32_t renamer_open_after(renamer_lane *lane, const renamer_quiet *quiet, uint64_t quota);
 
 /* Frees what the handle has, if it has something. A lane is handed back, unless clients are inside: then its quota and names
    are lost with it, and its floor cannot be closed any more; the names of other lanes stay as good as they were.
    One thread at a time. */
 void renamer_free(renamer_lane *lane);
 void renamer_free_quiet(renamer_quiet *quiet);
+
+#ifdef __GNUC__
+#pragma GCC visibility pop
+#endif
 
 #ifdef __cplusplus
 }

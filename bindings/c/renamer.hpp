@@ -31,8 +31,12 @@ enum class kind : std::uint32_t {
     tree = RENAMER_TREE
 };
 
-/* What calls return. */
+/* What calls return; from C++17 on a compiler warns if it is not looked at. */
+#if __cplusplus >= 201703L
+enum class [[nodiscard]] status : std::uint32_t {
+#else
 enum class status : std::uint32_t {
+#endif
     done = RENAMER_DONE,
     none = RENAMER_NONE,
     memory = RENAMER_MEMORY,

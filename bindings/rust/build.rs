@@ -1,5 +1,6 @@
 //! Links the proved library: the archive `librenamer.a` of the folder that `RENAMER_LIB` names; or of `out/lib` of the
-//! repository, into which `./library` puts it, for ARM of `out/aarch64-unknown-linux-gnu/lib`; or, in a release, of `lib`.
+//! repository, into which `./library` puts it, for ARM of `out/aarch64-unknown-linux-gnu/lib`; or, in a release, of `lib`,
+//! where Debian has a folder for each processor.
 use std::env;
 use std::path::PathBuf;
 use std::process;
@@ -13,12 +14,13 @@ fn main() {
             let own = PathBuf::from(env::var_os("CARGO_MANIFEST_DIR").expect("cargo names the crate's folder"));
             let other = if target.starts_with("x86_64-") { "" } else { &target };
             let built = own.join("../../out").join(other).join("lib");
-            let released = own.join("../../../lib");
-            let is_release = !built.is_dir() && released.join("librenamer.a").is_file();
-            if is_release {
-                released
-            } else {
+            let lib = own.join("../../../lib");
+            let released = [lib.join("x86_64-linux-gnu"), lib];
+            let mut found = released.into_iter().filter(|folder| folder.join("librenamer.a").is_file());
+            if built.is_dir() {
                 built
+            } else {
+                found.next().unwrap_or(built)
             }
         }
     };

@@ -1,6 +1,6 @@
 """Compares the header of the library with the crate that it is built from, with the Rust crate over it, and with the
-symbols of the archive: calls with what they take and return, structs with their fields, numbers, statuses, limits,
-versions; the header for C++ with that for C; what each status is said to mean with TEXTS; and what the archive wants with
+symbols of the archive and of the shared library: calls with what they take and return, structs with their fields, numbers,
+statuses, limits, versions; the header for C++ with that for C; what each status is said to mean with TEXTS; and what the archive wants with
 what docs/EMBEDDING.md says of that.
 
 A call is a list of the types that it takes, in the words of Rust, and what it returns. A slice of the proved crate is a
@@ -15,7 +15,9 @@ HEADER = ROOT / "bindings" / "c" / "renamer.h"
 OBJECTS = HEADER.with_suffix(".hpp")
 RUST = ROOT / "bindings" / "rust"
 CRATE = ROOT / "crates" / "renamer_c" / "src"
-OF_C = {"uint32_t": "u32", "uint64_t": "u64", "size_t": "usize", "void": None}
+OF_C = {"uint32_t": "u32", "uint64_t": "u64", "size_t": "usize", "void": None, "const char *": "text"}
+# Only C has it: the proved crate has no texts, and the Rust crate its own.
+ONLY_IN_C = "renamer_explain"
 COMMENT = re.compile(r"/\*.*?\*/|//[^\n]*", re.S)
 EXTERN = r'extern "C" \{(.*?)^\}'
 # The limits of a floor.
@@ -85,7 +87,7 @@ def c_type(parameter):
 
 
 def header_calls():
-    found = re.findall(r"^(\w+) (renamer_\w+)\(([^)]*)\);", code(HEADER), re.M)
+    found = re.findall(r"^(?:RENAMER_\w+ )?(\w+|const char \*) ?(renamer_\w+)\(([^)]*)\)", code(HEADER), re.M)
     return {name: ([c_type(one) for one in pieces(taken)], OF_C[back]) for back, name, taken in found}
 
 
@@ -134,6 +136,12 @@ def symbols(archive):
     words = [line.split() for line in listed.splitlines() if line]
     defined = {line[-1] for line in words if len(line) == 3}
     return defined, {line[-1] for line in words if len(line) == 2 and line[0] == "U"}
+
+
+def symbols_for_all(shared):
+    """What a shared library shows, with its versions."""
+    listed = subprocess.run(["nm", "-D", "--defined-only", str(shared)], capture_output=True, text=True, check=True).stdout
+    return {line.split()[-1] for line in listed.splitlines()}
 
 
 def said_to_be_wanted():
@@ -199,7 +207,7 @@ def wrong_objects():
 
 def wrong_texts():
     """What is said of statuses otherwise than TEXTS has it."""
-    c = dict(re.findall(r'case RENAMER_(\w+): return "([^"]*)";', HEADER.read_text()))
+    c = dict(re.findall(r'case RENAMER_(\w+): return "([^"]*)";', HEADER.with_name("explain.c").read_text()))
     rust = re.findall(r'Error::(\w+) => \{?\s*(?:out\.write_str\(|write!\(out, )"([^"]*)"\)', rust_code())
     rust = {snake(name): re.sub(r"\{(\w+)\}", lambda limit: str(LIMITS[limit[1]]), text) for name, text in rust}
     wanted = {name: text for name, (_, text) in TEXTS.items() if text}
@@ -226,17 +234,20 @@ def differences(what, header, others):
                 yield f"{what} {name}: {header.get(name)} in the header, {other.get(name)} in {where}"
 
 
-def wrong(archive):
+def wrong(archive, shared):
     """All that does not agree."""
     calls, structs = header_calls(), header_structs()
     if not calls or not structs:
         return ["the header has no call, or no struct"]
-    found = [*differences("call", calls, {"the Rust crate": rust_calls()})]
-    found += differences("call", by_whichever_handle(calls), {"the proved crate": by_whichever_handle(crate_calls())})
+    both = {name: call for name, call in calls.items() if name != ONLY_IN_C}
+    found = [*differences("call", both, {"the Rust crate": rust_calls()})]
+    found += differences("call", by_whichever_handle(both), {"the proved crate": by_whichever_handle(crate_calls())})
     others = {"the proved crate": rust_structs(crate_code()), "the Rust crate": rust_structs(rust_code())}
     found += differences("struct", structs, others)
     defined, wanted = symbols(archive)
     found += [f"the archive shows {name}, and the header does not" for name in sorted(defined - calls.keys())]
     found += [f"the archive has no {name}" for name in sorted(calls.keys() - defined)]
+    versioned = {f"{name}@@RENAMER_1" for name in calls}
+    found += [f"{name}: only the header or the shared library has it" for name in sorted(symbols_for_all(shared) ^ versioned)]
     found += [f"{name}: the archive wants it, or docs/EMBEDDING.md says so" for name in sorted(wanted ^ said_to_be_wanted())]
     return [*found, *wrong_numbers(), *wrong_limits(), *wrong_objects(), *wrong_texts(), *wrong_versions()]

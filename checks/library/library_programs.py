@@ -9,6 +9,8 @@ import subprocess
 ROOT = pathlib.Path(__file__).resolve().parents[2]
 C, RUST, OUT = ROOT / "bindings" / "c", ROOT / "bindings" / "rust", ROOT / "out"
 STRICT = ["-Wall", "-Wextra", "-Wpedantic", "-Werror", "-O1", "-g"]
+# With which what users see is compiled too: the headers, the examples, and the programs of pages.
+CAREFUL = {"cc": ["-Wconversion"], "c++": ["-Wconversion", "-Wzero-as-null-pointer-constant"]}
 # By which programs in C++ are compiled once more, since their header has all of its code.
 SECOND = "clang++"
 # Another processor: its name, its compiler, by what its programs run here, and the packages of Debian that have these.
@@ -16,7 +18,9 @@ ARM, ARM_CC, ARM_RUN = "aarch64-unknown-linux-gnu", "aarch64-linux-gnu-gcc", "qe
 ARM_HOME = pathlib.Path("/usr/aarch64-linux-gnu")
 ARM_PACKAGES = {ARM_CC: "gcc-aarch64-linux-gnu", ARM_RUN: "qemu-user", str(ARM_HOME): "libc6-dev-arm64-cross"}
 # The standards that the header is to compile by; programs are compiled by the first.
-STANDARDS = {"cc": ["c99", "c11", "c17"], "c++": ["c++11", "c++14", "c++17", "c++20"]}
+STANDARDS = {"cc": ["c99", "c11", "c17", "c2x"], "c++": ["c++11", "c++14", "c++17", "c++20", "c++2b"]}
+# The other compiler of each language.
+OTHERS = {"cc": "clang", "c++": SECOND}
 WRAPPED = "-Wl,--wrap=malloc,--wrap=calloc,--wrap=realloc,--wrap=free"
 # What a sanitizer wants of the compiler, and of the program that runs.
 SANITIZERS = {
@@ -102,8 +106,9 @@ def compiled(program, folder, name, flags, compiler=None, out=OUT):
     """Compiles a program with some flags more."""
     made = folder / f"{program.source.name}-{name}".replace(" ", "-")
     own = program.compiler()
-    run([compiler or own, f"-std={STANDARDS[own][0]}", *STRICT, *flags, "-I", out / "include", program.source,
-         *program.others, "-o", made, "-L", out / "lib", "-lrenamer", "-lpthread"])
+    careful = CAREFUL[own] if program.source.parent.name == "examples" else []
+    run([compiler or own, f"-std={STANDARDS[own][0]}", *STRICT, *careful, *flags, "-I", out / "include", program.source,
+         *program.others, "-o", made, out / "lib" / "librenamer.a", "-lpthread"])
     return made
 
 
@@ -188,7 +193,36 @@ def cases(compiler, folder):
 
 
 def header_stands_alone(compiler, standard, folder):
-    """The header needs no other before it, and can be included twice."""
-    source = folder / f"header-{standard}.{'cpp' if compiler == 'c++' else 'c'}"
-    source.write_text('#include "renamer.h"\n#include "renamer.h"\nint main(void) { return !renamer_version(); }\n')
-    run([compiler, f"-std={standard}", *STRICT, "-I", C, "-fsyntax-only", source])
+    """The header needs no other before it, and can be included twice, in C++ with the other header; a call whose status is
+    not looked at is warned of, and none else, by both compilers of the language."""
+    ending, header = ("cpp", "renamer.hpp") if compiler == "c++" else ("c", "renamer.h")
+    source = folder / f"header-{standard}.{ending}"
+    call = "renamer_quota(&lane, &quota)"
+    for ignored in ("", f"{call};"):
+        source.write_text(f"""#include "renamer.h"
+#include "{header}"
+int main(void) {{
+    renamer_lane lane = RENAMER_NO_LANE_YET;
+    uint64_t quota;
+    lane = RENAMER_NO_LANE;
+    {ignored}
+    return {call} == RENAMER_DONE;
+}}
+""")
+        for tool in filter(shutil.which, (compiler, OTHERS[compiler])):
+            words = [tool, f"-std={standard}", *STRICT, *CAREFUL[compiler], "-I", C, "-c", "-o", "/dev/null", source]
+            if ignored:
+                refuses(words, "unused-result")
+            else:
+                run(words)
+
+
+def refuses(words, warning):
+    """A compiler refuses a program for a warning."""
+    try:
+        run(words)
+    except Wrong as wrong:
+        if warning in str(wrong):
+            return
+        raise
+    raise Wrong(f"{words[0]} does not warn of {warning}")

@@ -2,7 +2,7 @@
 import dataclasses
 import re
 
-from library_programs import OUT, ROOT, RUST, STRICT, Wrong, run
+from library_programs import CAREFUL, OUT, ROOT, RUST, STRICT, Wrong, run
 
 NAMED = re.compile(r"^client (\d+) has the name (\d+)$", re.M)
 
@@ -58,11 +58,11 @@ def run_rust(shown, folder):
 
 def run_compiled(shown, folder):
     """The program, in a folder in which out/ is what ./library made."""
-    pattern = rf"{re.escape(shown.compiler)} .*\b{re.escape(shown.file)} -L.*"
+    pattern = rf"{re.escape(shown.compiler)} .*\b{re.escape(shown.file)} out/.*"
     command = shown.line(pattern, f"how {shown.file} is built")
     (folder / shown.file).write_text(shown.program())
     (folder / "out").symlink_to(OUT)
-    run([*command.split(), *STRICT], folder)
+    run([*command.split(), *STRICT, *CAREFUL[shown.compiler]], folder)
     return run([folder / "a.out"])
 
 

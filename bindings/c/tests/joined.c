@@ -73,8 +73,10 @@ static void *run(void *argument) {
         renamer_free(&other);
     name_some(thread, &thread->lane, EACH / 2, EACH);
     /* It may take in a lane of another thread, and hands that back with its own. */
-    if (thread->how == 2 && !IS_ORDER_UNSEEN)
-        (void)renamer_join(&thread->lane);
+    if (thread->how == 2 && !IS_ORDER_UNSEEN) {
+        uint32_t status = renamer_join(&thread->lane);
+        CHECK(status == RENAMER_DONE || status == RENAMER_NOTHING_BACK);
+    }
     if (thread->how == 1)
         renamer_free(&thread->lane);
     else
