@@ -170,7 +170,7 @@ RENAMER_CALL uint32_t renamer_open(renamer_lane *lane, uint32_t kind, uint32_t w
 
 /* Opens a floor as renamer_open does, whose words lie 128 bytes apart in memory and not 8: so threads that go by two ends at
    once do not wait for one cache line. That is for machines of many processors: the words take 16 times the memory, and by one
-   thread a name takes 1.5 to 1.7 times as long on wide networks. The words of a floor that goes on from it lie apart too.
+   thread a name takes 1.5 to 1.7 times as long on wide networks, 2.6 on a busy machine. The next floor's lie apart too.
    RENAMER_KIND, _WIDTH, _QUOTA, _MEMORY. One thread at a time. */
 RENAMER_CALL uint32_t renamer_open_apart(renamer_lane *lane, uint32_t kind, uint32_t width, uint64_t quota);
 
