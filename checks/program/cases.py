@@ -3,6 +3,7 @@
 checks/program/cases.table says at its head what each line means. checks/program/cases_test.py tries this reader.
 """
 import dataclasses
+import os
 import pathlib
 import subprocess
 
@@ -111,7 +112,7 @@ class Reader:
         """A line that says one thing of the case that stands open. Whether it was one."""
         case = self.case
         if mark == "words":
-            case.words = rest.split()
+            case.words = [os.fsdecode(unescaped(word)) for word in rest.split()]
         elif mark in ("status", "stack"):
             setattr(case, mark, int(rest))
         elif mark == "threads":

@@ -14,54 +14,57 @@ ghost use Rattle.cn_cli.specs.declared.options.Form.{Form};
 
 use crate::options::{Form, OptionFault, Options};
 use clap::ArgMatches;
-use cn_nets::{Net, NetFault};
+use cn_nets::{Net, NetFault, Widths};
 use cn_wiring::{Kind, is_width};
 use std::alloc::{AllocError, Global};
 use thiserror::Error;
 
 /// Why options that clap takes ask for no job.
 #[derive(Clone, Copy, Debug, Error)]
-pub(crate) enum ChoiceFault {
+pub(crate) enum ChoiceFault<'a> {
     /// They are of no subcommand that the program has.
     #[error("renamer: no such subcommand")]
     Subcommand,
-    /// They name no kind of network.
-    #[error("renamer: no such network: {}, {} or {}", Kind::Bitonic.word(), Kind::Periodic.word(), Kind::Tree.word())]
-    Kind,
-    /// They name a kind, but no width of it that is built.
+    /// This word for a kind of network is of none.
+    #[error("renamer: no such network {0:?}; allowed: bitonic, periodic or tree")]
+    Kind(&'a str),
+    /// This word for a width is of none that is built.
+    #[error("renamer: no such width {:?}; allowed: {}", .0, Widths)]
+    Width(&'a str),
+    /// The network is not built.
     #[error("{0}")]
     Net(NetFault),
     /// They name numbers outside of their limits.
     #[error("{0}")]
     Options(OptionFault),
-    /// They name no form.
-    #[error("renamer: no such form: {} or {}", Form::Report.word(), Form::Grants.word())]
-    Form,
+    /// This word for a form is of none.
+    #[error("renamer: no such form {:?}; allowed: {} or {}", .0, Form::Report.word(), Form::Grants.word())]
+    Form(&'a str),
     /// There is not the memory to read them.
     #[error("renamer: memory")]
     Memory,
 }
 
-impl From<NetFault> for ChoiceFault {
+impl From<NetFault> for ChoiceFault<'_> {
     ghost from_gives = { λ fault given. given ≡ choice.Net fault };
 
-    fn from(fault: NetFault) -> ChoiceFault {
+    fn from(fault: NetFault) -> Self {
         ChoiceFault::Net(fault)
     }
 }
 
-impl From<OptionFault> for ChoiceFault {
+impl From<OptionFault> for ChoiceFault<'_> {
     ghost from_gives = { λ fault given. given ≡ choice.Options fault };
 
-    fn from(fault: OptionFault) -> ChoiceFault {
+    fn from(fault: OptionFault) -> Self {
         ChoiceFault::Options(fault)
     }
 }
 
-impl From<AllocError> for ChoiceFault {
+impl From<AllocError> for ChoiceFault<'_> {
     ghost from_gives = { λ _ given. given ≡ choice.Memory };
 
-    fn from(_error: AllocError) -> ChoiceFault {
+    fn from(_error: AllocError) -> Self {
         ChoiceFault::Memory
     }
 }
@@ -120,6 +123,11 @@ fn value_of<'a>(options: &ArgMatches<'a>, name: &str) -> Option<&'a str>
     options.get_str(name)
 }
 
+/// The word that a fault of an option shows.
+fn word_of<'a>(options: &ArgMatches<'a>, name: &str) -> &'a str {
+    value_of(options, name).unwrap_or("")
+}
+
 /// Whether a flag stands among the options.
 fn has_flag(options: &ArgMatches<'_>, name: &str) -> bool
     ensures { Flags (rows_of (found_of options.now)) name.now result }
@@ -147,23 +155,29 @@ fn chosen_number(
 }
 
 /// The width that the options name.
-pub(crate) fn chosen_width(alloc: Global, options: &ArgMatches<'_>) -> Result<u32, ChoiceFault>
+pub(crate) fn chosen_width<'a>(
+    alloc: Global,
+    options: &ArgMatches<'a>,
+) -> Result<u32, ChoiceFault<'a>>
     ensures { let given = rows_of (found_of options.now) in
         MatchResult result (λ width. NamesWidth given width × IsWidth width)
         (λ fault. fault ≢ choice.Memory → NamesNoWidth given) }
 {
     let Some(width) = chosen_number(alloc, options, "width")? else {
-        return Err(ChoiceFault::Net(NetFault::Width));
+        return Err(ChoiceFault::Width(word_of(options, "width")));
     };
     if is_width(width) {
         Ok(width)
     } else {
-        Err(ChoiceFault::Net(NetFault::Width))
+        Err(ChoiceFault::Width(word_of(options, "width")))
     }
 }
 
 /// The network that the options name.
-pub(crate) fn chosen_net(alloc: Global, options: &ArgMatches<'_>) -> Result<Net, ChoiceFault>
+pub(crate) fn chosen_net<'a>(
+    alloc: Global,
+    options: &ArgMatches<'a>,
+) -> Result<Net, ChoiceFault<'a>>
     ensures { let given = rows_of (found_of options.now) in
         MatchResult result (λ net. NamesNetwork given net × IsWidth net.width)
         (λ fault. fault ≢ choice.Memory → NamesNoNet given) }
@@ -171,15 +185,15 @@ pub(crate) fn chosen_net(alloc: Global, options: &ArgMatches<'_>) -> Result<Net,
     let width = chosen_width(alloc, options)?;
     match value_of(options, "network").and_then(kind_named) {
         Some(kind) => Ok(Net::new(kind, width)?),
-        None => Err(ChoiceFault::Kind),
+        None => Err(ChoiceFault::Kind(word_of(options, "network"))),
     }
 }
 
 /// The options of a run.
-pub(crate) fn chosen_options(
+pub(crate) fn chosen_options<'a>(
     alloc: Global,
-    options: &ArgMatches<'_>,
-) -> Result<Options, ChoiceFault>
+    options: &ArgMatches<'a>,
+) -> Result<Options, ChoiceFault<'a>>
     ensures { let given = rows_of (found_of options.now) in
         MatchResult result (λ settings. NamesRun given settings × SettingsFit settings)
         (λ fault. fault ≢ choice.Memory → NamesNoRun given) }
@@ -192,7 +206,7 @@ pub(crate) fn chosen_options(
         return Err(ChoiceFault::Options(OptionFault::Hand));
     };
     let Some(form) = value_of(options, "form").and_then(form_named) else {
-        return Err(ChoiceFault::Form);
+        return Err(ChoiceFault::Form(word_of(options, "form")));
     };
     let run = Options::new(net, workers, hand, form)?;
     if has_flag(options, "carry") {

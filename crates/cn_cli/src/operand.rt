@@ -1,4 +1,4 @@
-//! A file that is named among the words of a job, which reads standard input.
+//! What a refusal by clap says of the words.
 
 use std::alloc::{AllocError, Global};
 
@@ -15,12 +15,16 @@ fn operand_in(text: &str) -> Option<&str> {
     }
 }
 
-/// The text of a refusal by clap. If it refuses an operand of a job, a line more says how the job gets its input.
+/// The text of a refusal by clap. If it refuses an operand of a job, a line more says how the job gets its input. clap
+/// shows words as they are, so one with control characters, which no job has, is shown in place of its text.
 pub(crate) fn with_hint(
     alloc: Global,
     words: &[String],
     text: String,
 ) -> Result<String, AllocError> {
+    if let Some(word) = words.iter().find(|word| word.contains(char::is_control)) {
+        return format!(in alloc; "renamer: a word with control characters: {word:?}\n");
+    }
     match (operand_in(&text), words.get(1)) {
         // Nothing is read for a wiring.
         (Some(word), Some(job)) if job.as_str() != "show" => {

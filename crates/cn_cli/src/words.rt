@@ -80,8 +80,8 @@ impl WordsFault {
         }
     }
 
-    fn of_choice(alloc: Global, fault: ChoiceFault) -> WordsFault
-        ensures { IsRefusalBy fault result }
+    fn of_choice(alloc: Global, fault: ChoiceFault<'_>) -> WordsFault
+        ensures { IsRefusalBy fault.entry result }
     {
         if let ChoiceFault::Memory = fault {
             return WordsFault::Memory;
@@ -94,7 +94,7 @@ impl WordsFault {
 }
 
 /// The job that a subcommand with its options asks for.
-fn chosen_job(alloc: Global, matches: &ArgMatches<'_>) -> Result<Job, ChoiceFault>
+fn chosen_job<'a>(alloc: Global, matches: &ArgMatches<'a>) -> Result<Job, ChoiceFault<'a>>
     ensures { let asked = subcommand_rows_of matches.now in
         MatchResult result (Asks asked) (λ fault. fault ≢ choice.Memory → AsksNone asked) }
 {

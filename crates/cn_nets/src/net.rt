@@ -54,7 +54,7 @@ impl fmt::Display for Widths {
 #[derive(Clone, Copy, Debug, PartialEq, Eq, Error)]
 pub enum NetFault {
     /// No network of this width is built.
-    #[error("renamer: no such width: {}", Widths)]
+    #[error("renamer: no such width; allowed: {}", Widths)]
     Width,
 }
 
