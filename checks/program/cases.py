@@ -12,6 +12,8 @@ ROOT = pathlib.Path(__file__).resolve().parents[2]
 OUTPUTS = ("file", "full", "broken", "closed")
 ERRORS = ("file", "full", "closed")
 INPUTS = ("file", "folder", "closed")
+# What a case may limit.
+LIMITS = ("growths", "bytes", "writes")
 
 
 class NoCase(Exception):
@@ -28,6 +30,12 @@ class Case:
     # How many threads it is to ask for, if that is told, and whether it gets none.
     threads: int | None = None
     refused: bool = False
+    # How many growths of memory it may ask for, with how many bytes in all, and how many writes of its output, if that
+    # is told; and how many of its growths, each refused in a run of its own, it may do without.
+    growths: int | None = None
+    bytes: int | None = None
+    writes: int | None = None
+    spares: int | None = None
     # How large the stack of each of its threads may be, in kilobytes, if that is told.
     stack: int | None = None
     by_script: bool = False
@@ -113,7 +121,7 @@ class Reader:
         case = self.case
         if mark == "words":
             case.words = [os.fsdecode(unescaped(word)) for word in rest.split()]
-        elif mark in ("status", "stack"):
+        elif mark in ("status", "stack", *LIMITS, "spares"):
             setattr(case, mark, int(rest))
         elif mark == "threads":
             count, _, refused = rest.partition(" ")

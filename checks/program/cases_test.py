@@ -7,6 +7,7 @@ READ = [
     ("case a\n\n# no line\nstatus 3\nstack 5\n", {"status": 3, "stack": 5}),
     ("case a\nthreads 7\nstack 128\n", {"threads": 7, "stack": 128}),
     ("case a\nthreads 20 refused\n", {"threads": 20, "refused": True}),
+    ("case a\ngrowths 5\nbytes 60\nwrites 7\nspares 2\n", {"growths": 5, "bytes": 60, "writes": 7, "spares": 2}),
     ("case a\nby the script\n", {"by_script": True}),
     ("case a\nclients in any order\n", {"any_order": True}),
     ("case a\n< a b\n<\n<- c\\xff\\r\n", {"given": b"a b\n\nc\xff\r"}),

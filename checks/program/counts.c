@@ -1,0 +1,70 @@
+// Is loaded before a program: counts in the file COUNTS what the program asks for, as words of 64 bits: threads, growths
+// of memory, their bytes, and writes of its standard output. Where THREADS_REFUSED is set, it gets no thread. Where
+// GROWTH_REFUSED is set, the growth of this number is refused.
+#define _GNU_SOURCE
+#include <dlfcn.h>
+#include <errno.h>
+#include <fcntl.h>
+#include <pthread.h>
+#include <stdatomic.h>
+#include <stdlib.h>
+#include <sys/mman.h>
+#include <unistd.h>
+
+typedef int Create(pthread_t *, const pthread_attr_t *, void *(*)(void *), void *);
+typedef ssize_t Write(int, const void *, size_t);
+
+extern void *__libc_malloc(size_t);
+extern void *__libc_realloc(void *, size_t);
+
+struct counts {
+    atomic_ulong threads, growths, bytes, writes;
+};
+
+static struct counts *counts;
+static unsigned long growth_refused;
+static _Thread_local int is_starting;
+
+__attribute__((constructor)) static void begin(void) {
+    const char *name = getenv("COUNTS");
+    int file = name ? open(name, O_RDWR | O_CREAT | O_CLOEXEC, 0600) : -1;
+    if (file < 0 || ftruncate(file, sizeof *counts)) abort();
+    const char *number = getenv("GROWTH_REFUSED");
+    growth_refused = number ? strtoul(number, NULL, 10) : 0;
+    counts = mmap(NULL, sizeof *counts, PROT_READ | PROT_WRITE, MAP_SHARED, file, 0);
+    if (counts == MAP_FAILED || close(file)) abort();
+}
+
+int pthread_create(pthread_t *thread, const pthread_attr_t *how, void *(*body)(void *), void *argument) {
+    Create *create = (Create *)dlsym(RTLD_NEXT, "pthread_create");
+    is_starting = 1;
+    int status = getenv("THREADS_REFUSED") ? EAGAIN : create(thread, how, body, argument);
+    is_starting = 0;
+    atomic_fetch_add(&counts->threads, 1);
+    return status;
+}
+
+// Whether a growth is refused. What starts a thread takes memory too, which is none of the program's.
+static int is_refused(size_t size) {
+    if (!counts || is_starting) return 0;
+    atomic_fetch_add(&counts->bytes, size);
+    return atomic_fetch_add(&counts->growths, 1) + 1 == growth_refused;
+}
+
+void *malloc(size_t size) {
+    return is_refused(size) ? NULL : __libc_malloc(size);
+}
+
+void *realloc(void *block, size_t size) {
+    return is_refused(size) ? NULL : __libc_realloc(block, size);
+}
+
+ssize_t write(int stream, const void *bytes, size_t size) {
+    Write *next = (Write *)dlsym(RTLD_NEXT, "write");
+    if (stream == STDOUT_FILENO) atomic_fetch_add(&counts->writes, 1);
+    return next(stream, bytes, size);
+}
+
+ssize_t __write(int stream, const void *bytes, size_t size) {
+    return write(stream, bytes, size);
+}
