@@ -13,7 +13,7 @@ void __wrap_free(void *block);
 
 /* How many growths are granted first, and how many are refused then. */
 static long to_grant, to_refuse;
-static long asked, live, refused;
+static long asked, regrown, live, refused;
 
 void growths_refuse(long first, long then) {
     to_grant = first;
@@ -27,6 +27,10 @@ long growths_refused(void) {
 
 long growths_asked(void) {
     return asked;
+}
+
+long growths_regrown(void) {
+    return regrown;
 }
 
 long growths_live(void) {
@@ -61,6 +65,7 @@ void *__wrap_calloc(size_t count, size_t size) {
 void *__wrap_realloc(void *block, size_t size) {
     void *grown = is_refused() ? NULL : __real_realloc(block, size);
     live += grown != NULL && block == NULL;
+    regrown += block != NULL;
     return grown;
 }
 

@@ -11,6 +11,9 @@ long growths_refused(void);
 /* How many growths were asked for so far. */
 long growths_asked(void);
 
+/* How many of them were of a block that was there. */
+long growths_regrown(void);
+
 /* How many blocks of memory there are. */
 long growths_live(void);
 

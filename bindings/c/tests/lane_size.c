@@ -1,7 +1,7 @@
 /*
  * What a lane takes of memory: under 1 kB on each network, until the first client comes in by renamer_enter or by a list
  * that walks together. A single name takes only the room for its grant. And what a floor takes whose words lie apart: 128
- * bytes for each word in place of 8, and so does a floor that goes on from it.
+ * bytes for each word in place of 8, and so does a floor that goes on from it. And that room for clients is no larger.
  */
 #include "judge.h"
 #include <string.h>
@@ -112,11 +112,24 @@ static void large_floors(uint32_t kind, uint32_t width) {
     CHECK(apart.first == packed.first + more && apart.next == packed.next + more);
 }
 
+/* Room for many clients: a grant of 32 bytes and a record of 24 for each, and the yard's lines, of at most 16 bytes for each
+   wire. Each word but one has one wire or two. */
+static void large_room(uint32_t kind, uint32_t width) {
+    enum { CLIENTS = 65536, CLIENT_BYTES = 32 + 24, LINE_BYTES = 16 };
+    renamer_lane lane = RENAMER_NO_LANE_YET;
+    CHECK(renamer_open(&lane, kind, width, CLIENTS) == RENAMER_DONE);
+    size_t before = live;
+    CHECK(renamer_reserve(&lane, CLIENTS) == RENAMER_DONE);
+    CHECK(live - before < (size_t)CLIENT_BYTES * CLIENTS + LINE_BYTES * 2 * word_count(kind, width) + MOST_BYTES);
+    renamer_free(&lane);
+}
+
 int main(void) {
     for (uint32_t kind = 0; kind < KINDS; kind++)
         for (uint32_t level = 0; level < LEVELS; level++) {
             small_lanes(kind, (uint32_t)2 << level);
             large_floors(kind, (uint32_t)2 << level);
+            large_room(kind, (uint32_t)2 << level);
         }
     CHECK(live == 0);
     return 0;

@@ -1,7 +1,7 @@
 /*
  * Refuses growths of each call: all from one on, for each of its growths in turn. The call returns RENAMER_MEMORY and
  * has changed nothing, and asked again with memory at hand it is done. If only one growth is refused, a call may find
- * another way. A name by a lane with room asks for no memory.
+ * another way. A name by a lane with room asks for no memory, and lists grow seldom.
  */
 #include "growths.h"
 #include "seen.h"
@@ -151,6 +151,21 @@ static void join_all(uint32_t kind, uint32_t width) {
     renamer_free_quiet(&quiet);
 }
 
+/* All lists of a network have their whole room from the start, but that of its wires, which grows once. The list of a
+   lane's grants doubles, so each name but some needs no memory: at most 1 + log2 of their number. */
+static void few_growths(uint32_t kind, uint32_t width) {
+    enum { NAMES = 4096, MOST_GROWTHS = 13 };
+    renamer_lane lane = RENAMER_NO_LANE_YET;
+    uint64_t name;
+    long before = growths_regrown();
+    CHECK(renamer_open(&lane, kind, width, NAMES) == RENAMER_DONE && growths_regrown() - before == 1);
+    before = growths_asked();
+    for (uint64_t client = 0; client < NAMES; client++)
+        CHECK(renamer_name(&lane, client, 0, &name) == RENAMER_DONE);
+    CHECK(growths_asked() - before <= MOST_GROWTHS);
+    renamer_free(&lane);
+}
+
 static void run_floor(uint32_t kind, uint32_t width) {
     renamer_lane lane = RENAMER_NO_LANE_YET, other = RENAMER_NO_LANE_YET;
     renamer_quiet quiet = RENAMER_NO_QUIET_YET;
@@ -194,6 +209,9 @@ int main(void) {
     for (uint32_t kind = 0; kind < KINDS; kind++)
         for (uint32_t level = 1; level <= 4; level++)
             run_floor(kind, 1u << level), give_back(kind, 1u << level), join_all(kind, 1u << level);
+    for (uint32_t kind = 0; kind < KINDS; kind++)
+        for (uint32_t level = 1; level <= LEVELS; level++)
+            few_growths(kind, 1u << level);
     CHECK(growths_live() == live);
     printf("%ld calls were refused their memory\n", refusals);
     return 0;
