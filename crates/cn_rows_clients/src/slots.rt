@@ -1,10 +1,12 @@
 //! Slots that two threads fill by name, by the caller of cn_clients.
 
+use crate::tables::started;
 use cn_clients::{Filled, fill_by_two};
 use cn_tree::tree;
 use cn_walk::Floor;
 use cn_wiring::Counting;
 use std::alloc::Global;
+use std::rt::Files;
 use std::sync::OnceLock;
 use std::thread::Threads;
 
@@ -85,4 +87,20 @@ fn two_threads_fill_the_first_slots(rt: HostRuntime) {
         filled(&rt, alloc, 1990),
     ];
     assert_eq!(rt; told, [Some([true, true]); 3]);
+}
+
+/// How many threads are started for both. Others start some too: so it is the least of 200 tries.
+fn threads_of<R: Threads + Files + AllocGlobal>(rt: &R, alloc: Global) -> Option<u64> {
+    let mut least = u64::MAX;
+    for _ in 0..200 {
+        let before = started(rt)?;
+        filled(rt, alloc, 1000)?;
+        least = least.min(started(rt)?.saturating_sub(before));
+    }
+    Some(least)
+}
+
+#[test]
+fn one_of_two_has_a_thread(rt: HostRuntime) {
+    assert_eq!(rt; threads_of(&rt, rt.alloc()), Some(1));
 }

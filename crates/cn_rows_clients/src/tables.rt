@@ -104,7 +104,7 @@ fn workers_and_entries_at_their_limits(rt: HostRuntime) {
 }
 
 /// How many processes and threads the system has started so far.
-fn started<R: Files + AllocGlobal>(rt: &R) -> Option<u64> {
+pub(crate) fn started<R: Files + AllocGlobal>(rt: &R) -> Option<u64> {
     let text = fs::read_to_string(rt, "/proc/stat").ok()?;
     for line in text.lines() {
         if let Some(number) = line.strip_prefix("processes ") {
