@@ -244,11 +244,16 @@ int lane_join(struct lane *lane, uint64_t quota, const renamer_grant *grants, si
     return 0;
 }
 
+/* Whether the first of these grants are all that the lane has. */
+static int has_first(const struct lane *lane, const renamer_grant *grants, size_t count) {
+    size_t size = lane->granted * sizeof *grants;
+    return lane->granted <= count && (size == 0 || memcmp(lane->grants, grants, size) == 0);
+}
+
 int lane_join_all(struct lane *lane, uint64_t quota, const renamer_grant *grants, size_t count) {
     while (lane->floor->back) {
         struct lane *other = lane->floor->back;
-        while (other && (other->granted > count || memcmp(other->grants, grants, other->granted * sizeof *grants) != 0))
-            other = other->next;
+        for (; other && !has_first(other, grants, count); other = other->next) {}
         if (!other || other->quota > quota)
             return 0;
         size_t taken = other->granted;
