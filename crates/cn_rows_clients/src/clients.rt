@@ -2,12 +2,12 @@
 
 ghost use Rattle.std.specs.Prelude.{◌≡◌};
 
-use crate::tables::started;
+mod threads;
+
 use cn_clients::{Named, name_by_two};
 use cn_tree::tree;
 use cn_walk::{Floor, Lane};
 use std::alloc::Global;
-use std::rt::Files;
 use std::thread::Threads;
 
 /// How many clients each thread names.
@@ -56,20 +56,4 @@ fn two_threads_get_all_names(rt: HostRuntime) {
     let alloc = rt.alloc();
     let all = named(&rt, alloc).and_then(|named| are_all(alloc, &named));
     assert_eq!(rt; all, Some(true));
-}
-
-/// How many threads are started for both. Others start some too: so it is the least of 200 tries.
-fn threads_of<R: Threads + Files + AllocGlobal>(rt: &R, alloc: Global) -> Option<u64> {
-    let mut least = u64::MAX;
-    for _ in 0..200 {
-        let before = started(rt)?;
-        let _named = named(rt, alloc)?;
-        least = least.min(started(rt)?.saturating_sub(before));
-    }
-    Some(least)
-}
-
-#[test]
-fn one_of_two_has_a_thread(rt: HostRuntime) {
-    assert_eq!(rt; threads_of(&rt, rt.alloc()), Some(1));
 }
