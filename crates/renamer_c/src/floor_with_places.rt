@@ -8,7 +8,7 @@ ghost use Rattle.renamer_c.specs.Returns.{IsBack};
 
 use crate::place_row::Miss;
 use crate::places::{Near, Place, Places};
-use crate::rows::{NoneBack, first_free, no_rows, take_lane};
+use crate::rows::{NoneBack, first_free, look_twice, no_rows};
 use cn_floor::{CloseFault, Floor, Lane, Quiet};
 use counted_slot::{Counted, MARKED};
 use std::alloc::{AllocError, Global};
@@ -65,7 +65,14 @@ impl FloorWithPlaces {
         ensures place { IfOk result (IsPlaceOf self.now) }
         ensures near { IfSome near.new (IsNearOf self.now) }
     {
-        let place = first_free(alloc, &self.rows, &self.floor, near)?;
+        let mut room = Box::new(alloc, None)?;
+        if let Some(near) = near {
+            match near.own(&self.floor, room) {
+                Ok(place) => return Ok(place),
+                Err(same) => room = same,
+            }
+        }
+        let place = first_free(alloc, &self.rows, &self.floor, room)?;
         *near = place.near();
         Ok(place)
     }
@@ -127,7 +134,13 @@ impl FloorWithPlaces {
         if back == 0 {
             return Err(NoneBack::Counted(back));
         }
-        let (lane, place) = take_lane(&self.rows, &self.floor, near)?;
+        if let Some(near) = near {
+            if let Some(taken) = near.take(&self.floor) {
+                self.back.fetch_sub(1, SeqCst);
+                return Ok(taken);
+            }
+        }
+        let (lane, place) = look_twice(&self.rows, &self.floor)?;
         self.back.fetch_sub(1, SeqCst);
         *near = place.near();
         Ok((lane, place))

@@ -116,28 +116,36 @@ impl Near {
     /// # Errors
     /// The box, if no place is free there.
     pub(crate) fn own(
-        &self,
+        &mut self,
         floor: &Floor<'static>,
         room: Box<Option<Lane>>,
     ) -> Result<Place, Box<Option<Lane>>>
-        requires { IsNearOf floor.now self.now }
-        ensures { IfOk result (IsPlaceOf floor.now) }
+        requires { IsNearOf floor.now self.old }
+        ensures place { IfOk result (IsPlaceOf floor.now) }
+        ensures near { IsNearOf floor.now self.new }
     {
-        match self.places.again() {
-            Ok(places) => places.own(self.at, floor, room),
-            Err(_) => Err(room),
-        }
+        let Ok(places) = self.places.again() else {
+            return Err(room);
+        };
+        let place = places.own(self.at, floor, room)?;
+        self.at = place.at;
+        Ok(place)
     }
 
     /// Takes a lane that was handed back near, with its place.
-    pub(crate) fn take(&self, floor: &Floor<'static>) -> Option<(Lane, Place)>
-        requires { IsNearOf floor.now self.now }
-        ensures { IfSome result (λ r. IsBack floor.now r.0 × IsPlaceOf floor.now r.1) }
+    pub(crate) fn take(&mut self, floor: &Floor<'static>) -> Option<(Lane, Place)>
+        requires { IsNearOf floor.now self.old }
+        ensures taken { IfSome result (λ r. IsBack floor.now r.0 × IsPlaceOf floor.now r.1) }
+        ensures near { IsNearOf floor.now self.new }
     {
-        match self.places.again() {
-            Ok(places) => places.take(self.at, floor).ok(),
-            Err(_) => None,
-        }
+        let Ok(places) = self.places.again() else {
+            return None;
+        };
+        let Ok((lane, place)) = places.take(self.at, floor) else {
+            return None;
+        };
+        self.at = place.at;
+        Some((lane, place))
     }
 }
 

@@ -2,10 +2,10 @@
 
 ghost use Rattle.std.specs.Prelude.{◌≡◌, IfErr, IfOk, IfSome, length};
 ghost use Rattle.renamer_c.specs.Looking.{IsNoneBack};
-ghost use Rattle.renamer_c.specs.Placing.{AreFor, IsNearOf, IsPlaceOf, IsRowOf};
+ghost use Rattle.renamer_c.specs.Placing.{AreFor, IsPlaceOf, IsRowOf};
 ghost use Rattle.renamer_c.specs.Returns.{IsBack};
 
-use crate::places::{Near, Place, Places};
+use crate::places::{Place, Places};
 use cn_floor::{Floor, Lane};
 use counted_slot::{Counted, FREE, MOST_READERS, ONE_READER, PRESENT, TAKEN};
 use std::alloc::{AllocError, Global};
@@ -87,7 +87,7 @@ fn make_row(
     Ok(())
 }
 
-/// Takes a free place near, or else of the first row in which one is free, which is made if there is none.
+/// Takes a free place, with this box, of the first row in which one is free, which is made if there is none.
 ///
 /// # Errors
 /// `AllocError` if it gets no memory.
@@ -95,19 +95,11 @@ pub(crate) fn first_free(
     alloc: Global,
     rows: &[Counted<Option<Places>>],
     floor: &Floor<'static>,
-    near: &Option<Near>,
+    mut room: Box<Option<Lane>>,
 ) -> Result<Place, AllocError>
-    requires rows { AreFor floor.now rows.now }
-    requires near { IfSome near.now (IsNearOf floor.now) }
+    requires { AreFor floor.now rows.now }
     ensures { IfOk result (IsPlaceOf floor.now) }
 {
-    let mut room = Box::new(alloc, None)?;
-    if let Some(near) = near {
-        match near.own(floor, room) {
-            Ok(place) => return Ok(place),
-            Err(same) => room = same,
-        }
-    }
     let mut many = FIRST_ROW;
     for row in rows {
         make_row(alloc, row, floor, many)?;
@@ -167,7 +159,7 @@ pub(crate) enum NoneBack {
 ///
 /// # Errors
 /// What was seen, if no lane is there.
-fn look_twice(
+pub(crate) fn look_twice(
     rows: &[Counted<Option<Places>>],
     floor: &Floor<'static>,
 ) -> Result<(Lane, Place), NoneBack>
@@ -191,26 +183,4 @@ fn look_twice(
         }
     }
     Err(NoneBack::Late(MOST_LOOKS))
-}
-
-/// Takes a lane that was handed back near, with its place, or else from the first row that has one.
-///
-/// # Errors
-/// What was seen, if no lane is there.
-pub(crate) fn take_lane(
-    rows: &[Counted<Option<Places>>],
-    floor: &Floor<'static>,
-    near: &Option<Near>,
-) -> Result<(Lane, Place), NoneBack>
-    requires rows { AreFor floor.now rows.now }
-    requires near { IfSome near.now (IsNearOf floor.now) }
-    ensures ok { IfOk result (λ r. IsBack floor.now r.0 × IsPlaceOf floor.now r.1) }
-    ensures err { IfErr result (IsNoneBack (length rows.now)) }
-{
-    if let Some(near) = near {
-        if let Some(taken) = near.take(floor) {
-            return Ok(taken);
-        }
-    }
-    look_twice(rows, floor)
 }
