@@ -29,9 +29,9 @@ const EXAMPLES = [
         "102 has left with the name 1 before 103 comes in, and 103 gets the name 0."],
     ["counts differ by at most one", "bitonic-8",
         [...enters(10, 101, at => [0, 0, 5][at % 3]), ...rounds(10, 101, 7)].join(),
-        "All come in by entries 0 and 5. Behind balancers 4 and 5, and behind 10 and 11, a bitonic network of width 4 "
-        + "ends: the counts below its four wires differ by at most one, and so do those at the eight exits."],
-    ["the worst order for a tree", "tree-8", worstOrder(8).join(),
-        "Seven clients stop before exits 0 to 6, and 108 leaves by exit 7, with the greatest name that it can have, 7. "
-        + "All seven who come in after that overtake those, and get the lower names."],
+        "All come in by entries 0 and 5. After balancers 4 and 5, and after 10 and 11, a bitonic network of width 4 "
+        + "ends: the counts below its four wires differ by at most one, and so do those at the exits."],
+    ["a tree, most out of order", "tree-8", worstOrder(8).join(),
+        "Clients 101 to 107 are before exits 0 to 6, and 108 leaves by exit 7, with the greatest name that it can "
+        + "have, 7. All who come in after that overtake those before exits, and get the lower names."],
 ];

@@ -19,7 +19,6 @@ class Page {
 
     // Opens a network, with a schedule of which so many commands are done.
     open(kind, width, carries, commands, done = commands.length) {
-        if (commands.length > MOST_COMMANDS) throw Error(`a schedule has ${MOST_COMMANDS} records at most here`);
         const wiring = wiringOf(this.library, kind, width);
         Object.assign(this, {wiring, carries, commands, hint: ""});
         this.drawing = new Drawing($("network"), wiring, placesOf(wiring));
@@ -37,6 +36,7 @@ class Page {
     }
 
     perform(command) {
+        if (this.done === MOST_COMMANDS) throw Error(`a schedule has ${MOST_COMMANDS} records at most here`);
         if (!isRecord(command)) throw Error(`record ${this.done + 1} is none of a schedule: ${command.slice(0, 60)}`);
         const lines = this.floor.run(command);
         this.answers.push(...lines);

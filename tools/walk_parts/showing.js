@@ -21,7 +21,7 @@ function showAll(page) {
     $("back").disabled = !done;
     $("forth").disabled = done === commands.length;
     $("play").disabled = !commands.length;
-    label($("walk"), page.running === "walk" ? "stop" : "walk all");
+    label($("walk"), page.running === "walk" ? "pause" : "walk all");
     label($("play"), page.running === "play" ? "pause" : "play");
     follow(page.last);
     keepAddress(page.address());
@@ -108,7 +108,7 @@ function showNames(floor) {
         const id = holders[at], [fill, letters] = id === undefined ? [] : colourOf(id);
         const style = id === undefined ? "" : ` style="background: ${fill}; color: ${letters}; border-style: solid"`;
         return `<div><b${style}>${id ?? ""}</b>name ${at}</div>`;
-    }).join("") || "Nobody has one yet.";
+    }).join("") || "Nobody has one.";
 }
 
 // What each button does. Each but a repeated one stops what repeats.
@@ -150,6 +150,8 @@ function listen(page) {
     });
     listenToNetwork(page);
     document.addEventListener("keydown", event => press(event));
+    // What was chosen by a click leaves the keys to the buttons.
+    document.addEventListener("change", ({target}) => { if (!target.matches(":focus-visible")) target.blur(); });
 }
 
 function listenToNetwork(page) {
@@ -184,6 +186,8 @@ function press(event) {
 function start(library) {
     const page = new Page(library), version = library.exports.renamer_version();
     $("version").textContent = [version / 1e6, version / 1e3 % 1e3, version % 1e3].map(Math.floor).join(".");
+    const [records, clients] = [MOST_COMMANDS, QUOTA].map(most => most.toLocaleString("en"));
+    $("most").textContent = `Here it has ${records} records at most, and an epoch ${clients} clients, a floor's quota.`;
     listen(page);
     page.attempt(() => { if (location.hash.includes("/")) page.read(location.hash); });
     window.addEventListener("hashchange", () => {
@@ -198,6 +202,6 @@ WebAssembly.instantiate(Uint8Array.from(atob(MODULE), letter => letter.charCodeA
     .then(({instance}) => start(new Library(instance.exports)))
     .catch(why => {
         $("status").className = "fault";
-        $("status").textContent = "This browser cannot run the library, which needs WebAssembly with a 64-bit memory, "
-            + `as Chromium 156 and Firefox 153 have it. It says: ${why.message}`;
+        $("status").textContent = "The library needs WebAssembly with a 64-bit memory, as Chromium 156 and Firefox 153 have "
+            + `it. This browser says: ${why.message}`;
     });
