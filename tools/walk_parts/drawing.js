@@ -79,6 +79,9 @@ class Drawing {
             }
         }
         const standing = [...floor.clients.values()].sort((a, b) => a.since - b.since);
+        standing.filter(it => !this.tokens.has(it.id)).forEach(it => this.makeToken(it));
+        // So that they are seen to walk from their entries.
+        this.group.getBoundingClientRect();
         const inside = Map.groupBy(standing.filter(it => it.wire !== null), it => it.wire);
         const outside = Map.groupBy(standing.filter(it => it.wire === null), it => it.exit);
         for (const [wire, here] of inside) this.showOnWire(wire, here);
@@ -108,7 +111,7 @@ class Drawing {
     }
 
     put(it, x, y, note) {
-        const token = this.tokens.get(it.id) ?? this.makeToken(it), isInside = it.wire !== null;
+        const token = this.tokens.get(it.id), isInside = it.wire !== null;
         const label = isInside ? `take client ${it.id} on from wire ${it.wire}` : `client ${it.id}, ${note}`;
         token.setAttribute("class", isInside ? "token inside" : "token");
         token.setAttribute("aria-label", label);
@@ -129,9 +132,6 @@ class Drawing {
             + text(0, 0, id, `class="id" style="fill: ${letters}"`) + text(0, 1.25 * font, "", 'class="note"');
         this.group.append(token);
         this.tokens.set(id, token);
-        // So that it is seen to walk from its entry.
-        token.getBoundingClientRect();
-        return token;
     }
 
     // Marks the wire to which a client would go next, if it is inside and goes by a balancer.

@@ -149,9 +149,15 @@ function listen(page) {
         if (at) page.showExample(Number(at));
     });
     listenToNetwork(page);
+    listenToKeys();
+}
+
+// A list from which something was chosen by a click leaves the keys to the buttons.
+function listenToKeys() {
+    let last = "";
+    for (const event of ["pointerdown", "keydown"]) document.addEventListener(event, () => { last = event; });
+    document.addEventListener("change", ({target}) => { if (last === "pointerdown") target.blur(); });
     document.addEventListener("keydown", event => press(event));
-    // What was chosen by a click leaves the keys to the buttons.
-    document.addEventListener("change", ({target}) => { if (!target.matches(":focus-visible")) target.blur(); });
 }
 
 function listenToNetwork(page) {
