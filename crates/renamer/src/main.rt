@@ -4,7 +4,7 @@
 use cn_renamer::{Fault, Job, end, parse_words, run};
 use std::alloc::Global;
 use std::env::{self, Env};
-use std::io::{self, IsTerminal};
+use std::io::{self, IsTerminal, Write};
 use std::process::ExitCode;
 use std::random::RandomSource;
 use std::sync::Wait;
