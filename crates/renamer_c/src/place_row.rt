@@ -1,7 +1,7 @@
 //! One row of places for lanes that are handed back.
 
 ghost use Rattle.std.specs.Prelude.{◌≡◌, ◌+◌, ◌%◌, ◌<◌, ◌≤◌, IfErr, IfOk, IfSome, length};
-ghost use Rattle.renamer_c.specs.Placing.{AreFor, HasPut, IsNotIn};
+ghost use Rattle.renamer_c.specs.Placing.{AreFor, HasPut, IsNotIn, state_of};
 ghost use Rattle.renamer_c.specs.Returns.{IsBack};
 
 use crate::loose::Loose;
@@ -139,19 +139,20 @@ fn lane_of(floor: &Floor<'static>, there: Option<Returned>) -> Option<(Lane, Box
     }
 }
 
-/// Takes the lane that is at a place, which is its taker's own then.
+/// Takes the lane that is at a place by this word of it. The place is its taker's own then.
 ///
 /// # Errors
-/// If no lane was there, or another thread took it.
-fn take_at(place: &OnePlace, floor: &Floor<'static>) -> Result<(Lane, Box<Option<Lane>>), Miss>
-    requires { place.now ≡ floor.now }
+/// If another thread took it.
+fn take_at(
+    place: &OnePlace,
+    seen: u64,
+    floor: &Floor<'static>,
+) -> Result<(Lane, Box<Option<Lane>>), Miss>
+    requires place { place.now ≡ floor.now }
+    requires there { state_of seen ≡ PRESENT }
     ensures ok { IfOk result (λ r. IsBack floor.now r.0) }
     ensures err { IfErr result (IsNotIn PRESENT) }
 {
-    let seen = place.load();
-    if seen % STATES != PRESENT {
-        return Err(Miss { seen, found: seen });
-    }
     let (found, claim) = place.turn(seen, seen - PRESENT + TAKEN);
     if found != seen {
         claim.done();
@@ -210,10 +211,19 @@ fn take_between(
     ensures err { IfErr result (λ all. all.places + from ≡ seen.places + to) }
 {
     for at in from..to {
-        match take_at(&row[at], floor) {
-            Ok((lane, room)) => return Ok((at, lane, room)),
-            Err(miss) => seen = seen.and(miss),
-        }
+        let word = row[at].load();
+        let miss = if word % STATES == PRESENT {
+            match take_at(&row[at], word, floor) {
+                Ok((lane, room)) => return Ok((at, lane, room)),
+                Err(miss) => miss,
+            }
+        } else {
+            Miss {
+                seen: word,
+                found: word,
+            }
+        };
+        seen = seen.and(miss);
     }
     Err(seen)
 }
