@@ -171,7 +171,7 @@ def sanitized(compiler, folder):
     for sanitizer in SANITIZERS:
         there = has_sanitizer(compiler, sanitizer, folder)
         what = f"{len(programs)} program{'s' * (len(programs) > 1)} of {compiler}"
-        print(f"sanitizer {sanitizer}: {'ran' if there else 'not here, so it did not run'} {what}", flush=True)
+        print(f"sanitizer {sanitizer}: {'here, for' if there else 'not here, so it did not run'} {what}", flush=True)
         for program in programs if there else ():
             name = f"{program.source.relative_to(ROOT)}, sanitizer {sanitizer}"
             yield name, lambda program=program, sanitizer=sanitizer: run_program(program, folder, sanitizer)

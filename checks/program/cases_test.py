@@ -1,5 +1,8 @@
-"""Tries the reader of cases (checks/program/cases.py) at each line that a table may have. `wrong` names what it reads wrong."""
+"""Tries the reader of cases (checks/program/cases.py) at each line that a table may have, and the choice of cases by
+words (checks/chosen.py). `wrong` names what they take for another.
+"""
 import cases
+from chosen import NoCase, chosen
 
 # A table, and the values that differ from those of a new case, by the rules at the head of checks/program/cases.table.
 READ = [
@@ -26,11 +29,25 @@ READ = [
 ]
 # Tables that are refused: a line that stands in no case, and lines that mean nothing.
 REFUSED = ["words run\n", "case a\nword run\n", "case a\n<% x\n", "case a\noutput loud\n", "case a\nby hand\n", "case\n"]
+# Words, and which of the names one_two, two and a/three they choose; None if they are refused.
+CHOSEN = [([], "one_two two a/three"), (["two"], "one_two two"), (["a/", "one"], "one_two a/three"),
+          (["two", "four"], None), ([""], "one_two two a/three")]
+
+
+def wrong_choices():
+    """Each choice of names by words that is another."""
+    for words, wanted in CHOSEN:
+        try:
+            names = " ".join(name for name, _ in chosen([("one_two", 1), ("two", 2), ("a/three", 3)], words))
+        except NoCase:
+            names = None
+        if names != wanted:
+            yield f"the words {words} choose {names}"
 
 
 def wrong():
-    """Each table that is read as another, or is not refused."""
-    found = []
+    """Each table that is read as another, or is not refused, and each choice that is another."""
+    found = list(wrong_choices())
     for table, values in READ:
         case = cases.Case(**{"name": "a", **values})
         if cases.read(table) != [case]:

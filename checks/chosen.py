@@ -1,0 +1,14 @@
+"""Which of its cases `all` runs: with words, those whose names have one of them."""
+
+
+class NoCase(Exception):
+    """A word that stands in no name."""
+
+
+def chosen(cases, words):
+    """Of some cases, each with its name first, those whose names have one of the words; without words all."""
+    cases = list(cases)
+    for word in words:
+        if not any(word in name for name, *_ in cases):
+            raise NoCase(f"no case has {word} in its name")
+    return [case for case in cases if not words or any(word in case[0] for word in words)]
