@@ -27,16 +27,16 @@ class Case:
     name: str
     words: list = dataclasses.field(default_factory=list)
     status: int = 0
-    # How many threads it is to ask for, if that is told, and whether it gets none.
+    # How many threads it is to ask for, if that is said, and whether it gets none.
     threads: int | None = None
     refused: bool = False
     # How many growths of memory it may ask for, with how many bytes in all, and how many writes of its output, if that
-    # is told; and how many of its growths, each refused in a run of its own, it may do without.
+    # is said; and how many of its growths, each refused in a run of its own, it may do without.
     growths: int | None = None
     bytes: int | None = None
     writes: int | None = None
     spares: int | None = None
-    # How large the stack of each of its threads may be, in kilobytes, if that is told.
+    # How large the stack of each of its threads may be, in kilobytes, if that is said.
     stack: int | None = None
     by_script: bool = False
     input: str = "file"
@@ -62,7 +62,8 @@ def unescaped(text):
 
 def reckoned(words, given):
     """What checks/program/reckon prints for these words and this input."""
-    return subprocess.run([ROOT / "checks" / "program" / "reckon", *words.split()], input=given, stdout=subprocess.PIPE, check=True).stdout
+    command = [ROOT / "checks" / "program" / "reckon", *words.split()]
+    return subprocess.run(command, input=given, stdout=subprocess.PIPE, check=True).stdout
 
 
 def lines_of(rest, given):

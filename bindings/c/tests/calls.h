@@ -8,7 +8,7 @@
 
 enum { LANES = 32, QUIETS = 8, STATUSES = RENAMER_LANES_THERE + 1, UNSET = 0xa5 };
 
-/* How many elements more an array has than a call is told of, which stay unset: none if writes beyond it are seen, as
+/* How many elements more an array has than a call knows of, which stay unset: none if writes beyond it are seen, as
    by valgrind. */
 #ifndef GUARD
 #define GUARD 1

@@ -88,7 +88,7 @@ void call_version(void) {
     end_call(RENAMER_DONE);
 }
 
-/* No less than the lane was told before, than its clients, and than each of its names and one; no more than came in. */
+/* No less than the lane knew of before, than its clients, and than each of its names and one; no more than came in. */
 void call_entered(void) {
     struct handle *handle = some_handle();
     struct lane *lane = handle->model;
@@ -100,9 +100,9 @@ void call_entered(void) {
         CHECK(number == UNSET_NUMBER);
         return;
     }
-    CHECK(lane->told <= number && lane->above <= number && lane->granted + lane->inside <= number);
+    CHECK(lane->known <= number && lane->above <= number && lane->granted + lane->inside <= number);
     CHECK(number <= lane->floor->entered);
-    lane->told = number;
+    lane->known = number;
 }
 
 void call_grants(void) {

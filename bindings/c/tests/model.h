@@ -23,8 +23,8 @@ struct token {
 
 struct lane {
     struct floor *floor;
-    /* Its room, the greatest number of clients that it was told of, and the greatest of its names and one. */
-    uint64_t quota, room, told, above;
+    /* Its room, the greatest number of clients that it knew of, and the greatest of its names and one. */
+    uint64_t quota, room, known, above;
     /* Its clients inside, in the order in which they came to their wires. */
     struct token *tokens;
     size_t inside;

@@ -2,7 +2,7 @@
 
    The growth REFUSE_N of the main program is refused, no other library's. A thread of the main program that takes OPENING
    bytes opens a span of its own, and one that takes CLOSING bytes closes it: these two are marks and no growths. To the
-   file descriptor REFUSE_TOLD it writes `r` for the refusal, `g` for each growth in a span, `s` for each span that is
+   file descriptor REFUSE_SAID it writes `r` for the refusal, `g` for each growth in a span, `s` for each span that is
    closed, `u` for a mark out of turn, and at the end `t` where another thread is still there after a second. */
 #define _GNU_SOURCE
 #include <dirent.h>
@@ -22,7 +22,7 @@ extern void *__libc_memalign(size_t, size_t);
 
 static atomic_ulong growths;
 static unsigned long refused;
-static int told = -1;
+static int said = -1;
 static char *first, *last;
 static _Thread_local int is_open;
 
@@ -41,11 +41,11 @@ static int main_program(struct dl_phdr_info *info, size_t size, void *data) {
 __attribute__((constructor)) static void begin(void) {
     dl_iterate_phdr(main_program, NULL);
     refused = strtoul(getenv("REFUSE_N"), NULL, 10);
-    told = atoi(getenv("REFUSE_TOLD"));
+    said = atoi(getenv("REFUSE_SAID"));
 }
 
 static void tell(char what) {
-    if (write(told, &what, 1) != 1) abort();
+    if (write(said, &what, 1) != 1) abort();
 }
 
 static int is_mark(size_t size) {

@@ -141,7 +141,7 @@ def command(shape):
     return [family.__name__, kind, str(width), str(count)]
 
 
-def told(text):
+def said(text):
     """The calls that were made, and what was wrong with them, by the program's lines."""
     made, faults = {}, []
     for line in text.splitlines():
@@ -157,7 +157,7 @@ def told(text):
 def judge(shape, status, text, errors):
     """The calls that were made at a shape, and what was wrong."""
     try:
-        made, faults = told(text)
+        made, faults = said(text)
     except ValueError:
         return {}, [f"printed {text[-200:]!r}"]
     if status or errors:

@@ -159,7 +159,7 @@ class Job:
         return "help" if "--help" in self.words else {"run": "serve"}.get(self.words[0], self.words[0])
 
     def judge(self, status, text, errors):
-        """What is wrong, if something is. Want of memory, a read and a write that failed are told apart."""
+        """What is wrong, if something is; `refused` is want of memory, a read or a write that failed."""
         if errors.startswith("renamer: memory") or ": Read" in errors or "write after" in errors:
             return f"refused: {errors[:200]!r}"
         if self.refusal:
