@@ -8,7 +8,7 @@ ROOT = pathlib.Path(__file__).resolve().parents[2]
 # Folders of what is built or drawn, and files that are no sources.
 BUILT, PAGES = {"out", "target", ".git", "pictures"}, (".md", ".svg", ".gif")
 # What stands for a name of the reader's, or is of no source.
-OF_NO_SOURCE = re.compile(r"NAME|MODULE|\bInsideX\b|/out/|x86-")
+OF_NO_SOURCE = re.compile(r"NAME|MODULE|\bInsideX\b|/out/|x86-|^(?:mawk|parallel|CMAKE_PREFIX_PATH)$")
 NAME = r"[A-Za-z_][\w'-]*"
 PUBLIC = r"(?:pub(?:\([\w ]+\))? )?"
 FUNCTION = re.compile(rf'^( *){PUBLIC}(?:const |final |unsafe |extern "C" )*fn (\w+)', re.M)
@@ -24,10 +24,11 @@ PART = re.compile(rf"^ +(?:pub )?({NAME}) :", re.M)
 # Definitions that name one another stand indented.
 MUTUAL = re.compile(r"^(?:abbrev |unfoldable )?mutual\n((?:  .*\n|\n)+)", re.M)
 
-CODE = re.compile(r"^```.*?^```$|^    .*$", re.M | re.S)
+CODE = re.compile(r"^```.*?^```$|^    [^\n]*$", re.M | re.S)
 SPAN = re.compile(r"`([^`]+)`")
 CITED = re.compile(rf"{NAME}(?:(?:::|\.)\w+)*")
 FILE = re.compile(r"(?:src|specs|proofs|checks|tools|docs|bench|bindings|crates|examples)/[\w./+-]*\w")
+COMMAND = re.compile(rf"(?<![\w/])(?:\./\w+|{FILE.pattern})")
 
 
 class Sources:
@@ -147,7 +148,12 @@ class Page:
                 self.file(name)
 
     def read(self):
-        text = CODE.sub("", self.page.read_text())
+        text = self.page.read_text()
+        for name in COMMAND.findall("\n".join(re.findall(r"^    .*$|`[^`\n]*`", text, re.M))):
+            if not OF_NO_SOURCE.search(name):
+                self.file(name)
+        # That page names what is gone, too.
+        text = "" if self.page.name == "CHANGELOG.md" else CODE.sub("", text)
         for paragraph in re.split(r"\n\s*\n|\n(?=- |\d+\. |#)|\n?\|\n?", text):
             self.paragraph(paragraph)
         return self
@@ -159,5 +165,5 @@ def in_pages():
     for folder, below, names in os.walk(ROOT):
         below[:] = sorted(set(below) - BUILT)
         for name in names:
-            if name.endswith(".md") and name != "CHANGELOG.md":
+            if name.endswith(".md"):
                 yield Page(pathlib.Path(folder, name), sources).read()
