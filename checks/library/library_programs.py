@@ -17,6 +17,8 @@ SECOND = "clang++"
 ARM, ARM_CC, ARM_RUN = "aarch64-unknown-linux-gnu", "aarch64-linux-gnu-gcc", "qemu-aarch64"
 ARM_HOME = pathlib.Path("/usr/aarch64-linux-gnu")
 ARM_PACKAGES = {ARM_CC: "gcc-aarch64-linux-gnu", ARM_RUN: "qemu-user", str(ARM_HOME): "libc6-dev-arm64-cross"}
+# The processor that an emulator stands for: one that has what all x86-64 have.
+LEAST = ["qemu-x86_64", "-cpu", "qemu64"]
 # The standards that the header is to compile by; programs are compiled by the first.
 STANDARDS = {"cc": ["c99", "c11", "c17", "c2x"], "c++": ["c++11", "c++14", "c++17", "c++20", "c++2b"]}
 # The other compiler of each language.
@@ -71,11 +73,12 @@ class Program:
 GROWTHS = (C / "tests" / "growths.c", WRAPPED)
 FUZZ = Program(C / "tests" / "fuzz.c", (C / "tests" / "model.c", *sorted((C / "tests").glob("calls_*.c")), *GROWTHS))
 EPOCHS = "".join(f"epoch {epoch}: {2 * epoch + 2} clients in the first rows\n" for epoch in (1, 2, 3))
+TABLE = Program(C / "examples" / "table.c", prints=EPOCHS)
 PROGRAMS = (
     Program(C / "tests" / "carried.c", is_long=True),
     Program(C / "tests" / "frozen.c", is_long=True),
     Program(C / "examples" / "pool.c", prints="622 workers have the numbers 0 to 621\n"),
-    Program(C / "examples" / "table.c", prints=EPOCHS),
+    TABLE,
     Program(C / "examples" / "lanes.cpp", prints="3000 clients have the names 0 to 2999\n"),
     Program(C / "tests" / "names.c"),
     Program(C / "tests" / "statuses.c"),
@@ -136,6 +139,13 @@ def run_on_arm(program, folder):
         raise Wrong(f"it printed {printed!r}, not {program.prints!r}")
 
 
+def run_by_least(words):
+    """Runs a program by the least processor."""
+    if not shutil.which(LEAST[0]):
+        raise NotTried(f"{LEAST[0]} is not here; Debian has it in the package qemu-user")
+    return run([*LEAST, *words])
+
+
 def arm_cases(folder):
     """A case for each program in C on ARM."""
     for program in PROGRAMS:
@@ -190,6 +200,7 @@ def cases(compiler, folder):
     yield from sanitized(compiler, folder)
     if compiler == "cc":
         yield "bindings/c/tests/fuzz.c, valgrind", lambda: fuzz_by_valgrind(folder)
+        yield "the archive, least processor", lambda: run_by_least([compiled(TABLE, folder, "least", [])])
 
 
 def header_stands_alone(compiler, standard, folder):
