@@ -149,7 +149,9 @@ class Page:
 
     def read(self):
         text = self.page.read_text()
-        for name in COMMAND.findall("\n".join(re.findall(r"^    .*$|`[^`\n]*`", text, re.M))):
+        # In a release a page has sums of sources.
+        code = re.findall(r"^    (?![0-9a-f]{64} ).*$|`[^`\n]*`", text, re.M)
+        for name in COMMAND.findall("\n".join(code)):
             if not OF_NO_SOURCE.search(name):
                 self.file(name)
         # That page names what is gone, too.
