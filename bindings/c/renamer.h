@@ -33,9 +33,9 @@
  * handler, or in the child of a fork of a process with threads. A fork copies floors: parent and child both give name 1,
  * to two clients.
  *
- * THE CALLER'S SIDE. What no call can check is the caller's: no pointer is NULL, also that of an array of size 0; an
- * array is as long as its size says; a number or an array that a call writes overlaps nothing else that is passed; two
- * handles of one call are not the same handle.
+ * THE CALLER'S SIDE. What no call can check is the caller's: no pointer is NULL but one that is freed, also not that of
+ * an array of size 0; an array is as long as its size says; a number or an array that a call writes overlaps nothing else
+ * that is passed; two handles of one call are not the same handle.
  */
 #ifndef RENAMER_H
 #define RENAMER_H
@@ -291,9 +291,9 @@ RENAMER_CALL uint32_t renamer_holders(const renamer_quiet *quiet, uint64_t *hold
    RENAMER_NONE, _CARRIED, _QUOTA, _MEMORY. One thread at a time. */
 RENAMER_CALL uint32_t renamer_open_after(renamer_lane *lane, const renamer_quiet *quiet, uint64_t quota);
 
-/* Frees what the handle has, if it has something. A lane is handed back, unless clients are inside: then its quota and names
-   are lost with it, and its floor cannot be closed any more; the names of other lanes stay as good as they were.
-   One thread at a time. */
+/* Frees what the handle has, if it has something; of NULL does nothing. A lane is handed back, unless clients are inside: then
+   its quota and names are lost with it, and its floor cannot be closed any more; the names of other lanes stay as good as
+   they were. One thread at a time. */
 void renamer_free(renamer_lane *lane);
 void renamer_free_quiet(renamer_quiet *quiet);
 

@@ -38,6 +38,7 @@ static void refused() {
     renamer::quiet quiet;
     std::uint64_t name = 0;
     std::vector<std::uint64_t> list(3, 5);
+    renamer_free(nullptr), renamer_free_quiet(nullptr);
     CHECK(lane.name(17, 0, name) == status::none);
     CHECK(quiet.holders(list) == status::none && list.size() == 3);
     CHECK(lane.open(kind::tree, 3, 4) == status::width);

@@ -11,10 +11,9 @@ static void none(renamer_lane *lane, renamer_quiet *quiet) {
     renamer_moved moved = {1, 2, 3, 4, 5};
     renamer_swept swept = {1, 2, 3, 4};
     uint64_t number = 77;
-    renamer_free(lane);
-    renamer_free_quiet(quiet);
-    renamer_free(lane);
-    renamer_free_quiet(quiet);
+    renamer_free(NULL), renamer_free_quiet(NULL);
+    renamer_free(lane), renamer_free_quiet(quiet);
+    renamer_free(lane), renamer_free_quiet(quiet);
     CHECK(renamer_split(lane, 0, &other) == RENAMER_NONE);
     CHECK(renamer_reserve(lane, 0) == RENAMER_NONE);
     CHECK(renamer_name(lane, 1, 0, &number) == RENAMER_NONE);
