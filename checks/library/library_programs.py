@@ -205,25 +205,27 @@ def cases(compiler, folder):
 
 def header_stands_alone(compiler, standard, folder):
     """The header needs no other before it, and can be included twice, in C++ with the other header; a call whose status is
-    not looked at is warned of, and none else, by both compilers of the language."""
-    ending, header = ("cpp", "renamer.hpp") if compiler == "c++" else ("c", "renamer.h")
+    not looked at is warned of, and one of NULL that frees nothing, and none else, by both compilers of the language."""
+    ending, header, null = ("cpp", "renamer.hpp", "nullptr") if compiler == "c++" else ("c", "renamer.h", "NULL")
     source = folder / f"header-{standard}.{ending}"
     call = "renamer_quota(&lane, &quota)"
-    for ignored in ("", f"{call};"):
+    of_null = f"if ({call.replace('&lane', null)}) return 2;"
+    for more, warning in (("", ""), (f"{call};", "unused-result"), (of_null, "nonnull")):
         source.write_text(f"""#include "renamer.h"
 #include "{header}"
 int main(void) {{
     renamer_lane lane = RENAMER_NO_LANE_YET;
     uint64_t quota;
     lane = RENAMER_NO_LANE;
-    {ignored}
+    renamer_free({null});
+    {more}
     return {call} == RENAMER_DONE;
 }}
 """)
         for tool in filter(shutil.which, (compiler, OTHERS[compiler])):
             words = [tool, f"-std={standard}", *STRICT, *CAREFUL[compiler], "-I", C, "-c", "-o", "/dev/null", source]
-            if ignored:
-                refuses(words, "unused-result")
+            if warning:
+                refuses(words, warning)
             else:
                 run(words)
 

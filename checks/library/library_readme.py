@@ -1,8 +1,9 @@
 """The programs of README.md and of the pages of the bindings, built by the commands that stand there."""
 import dataclasses
 import re
+import shutil
 
-from library_programs import CAREFUL, OUT, ROOT, RUST, STRICT, Wrong, run
+from library_programs import CAREFUL, OTHERS, OUT, ROOT, RUST, STANDARDS, STRICT, Wrong, run
 
 NAMED = re.compile(r"^client (\d+) has the name (\d+)$", re.M)
 
@@ -57,12 +58,15 @@ def run_rust(shown, folder):
 
 
 def run_compiled(shown, folder):
-    """The program, in a folder in which out/ is what ./library made."""
+    """The program, in a folder in which out/ is what ./library made. The other compiler takes it by the last standard."""
     pattern = rf"{re.escape(shown.compiler)} .*\b{re.escape(shown.file)} out/.*"
     command = shown.line(pattern, f"how {shown.file} is built")
     (folder / shown.file).write_text(shown.program())
     (folder / "out").symlink_to(OUT)
-    run([*command.split(), *STRICT, *CAREFUL[shown.compiler]], folder)
+    careful = [*STRICT, *CAREFUL[shown.compiler]]
+    for other in filter(shutil.which, [OTHERS[shown.compiler]]):
+        run([other, *command.split()[1:], f"-std={STANDARDS[shown.compiler][-1]}", *careful], folder)
+    run([*command.split(), *careful], folder)
     return run([folder / "a.out"])
 
 
