@@ -8,10 +8,10 @@ use Rattle.cn_ledger.specs.declared.client.Client.{Client}
 use Rattle.cn_record.specs.declared.record.EpochRecord.{EpochRecord}
 use Rattle.cn_report.proofs.CallerLemmas.{IsSmallEpoch, batch-numbers, tight-after, told-back, written-tight}
 use Rattle.cn_report.specs.Reading.Batch.{AreRising}
-use Rattle.cn_report.specs.Reading.Grants.{IsTightList}
+use Rattle.cn_report.specs.Grants.TightList.{IsTightList}
 use Rattle.cn_report.specs.Reading.Records.{records_of}
-use Rattle.cn_report.specs.Reading.Told.{names_in, told_epochs}
-use Rattle.cn_report.specs.Writing.Grants.{AreRisingRecords, AreTightRecords, HasOwnNames, checked_epoch}
+use Rattle.cn_report.specs.Grants.Told.{names_in, told_epochs}
+use Rattle.cn_report.specs.Grants.ListText.{AreRisingRecords, AreTightRecords, HasOwnNames, checked_epoch}
 use Rattle.cn_report.specs.Writing.Report.{clients_of_records}
 use Rattle.cn_report.specs.declared.reading.batch.BatchEpoch.{BatchEpoch}
 use Rattle.cn_nets.specs.Net.{Description, entries_of}

@@ -16,7 +16,7 @@ use Rattle.cn_walk.specs.Runs.{IsRunAfter}
 use Rattle.cn_walk.specs.declared.crew.Crew.{Crew}
 use Rattle.cn_report.specs.Reading.Batch.{MayCome, clients_of_epochs}
 use Rattle.cn_report.specs.declared.reading.batch.BatchEpoch.{BatchEpoch}
-use Rattle.cn_report.specs.Writing.Records.{AreRecordsOf}
+use Rattle.cn_report.specs.Writing.EpochRecords.{AreRecordsOf}
 use Rattle.cn_renamer.specs.Floors.{AreOfRunner, HaveWalked, IsOfFloor, WalkedOn, runner_after}
 use Rattle.cn_renamer.specs.Headline.{AreServed, ids_of}
 use Rattle.cn_renamer.proofs.Served.{IsMadeOf, made-of}

@@ -10,7 +10,7 @@ use Rattle.cn_ledger.specs.declared.client.Client.{Client}
 use Rattle.cn_record.specs.declared.record.EpochRecord.{EpochRecord}
 use Rattle.cn_report.specs.Reading.Batch.{plain_epoch}
 use Rattle.cn_report.specs.declared.reading.batch.BatchEpoch.{BatchEpoch}
-use Rattle.cn_report.specs.Writing.Grants.{grant_lines, grants_header}
+use Rattle.cn_report.specs.Grants.ListText.{grant_lines, grants_header}
 use Rattle.cn_report.specs.Writing.Outcome.{exit_lines, name_lines}
 use Rattle.cn_report.specs.Writing.Report.{epoch_line, epoch_lines, report_end}
 use Rattle.cn_report.specs.Writing.Text.{heading}

@@ -17,7 +17,7 @@ use Rattle.cn_walk.specs.declared.crew.Crew.{Crew}
 use Rattle.cn_report.specs.Reading.Batch.{AreServable, IsBatch, MayCome, clients_of_epochs}
 use Rattle.cn_report.specs.Reading.Records.{records_of}
 use Rattle.cn_report.specs.declared.reading.batch.BatchEpoch.{BatchEpoch}
-use Rattle.cn_report.specs.Writing.Records.{AreRecordsOf}
+use Rattle.cn_report.specs.Writing.EpochRecords.{AreRecordsOf}
 use Rattle.cn_report.specs.Writing.Written.{HasWritten, Written}
 use Rattle.cn_report.proofs.CallerLemmas.{known-map}
 use Rattle.cn_nets.specs.Net.{Description, IsNetworkOf}

@@ -1,12 +1,12 @@
 -- The text of a list of grants that is tight, and which fault is given if it is not written.
 use Rattle.std.specs.Prelude.{ℕ, ◌≡◌, ◌≢◌, IfSome, List, Option, map}
-use Rattle.cn_report.specs.Reading.Grants.{IsFlaw, IsOutside, IsTightList}
+use Rattle.cn_report.specs.Grants.TightList.{IsFlaw, IsOutside, IsTightList}
 use Rattle.cn_report.specs.Reading.Records.{records_of}
-use Rattle.cn_report.specs.Reading.Told.{told_epochs, with_shares}
-use Rattle.cn_report.specs.declared.reading.grant.Flaw.TheVariants as flaw
-use Rattle.cn_report.specs.declared.reading.grant.Flaw.{Flaw}
-use Rattle.cn_report.specs.declared.reading.granting.NamedEpoch.{NamedEpoch}
-use Rattle.cn_report.specs.Writing.Tight.{tight_text}
+use Rattle.cn_report.specs.Grants.Told.{told_epochs, with_shares}
+use Rattle.cn_report.specs.declared.grants.record.Flaw.TheVariants as flaw
+use Rattle.cn_report.specs.declared.grants.record.Flaw.{Flaw}
+use Rattle.cn_report.specs.declared.grants.epochs.NamedEpoch.{NamedEpoch}
+use Rattle.cn_report.specs.Grants.TightText.{tight_text}
 use Rattle.cn_report.specs.Writing.Written.{Written, First, Nothing}
 use Rattle.cn_renamer.specs.declared.checking.CheckFault.{CheckFault}
 use Rattle.cn_renamer.specs.declared.checking.CheckFault.TheVariants as fault

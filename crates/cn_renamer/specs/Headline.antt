@@ -13,7 +13,7 @@ use Rattle.cn_record.specs.declared.record.EpochRecord.{EpochRecord}
 use Rattle.cn_report.specs.Reading.Batch.{IsBatch}
 use Rattle.cn_report.specs.Reading.Records.{records_of}
 use Rattle.cn_report.specs.declared.reading.batch.BatchEpoch.{BatchEpoch}
-use Rattle.cn_report.specs.Writing.Grants.{grants_text}
+use Rattle.cn_report.specs.Grants.ListText.{grants_text}
 use Rattle.cn_report.specs.Writing.Report.{report_text}
 use Rattle.cn_nets.specs.Net.{Description, IsNetworkOf, entries_of}
 use Rattle.cn_cli.specs.declared.options.Form.{Form}

@@ -6,7 +6,7 @@ ghost use Rattle.cn_record.specs.declared.record.EpochRecord.{EpochRecord};
 ghost use Rattle.cn_report.specs.Reading.Batch.{AnswersBatch, AreServable, clients_of_epochs};
 ghost use Rattle.cn_report.specs.Reading.Records.{records_of};
 ghost use Rattle.cn_report.specs.Writing.Pieces.{nothing_put};
-ghost use Rattle.cn_report.specs.Writing.Records.{AreRecordsOf};
+ghost use Rattle.cn_report.specs.Writing.EpochRecords.{AreRecordsOf};
 ghost use Rattle.cn_report.specs.Writing.Written.{First, HasWritten, Whole, written_by};
 ghost use Rattle.cn_renamer.specs.Floors.{IsRunOnFloorsOfKnown};
 ghost use Rattle.cn_renamer.specs.Headline.{IsRunInOrderOfKnown, IsRunOfKnown, text_in};

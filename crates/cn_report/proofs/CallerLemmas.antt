@@ -7,11 +7,11 @@ pub use Rattle.cn_report.proofs.ReadingLemmas.FirstFaults.{known-map}
 -- a batch's numbers, and how many clients it has
 pub use Rattle.cn_report.proofs.ReadBack.Batches.{IsSmallEpoch, batch-numbers}
 -- a grant list that is written of tight epochs is tight, and what a check finds of it
-pub use Rattle.cn_report.proofs.ReadBack.Tight.{written-tight}
-pub use Rattle.cn_report.proofs.ReadBack.Told.{told-back}
+pub use Rattle.cn_report.proofs.ReadBack.TightAgain.{written-tight}
+pub use Rattle.cn_report.proofs.ReadBack.ToldAgain.{told-back}
 -- of a tight list each epoch's names are shared out, after any number of clients
-pub use Rattle.cn_report.proofs.ReadBack.Told.{tight-after}
+pub use Rattle.cn_report.proofs.ReadBack.ToldAgain.{tight-after}
 -- records spell one list of commands
-pub use Rattle.cn_report.proofs.ReadingLemmas.OneSchedule.{one-schedule}
+pub use Rattle.cn_report.proofs.ReadingLemmas.ScheduleRecords.{one-schedule}
 -- what was written of a text
-pub use Rattle.cn_report.proofs.WritingLemmas.Writings.{written-map}
+pub use Rattle.cn_report.proofs.WritingLemmas.Putting.{written-map}

@@ -1,4 +1,6 @@
 pub mod CallerLemmas
+pub mod Common
+pub mod GrantLemmas
 pub mod ReadBack
 pub mod ReadingLemmas
 pub mod WritingLemmas

@@ -4,5 +4,5 @@ pub mod Epochs
 pub mod Fields
 pub mod Form
 pub mod Rows
-pub mod Tight
-pub mod Told
+pub mod TightAgain
+pub mod ToldAgain

@@ -1,8 +1,5 @@
 -- Lemmas on what is written.
 pub mod Appending
-pub mod LineEnds
-pub mod Pieces
-pub mod Records
+pub mod Putting
+pub mod RecordLines
 pub mod SameLines
-pub mod Words
-pub mod Writings

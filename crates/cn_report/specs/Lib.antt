@@ -1,2 +1,4 @@
+pub mod Callers
+pub mod Grants
 pub mod Reading
 pub mod Writing

@@ -5,10 +5,10 @@ ghost use Rattle.std.specs.List.{AllByRecursion};
 ghost use Rattle.cn_report.specs.declared.reading.batch.BatchEpoch.{BatchEpoch};
 ghost use Rattle.cn_report.specs.Reading.Batch.{IsBatch, plain_epoch};
 ghost use Rattle.cn_record.specs.declared.record.EpochRecord.{EpochRecord};
-ghost use Rattle.cn_report.specs.Reading.Grants.{IsTightList};
+ghost use Rattle.cn_report.specs.Grants.TightList.{IsTightList};
 ghost use Rattle.cn_report.specs.Reading.Records.{Record, records_of};
-ghost use Rattle.cn_report.specs.Reading.Told.{told_epochs};
-ghost use Rattle.cn_report.specs.Writing.Grants.{AreTightRecords, checked_epoch, grants_text};
+ghost use Rattle.cn_report.specs.Grants.Told.{told_epochs};
+ghost use Rattle.cn_report.specs.Grants.ListText.{AreTightRecords, checked_epoch, grants_text};
 
 /// The records of a text determine its batch: two batches that they are have the same epochs.
 pub fn batch_is_one()
@@ -17,8 +17,8 @@ pub fn batch_is_one()
         → map plain_epoch one ≡ map plain_epoch other }
 {}
 
-/// The grant list of tight epochs, read again, is a tight list: [`crate::check_grants`] finds no flaw in what
-/// [`crate::render_grants`] wrote of them. If each epoch has some client, a check reports of each its number, its
+/// The grant list of tight epochs, read again, is a tight list: [`crate::named_grants`] finds no flaw in what
+/// [`crate::write_grants`] wrote of them. If each epoch has some client, a check reports of each its number, its
 /// number of clients, and as many names for each exit as its share: how many are `i` modulo the width.
 pub fn written_grants_are_tight()
     ensures tight { (records : List EpochRecord) → AreTightRecords records

@@ -2,15 +2,19 @@
 //! writes a text.
 #![tactic(auto)]
 
+mod callers;
+mod grants;
 pub mod laws;
 mod reading;
 mod writing;
 
+pub use callers::{
+    Tight, TightEpoch, check_grants, render_grants, render_replay, render_report, render_tight,
+    render_wiring,
+};
+pub use grants::{Flaw, NamedEpoch, named_grants, write_grants, write_tight};
 pub use reading::{
-    Batch, BatchCause, BatchEpoch, BatchFault, Flaw, NamedEpoch, ScheduleCause, ScheduleFault,
-    Tight, TightEpoch, check_grants, named_grants, read_batch, read_batch_by_two, read_schedule,
+    Batch, BatchCause, BatchEpoch, BatchFault, ScheduleCause, ScheduleFault, read_batch,
+    read_batch_by_two, read_schedule,
 };
-pub use writing::{
-    EmitFault, OpenEpoch, Pieces, emit, render_grants, render_replay, render_report, render_tight,
-    render_wiring, write_grants, write_replay, write_report, write_tight, write_wiring,
-};
+pub use writing::{EmitFault, OpenEpoch, Pieces, emit, write_replay, write_report, write_wiring};

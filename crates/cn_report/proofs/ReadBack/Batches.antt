@@ -1,23 +1,15 @@
 -- The numbers of a batch that was read, and how many clients it has.
-use Rattle.std.proofs.Common.{◌≡◌, ◌<◌, ◌≤◌, ◌+◌, ◌^◌, ℕ, List, [], ◌∷◌, ◌++◌, Option, Some, None, Result, Ok, Err, length, map, take, drop, get_or, refl, arith, suc, sym, ap, ◌∙◌, subst, length-append}
-use Rattle.std.specs.Prelude.{All}
-use Rattle.std.specs.List.{AllByRecursion, cons_option, flat_map, sum_by}
+use Rattle.cn_report.proofs.Common.{◌≡◌, ◌<◌, ◌≤◌, ◌+◌, ◌^◌, ℕ, List, [], ◌∷◌, ◌++◌, Option, Some, None, Result, Ok, Err, length, map, take, drop, get_or, refl, arith, suc, sym, ap, ◌∙◌, subst, length-append, All, AllByRecursion, cons_option, flat_map, sum_by, nat_tests, length-map, take_all, take_more, All-cons, All-nil, filter_map-append, sum_by-cons, MOST_RECORDS, Record}
 use Rattle.std.specs.Result.{result_ok}
-use Rattle.std.proofs.lemmas.Bool.Decides.{nat_tests}
-use Rattle.std.proofs.lemmas.List.{length-map, take_all, take_more}
-use Rattle.std.proofs.lemmas.List.Elements.{All-cons, All-nil, filter_map-append}
-use Rattle.std.proofs.lemmas.List.Sums.{sum_by-cons}
 use Rattle.std.proofs.lemmas.Option.{none-some}
-use Rattle.cn_spec.specs.declared.limits.TheConstants.{MOST_RECORDS}
 use Rattle.cn_ledger.specs.declared.client.Client.{Client}
 use Rattle.cn_report.specs.Reading.Arrival.{arrival_cause, arrival_in, arrival_with_entry, arrivals_in, arriving, entry_by_rule, ruled_arrival, spelled_cause}
 use Rattle.cn_report.specs.Reading.Batch.{IsBatch, arrivals_of, batch_cause, header_cause, record_cause}
 use Rattle.cn_report.specs.Reading.Heading.{heading_in}
-use Rattle.cn_report.specs.declared.reading.batch.heading.Heading.{Heading}
-use Rattle.cn_report.specs.declared.reading.batch.heading.Heading.TheVariants.{WithEntry, ByRule}
+use Rattle.cn_report.specs.declared.reading.batch.arrival.Heading.{Heading}
+use Rattle.cn_report.specs.declared.reading.batch.arrival.Heading.TheVariants.{WithEntry, ByRule}
 use Rattle.cn_report.specs.Reading.Faults.{IsClean}
 use Rattle.cn_report.specs.Reading.Number.{number_in}
-use Rattle.cn_report.specs.Reading.Records.{Record}
 use Rattle.cn_report.specs.declared.reading.batch.arrival.Arrival.{Arrival}
 use Rattle.cn_report.specs.declared.reading.batch_fault.BatchCause.{BatchCause}
 use Rattle.cn_report.specs.declared.reading.batch.BatchEpoch.{BatchEpoch}

@@ -1,18 +1,12 @@
 -- The grants of epochs whose numbers rise, epoch by epoch.
-use Rattle.std.proofs.Common.{◌≡◌, ◌<◌, ◌+◌, ℕ, List, [], ◌∷◌, ◌++◌, length, map, get_or, refl, arith, sym, ap, ◌∙◌, length-append}
-use Rattle.std.specs.Prelude.{◌==◌, ◌≢◌}
-use Rattle.std.specs.List.{AllByRecursion, flat_map, range_with_len}
-use Rattle.std.proofs.lemmas.Bool.{eq-eqb, ne_eqb}
-use Rattle.std.proofs.lemmas.List.{append-nil}
-use Rattle.std.proofs.lemmas.List.Elements.{filter-append}
+use Rattle.cn_report.proofs.Common.{◌≡◌, ◌<◌, ◌+◌, ℕ, List, [], ◌∷◌, ◌++◌, length, map, get_or, refl, arith, sym, ap, ◌∙◌, length-append, ◌==◌, ◌≢◌, AllByRecursion, flat_map, range_with_len, eq-eqb, ne_eqb, append-nil, filter-append, sum_by-cons}
 use Rattle.std.proofs.lemmas.List.Folds.{flat_map-map}
 use Rattle.std.proofs.lemmas.List.FromFn.{fill_by_all, length-map-range_with_len}
-use Rattle.std.proofs.lemmas.List.Sums.{sum_by-cons}
 use Rattle.std.proofs.lemmas.Grind.{flat_map-append}
 use Rattle.cn_record.specs.declared.record.EpochRecord.{EpochRecord}
-use Rattle.cn_report.specs.Reading.Granted.{of_epoch}
-use Rattle.cn_report.specs.declared.reading.grant.Granted.{Granted}
-use Rattle.cn_report.specs.Writing.Grants.{grant_lines}
+use Rattle.cn_report.specs.Grants.Granted.{of_epoch}
+use Rattle.cn_report.specs.declared.grants.record.Granted.{Granted}
+use Rattle.cn_report.specs.Grants.ListText.{grant_lines}
 use Rattle.cn_report.specs.Writing.Report.{clients_of_records}
 use Rattle.cn_report.proofs.ReadBack.Rows.{line_of}
 

@@ -1,9 +1,6 @@
 -- A number that is written as a field is read back.
-use Rattle.std.proofs.Common.{◌≡◌, ◌<◌, ◌^◌, ℕ, List, [], ◌∷◌, Bool, true, false, Some, length, refl, arith, rules}
-use Rattle.std.specs.Prelude.{◌&&◌, decimal, nat_le, nat_lt}
+use Rattle.cn_report.proofs.Common.{◌≡◌, ◌<◌, ◌^◌, ℕ, List, [], ◌∷◌, Bool, true, false, Some, length, refl, arith, rules, ◌&&◌, decimal, nat_le, nat_lt, list_all, list_any, nat_tests}
 use Rattle.std.specs.Char.{is_ascii_digit}
-use Rattle.std.specs.List.{list_all, list_any}
-use Rattle.std.proofs.lemmas.Bool.Decides.{nat_tests}
 use Rattle.std.proofs.lemmas.Fmt.{decimal_nonempty, digits_decimal, digits_value-decimal, length-decimal-le}
 use Rattle.std.proofs.lemmas.Str.Parse.{IsDigitsTest, numerals_by_value}
 use Rattle.csv.specs.Writing.{default_writer, field_text, needs_byte}

@@ -1,15 +1,9 @@
 -- A grant list that is written keeps the form.
-use Rattle.std.proofs.Common.{◌≡◌, ◌<◌, ◌≤◌, ◌+◌, ℕ, List, [], ◌∷◌, ◌++◌, Some, None, length, map, refl, arith, sym, ap, append_assoc, length-append}
-use Rattle.std.specs.Prelude.{⊤, nat_le, nat_lt, false}
-use Rattle.std.specs.List.{fold}
-use Rattle.std.proofs.lemmas.Bool.{le-ltb}
-use Rattle.std.proofs.lemmas.List.{append-nil, map-append}
-use Rattle.std.proofs.lemmas.Bool.Decides.{nat_tests}
-use Rattle.cn_spec.specs.declared.limits.TheConstants.{MOST_RECORDS}
+use Rattle.cn_report.proofs.Common.{◌≡◌, ◌<◌, ◌≤◌, ◌+◌, ℕ, List, [], ◌∷◌, ◌++◌, Some, None, length, map, refl, arith, sym, ap, append_assoc, length-append, ⊤, nat_le, nat_lt, false, fold, le-ltb, append-nil, map-append, nat_tests, MOST_RECORDS}
 use Rattle.cn_report.specs.Reading.Faults.{IsClean}
-use Rattle.cn_report.specs.Reading.Granted.{form_cause, grant_spelled, grants_spelled, last_epoch}
-use Rattle.cn_report.specs.Reading.Grants.{grants_form, header_cause, record_form}
-use Rattle.cn_report.specs.declared.reading.grant.Granted.{Granted}
+use Rattle.cn_report.specs.Grants.Granted.{form_cause, grant_spelled, grants_spelled, last_epoch}
+use Rattle.cn_report.specs.Grants.TightList.{grants_form, header_cause, record_form}
+use Rattle.cn_report.specs.declared.grants.record.Granted.{Granted}
 use Rattle.cn_report.proofs.ReadBack.Fields.{decimal-back}
 use Rattle.cn_report.proofs.ReadBack.Rows.{AllSmall, IsSmall, header_row, row_of}
 use Rattle.cn_report.proofs.ReadingLemmas.FirstFaults.{AreClean, clean-all, clean-header, clean-more}

@@ -1,16 +1,14 @@
 -- A reader that has read a stretch ahead of what was gathered.
-use Rattle.std.proofs.Common.{◌≡◌, ℕ, List, [], ◌∷◌, ◌++◌, Bool, Option, Some, length, refl, sym, arith, inl, inr, true, false, ◌∙◌}
-use Rattle.std.specs.Prelude.{Result, Ok, Err}
+use Rattle.cn_report.proofs.Common.{◌≡◌, ℕ, List, [], ◌∷◌, ◌++◌, Bool, Option, Some, length, refl, sym, arith, inl, inr, true, false, ◌∙◌, Result, Ok, Err, HasRead, Record, records_of}
 use Rattle.csv.specs.declared.reader.Reader.{Reader}
 use Rattle.cn_report.specs.Reading.Batch.{IsBatchFault, IsOfReading, header_cause, record_cause}
 use Rattle.cn_report.specs.Reading.Gathered.{IsGathered}
 use Rattle.cn_report.specs.Reading.Heading.{heading_of}
-use Rattle.cn_report.specs.Reading.Records.{HasRead, Record, records_of}
 use Rattle.cn_report.specs.Reading.Stretch.{AreSpelled, AreTaken, EndsAfter, Gathers, HasSameHeader, HasStretch, ReadsStretch}
 use Rattle.cn_report.specs.declared.reading.batch.arrival.Arrival.{Arrival}
 use Rattle.cn_report.specs.declared.reading.batch.arrivals.ArrivalReader.{ArrivalReader}
 use Rattle.cn_report.specs.declared.reading.batch.gathering.Gathering.{Gathering}
-use Rattle.cn_report.specs.declared.reading.batch.heading.Heading.{Heading}
+use Rattle.cn_report.specs.declared.reading.batch.arrival.Heading.{Heading}
 use Rattle.cn_report.specs.declared.reading.batch_fault.BatchCause.{BatchCause}
 use Rattle.cn_report.specs.declared.reading.batch_fault.BatchFault.{BatchFault}
 use Rattle.cn_report.proofs.ReadingLemmas.BatchRecords.{at-arrivals, clean-of, taken-header}

@@ -1,11 +1,8 @@
 -- What digits are worth.
-use Rattle.std.proofs.Common.{◌≡◌, ◌+◌, ◌*◌, ◌-◌, ◌%◌, ◌&&◌, ◌∙◌, ◌<◌, ◌≤◌, ◌^◌, ℕ, suc, List, [], ◌∷◌, Bool, true, false, ap, drop, get_or, length, refl, arith, Some, None, if◌then◌else◌}
-use Rattle.std.specs.Prelude.{Option, nat_le, nat_lt}
+use Rattle.cn_report.proofs.Common.{◌≡◌, ◌+◌, ◌*◌, ◌-◌, ◌%◌, ◌&&◌, ◌∙◌, ◌<◌, ◌≤◌, ◌^◌, ℕ, suc, List, [], ◌∷◌, Bool, true, false, ap, drop, get_or, length, refl, arith, Some, None, if◌then◌else◌, Option, nat_le, nat_lt, list_all, nat_tests}
 use Rattle.std.specs.Char.{digit_value, is_ascii_digit}
-use Rattle.std.specs.List.{list_all}
 use Rattle.std.specs.Str.Parse.{digits_value, digits_value_after}
 use Rattle.std.proofs.Math.Nat.{pow-le-pow_right, pow-suc, pow-succ', pow-zero}
-use Rattle.std.proofs.lemmas.Bool.Decides.{nat_tests}
 use Rattle.std.proofs.lemmas.Grind.{common_steps}
 use Rattle.cn_report.specs.Reading.Number.{value_in}
 

@@ -1,16 +1,11 @@
 -- The records that were taken so far, none of which has a cause.
-use Rattle.std.proofs.Common.{◌≡◌, ◌<◌, ◌≤◌, ℕ, List, [], ◌∷◌, ◌++◌, true, false, Option, Some, None, length, get_or, take, refl, arith, suc, zero, sym, ◌∙◌, inl, inr, length-append}
-use Rattle.std.specs.Prelude.{◌⊎◌, ◌==◌, IfSome}
-use Rattle.std.proofs.lemmas.Bool.{lt-ltb, le-ltb, ne_eqb}
-use Rattle.std.proofs.lemmas.Bool.Decides.{leb_tells}
+use Rattle.cn_report.proofs.Common.{◌≡◌, ◌<◌, ◌≤◌, ℕ, List, [], ◌∷◌, ◌++◌, true, false, Option, Some, None, length, get_or, take, refl, arith, suc, zero, sym, ◌∙◌, inl, inr, length-append, ◌⊎◌, ◌==◌, IfSome, lt-ltb, le-ltb, ne_eqb, leb_tells, take-append-le, HasRead, Record, records_of}
 use Rattle.std.proofs.Math.Dec.{leb}
 use Rattle.std.proofs.Math.ListN.{get_or-append}
 use Rattle.std.proofs.Math.Seq.{get_or-append_seam}
-use Rattle.std.proofs.lemmas.List.{take-append-le}
 use Rattle.std.proofs.Math.Seq.{take-append_seam}
 use borrow.Author.Count.{below_more}
 use Rattle.csv.specs.declared.reader.Reader.{Reader}
-use Rattle.cn_report.specs.Reading.Records.{HasRead, Record, records_of}
 use Rattle.cn_report.specs.Reading.Faults.{IsClean, IsCleanBefore, IsFirstFault, cause_by}
 use Rattle.cn_report.proofs.ReadingLemmas.RecordLists.{read-first}
 

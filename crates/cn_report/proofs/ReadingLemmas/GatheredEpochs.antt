@@ -1,16 +1,8 @@
 -- The epochs that were gathered, as arrivals.
-use Rattle.std.proofs.Common.{◌≡◌, ◌<◌, ◌≤◌, ◌+◌, ℕ, List, [], ◌∷◌, ◌++◌, true, false, Some, length, map, refl, arith, sym, ap, ◌∙◌, inl, inr, append_assoc, subst, length-append}
-use Rattle.std.specs.Prelude.{◌==◌, nat_eq, nat_le, nat_lt, ◌⊎◌}
-use Rattle.std.specs.List.{AllByRecursion, flat_map, list_any}
-use Rattle.std.proofs.lemmas.List.{map-append, length-map, append-nil}
-use Rattle.std.proofs.lemmas.List.Elements.{filter-append}
-use Rattle.std.proofs.lemmas.List.Sums.{fold-append}
+use Rattle.cn_report.proofs.Common.{◌≡◌, ◌<◌, ◌≤◌, ◌+◌, ℕ, List, [], ◌∷◌, ◌++◌, true, false, Some, length, map, refl, arith, sym, ap, ◌∙◌, inl, inr, append_assoc, subst, length-append, ◌==◌, nat_eq, nat_le, nat_lt, ◌⊎◌, AllByRecursion, flat_map, list_any, map-append, length-map, append-nil, filter-append, fold-append, lt-ltb, le-ltb, le-leb, lt-leb, ne_eqb, eq-eqb, leb_tells, MOST_RECORDS}
 use Rattle.std.proofs.lemmas.Grind.{flat_map-append}
-use Rattle.std.proofs.lemmas.Bool.{lt-ltb, le-ltb, le-leb, lt-leb, ne_eqb, eq-eqb}
-use Rattle.std.proofs.lemmas.Bool.Decides.{leb_tells}
 use Rattle.std.proofs.Math.Dec.{eqb, leb}
 use Rattle.cn_ledger.specs.declared.client.Client.{Client}
-use Rattle.cn_spec.specs.declared.limits.TheConstants.{MOST_RECORDS}
 use Rattle.cn_report.specs.declared.reading.batch_fault.BatchCause.TheVariants.{EpochBackwards, EntryRange}
 use Rattle.cn_report.specs.declared.reading.batch.arrival.Arrival.{Arrival}
 use Rattle.cn_report.specs.declared.reading.batch.BatchEpoch.{BatchEpoch}

@@ -1,16 +1,12 @@
 -- The list of the records of a text, and the records that were read so far.
-use Rattle.std.proofs.Common.{◌≡◌, ◌<◌, ◌≤◌, ◌+◌, ◌-◌, ℕ, List, [], ◌∷◌, ◌++◌, true, false, Bool, Option, Some, None, length, refl, arith, suc, zero, sym, ap, ◌∙◌, cond, subst}
-use Rattle.std.specs.Prelude.{◌==◌, ◌||◌}
-use Rattle.std.proofs.lemmas.List.{append-nil}
+use Rattle.cn_report.proofs.Common.{◌≡◌, ◌<◌, ◌≤◌, ◌+◌, ◌-◌, ℕ, List, [], ◌∷◌, ◌++◌, true, false, Bool, Option, Some, None, length, refl, arith, suc, zero, sym, ap, ◌∙◌, cond, subst, ◌==◌, ◌||◌, append-nil, IfSome, option_map, HasRead, IsOfReader, Record, records_of}
 use Rattle.csv.specs.Machine.{Read, ends_at_end, field_after, fields_after, is_end, next_record, step}
 use Rattle.std.specs.Bool.{MatchBool}
-use Rattle.std.specs.Prelude.{IfSome, option_map}
 use Rattle.csv.specs.Reading.{ExplainsRead, Reached, ReadRecord, default_config, is_flexible, reader_config, reader_state, records_from, source_of, strip_bom}
 use Rattle.csv.specs.declared.error.ErrorKind.{ErrorKind}
 use Rattle.csv.specs.declared.error.ErrorKind.TheVariants as error
 use Rattle.csv.specs.declared.reader.Reader.{Reader}
 use Rattle.csv.proofs.ReadFacts.{rows-end, rows-more}
-use Rattle.cn_report.specs.Reading.Records.{HasRead, IsOfReader, Record, records_of}
 use Rattle.csv.specs.declared.parser.Action.{Action}
 use Rattle.csv.specs.declared.parser.Action.TheVariants as act
 use Rattle.csv.specs.declared.parser.State.{State}

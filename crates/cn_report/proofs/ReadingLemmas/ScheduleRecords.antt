@@ -1,11 +1,9 @@
--- The records of a schedule that were taken so far.
-use Rattle.std.proofs.Common.{◌≡◌, ℕ, List, ◌∷◌, [], ◌++◌, None, length, drop, map, refl, arith, sym, ◌∙◌}
-use Rattle.std.specs.Prelude.{Ok}
-use Rattle.std.proofs.lemmas.List.{map-append}
+-- The records of a schedule that were taken so far, and that they spell one list of commands.
+use Rattle.cn_report.proofs.Common.{◌≡◌, ℕ, List, ◌∷◌, [], ◌++◌, None, Result, Ok, Err, length, drop, map, refl, arith, sym, ap, ap₂, ◌∙◌, map-append, Record}
 use Rattle.cn_record.specs.declared.command.Command.{Command}
-use Rattle.cn_report.specs.Reading.Records.{Record}
 use Rattle.cn_report.specs.Reading.Command.{command_in}
 use Rattle.cn_report.specs.Reading.Schedule.{IsSchedule, command_cause, header_cause, record_cause}
+use Rattle.cn_report.specs.declared.reading.schedule_fault.ScheduleCause.{ScheduleCause}
 use Rattle.cn_report.proofs.ReadingLemmas.FirstFaults.{AreClean, clean-all, clean-header, clean-more}
 
 -- the records so far: a header, and a record for each command
@@ -26,3 +24,26 @@ taken-next (r ∷ rows) commands fields command at size t e is = record {
 
 pub taken_all : (all rows : List Record) (commands : List Command) → AreTaken rows commands → all ≡ rows → IsSchedule all commands
 taken_all all rows commands t e = rw e (record { clean = clean-all header_cause record_cause rows t.clean; spells = t.spells })
+
+spelled : List Command → List (Result Command ScheduleCause)
+spelled commands = map Ok commands
+
+head_of : Command → List (Result Command ScheduleCause) → Command
+head_of other [] = other
+head_of other (Ok command ∷ rest) = command
+head_of other (Err cause ∷ rest) = other
+
+tail_of : List (Result Command ScheduleCause) → List (Result Command ScheduleCause)
+tail_of [] = []
+tail_of (first ∷ rest) = rest
+
+same : (commands others : List Command) → spelled commands ≡ spelled others → commands ≡ others
+unfolding spelled head_of tail_of
+same [] [] e = refl
+same [] (other ∷ others) e = cc
+same (command ∷ commands) [] e = cc
+same (command ∷ commands) (other ∷ others) e = ap₂ (λ c cs. c ∷ cs) (ap (head_of command) e) (same commands others (ap tail_of e))
+
+pub one-schedule : {rows : List Record} (commands others : List Command) → IsSchedule rows commands → IsSchedule rows others → commands ≡ others
+unfolding spelled
+one-schedule commands others one another = same commands others (sym one.spells ∙ another.spells)

@@ -1,16 +1,8 @@
 -- The epochs that were gathered can be served, whatever was read.
-use Rattle.std.proofs.Common.{◌≡◌, ◌<◌, ◌≤◌, ◌+◌, ℕ, List, [], ◌∷◌, ◌++◌, Bool, true, false, cond, None, length, map, refl, arith, sym, ap, ◌∙◌, length-append}
-use Rattle.std.specs.Prelude.{◌||◌, nat_eq, nat_le, nat_lt}
-use Rattle.std.specs.List.{list_any}
-use Rattle.std.proofs.lemmas.List.{map-append}
-use Rattle.std.proofs.lemmas.List.Elements.{All-nil, All-push}
-use Rattle.std.proofs.lemmas.Bool.{lt-ltb, le-ltb}
-use Rattle.std.proofs.lemmas.List.Sums.{sum_by_push}
-use Rattle.std.proofs.lemmas.Bool.Decides.{nat_tests}
+use Rattle.cn_report.proofs.Common.{◌≡◌, ◌<◌, ◌≤◌, ◌+◌, ℕ, List, [], ◌∷◌, ◌++◌, Bool, true, false, cond, None, length, map, refl, arith, sym, ap, ◌∙◌, length-append, ◌||◌, nat_eq, nat_le, nat_lt, list_any, map-append, All-nil, All-push, lt-ltb, le-ltb, sum_by_push, nat_tests, MOST_CLIENTS, MOST_RECORDS}
 use Rattle.std.proofs.Math.Dec.{eqb, leb}
 use Rattle.cn_ledger.specs.declared.client.Client.{Client}
 use Rattle.cn_spec.specs.Sums.{times}
-use Rattle.cn_spec.specs.declared.limits.TheConstants.{MOST_CLIENTS, MOST_RECORDS}
 use Rattle.cn_spec.proofs.CallerLemmas.{times-append, times-cons, times-nil}
 use Rattle.cn_report.specs.declared.reading.batch.BatchEpoch.{BatchEpoch}
 use Rattle.cn_report.specs.declared.reading.batch.gathering.Gathering.{Gathering}

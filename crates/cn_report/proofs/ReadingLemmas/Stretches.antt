@@ -1,17 +1,14 @@
 -- Arrivals that were read together, and how far they were gathered.
-use Rattle.std.proofs.Common.{◌≡◌, ◌<◌, ◌≤◌, ◌+◌, ◌⊎◌, ℕ, List, [], ◌∷◌, ◌++◌, Some, None, drop, get_or, length, take, arith, sym, ap, inl, inr, ◌∙◌, append_assoc, append-nil}
-use Rattle.std.specs.Prelude.{Result, Ok}
-use Rattle.std.proofs.lemmas.List.{get_or-map, length-map, map-append, take-append-drop, take_all, take_more}
+use Rattle.cn_report.proofs.Common.{◌≡◌, ◌<◌, ◌≤◌, ◌+◌, ◌⊎◌, ℕ, List, [], ◌∷◌, ◌++◌, Some, None, drop, get_or, length, take, arith, sym, ap, inl, inr, ◌∙◌, append_assoc, append-nil, Result, Ok, get_or-map, length-map, map-append, take-append-drop, take_all, take_more, Record}
 use Rattle.cn_report.specs.Reading.Arrival.{arrival_cause, arrival_in, spelled_cause}
 use Rattle.cn_report.specs.Reading.Batch.{IsBatchFault, IsOfReading, header_cause, record_cause}
 use Rattle.cn_report.specs.Reading.Gathered.{IsGathered}
-use Rattle.cn_report.specs.Reading.Records.{Record}
 use Rattle.cn_report.specs.Reading.Stretch.{AreSpelled, AreTaken}
 use Rattle.cn_report.specs.declared.reading.batch.arrival.Arrival.{Arrival}
 use Rattle.cn_report.specs.declared.reading.batch_fault.BatchCause.{BatchCause}
 use Rattle.cn_report.specs.declared.reading.batch_fault.BatchCause.TheVariants.{Memory}
 use Rattle.cn_report.specs.declared.reading.batch.gathering.Gathering.{Gathering}
-use Rattle.cn_report.specs.declared.reading.batch.heading.Heading.{Heading}
+use Rattle.cn_report.specs.declared.reading.batch.arrival.Heading.{Heading}
 use Rattle.cn_report.proofs.ReadingLemmas.BatchRecords.{at-arrivals, clean-of, taken-next}
 use Rattle.cn_report.proofs.ReadingLemmas.FirstFaults.{stop-other, stop-in}
 

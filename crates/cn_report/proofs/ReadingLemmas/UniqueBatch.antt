@@ -1,10 +1,5 @@
 -- The records of a batch determine its epochs.
-use Rattle.std.proofs.Common.{◌≡◌, ◌<◌, ℕ, List, [], ◌∷◌, ◌++◌, length, map, drop, refl, arith, sym, ap, ◌∙◌, length-append}
-use Rattle.std.specs.Prelude.{◌==◌}
-use Rattle.std.specs.List.{AllByRecursion, flat_map}
-use Rattle.std.proofs.lemmas.List.{append-nil, length-map}
-use Rattle.std.proofs.lemmas.List.Elements.{filter-append}
-use Rattle.std.proofs.lemmas.Bool.{ne_eqb}
+use Rattle.cn_report.proofs.Common.{◌≡◌, ◌<◌, ℕ, List, [], ◌∷◌, ◌++◌, length, map, drop, refl, arith, sym, ap, ◌∙◌, length-append, ◌==◌, AllByRecursion, flat_map, append-nil, length-map, filter-append, ne_eqb}
 use Rattle.std.proofs.Math.Seq.{drop-append_seam}
 use Rattle.cn_ledger.specs.declared.client.Client.{Client}
 use Rattle.cn_report.specs.declared.reading.batch.arrival.Arrival.{Arrival}

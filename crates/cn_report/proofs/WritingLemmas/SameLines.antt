@@ -1,6 +1,5 @@
 -- Answers that say the same have the same lines.
-use Rattle.std.proofs.Common.{◌≡◌, ◌<◌, ◌∙◌, ℕ, List, [], ◌∷◌, ◌++◌, refl, ap, ap₂, arith, get_or, length, suc, sym, zero}
-use Rattle.std.specs.List.{AllByRecursion, AllZip}
+use Rattle.cn_report.proofs.Common.{◌≡◌, ◌<◌, ◌∙◌, ℕ, List, [], ◌∷◌, ◌++◌, refl, ap, ap₂, arith, get_or, length, suc, sym, zero, AllByRecursion, AllZip}
 use Rattle.cn_record.specs.declared.answer.Answer.{Answer}
 use Rattle.cn_record.specs.declared.answer.Answer.TheVariants.{Replied, Turned, TurnRefused}
 use Rattle.cn_record.specs.declared.command.Command.{Command}

@@ -6,8 +6,8 @@ use Rattle.cn_spec.specs.declared.limits.TheConstants.{MOST_CLIENTS, MOST_RECORD
 use Rattle.cn_report.specs.Reading.Number.{number_in}
 use Rattle.cn_report.specs.Reading.Records.{Record}
 use Rattle.cn_report.specs.declared.reading.batch.arrival.Arrival.{Arrival}
-use Rattle.cn_report.specs.declared.reading.batch.heading.Heading.{Heading}
-use Rattle.cn_report.specs.declared.reading.batch.heading.Heading.TheVariants.{WithEntry, ByRule}
+use Rattle.cn_report.specs.declared.reading.batch.arrival.Heading.{Heading}
+use Rattle.cn_report.specs.declared.reading.batch.arrival.Heading.TheVariants.{WithEntry, ByRule}
 use Rattle.cn_report.specs.declared.reading.batch_fault.BatchCause.{BatchCause}
 use Rattle.cn_report.specs.declared.reading.batch_fault.BatchCause.TheVariants.{FieldCount, EpochNumber, ClientNumber, EntryNumber, EpochBackwards, EntryRange, Duplicate, EpochFull, BatchFull}
 

@@ -9,7 +9,7 @@ use Rattle.cn_report.specs.Reading.Faults.{IsClean, IsFirstFault, cause_by}
 use Rattle.cn_report.specs.Reading.Heading.{heading_in, heading_of}
 use Rattle.cn_report.specs.Reading.Records.{Record}
 use Rattle.cn_report.specs.declared.reading.batch.arrival.Arrival.{Arrival}
-use Rattle.cn_report.specs.declared.reading.batch.heading.Heading.{Heading}
+use Rattle.cn_report.specs.declared.reading.batch.arrival.Heading.{Heading}
 use Rattle.cn_report.specs.declared.reading.rows.RowFault.{RowFault}
 use Rattle.cn_report.specs.declared.reading.rows.RowFault.TheVariants as row
 use Rattle.cn_report.specs.declared.reading.batch_fault.BatchCause.{BatchCause}

@@ -3,8 +3,8 @@ use Rattle.std.specs.Prelude.{◌∷◌, [], Bool, List, Option, Some, None, cod
 use Rattle.std.specs.Cmp.Lexicographic.{pointwise}
 use Rattle.std.specs.Str.{bytes_eq}
 use Rattle.cn_report.specs.Reading.Records.{Record}
-use Rattle.cn_report.specs.declared.reading.batch.heading.Heading.{Heading}
-use Rattle.cn_report.specs.declared.reading.batch.heading.Heading.TheVariants.{WithEntry, ByRule}
+use Rattle.cn_report.specs.declared.reading.batch.arrival.Heading.{Heading}
+use Rattle.cn_report.specs.declared.reading.batch.arrival.Heading.TheVariants.{WithEntry, ByRule}
 
 -- the header of a batch that gives entries
 abbrev pub is_batch_header : Record → Bool

@@ -10,7 +10,7 @@ use Rattle.cn_report.specs.Reading.Records.{HasRead, IsPlain, Record, records_of
 use Rattle.cn_report.specs.declared.reading.batch.arrival.Arrival.{Arrival}
 use Rattle.cn_report.specs.declared.reading.batch.arrivals.ArrivalReader.{ArrivalReader}
 use Rattle.cn_report.specs.declared.reading.batch.gathering.Gathering.{Gathering}
-use Rattle.cn_report.specs.declared.reading.batch.heading.Heading.{Heading}
+use Rattle.cn_report.specs.declared.reading.batch.arrival.Heading.{Heading}
 use Rattle.cn_report.specs.declared.reading.batch_fault.BatchCause.{BatchCause}
 use Rattle.cn_report.specs.declared.reading.batch_fault.BatchFault.{BatchFault}
 use Rattle.csv.specs.declared.reader.Reader.{Reader}

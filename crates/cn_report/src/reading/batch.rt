@@ -3,7 +3,6 @@
 mod arrival;
 mod arrivals;
 mod gathering;
-mod heading;
 mod readers;
 
 ghost use Rattle.std.specs.Prelude.{◌≡◌, ◌↔◌, ◌<◌, ◌≤◌, [], ℕ, IfOk, IfSome, List, MatchResult, Ok, true};

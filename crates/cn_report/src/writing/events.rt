@@ -5,8 +5,7 @@ ghost use Rattle.cn_record.specs.declared.answer.Answer.{Answer};
 ghost use Rattle.cn_report.specs.Writing.Pieces.{Puts};
 ghost use Rattle.cn_report.specs.Writing.Replay.{IsEnterReply, IsStepReply, enter_line, moved_line, step_line};
 
-use crate::writing::heading::{send_number, send_numbered};
-use crate::writing::line::send_line;
+use crate::writing::line::{send_line, send_number, send_numbered};
 use crate::writing::pieces::Pieces;
 use cn_ledger::Moved;
 use cn_record::{EnterFault, Reply, StepFault};

@@ -1,11 +1,13 @@
-//! Lines that are made from their ends in a buffer, so that each is put at once.
+//! The parts of lines, and lines that are made from their ends in a buffer, so that each is put at once.
 
-ghost use Rattle.std.specs.Prelude.{◌≡◌, ◌+◌, ◌≤◌, ◌++◌, codes, decimal, drop, length};
-ghost use Rattle.cn_report.specs.Writing.Grants.{grant_line};
+ghost use Rattle.std.specs.Prelude.{◌≡◌, ◌+◌, ◌<◌, ◌≤◌, ◌++◌, codes, decimal, drop, length};
+ghost use Rattle.cn_report.specs.Grants.ListText.{grant_line};
 ghost use Rattle.cn_report.specs.Writing.Pieces.{Puts};
+ghost use Rattle.cn_report.specs.Writing.Text.{heading};
 
 use crate::writing::pieces::Pieces;
-use itoa::write_digits;
+use cn_wiring::Counting;
+use itoa::{Buffer, Integer, write_digits};
 use std::io::Write;
 
 /// Three numbers of 20 digits, and a byte after each; or two, and words of 23 bytes.
@@ -24,6 +26,20 @@ fn write_word(word: &str, buffer: &mut [u8], end: usize) -> usize
     start
 }
 
+/// Writes a word and a number so that they end at `end`, and returns where they start.
+#[inline(always)]
+fn write_part(word: &str, number: u64, line: &mut [u8], end: usize) -> usize
+    requires room { length word.now + 20 ≤ end }
+    requires within { end < length line.old }
+    ensures start { end ≤ result + length word.now + 20 }
+    ensures within { result ≤ end }
+    ensures written { drop result line.new ≡ word.now ++ (decimal number ++ drop end line.old) }
+    ensures same { length line.new ≡ length line.old }
+{
+    let start = write_digits(number, line, end);
+    write_word(word, line, start)
+}
+
 /// Makes a line of two words, each with a number after it, before the line feed at the end of a buffer, and returns
 /// where it starts.
 #[inline(always)]
@@ -35,26 +51,22 @@ fn make_line(line: &mut [u8], first: &str, number: u64, second: &str, other: u64
         ≡ first.now ++ (decimal number ++ (second.now ++ (decimal other ++ codes "\n"))) }
     ensures within { result ≤ ROOM }
 {
-    let end = write_digits(other, line, ROOM - 1);
-    let middle = write_word(second, line, end);
-    let after = write_digits(number, line, middle);
-    write_word(first, line, after)
+    let middle = write_part(second, other, line, ROOM - 1);
+    write_part(first, number, line, middle)
 }
 
 /// Makes a record of three numbers before the line feed at the end of a buffer, and returns where it starts.
 #[inline(always)]
-#[tactic(auto, unfolding(crate::specs::Writing::Grants::grant_line))]
+#[tactic(auto, unfolding(crate::specs::Grants::ListText::grant_line))]
 fn make_grant(line: &mut [u8], epoch: u64, client: u64, name: u64) -> usize
     requires room { length line.old ≡ ROOM }
     requires feed { drop 63 line.old ≡ codes "\n" }
     ensures written { drop result line.new ≡ grant_line epoch client name }
     ensures within { result ≤ ROOM }
 {
-    let third = write_digits(name, line, ROOM - 1);
-    let comma = write_word(",", line, third);
-    let second = write_digits(client, line, comma);
-    let comma = write_word(",", line, second);
-    write_digits(epoch, line, comma)
+    let third = write_part(",", name, line, ROOM - 1);
+    let second = write_part(",", client, line, third);
+    write_part("", epoch, line, second)
 }
 
 /// Sends a line of two words, each with a number after it.
@@ -91,4 +103,47 @@ pub(crate) fn send_grant<W: Write>(
     let mut line = [b'\n'; ROOM];
     let start = make_grant(&mut line, epoch, client, name);
     pieces.put(writer, &line[start..]);
+}
+
+/// Sends a word and a number.
+pub(crate) fn send_number<W: Write, I: Integer>(
+    pieces: &mut Pieces,
+    writer: &mut W,
+    word: &str,
+    number: I,
+)
+    requires { length word.now ≤ 23 }
+    ensures { Puts W.contents writer.old writer.new pieces.old pieces.new (word.now ++ I.text number) }
+{
+    pieces.put(writer, word.as_bytes());
+    pieces.put(writer, Buffer::new().format(number).as_bytes());
+}
+
+/// Sends a word, a number, and what ends the line.
+pub(crate) fn send_numbered<W: Write, I: Integer>(
+    pieces: &mut Pieces,
+    writer: &mut W,
+    word: &str,
+    number: I,
+    end: &str,
+)
+    requires { length word.now + length end.now ≤ 64 }
+    ensures { Puts W.contents writer.old writer.new pieces.old pieces.new
+        (word.now ++ (I.text number ++ end.now)) }
+{
+    pieces.put(writer, word.as_bytes());
+    pieces.put(writer, Buffer::new().format(number).as_bytes());
+    pieces.put(writer, end.as_bytes());
+}
+
+/// Sends the heading of a network.
+pub(crate) fn send_heading<W: Write>(pieces: &mut Pieces, writer: &mut W, network: &Counting)
+    ensures { Puts W.contents writer.old writer.new pieces.old pieces.new (heading network.now) }
+{
+    pieces.put(writer, b"network ");
+    pieces.put(writer, network.kind().word().as_bytes());
+    send_number(pieces, writer, " width ", network.width());
+    send_number(pieces, writer, " balancers ", network.balancers());
+    send_number(pieces, writer, " depth ", network.depth());
+    pieces.put(writer, b"\n");
 }

@@ -1,25 +1,23 @@
 //! The text of a replay.
 
-ghost use Rattle.std.specs.Prelude.{◌≡◌, ◌≤◌, IfOk, List};
+ghost use Rattle.std.specs.Prelude.{◌≡◌, ◌≤◌, List};
 ghost use Rattle.std.specs.List.{All, AllZip};
 ghost use Rattle.cn_spec.specs.declared.limits.TheConstants.{MOST_ENDS};
 ghost use Rattle.cn_record.specs.Answers.{HadMemory};
 ghost use Rattle.cn_record.specs.declared.answer.Answer.{Answer};
 ghost use Rattle.cn_report.specs.Writing.Outcome.{exit_lines};
 ghost use Rattle.cn_report.specs.Writing.Pieces.{Puts, nothing_put};
-ghost use Rattle.cn_report.specs.Writing.Replay.{AreAnswers, Fits, IsKept, IsWhole, IsWholeKept, IsWholeKeptRecord, end_line, kept_counts, kept_line, kept_lines, kept_record_lines, not_quiet_line, replay_text, turn_line};
+ghost use Rattle.cn_report.specs.Writing.Replay.{AreAnswers, Fits, IsKept, IsWholeKept, IsWholeKeptRecord, end_line, kept_counts, kept_line, kept_lines, kept_record_lines, not_quiet_line, replay_text, turn_line};
 ghost use Rattle.cn_report.specs.Writing.Written.{First, HasWritten, written_by};
 
 use crate::writing::emitting::EmitFault;
 use crate::writing::events::{send_enter, send_step};
-use crate::writing::heading::{send_heading, send_number, send_numbered};
-use crate::writing::line::send_line;
+use crate::writing::line::{send_heading, send_line, send_number, send_numbered};
 use crate::writing::outcome::{send_counts, send_exits, send_holders};
 use crate::writing::pieces::Pieces;
 use cn_record::{Answer, Command, EpochRecord, TurnFault};
 use cn_spec::limits::MOST_ENDS;
 use cn_wiring::Counting;
-use std::alloc::{AllocError, Global};
 use std::io::Write;
 
 /// The epoch that stands open at the end of a replay.
@@ -132,50 +130,14 @@ fn send_end<W: Write>(pieces: &mut Pieces, writer: &mut W, last: OpenEpoch)
     pieces.put(writer, b"\n");
 }
 
-/// The text of a replay on a network: its heading, the lines of each command and its answer, and an end line. A turn
-/// that is done has the record of its epoch: a line for each exit and its count, and one for each name and its holder.
+/// Writes the text of a replay on a network in pieces, and flushes once at the end: its heading, the lines of each
+/// command and its answer, and an end line. A turn that is done has the record of its epoch: a line for each exit and
+/// its count, and one for each name and its holder. The end line says how many epochs ended, and how many clients of
+/// the open one entered and are inside.
 ///
-/// The end line says how many epochs ended, and how many clients of the open one entered and are inside.
-///
-/// The answers fit the commands one by one, and none is want of memory; each record has a count for each exit of the
-/// network, and a holder for each of its clients. This holds if they are the answers of epochs of the network.
-///
-/// # Errors
-/// `AllocError` if the text gets no memory.
-pub fn render_replay(
-    alloc: Global,
-    network: &Counting,
-    commands: &[Command],
-    answers: &[Answer],
-    number: u64,
-    entered: u64,
-    inside: u64,
-) -> Result<Vec<u8>, AllocError>
-    requires fit { AreAnswers commands.now answers.now }
-    requires memory { All HadMemory answers.now }
-    requires whole { All (IsWhole network.now.table.width) answers.now }
-    ensures { IfOk result (λ text. text.items
-        ≡ replay_text network.now commands.now answers.now number entered inside) }
-{
-    // A network has some exit, so no record leaves out its counts.
-    let _ = network.width();
-    let pieces = Pieces::new(alloc)?;
-    let mut text = Vec::new(alloc);
-    let last = OpenEpoch {
-        number,
-        entered,
-        inside,
-    };
-    match write_replay(&mut text, pieces, network, commands, answers, last) {
-        Ok(()) => Ok(text),
-        // A vector refuses a write only for want of memory.
-        Err(_) => Err(AllocError),
-    }
-}
-
-/// Writes the text of a replay ([`render_replay`]) in pieces, and flushes once at the end. The record of a turn may
-/// leave out its counts if they are the shares of its clients, of which there are at most
-/// [`cn_spec::limits::MOST_ARRIVALS`]. It takes no memory.
+/// The answers fit the commands one by one, and none is want of memory. This holds if they are those of epochs of the
+/// network. The record of a turn may leave out its counts if they are the shares of its clients, of which there are at
+/// most [`cn_spec::limits::MOST_ARRIVALS`]. It takes no memory.
 ///
 /// # Errors
 /// `EmitFault` if a write fails, is interrupted or takes no byte: nothing is written after it, and the bytes written

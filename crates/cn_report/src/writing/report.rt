@@ -1,32 +1,35 @@
 //! The text of a report.
 
-ghost use Rattle.std.specs.Prelude.{◌≡◌, ◌+◌, ◌≤◌, ◌++◌, All, List, IfOk, length};
-ghost use Rattle.std.specs.List.{flat_map, sum_by};
+ghost use Rattle.std.specs.Prelude.{◌≡◌, ◌+◌, ◌≤◌, ◌++◌, List, length};
+ghost use Rattle.std.specs.List.{flat_map};
 ghost use Rattle.cn_spec.specs.Step.{shares_after};
 ghost use Rattle.cn_spec.specs.Sums.{when};
 ghost use Rattle.cn_spec.specs.declared.limits.TheConstants.{MOST_ENDS, MOST_RECORDS};
 ghost use Rattle.cn_record.specs.declared.record.EpochRecord.{EpochRecord};
 ghost use Rattle.cn_report.specs.Reading.Batch.{clients_of_epochs};
-ghost use Rattle.cn_report.specs.Writing.Outcome.{IsWholeRecord, exit_lines, name_lines};
+ghost use Rattle.cn_report.specs.Writing.EpochRecords.{AreRecordsOf};
+ghost use Rattle.cn_report.specs.Writing.Outcome.{exit_lines, name_lines};
 ghost use Rattle.cn_report.specs.Writing.Pieces.{Puts, nothing_put};
-ghost use Rattle.cn_report.specs.Writing.Records.{AreRecordsOf};
 ghost use Rattle.cn_report.specs.Writing.Report.{epoch_line, epoch_lines, report_end, report_text};
 ghost use Rattle.cn_report.specs.Writing.Written.{First, HasWritten, written_by};
 
 use crate::reading::BatchEpoch;
 use crate::writing::emitting::EmitFault;
-use crate::writing::heading::{send_heading, send_number};
-use crate::writing::line::send_line;
-use crate::writing::outcome::{send_counts, send_exits, send_holders};
+use crate::writing::line::{send_heading, send_line, send_number};
+use crate::writing::outcome::{send_counts, send_holders};
 use crate::writing::pieces::Pieces;
-use cn_record::EpochRecord;
 use cn_spec::limits::{MOST_ENDS, MOST_RECORDS};
 use cn_wiring::Counting;
-use std::alloc::{AllocError, Global};
 use std::io::Write;
 
+/// Sends the line of an epoch.
 #[tactic(auto, unfolding(crate::specs::Writing::Report::epoch_line))]
-fn send_epoch_line<W: Write>(pieces: &mut Pieces, writer: &mut W, number: u64, clients: u64)
+pub(crate) fn send_epoch_line<W: Write>(
+    pieces: &mut Pieces,
+    writer: &mut W,
+    number: u64,
+    clients: u64,
+)
     ensures { Puts W.contents writer.old writer.new pieces.old pieces.new (epoch_line number clients) }
 {
     send_line(pieces, writer, "epoch ", number, " clients ", clients);
@@ -87,7 +90,8 @@ fn send_epochs<W: Write>(
     }
 }
 
-fn send_end<W: Write>(pieces: &mut Pieces, writer: &mut W, epochs: u64, grants: u128)
+/// Sends the end line.
+pub(crate) fn send_end<W: Write>(pieces: &mut Pieces, writer: &mut W, epochs: u64, grants: u128)
     ensures { Puts W.contents writer.old writer.new pieces.old pieces.new (report_end epochs grants) }
 {
     send_number(pieces, writer, "end epochs ", epochs);
@@ -95,84 +99,13 @@ fn send_end<W: Write>(pieces: &mut Pieces, writer: &mut W, epochs: u64, grants: 
     pieces.put(writer, b"\n");
 }
 
-fn send_record<W: Write>(pieces: &mut Pieces, writer: &mut W, width: u32, epoch: &EpochRecord)
-    requires { IsWholeRecord width epoch.now }
-    ensures { Puts W.contents writer.old writer.new pieces.old pieces.new
-        (epoch_lines width epoch.now) }
-{
-    send_epoch_line(pieces, writer, epoch.number, epoch.clients);
-    send_exits(pieces, writer, width, &epoch.counts);
-    send_holders(pieces, writer, &epoch.holders);
-}
-
-fn send_records<W: Write>(pieces: &mut Pieces, writer: &mut W, width: u32, records: &[EpochRecord])
-    requires { All (IsWholeRecord width) records.now }
-    ensures { Puts W.contents writer.old writer.new pieces.old pieces.new
-        (flat_map (epoch_lines width) records.now) }
-{
-    for epoch in records {
-        send_record(pieces, writer, width, epoch);
-    }
-}
-
-/// How many clients the epochs had in all, in 128 bits, which no number of epochs exceeds.
-fn count_clients(records: &[EpochRecord]) -> u128
-    ensures { result ≡ sum_by (λ r. r.clients) records.now }
-{
-    let mut clients = 0;
-    for epoch in records {
-        clients += u128::from(epoch.clients);
-    }
-    clients
-}
-
-fn send_report<W: Write>(
-    writer: &mut W,
-    pieces: Pieces,
-    network: &Counting,
-    records: &[EpochRecord],
-) -> Result<(), EmitFault>
-    requires fresh { pieces ≡ nothing_put }
-    requires whole { All (IsWholeRecord network.now.table.width) records.now }
-    ensures { let written = written_by (λ fault. First fault.written) result in
-        HasWritten W.contents (λ text. text ≡ report_text network.now records.now) written writer.old writer.new }
-{
-    let mut pieces = pieces;
-    send_heading(&mut pieces, writer, network);
-    send_records(&mut pieces, writer, network.width(), records);
-    let grants = count_clients(records);
-    send_end(&mut pieces, writer, records.len() as u64, grants);
-    pieces.finish(writer)
-}
-
-/// The report of epochs on a network: its heading; for each epoch its number and its number of clients, a line for each
-/// exit and its count, and one for each name and its holder; and an end line with the numbers of epochs and of grants.
+/// Writes the report of epochs on a network in pieces, and flushes once at the end: its heading; for each epoch its
+/// number and its number of clients, a line for each exit and its count, and one for each name and its holder; and an
+/// end line with the numbers of epochs and of grants.
 ///
-/// Each record has a count for each exit of the network, and a holder for each of its clients.
-///
-/// # Errors
-/// `AllocError` if the text gets no memory.
-pub fn render_report(
-    alloc: Global,
-    network: &Counting,
-    records: &[EpochRecord],
-) -> Result<Vec<u8>, AllocError>
-    requires { All (IsWholeRecord network.now.table.width) records.now }
-    ensures { IfOk result (λ text. text.items ≡ report_text network.now records.now) }
-{
-    let pieces = Pieces::new(alloc)?;
-    let mut text = Vec::new(alloc);
-    match send_report(&mut text, pieces, network, records) {
-        Ok(()) => Ok(text),
-        // A vector refuses a write only for want of memory.
-        Err(_) => Err(AllocError),
-    }
-}
-
-/// Writes the report of epochs on a network ([`render_report`]) in pieces, and flushes once at the end. Of an epoch of
-/// k clients that come after m others each exit has its share of m + k less its share of m: if the counters are
-/// carried, m is the number of all clients of the epochs before, else 0. The holders of each epoch's names follow those
-/// of the epoch before. It takes no memory.
+/// Of an epoch of k clients that come after m others each exit has its share of m + k less its share of m: if the
+/// counters are carried, m is the number of all clients of the epochs before, else 0. The holders of each epoch's names
+/// follow those of the epoch before. It takes no memory.
 ///
 /// # Errors
 /// `EmitFault` if a write fails, is interrupted or takes no byte: nothing is written after it, and the bytes written

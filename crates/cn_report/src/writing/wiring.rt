@@ -1,16 +1,14 @@
 //! The text of a wiring.
 
-ghost use Rattle.std.specs.Prelude.{◌≡◌, IfOk};
+ghost use Rattle.std.specs.Prelude.{◌≡◌};
 ghost use Rattle.cn_report.specs.Writing.Pieces.{Puts, nothing_put};
 ghost use Rattle.cn_report.specs.Writing.Wiring.{wire_line, wire_lines, wires_line, wiring_text};
 ghost use Rattle.cn_report.specs.Writing.Written.{First, HasWritten, written_by};
 
 use crate::writing::emitting::EmitFault;
-use crate::writing::heading::{send_heading, send_numbered};
-use crate::writing::line::send_line;
+use crate::writing::line::{send_heading, send_line, send_numbered};
 use crate::writing::pieces::Pieces;
 use cn_wiring::{Counting, End};
-use std::alloc::{AllocError, Global};
 use std::io::Write;
 
 #[tactic(auto, unfolding(crate::specs::Writing::Wiring::wire_line))]
@@ -49,26 +47,8 @@ fn send_end<W: Write>(pieces: &mut Pieces, writer: &mut W, wires: u32)
     send_numbered(pieces, writer, "end wires ", wires, "\n");
 }
 
-/// The text of a network's wiring: its heading, a line for each wire with the balancer or exit at which it ends, and
-/// how many wires there are.
-///
-/// # Errors
-///
-/// `AllocError` if the text gets no memory.
-pub fn render_wiring(alloc: Global, network: &Counting) -> Result<Vec<u8>, AllocError>
-    ensures { IfOk result (λ text. text.items ≡ wiring_text network.now) }
-{
-    let pieces = Pieces::new(alloc)?;
-    let mut text = Vec::new(alloc);
-    match write_wiring(&mut text, pieces, network) {
-        Ok(()) => Ok(text),
-        // A vector refuses a write only for want of memory.
-        Err(_) => Err(AllocError),
-    }
-}
-
-/// Writes the text of a network's wiring ([`render_wiring`]) in pieces, and flushes once at the end. It takes no
-/// memory.
+/// Writes the text of a network's wiring in pieces, and flushes once at the end: its heading, a line for each wire with
+/// the balancer or exit at which it ends, and how many wires there are. It takes no memory.
 ///
 /// # Errors
 /// `EmitFault` if a write fails, is interrupted or takes no byte: nothing is written after it, and the bytes written

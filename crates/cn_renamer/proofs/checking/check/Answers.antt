@@ -3,9 +3,9 @@ use Rattle.std.proofs.Common.{◌≡◌, ◌∙◌, ap, refl}
 use Rattle.std.proofs.lemmas.Result.{err_from_is_err_and}
 use Rattle.cn_report.proofs.CallerLemmas.{known-map, written-map}
 use Rattle.cn_report.specs.Reading.Records.{records_of}
-use Rattle.cn_report.specs.Reading.Told.{IsNamedList}
-use Rattle.cn_report.specs.Writing.Tight.{tight_text}
-use Rattle.cn_report.specs.declared.reading.granting.NamedEpoch.{NamedEpoch}
+use Rattle.cn_report.specs.Grants.Told.{IsNamedList}
+use Rattle.cn_report.specs.Grants.TightText.{tight_text}
+use Rattle.cn_report.specs.declared.grants.epochs.NamedEpoch.{NamedEpoch}
 use Rattle.cn_renamer.specs.Check.{IsCheckOfKnown, IsTightTextOf, fault_of_output, until_check}
 use Rattle.cn_renamer.specs.Outputs.{until_output}
 use Rattle.cn_renamer.specs.declared.output_fault.OutputFault.{OutputFault}

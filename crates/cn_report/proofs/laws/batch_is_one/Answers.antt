@@ -1,4 +1,4 @@
-use Rattle.std.proofs.Common.{drop}
+use Rattle.cn_report.proofs.Common.{drop}
 use Rattle.cn_report.specs.Reading.Arrival.{arrivals_in}
 use Rattle.cn_report.specs.Reading.Heading.{heading_in}
 use Rattle.cn_report.proofs.ReadingLemmas.UniqueBatch.{unique}

@@ -1,5 +1,5 @@
-use Rattle.cn_report.proofs.ReadBack.Tight.{written-tight}
-use Rattle.cn_report.proofs.ReadBack.Told.{told-back}
+use Rattle.cn_report.proofs.ReadBack.TightAgain.{written-tight}
+use Rattle.cn_report.proofs.ReadBack.ToldAgain.{told-back}
 use Rattle.cn_report.proofs.laws.written_grants_are_tight.Goals as goal
 
 pub returns-clause-tight : goal.returns-clause-tight

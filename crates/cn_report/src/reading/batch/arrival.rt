@@ -1,15 +1,37 @@
-//! One record of a batch.
+//! One record of a batch: its header, or an arrival.
 
 ghost use Rattle.std.specs.Prelude.{◌≡◌, ◌<◌};
 ghost use Rattle.csv.specs.Records.{fields_of};
-ghost use Rattle.cn_report.specs.Reading.Number.{number_in};
 ghost use Rattle.cn_report.specs.Reading.Arrival.{arrival_in, arrival_with_entry, arriving, entry_by_rule, ruled_arrival};
+ghost use Rattle.cn_report.specs.Reading.Heading.{heading_of};
+ghost use Rattle.cn_report.specs.Reading.Number.{number_in};
 
-use crate::reading::batch::heading::Heading;
 use crate::reading::batch_fault::BatchCause;
 use crate::reading::number::number_of;
-use crate::reading::rows::field;
+use crate::reading::rows::{field, is_header, is_short_header};
 use csv::ByteRecord;
+
+/// How the records of a batch give the entry by which a client comes.
+#[derive(Clone, Copy, Debug, PartialEq, Eq)]
+pub(crate) enum Heading {
+    /// `epoch,client,entry`: in a field of its own.
+    WithEntry,
+    /// `epoch,client`: by the rule that it is the client modulo the number of entries.
+    ByRule,
+}
+
+/// What a record heads, if it is a header of a batch.
+pub(crate) fn heading_of(row: &ByteRecord) -> Option<Heading>
+    ensures { result ≡ heading_of (fields_of row.now) }
+{
+    if is_header(row, b"epoch", b"client", b"entry") {
+        Some(Heading::WithEntry)
+    } else if is_short_header(row, b"epoch", b"client") {
+        Some(Heading::ByRule)
+    } else {
+        None
+    }
+}
 
 /// A client that comes in an epoch by an entry.
 #[derive(Clone, Copy, Debug, PartialEq, Eq)]
@@ -33,7 +55,7 @@ fn arrival_from(epoch: &[u8], client: &[u8], entry: &[u8]) -> Result<Arrival, Ba
 }
 
 /// The arrival of a record that gives its entry.
-#[tactic(auto, using(crate::proofs::ReadingLemmas::ArrivalFields::arrival_of_three, crate::proofs::ReadingLemmas::ArrivalFields::arrival_of_others))]
+#[tactic(auto, using(crate::proofs::ReadingLemmas::RecordFields::arrival_of_three, crate::proofs::ReadingLemmas::RecordFields::arrival_of_others))]
 fn arrival_with_entry(row: &ByteRecord) -> Result<Arrival, BatchCause>
     ensures { result ≡ arrival_with_entry (fields_of row.now) }
 {
@@ -58,7 +80,7 @@ fn arrival_by_rule(epoch: &[u8], client: &[u8], entries: u32) -> Result<Arrival,
 }
 
 /// The arrival of a record whose entry follows by rule.
-#[tactic(auto, using(crate::proofs::ReadingLemmas::ArrivalFields::arrival_of_two, crate::proofs::ReadingLemmas::ArrivalFields::ruled_of_others))]
+#[tactic(auto, using(crate::proofs::ReadingLemmas::RecordFields::arrival_of_two, crate::proofs::ReadingLemmas::RecordFields::ruled_of_others))]
 fn ruled_arrival(row: &ByteRecord, entries: u32) -> Result<Arrival, BatchCause>
     requires { 0 < entries }
     ensures { result ≡ ruled_arrival entries (fields_of row.now) }

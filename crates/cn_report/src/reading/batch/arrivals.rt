@@ -7,8 +7,7 @@ ghost use Rattle.cn_report.specs.Reading.Heading.{heading_of};
 ghost use Rattle.cn_report.specs.Reading.Records.{HasRead, IsPlain, Record, records_of};
 ghost use Rattle.cn_report.specs.Reading.Stretch.{HasHeader, HasSameHeader, IsFull, IsOpen, ReadsStretch};
 
-use crate::reading::batch::arrival::{Arrival, arrival_of};
-use crate::reading::batch::heading::{Heading, heading_of};
+use crate::reading::batch::arrival::{Arrival, Heading, arrival_of, heading_of};
 use crate::reading::batch_fault::{BatchCause, BatchFault};
 use crate::reading::rows::{next_row, open_rows};
 use csv::{ByteRecord, Reader};

@@ -3,7 +3,7 @@
 ghost use Rattle.std.specs.Prelude.{◌≡◌, ℕ, ◌≤◌, ◌+◌, ◌⊎◌, ◌∷◌, ◌++◌, [], List, None, Some, MatchResult, OnErr, OnOk, IfErr, IfOk, vec_capacity};
 ghost use Rattle.cn_spec.specs.declared.limits.TheConstants.{MOST_RECORDS};
 ghost use Rattle.cn_report.specs.declared.reading.batch.arrival.Arrival.{Arrival};
-ghost use Rattle.cn_report.specs.declared.reading.batch.heading.Heading.{Heading};
+ghost use Rattle.cn_report.specs.declared.reading.batch.arrival.Heading.{Heading};
 ghost use Rattle.cn_report.specs.Reading.Arrival.{arrival_cause};
 ghost use Rattle.cn_report.specs.Reading.Batch.{AreServable, IsBatch, IsBatchFault, clients_of_epochs};
 ghost use Rattle.cn_report.specs.Reading.Gathered.{HoldsArrivals, IsGathered, StaysServable, ended_after, joining_cause};

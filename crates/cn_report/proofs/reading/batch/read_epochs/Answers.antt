@@ -1,5 +1,4 @@
-use Rattle.std.proofs.Common.{◌≡◌, refl, true}
-use Rattle.std.specs.Prelude.{Ok}
+use Rattle.cn_report.proofs.Common.{◌≡◌, refl, true, Ok}
 use Rattle.std.proofs.lemmas.Result.{IfOk-weaker, err_from_is_err_and}
 use Rattle.cn_report.proofs.ReadingLemmas.Ahead.{after-header, at-an-end, at-end, goes-on, next-ahead, next-fault, same-header, stretch-fault}
 use Rattle.cn_report.proofs.reading.batch.read_epochs.Goals as goal

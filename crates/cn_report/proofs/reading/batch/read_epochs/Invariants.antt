@@ -1,8 +1,5 @@
-use Rattle.std.proofs.Common.{◌+◌, ◌-◌, ℕ, List}
-use Rattle.std.specs.Prelude.{OnOk}
-use Rattle.cn_spec.specs.declared.limits.TheConstants.{MOST_RECORDS}
+use Rattle.cn_report.proofs.Common.{◌+◌, ◌-◌, ℕ, List, OnOk, MOST_RECORDS, IsPlain}
 use Rattle.cn_report.specs.Reading.Gathered.{StaysServable}
-use Rattle.cn_report.specs.Reading.Records.{IsPlain}
 use Rattle.cn_report.specs.Reading.Stretch.{HasHeader, HasSameHeader, IsFull}
 use Rattle.cn_report.specs.declared.reading.batch.readers.TheConstants.{STRETCH}
 use Rattle.cn_report.proofs.ReadingLemmas.Ahead.{IsAhead}

@@ -1,7 +1,5 @@
-use Rattle.std.proofs.Common.{◌≡◌, ◌-◌, arith, drop, length, sym}
+use Rattle.cn_report.proofs.Common.{◌≡◌, ◌-◌, arith, drop, length, sym, take_rest, nat_tests}
 use Rattle.std.specs.Char.{digit_value}
-use Rattle.std.proofs.lemmas.List.{take_rest}
-use Rattle.std.proofs.lemmas.Bool.Decides.{nat_tests}
 use Rattle.cn_report.proofs.ReadingLemmas.Digits.{IsLed, large-whole, led-if-longer, led-if-shorter, small-whole, with_lead}
 use Rattle.cn_report.proofs.reading.number.value_of_many.Goals as goal
 use Rattle.cn_report.proofs.reading.number.value_of_many.Goals.{else-field-eq-MOST_DIGITS, then-field-eq-MOST_DIGITS}

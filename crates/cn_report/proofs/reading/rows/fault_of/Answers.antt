@@ -1,4 +1,4 @@
-use Rattle.std.proofs.Common.{rules}
+use Rattle.cn_report.proofs.Common.{rules}
 use Rattle.cn_report.proofs.reading.rows.fault_of.Goals as goal
 
 pub returns-in-OutOfMemory : goal.returns-in-OutOfMemory

@@ -1,4 +1,4 @@
-use Rattle.std.proofs.Common.{◌∙◌, inl}
+use Rattle.cn_report.proofs.Common.{◌∙◌, inl}
 use Rattle.csv.specs.Records.{fields_of}
 use Rattle.cn_report.proofs.ReadingLemmas.RecordLists.{plain-fails, read-either}
 use Rattle.cn_report.proofs.reading.rows.next_row.Goals as goal

@@ -1,4 +1,4 @@
-use Rattle.std.proofs.Common.{◌∙◌, inr}
+use Rattle.cn_report.proofs.Common.{◌∙◌, inr}
 use Rattle.cn_report.proofs.ReadingLemmas.RecordLists.{opened}
 use Rattle.cn_report.proofs.reading.rows.open_rows.Goals as goal
 

@@ -1,6 +1,4 @@
-use Rattle.std.proofs.Common.{[]}
-use Rattle.std.specs.Prelude.{MatchResult}
-use Rattle.cn_report.specs.Reading.Records.{HasRead, records_of}
+use Rattle.cn_report.proofs.Common.{[], MatchResult, HasRead, records_of}
 use Rattle.cn_report.specs.Reading.Schedule.{IsSchedule, IsScheduleFault}
 use Rattle.cn_report.proofs.ReadingLemmas.FirstFaults.{known-map}
 use Rattle.cn_report.proofs.reading.schedule.read_schedule.Goals as goal

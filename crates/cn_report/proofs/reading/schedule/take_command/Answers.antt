@@ -1,9 +1,6 @@
-use Rattle.std.proofs.Common.{◌≡◌, true, refl, inl}
-use Rattle.std.specs.Prelude.{nat_lt}
-use Rattle.std.proofs.lemmas.Bool.{lt-ltb}
+use Rattle.cn_report.proofs.Common.{◌≡◌, true, refl, inl, nat_lt, lt-ltb, MOST_RECORDS}
 use Rattle.std.proofs.lemmas.Result.{err_from_is_err_and}
 use Rattle.csv.specs.Records.{fields_of}
-use Rattle.cn_spec.specs.declared.limits.TheConstants.{MOST_RECORDS}
 use Rattle.cn_report.proofs.reading.schedule.take_command.Goals as goal
 
 pub returns-then-not-branch-clause-found : goal.returns-then-not-branch-clause-found

@@ -1,7 +1,5 @@
-use Rattle.std.proofs.Common.{◌≡◌, ◌∷◌, ◌++◌, [], refl, arith, length-append, inl, inr, rules}
-use Rattle.std.proofs.Common.{true}
+use Rattle.cn_report.proofs.Common.{◌≡◌, ◌∷◌, ◌++◌, [], refl, arith, length-append, inl, inr, rules, true, records_of}
 use Rattle.std.specs.Result.{is_ok}
-use Rattle.cn_report.specs.Reading.Records.{records_of}
 use Rattle.cn_report.specs.declared.reading.schedule_fault.ScheduleCause.TheVariants.{Memory}
 use Rattle.cn_report.specs.Reading.Schedule.{IsOfReading, header_cause, record_cause}
 use Rattle.cn_report.proofs.ReadingLemmas.FirstFaults.{stop_at, stop-before}

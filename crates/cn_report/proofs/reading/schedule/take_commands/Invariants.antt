@@ -1,6 +1,4 @@
-use Rattle.std.proofs.Common.{◌≡◌, ◌≤◌, ◌+◌, ℕ, List, [], vec_len, length}
-use Rattle.cn_spec.specs.declared.limits.TheConstants.{MOST_RECORDS}
-use Rattle.cn_report.specs.Reading.Records.{HasRead, IsPlain, Record}
+use Rattle.cn_report.proofs.Common.{◌≡◌, ◌≤◌, ◌+◌, ℕ, List, [], vec_len, length, MOST_RECORDS, HasRead, IsPlain, Record}
 use Rattle.cn_report.proofs.ReadingLemmas.ScheduleRecords.{AreTaken}
 use Rattle.cn_report.proofs.reading.schedule.take_commands.Given as goal
 

@@ -1,4 +1,4 @@
-use Rattle.std.proofs.Common.{[], refl}
+use Rattle.cn_report.proofs.Common.{[], refl}
 use Rattle.csv.specs.Records.{fields_of}
 use Rattle.cn_report.specs.Reading.Schedule.{IsOfReading, header_cause, record_cause}
 use Rattle.cn_report.specs.declared.reading.schedule_fault.ScheduleCause.TheVariants.{Header}

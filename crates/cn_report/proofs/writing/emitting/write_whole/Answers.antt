@@ -1,4 +1,4 @@
-use Rattle.std.proofs.Common.{◌≤◌, ◌-◌, length, drop, arith, length-take}
+use Rattle.cn_report.proofs.Common.{◌≤◌, ◌-◌, length, drop, arith, length-take}
 use Rattle.cn_report.proofs.WritingLemmas.Appending.{front_more}
 use Rattle.cn_report.proofs.writing.emitting.write_whole.Goals as goal
 

@@ -1,5 +1,5 @@
 use Rattle.cn_report.specs.Writing.Replay.{moved_line}
-use Rattle.cn_report.proofs.WritingLemmas.Pieces.{put-then}
+use Rattle.cn_report.proofs.WritingLemmas.Putting.{put-then}
 use Rattle.cn_report.proofs.writing.events.send_pass.Goals as goal
 
 pub returns : goal.returns

@@ -1,6 +1,5 @@
-use Rattle.std.proofs.Common.{◌-◌, ◌∙◌, arith, drop, length-drop, length-take, refl}
-use Rattle.std.proofs.lemmas.List.{take_all}
-use Rattle.cn_report.proofs.WritingLemmas.Pieces.{put-same}
+use Rattle.cn_report.proofs.Common.{◌-◌, ◌∙◌, arith, drop, length-drop, length-take, refl, take_all}
+use Rattle.cn_report.proofs.WritingLemmas.Putting.{put-same}
 use Rattle.cn_report.proofs.writing.line.send_line.Goals as goal
 
 pub make_line-start-requires : goal.make_line-start-requires

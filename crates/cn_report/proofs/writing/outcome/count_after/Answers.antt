@@ -1,6 +1,5 @@
-use Rattle.std.proofs.Common.{◌+◌, ◌∙◌, ◌-◌, ap₂, sym, zero-add}
+use Rattle.cn_report.proofs.Common.{◌+◌, ◌∙◌, ◌-◌, ap₂, sym, zero-add, share}
 use Rattle.std.proofs.lemmas.List.FromFn.{get_or-map-range_with_len}
-use Rattle.cn_spec.specs.Step.{share}
 use Rattle.cn_report.proofs.writing.outcome.count_after.Goals as goal
 
 pub returns : goal.returns

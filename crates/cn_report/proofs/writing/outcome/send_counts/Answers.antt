@@ -1,7 +1,6 @@
-use Rattle.std.proofs.Common.{arith, slice_index}
-use Rattle.cn_spec.specs.Step.{shares_after}
+use Rattle.cn_report.proofs.Common.{arith, slice_index, shares_after}
 use Rattle.cn_report.specs.Writing.Outcome.{exit_line}
-use Rattle.cn_report.proofs.WritingLemmas.Pieces.{put-line, put-lines, put-none}
+use Rattle.cn_report.proofs.WritingLemmas.Putting.{put-line, put-lines, put-none}
 use Rattle.cn_report.proofs.writing.outcome.send_counts.Goals as goal
 
 pub loop-exit-init : goal.loop-exit-init

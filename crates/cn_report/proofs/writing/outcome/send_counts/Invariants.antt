@@ -1,6 +1,5 @@
-use Rattle.cn_spec.specs.Step.{shares_after}
+use Rattle.cn_report.proofs.Common.{shares_after, Puts}
 use Rattle.cn_report.specs.Writing.Outcome.{exit_lines}
-use Rattle.cn_report.specs.Writing.Pieces.{Puts}
 use Rattle.cn_report.proofs.writing.outcome.send_counts.Given as goal
 
 abbrev pub invariant-loop-exit : goal.invariant-loop-exit

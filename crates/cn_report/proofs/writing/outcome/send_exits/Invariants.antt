@@ -1,5 +1,5 @@
 use Rattle.cn_report.specs.Writing.Outcome.{exit_lines}
-use Rattle.cn_report.specs.Writing.Pieces.{Puts}
+use Rattle.cn_report.proofs.Common.{Puts}
 use Rattle.cn_report.proofs.writing.outcome.send_exits.Given as goal
 
 abbrev pub invariant-loop-exit : goal.invariant-loop-exit

@@ -1,6 +1,6 @@
-use Rattle.std.proofs.Common.{arith, length, slice_index}
+use Rattle.cn_report.proofs.Common.{arith, length, slice_index}
 use Rattle.cn_report.specs.Writing.Outcome.{name_line}
-use Rattle.cn_report.proofs.WritingLemmas.Pieces.{put-line, put-lines, put-none}
+use Rattle.cn_report.proofs.WritingLemmas.Putting.{put-line, put-lines, put-none}
 use Rattle.cn_report.proofs.writing.outcome.send_holders.Goals as goal
 
 pub loop-name-init : goal.loop-name-init

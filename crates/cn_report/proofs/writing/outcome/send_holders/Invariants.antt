@@ -1,5 +1,5 @@
 use Rattle.cn_report.specs.Writing.Outcome.{name_lines}
-use Rattle.cn_report.specs.Writing.Pieces.{Puts}
+use Rattle.cn_report.proofs.Common.{Puts}
 use Rattle.cn_report.proofs.writing.outcome.send_holders.Given as goal
 
 abbrev pub invariant-loop-name : goal.invariant-loop-name

@@ -1,6 +1,4 @@
-use Rattle.std.proofs.Common.{take}
-use Rattle.std.specs.List.{flat_map, zip}
-use Rattle.cn_report.specs.Writing.Pieces.{Puts}
+use Rattle.cn_report.proofs.Common.{take, flat_map, zip, Puts}
 use Rattle.cn_report.specs.Writing.Replay.{kept_line}
 use Rattle.cn_report.proofs.writing.replay.send_answers.Given as goal
 

@@ -1,6 +1,6 @@
-use Rattle.std.proofs.Common.{arith, sym}
+use Rattle.cn_report.proofs.Common.{arith, sym}
 use Rattle.cn_report.specs.Writing.Replay.{replay_text}
-use Rattle.cn_report.proofs.WritingLemmas.Pieces.{put-all, put-same, put-then}
+use Rattle.cn_report.proofs.WritingLemmas.Putting.{put-all, put-same, put-then}
 use Rattle.cn_report.proofs.WritingLemmas.SameLines.{lines-kept}
 use Rattle.cn_report.proofs.writing.replay.write_replay.Goals as goal
 

@@ -1,5 +1,5 @@
 use Rattle.cn_report.specs.Writing.Report.{report_end}
-use Rattle.cn_report.proofs.WritingLemmas.Pieces.{put-then}
+use Rattle.cn_report.proofs.WritingLemmas.Putting.{put-then}
 use Rattle.cn_report.proofs.writing.report.send_end.Goals as goal
 
 pub returns : goal.returns

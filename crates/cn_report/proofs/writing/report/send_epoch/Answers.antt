@@ -1,4 +1,4 @@
-use Rattle.cn_report.proofs.WritingLemmas.Pieces.{put-then}
+use Rattle.cn_report.proofs.WritingLemmas.Putting.{put-then}
 use Rattle.cn_report.proofs.writing.report.send_epoch.Goals as goal
 
 pub returns : goal.returns

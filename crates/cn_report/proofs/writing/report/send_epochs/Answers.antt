@@ -1,15 +1,12 @@
-use Rattle.std.proofs.Common.{◌≡◌, ◌+◌, ◌++◌, ◌∙◌, ℕ, Bool, List, [], ap, append_assoc, append-nil, arith, drop, length, refl, subst, sym, take}
-use Rattle.std.specs.List.{flat_map}
-use Rattle.std.proofs.lemmas.List.Sums.{sum_by-drop_more}
-use Rattle.cn_spec.specs.Step.{shares_after}
+use Rattle.cn_report.proofs.Common.{◌≡◌, ◌+◌, ◌++◌, ◌∙◌, ℕ, Bool, List, [], ap, append_assoc, append-nil, arith, drop, length, refl, subst, sym, take, flat_map, sum_by-drop_more, shares_after}
 use Rattle.cn_spec.specs.Sums.{when}
 use Rattle.cn_report.specs.declared.reading.batch.BatchEpoch.{BatchEpoch}
 use Rattle.cn_record.specs.declared.record.EpochRecord.{EpochRecord}
 use Rattle.cn_report.specs.Writing.Outcome.{exit_lines, name_lines}
-use Rattle.cn_report.specs.Writing.Records.{AreRecordsOf}
+use Rattle.cn_report.specs.Writing.EpochRecords.{AreRecordsOf}
 use Rattle.cn_report.specs.Writing.Report.{epoch_line, epoch_lines}
-use Rattle.cn_report.proofs.WritingLemmas.Pieces.{put-none, put-rest, put-same, put-then}
-use Rattle.cn_report.proofs.WritingLemmas.Records.{FirstRecord, first-record, last-record, when-le}
+use Rattle.cn_report.proofs.WritingLemmas.Putting.{put-none, put-rest, put-same, put-then}
+use Rattle.cn_report.proofs.WritingLemmas.RecordLines.{FirstRecord, first-record, last-record, when-le}
 use Rattle.cn_report.proofs.writing.report.send_epochs.Goals as goal
 
 -- a record, by what is put of it

@@ -1,10 +1,7 @@
-use Rattle.std.proofs.Common.{◌≡◌, ◌+◌, ◌++◌, ◌≤◌, ℕ, List, drop, length}
-use Rattle.std.specs.List.{flat_map}
-use Rattle.cn_spec.specs.declared.limits.TheConstants.{MOST_RECORDS}
+use Rattle.cn_report.proofs.Common.{◌≡◌, ◌+◌, ◌++◌, ◌≤◌, ℕ, List, drop, length, flat_map, MOST_RECORDS, Puts}
 use Rattle.cn_record.specs.declared.record.EpochRecord.{EpochRecord}
 use Rattle.cn_report.specs.Reading.Batch.{clients_of_epochs}
-use Rattle.cn_report.specs.Writing.Pieces.{Puts}
-use Rattle.cn_report.specs.Writing.Records.{AreRecordsOf}
+use Rattle.cn_report.specs.Writing.EpochRecords.{AreRecordsOf}
 use Rattle.cn_report.specs.Writing.Report.{epoch_lines}
 use Rattle.cn_report.proofs.writing.report.send_epochs.Given as goal
 

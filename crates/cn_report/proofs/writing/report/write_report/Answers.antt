@@ -1,7 +1,7 @@
-use Rattle.std.proofs.Common.{◌∙◌, ap₂, arith, sym}
+use Rattle.cn_report.proofs.Common.{◌∙◌, ap₂, arith, sym}
 use Rattle.cn_report.specs.Writing.Report.{report_end, report_text}
-use Rattle.cn_report.proofs.WritingLemmas.Records.{as-many-records}
-use Rattle.cn_report.proofs.WritingLemmas.Pieces.{put-all, put-same, put-then}
+use Rattle.cn_report.proofs.WritingLemmas.RecordLines.{as-many-records}
+use Rattle.cn_report.proofs.WritingLemmas.Putting.{put-all, put-same, put-then}
 use Rattle.cn_report.proofs.writing.report.write_report.Goals as goal
 
 pub send_epochs-requires-clause-width : goal.send_epochs-requires-clause-width

@@ -1,10 +1,9 @@
-use Rattle.std.proofs.Common.{◌≡◌, ◌∙◌, ◌<◌, ◌≤◌, ℕ, ap, arith, get_or, length, sym, zero-add}
-use Rattle.std.specs.List.{enumerate_from}
+use Rattle.cn_report.proofs.Common.{◌≡◌, ◌∙◌, ◌<◌, ◌≤◌, ℕ, ap, arith, get_or, length, sym, zero-add, enumerate_from}
 use Rattle.std.proofs.lemmas.List.FromFn.{get_or-enumerate_from, length-enumerate_from}
 use Rattle.cn_wiring.specs.declared.end.End.{End}
 use Rattle.cn_wiring.specs.declared.end.End.TheVariants.{Balancer}
 use Rattle.cn_report.specs.Writing.Wiring.{wire_line}
-use Rattle.cn_report.proofs.WritingLemmas.Pieces.{put-last, put-next, put-none}
+use Rattle.cn_report.proofs.WritingLemmas.Putting.{put-last, put-next, put-none}
 use Rattle.cn_report.proofs.writing.wiring.send_wires.Goals as goal
 
 pub loop-wire-init : goal.loop-wire-init

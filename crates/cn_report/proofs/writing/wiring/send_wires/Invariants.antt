@@ -1,6 +1,4 @@
-use Rattle.std.proofs.Common.{take}
-use Rattle.std.specs.List.{enumerate_from, flat_map}
-use Rattle.cn_report.specs.Writing.Pieces.{Puts}
+use Rattle.cn_report.proofs.Common.{take, enumerate_from, flat_map, Puts}
 use Rattle.cn_report.specs.Writing.Wiring.{wire_line}
 use Rattle.cn_report.proofs.writing.wiring.send_wires.Given as goal
 

@@ -1,6 +1,6 @@
-use Rattle.std.proofs.Common.{◌≡◌, ◌+◌, ◌*◌, ap, arith, length}
+use Rattle.cn_report.proofs.Common.{◌≡◌, ◌+◌, ◌*◌, ap, arith, length}
 use Rattle.cn_report.specs.Writing.Wiring.{wires_line, wiring_text}
-use Rattle.cn_report.proofs.WritingLemmas.Pieces.{put-all, put-same, put-then}
+use Rattle.cn_report.proofs.WritingLemmas.Putting.{put-all, put-same, put-then}
 use Rattle.cn_report.proofs.writing.wiring.write_wiring.Goals as goal
 
 pub returns : goal.returns

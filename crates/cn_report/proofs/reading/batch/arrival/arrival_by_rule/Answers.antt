@@ -1,4 +1,4 @@
-use Rattle.std.proofs.Common.{rules}
+use Rattle.cn_report.proofs.Common.{rules}
 use Rattle.cn_report.proofs.reading.batch.arrival.arrival_by_rule.Goals as goal
 
 pub returns : goal.returns

@@ -1,4 +1,4 @@
-use Rattle.std.proofs.Common.{[], ap, sym, ◌∙◌, refl}
+use Rattle.cn_report.proofs.Common.{[], ap, sym, ◌∙◌, refl}
 use Rattle.csv.specs.Records.{fields_of}
 use Rattle.cn_report.specs.Reading.Batch.{IsOfReading, cause_of_heading, header_cause, record_cause}
 use Rattle.cn_report.specs.declared.reading.batch_fault.BatchCause.TheVariants.{Header}

@@ -1,6 +1,5 @@
-use Rattle.std.proofs.Common.{◌∙◌, [], ap, sym}
-use Rattle.cn_report.specs.Writing.Pieces.{Pending}
-use Rattle.cn_report.proofs.WritingLemmas.Pieces.{cut-off, ended}
+use Rattle.cn_report.proofs.Common.{◌∙◌, [], ap, sym, Pending}
+use Rattle.cn_report.proofs.WritingLemmas.Putting.{cut-off, ended}
 use Rattle.cn_report.proofs.writing.pieces.Pieces.finish.Goals as goal
 
 pub returns-then-pieces : goal.returns-then-pieces

@@ -1,6 +1,5 @@
-use Rattle.std.proofs.Common.{◌≡◌, ◌∙◌, ◌++◌, ℕ, List, Option, ap, append_assoc, sym}
-use Rattle.cn_report.specs.Writing.Pieces.{Pending, Puts}
-use Rattle.cn_report.proofs.WritingLemmas.Pieces.{put-then}
+use Rattle.cn_report.proofs.Common.{◌≡◌, ◌∙◌, ◌++◌, ℕ, List, Option, ap, append_assoc, sym, Pending, Puts}
+use Rattle.cn_report.proofs.WritingLemmas.Putting.{put-then}
 use Rattle.cn_report.proofs.writing.pieces.Pieces.put.Goals as goal
 
 -- what is held is put

@@ -1,7 +1,6 @@
-use Rattle.std.proofs.Common.{◌≡◌, ◌+◌, ◌≤◌, ◌∙◌, false, ap, arith, length, subst, sym, take}
+use Rattle.cn_report.proofs.Common.{◌≡◌, ◌+◌, ◌≤◌, ◌∙◌, false, ap, arith, length, subst, sym, take, Pending}
 use Rattle.std.specs.Io.KnownBytes.{Appends}
-use Rattle.cn_report.specs.Writing.Pieces.{Pending}
-use Rattle.cn_report.proofs.WritingLemmas.Pieces.{written-all, written-some}
+use Rattle.cn_report.proofs.WritingLemmas.Putting.{written-all, written-some}
 use Rattle.cn_report.proofs.writing.pieces.Pieces.write_held.Goals as goal
 
 pub returns-in-Ok-clause-puts : goal.returns-in-Ok-clause-puts

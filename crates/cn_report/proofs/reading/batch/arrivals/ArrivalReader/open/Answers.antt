@@ -1,5 +1,4 @@
-use Rattle.std.proofs.Common.{[]}
-use Rattle.cn_report.specs.Reading.Records.{HasRead}
+use Rattle.cn_report.proofs.Common.{[], HasRead}
 use Rattle.cn_report.proofs.ReadingLemmas.FirstFaults.{known-map}
 use Rattle.cn_report.proofs.reading.batch.arrivals.ArrivalReader.open.Goals as goal
 

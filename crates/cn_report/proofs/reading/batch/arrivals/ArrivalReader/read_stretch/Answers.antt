@@ -1,5 +1,4 @@
-use Rattle.std.proofs.Common.{◌≡◌, ◌∷◌, ◌++◌, [], append-nil, append_assoc, arith, false, inr, length-append, refl, rules, true}
-use Rattle.std.specs.Prelude.{Err, Ok}
+use Rattle.cn_report.proofs.Common.{◌≡◌, ◌∷◌, ◌++◌, [], append-nil, append_assoc, arith, false, inr, length-append, refl, rules, true, Err, Ok}
 use Rattle.std.specs.Result.{is_ok}
 use Rattle.std.proofs.lemmas.Result.{err_from_is_err_and}
 use Rattle.cn_report.specs.declared.reading.batch_fault.BatchCause.TheVariants.{Memory}

@@ -1,5 +1,4 @@
-use Rattle.std.proofs.Common.{◌≡◌, ◌++◌, ℕ, List, length}
-use Rattle.cn_report.specs.Reading.Records.{HasRead, IsPlain, Record}
+use Rattle.cn_report.proofs.Common.{◌≡◌, ◌++◌, ℕ, List, length, HasRead, IsPlain, Record}
 use Rattle.cn_report.specs.Reading.Stretch.{AreSpelled, HasSameHeader}
 use Rattle.cn_report.proofs.reading.batch.arrivals.ArrivalReader.read_stretch.Given as goal
 

@@ -1,4 +1,4 @@
-use Rattle.std.proofs.Common.{◌≡◌, ◌∙◌, true, sym, inl, inr, arith, rules}
+use Rattle.cn_report.proofs.Common.{◌≡◌, ◌∙◌, true, sym, inl, inr, arith, rules}
 use Rattle.std.specs.Result.{is_ok}
 use Rattle.cn_report.proofs.ReadingLemmas.GatheredEpochs.{backwards, out_of_range, taken_of, told_of}
 use Rattle.cn_report.proofs.ReadingLemmas.ServableEpochs.{joined-keeps}

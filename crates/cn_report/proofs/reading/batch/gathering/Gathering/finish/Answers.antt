@@ -1,4 +1,4 @@
-use Rattle.std.proofs.Common.{arith, refl}
+use Rattle.cn_report.proofs.Common.{arith, refl}
 use Rattle.cn_report.proofs.ReadingLemmas.BatchRecords.{taken_all}
 use Rattle.cn_report.proofs.ReadingLemmas.GatheredEpochs.{ended-epochs}
 use Rattle.cn_report.proofs.ReadingLemmas.ServableEpochs.{all-ended, ended-servable}

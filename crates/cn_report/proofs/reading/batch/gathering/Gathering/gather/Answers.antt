@@ -1,4 +1,4 @@
-use Rattle.std.proofs.Common.{arith, ◌++◌, sym, take}
+use Rattle.cn_report.proofs.Common.{arith, ◌++◌, sym, take}
 use Rattle.cn_report.proofs.ReadingLemmas.Stretches.{all-gathered, gathered-next, gathering-fault, none-gathered-of}
 use Rattle.cn_report.proofs.reading.batch.gathering.Gathering.gather.Goals as goal
 

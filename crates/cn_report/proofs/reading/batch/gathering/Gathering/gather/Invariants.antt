@@ -1,9 +1,8 @@
-use Rattle.std.proofs.Common.{◌≡◌, ◌+◌, List}
+use Rattle.cn_report.proofs.Common.{◌≡◌, ◌+◌, List, Record}
 use Rattle.cn_report.specs.Reading.Gathered.{IsGathered, StaysServable}
-use Rattle.cn_report.specs.Reading.Records.{Record}
 use Rattle.cn_report.specs.Reading.Stretch.{AreSpelled, AreTaken}
 use Rattle.cn_report.specs.declared.reading.batch.arrival.Arrival.{Arrival}
-use Rattle.cn_report.specs.declared.reading.batch.heading.Heading.{Heading}
+use Rattle.cn_report.specs.declared.reading.batch.arrival.Heading.{Heading}
 use Rattle.cn_report.proofs.ReadingLemmas.Stretches.{GatheredTo}
 use Rattle.cn_report.proofs.reading.batch.gathering.Gathering.gather.Given as goal
 

@@ -1,4 +1,4 @@
-use Rattle.std.proofs.Common.{rules}
+use Rattle.cn_report.proofs.Common.{rules}
 use Rattle.cn_report.proofs.reading.batch.gathering.Gathering.join.Goals as goal
 
 pub returns-clause-ok : goal.returns-clause-ok

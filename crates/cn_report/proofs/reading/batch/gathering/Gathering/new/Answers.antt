@@ -1,4 +1,4 @@
-use Rattle.std.proofs.Common.{refl}
+use Rattle.cn_report.proofs.Common.{refl}
 use Rattle.cn_report.proofs.ReadingLemmas.GatheredEpochs.{none-gathered}
 use Rattle.cn_report.proofs.ReadingLemmas.ServableEpochs.{none_kept}
 use Rattle.cn_report.proofs.reading.batch.gathering.Gathering.new.Goals as goal

@@ -1,4 +1,4 @@
-use Rattle.std.proofs.Common.{arith}
+use Rattle.cn_report.proofs.Common.{arith}
 use Rattle.cn_report.proofs.ReadingLemmas.GatheredEpochs.{turned}
 use Rattle.cn_report.proofs.ReadingLemmas.ServableEpochs.{turned-keeps}
 use Rattle.cn_report.proofs.reading.batch.gathering.Gathering.turn_to.Goals as goal

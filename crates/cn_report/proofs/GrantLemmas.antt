@@ -1,0 +1,5 @@
+-- Lemmas on grant lists.
+pub mod CheckedGrants
+pub mod GrantRecords
+pub mod TightFacts
+pub mod TightLines

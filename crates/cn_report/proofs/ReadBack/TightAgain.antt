@@ -1,0 +1,112 @@
+-- A grant list that is written of tight epochs is tight.
+use Rattle.cn_report.proofs.Common.{◌≡◌, ◌<◌, ◌≤◌, ◌+◌, ◌^◌, ℕ, List, [], ◌∷◌, ◌++◌, length, map, get_or, arith, suc, zero, ap, ◌∙◌, subst, length-append, inl, inr, ◌≢◌, ◌⊎◌, AllByRecursion, range_with_len, eqb_tells, recursion_from_All, true, false, records_of}
+use Rattle.std.proofs.lemmas.List.FromFn.{length-map-range_with_len}
+use Rattle.std.proofs.lemmas.List.Sorted.{IsPermutation-refl}
+use Rattle.std.proofs.Math.Dec.{eqb}
+use Rattle.cn_spec.proofs.CallerLemmas.{times-nil}
+use Rattle.cn_record.specs.declared.record.EpochRecord.{EpochRecord}
+use Rattle.cn_report.specs.Grants.Granted.{of_epoch}
+use Rattle.cn_report.specs.Grants.TightList.{AreTightGrants, IsTightList}
+use Rattle.cn_report.specs.declared.grants.record.Granted.{Granted}
+use Rattle.cn_report.specs.Grants.ListText.{AreRisingRecords, AreTightRecords, HasOwnNames, grants_header, grants_text}
+use Rattle.cn_report.proofs.ReadBack.Epochs.{all_grants, clients-held, first-epoch, grant_at, grants-many, grants_of, later-epoch, lines-of-all, names-given}
+use Rattle.cn_report.proofs.ReadBack.Form.{NeverFall, form-clean, grants-read}
+use Rattle.cn_report.proofs.ReadBack.Rows.{AllSmall, grants-back, header_row, row_of}
+
+-- an epoch with no grants has no record
+none-tight : AreTightGrants []
+none-tight = record { clients = λ client. omega (arith, times-nil client); names = IsPermutation-refl [] }
+
+own-tight : (r : EpochRecord) → HasOwnNames r → AreTightGrants (grants_of r)
+own-tight r own = record {
+  clients = λ client. rw (clients-held r own.holders) (own.once client);
+  names =
+      let size : length (grants_of r) ≡ r.clients = length-map-range_with_len (grant_at r) 0 r.clients in
+      rw (size, names-given r (range_with_len 0 r.clients)) (IsPermutation-refl (range_with_len 0 r.clients));
+}
+
+-- each epoch is tight
+pub each-tight : (records : List EpochRecord) → AreRisingRecords records → AllByRecursion HasOwnNames records → (e : ℕ) → AreTightGrants (of_epoch e (all_grants records))
+unfolding AreRisingRecords
+each-tight [] rising own e = none-tight
+each-tight (r ∷ records) rising own e = by (eqb_tells r.number e) (each-tight records rising.1 own.1 e)
+  where
+    by : ((eqb r.number e ≡ true) × (r.number ≡ e)) ⊎ ((eqb r.number e ≡ false) × (r.number ≢ e))
+        → AreTightGrants (of_epoch e (all_grants records)) → AreTightGrants (of_epoch e (all_grants (r ∷ records)))
+    by (inl w) later =
+        subst (λ (n : ℕ). AreTightGrants (of_epoch n (all_grants (r ∷ records)))) w.1
+        (rw (first-epoch r records rising.0) (own-tight r own.0))
+    by (inr w) later = rw (later-epoch e r records w.1) later
+
+-- all numbers are of 64 bits
+small_at : (holders : List ℕ) (n : ℕ) → AllByRecursion (λ client. client < 2 ^ 64) holders → get_or holders n 0 < 2 ^ 64
+small_at [] n all = omega arith
+small_at (h ∷ holders) zero all = all.0
+small_at (h ∷ holders) (suc n) all = small_at holders n all.1
+
+small-append : (gs more : List Granted) → AllSmall gs → AllSmall more → AllSmall (gs ++ more)
+unfolding AllSmall
+small-append [] more first rest = rest
+small-append (g ∷ gs) more first rest = (first.0, small-append gs more first.1 rest)
+
+small-names : (r : EpochRecord) (from n : ℕ) → HasOwnNames r → from + n ≤ 2 ^ 64 → AllSmall (map (grant_at r) (range_with_len from n))
+unfolding AllSmall
+small-names r from zero own few = tt
+small-names r from (suc n) own few = (
+  record { epoch = own.number; client = small_at r.holders.items from (recursion_from_All (λ client. client < 2 ^ 64) r.holders.items own.clients); name = omega (arith, few) },
+  small-names r (from + 1) n own (omega (arith, few)),
+)
+
+-- an epoch's names and those of the epochs after it never fall
+never-falls : (r : EpochRecord) (low from n : ℕ) (more : List Granted) → low ≤ r.number → NeverFall r.number more
+    → NeverFall low more → NeverFall low (map (grant_at r) (range_with_len from n) ++ more)
+unfolding NeverFall
+never-falls r low from zero more h rest all = all
+never-falls r low from (suc n) more h rest all = (h, never-falls r r.number (from + 1) n more (omega arith) rest rest)
+
+lower : (low from : ℕ) (gs : List Granted) → low ≤ from → NeverFall from gs → NeverFall low gs
+unfolding NeverFall
+lower low from [] h all = tt
+lower low from (g ∷ gs) h all = (omega (arith, h, all.0), all.1)
+
+all-fall : (low : ℕ) (records : List EpochRecord) → AllByRecursion (λ r. low ≤ r.number) records → AreRisingRecords records → NeverFall low (all_grants records)
+unfolding NeverFall AreRisingRecords
+all-fall low [] all rising = tt
+all-fall low (r ∷ records) all rising =
+    let rest = all-fall r.number records (above_all r.number records rising.0) rising.1 in
+    never-falls r low 0 r.clients (all_grants records) all.0 rest (lower low r.number (all_grants records) all.0 rest)
+  where
+    above_all : (n : ℕ) (later : List EpochRecord) → AllByRecursion (λ s. n < s.number) later → AllByRecursion (λ s. n ≤ s.number) later
+    above_all n [] h = tt
+    above_all n (s ∷ later) h = (omega (arith, h.0), above_all n later h.1)
+
+any-number : (records : List EpochRecord) → AllByRecursion (λ r. 0 ≤ r.number) records
+any-number [] = tt
+any-number (r ∷ records) = (omega arith, any-number records)
+
+all_small : (records : List EpochRecord) → AllByRecursion HasOwnNames records → length (all_grants records) ≤ 2 ^ 64 → AllSmall (all_grants records)
+unfolding AllSmall
+all_small [] own few = tt
+all_small (r ∷ records) own few =
+    let size = length-append (grants_of r) (all_grants records) in
+    small-append (grants_of r) (all_grants records)
+    (small-names r 0 r.clients own.0 (omega (arith, few, size, length-map-range_with_len (grant_at r) 0 r.clients)))
+    (all_small records own.1 (omega (arith, few, size)))
+
+pub small-grants : (records : List EpochRecord) → AreTightRecords records → AllSmall (all_grants records)
+small-grants records tight = all_small records tight.names (omega (arith, tight.few, grants-many records))
+
+-- the records of the written list, and the grants that they spell
+pub records-back : (records : List EpochRecord) → AreTightRecords records → records_of (grants_text records) ≡ header_row ∷ map row_of (all_grants records)
+records-back records tight =
+    ap (λ (more : List ℕ). records_of (grants_header ++ more)) (lines-of-all records)
+    ∙ grants-back (all_grants records) (small-grants records tight)
+
+pub written-tight : (records : List EpochRecord) → AreTightRecords records → IsTightList (records_of (grants_text records))
+written-tight records tight =
+    let small = small-grants records tight in
+    let falls = all-fall 0 records (any-number records) tight.rising in
+    rw (records-back records tight) (record {
+      form = form-clean (all_grants records) small falls (omega (arith, tight.few, grants-many records));
+      tight = λ e. rw (grants-read (all_grants records) small) (each-tight records tight.rising tight.names e);
+    })

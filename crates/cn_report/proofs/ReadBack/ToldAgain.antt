@@ -1,0 +1,133 @@
+-- What a check finds of a grant list that is written.
+use Rattle.cn_report.proofs.Common.{◌≡◌, ◌<◌, ◌+◌, ℕ, List, [], ◌∷◌, ◌++◌, Bool, true, false, length, map, refl, arith, suc, zero, sym, ap, ◌∙◌, ◌||◌, drop, nat_eq, AllByRecursion, fold, list_any, range_with_len, eq-eqb, ne_eqb, append-nil, append_assoc, length-map, fold-append, counts_after, counts_of, shares, shares_after, Record, records_of}
+use Rattle.std.proofs.lemmas.List.FromFn.{length-map-range_with_len}
+use Rattle.std.proofs.lemmas.List.Sorted.{IsPermutation-refl}
+use Rattle.cn_spec.proofs.CallerLemmas.{counts-shares, counts-shares-after}
+use Rattle.cn_record.specs.declared.record.EpochRecord.{EpochRecord}
+use Rattle.cn_report.specs.Grants.Granted.{grants_spelled, of_epoch}
+use Rattle.cn_report.specs.Grants.TightList.{IsTightList}
+use Rattle.cn_report.specs.Grants.Told.{epoch_numbers, names_in, told_epoch, told_epochs, with_number}
+use Rattle.cn_report.specs.declared.grants.record.Granted.{Granted}
+use Rattle.cn_report.specs.Grants.ListText.{AreRisingRecords, AreTightRecords, checked_epoch, grants_text}
+use Rattle.cn_report.proofs.ReadBack.Epochs.{all_grants, first-epoch, grant_at, grants_of, later-epoch, names-given}
+use Rattle.cn_report.proofs.ReadBack.Form.{grants-read}
+use Rattle.cn_report.proofs.ReadBack.TightAgain.{records-back, small-grants}
+
+-- ---- the epochs' numbers
+
+abbrev number_of : EpochRecord → ℕ
+number_of r = r.number
+
+abbrev numbers-after : List ℕ → List Granted → List ℕ
+numbers-after numbers grants = fold (λ ns g. with_number ns g.epoch) numbers grants
+
+-- a number that is there does not come again
+told-before : (numbers : List ℕ) (r : EpochRecord) (from n : ℕ) → list_any (nat_eq r.number) numbers ≡ true
+    → numbers-after numbers (map (grant_at r) (range_with_len from n)) ≡ numbers
+told-before numbers r from zero there = refl
+told-before numbers r from (suc n) there =
+    let same : with_number numbers r.number ≡ numbers = rw there refl in
+    ap (λ (ns : List ℕ). numbers-after ns (map (grant_at r) (range_with_len (from + 1) n))) same ∙ told-before numbers r (from + 1) n there
+
+last-there : (numbers : List ℕ) (n : ℕ) → list_any (nat_eq n) (numbers ++ n ∷ []) ≡ true
+last-there [] n = rw (eq-eqb n n refl) refl
+last-there (x ∷ numbers) n = ap (λ (b : Bool). nat_eq n x || b) (last-there numbers n) ∙ either (nat_eq n x)
+  where
+    either : (b : Bool) → (b || true) ≡ true
+    either true = refl
+    either false = refl
+
+abbrev AreBelow : ℕ → List ℕ → Type 0
+AreBelow n numbers = AllByRecursion (λ k. k < n) numbers
+
+not_there : (numbers : List ℕ) (n : ℕ) → AreBelow n numbers → list_any (nat_eq n) numbers ≡ false
+not_there [] n below = refl
+not_there (x ∷ numbers) n below = rw (ne_eqb n x (λ same. omega (arith, same, below.0)), not_there numbers n below.1) refl
+
+-- an epoch's grants give its number once
+one_number : (numbers : List ℕ) (r : EpochRecord) (n : ℕ) → 0 < n → AreBelow r.number numbers
+    → numbers-after numbers (map (grant_at r) (range_with_len 0 n)) ≡ numbers ++ r.number ∷ []
+one_number numbers r zero some below = absurd (omega arith)
+one_number numbers r (suc n) some below =
+    let next : with_number numbers r.number ≡ numbers ++ r.number ∷ [] = rw (not_there numbers r.number below) refl in
+    ap (λ (ns : List ℕ). numbers-after ns (map (grant_at r) (range_with_len 1 n))) next
+    ∙ told-before (numbers ++ r.number ∷ []) r 1 n (last-there numbers r.number)
+
+below_next : (numbers : List ℕ) (n last : ℕ) → AreBelow n numbers → last < n → AreBelow n (numbers ++ last ∷ [])
+below_next [] n last below h = (h, tt)
+below_next (x ∷ numbers) n last below h = (below.0, below_next numbers n last below.1 h)
+
+later-below : (numbers : List ℕ) (last : ℕ) (records : List EpochRecord) → AllByRecursion (λ s. AreBelow s.number numbers) records
+    → AllByRecursion (λ s. last < s.number) records → AllByRecursion (λ s. AreBelow s.number (numbers ++ last ∷ [])) records
+later-below numbers last [] below above = tt
+later-below numbers last (s ∷ records) below above = (below_next numbers s.number last below.0 above.0, later-below numbers last records below.1 above.1)
+
+all-numbers : (numbers : List ℕ) (records : List EpochRecord) → AreRisingRecords records → AllByRecursion (λ r. 0 < r.clients) records
+    → AllByRecursion (λ r. AreBelow r.number numbers) records → numbers-after numbers (all_grants records) ≡ numbers ++ map number_of records
+unfolding AreRisingRecords
+all-numbers numbers [] rising some below = sym (append-nil numbers)
+all-numbers numbers (r ∷ records) rising some below =
+    fold-append (λ (ns : List ℕ) (g : Granted). with_number ns g.epoch) numbers (grants_of r) (all_grants records)
+    ∙ ap (λ (ns : List ℕ). numbers-after ns (all_grants records)) (one_number numbers r r.clients some.0 below.0)
+    ∙ all-numbers (numbers ++ r.number ∷ []) records rising.1 some.1 (later-below numbers r.number records below.1 rising.0)
+    ∙ append_assoc numbers (r.number ∷ []) (map number_of records)
+
+none_below : (records : List EpochRecord) → AllByRecursion (λ r. AreBelow r.number []) records
+none_below [] = tt
+none_below (r ∷ records) = (tt, none_below records)
+
+-- ---- what is found of each
+
+-- among the grants of epochs, those of each are its own
+abbrev HasOwn : List Granted → EpochRecord → Type 0
+HasOwn all r = of_epoch r.number all ≡ grants_of r
+
+own-later : (r : EpochRecord) (all : List EpochRecord) (records : List EpochRecord) → AllByRecursion (λ s. r.number < s.number) records
+    → AllByRecursion (HasOwn (all_grants all)) records → AllByRecursion (HasOwn (all_grants (r ∷ all))) records
+own-later r all [] above own = tt
+own-later r all (s ∷ records) above own = (
+  later-epoch s.number r all (λ same. omega (arith, same, above.0)) ∙ own.0,
+  own-later r all records above.1 own.1,
+)
+
+own-grants : (records : List EpochRecord) → AreRisingRecords records → AllByRecursion (HasOwn (all_grants records)) records
+unfolding AreRisingRecords
+own-grants [] rising = tt
+own-grants (r ∷ records) rising =
+    (first-epoch r records rising.0, own-later r records records rising.0 (own-grants records rising.1))
+
+-- the shares of its number of names
+told-one : (width : ℕ) (all : List Granted) (r : EpochRecord) → HasOwn all r → told_epoch width all r.number ≡ checked_epoch width r
+told-one width all r own =
+    let range = range_with_len 0 r.clients in
+    let many : length (of_epoch r.number all) ≡ r.clients = ap length own ∙ length-map-range_with_len (grant_at r) 0 r.clients in
+    let names : map (λ (g : Granted). g.name) (of_epoch r.number all) ≡ range = ap (map (λ (g : Granted). g.name)) own ∙ names-given r range in
+    let counts : counts_of width (map (λ (g : Granted). g.name) (of_epoch r.number all)) ≡ shares r.clients width =
+    ap (counts_of width) names ∙ counts-shares width r.clients range (IsPermutation-refl range) in
+    λ i. (r.number, many i, counts i)
+
+told-each : (width : ℕ) (all : List Granted) (records : List EpochRecord) → AllByRecursion (HasOwn all) records
+    → map (told_epoch width all) (map number_of records) ≡ map (checked_epoch width) records
+told-each width all [] own = refl
+told-each width all (r ∷ records) own = λ i. told-one width all r own.0 i ∷ told-each width all records own.1 i
+
+-- a check of a written list finds its epochs
+pub told-back : (width : ℕ) (records : List EpochRecord) → AreTightRecords records → AllByRecursion (λ r. 0 < r.clients) records
+    → told_epochs width (records_of (grants_text records)) ≡ map (checked_epoch width) records
+told-back width records tight some =
+    let all = all_grants records in
+    let spells : grants_spelled (drop 1 (records_of (grants_text records))) ≡ all =
+    ap (λ (rows : List Record). grants_spelled (drop 1 rows)) (records-back records tight) ∙ grants-read all (small-grants records tight) in
+    (λ i. map (told_epoch width (spells i)) (epoch_numbers (spells i)))
+    ∙ ap (map (told_epoch width all)) (all-numbers [] records tight.rising some (none_below records))
+    ∙ told-each width all records (own-grants records tight.rising)
+
+-- ---- any tight list
+
+-- each epoch's names are those below their number, so they are shared out, after any number of clients
+pub tight-after : (rows : List Record) → IsTightList rows → (w m epoch : ℕ) → counts_after m w (names_in epoch rows) ≡ shares_after m (length (names_in epoch rows)) w
+tight-after rows tight w m epoch =
+    let grants = of_epoch epoch (grants_spelled (drop 1 rows)) in
+    let many : length (names_in epoch rows) ≡ length grants = length-map grants (λ (g : Granted). g.name) in
+    counts-shares-after w m (length grants) (names_in epoch rows) (tight.tight epoch).names
+    ∙ ap (λ (k : ℕ). shares_after m k w) (sym many)

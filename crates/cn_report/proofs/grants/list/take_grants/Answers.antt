@@ -1,0 +1,63 @@
+use Rattle.cn_report.proofs.Common.{◌∷◌, ◌++◌, [], refl, arith, length-append, inl, inr, records_of}
+use Rattle.cn_report.specs.Grants.TightList.{IsOfReading, header_cause, record_cause}
+use Rattle.cn_report.proofs.GrantLemmas.GrantRecords.{at-grants, first-flaw, taken-end, taken-header, taken-next}
+use Rattle.cn_report.proofs.ReadingLemmas.Results.{if_ok-map}
+use Rattle.cn_report.proofs.ReadingLemmas.FirstFaults.{stop_at, stop-before}
+use Rattle.cn_report.proofs.grants.list.take_grants.Goals as goal
+
+pub loop-at-init : goal.loop-at-init
+loop-at-init g c = record {
+  few = omega arith;
+  count = omega (arith, c.new-granting.ensures.count);
+  plain = c.in_default.ensures.plain;
+  taken = λ text read.
+      let (fields, now, e) = c.in_default.ensures.ok text read in
+      (fields ∷ [], [], now, refl, taken-header fields e, c.new-granting.ensures.checked);
+}
+
+pub finish-requires : goal.finish-requires
+finish-requires g c =
+    let count = rw c.in-Ok-false.field-0-test at c.in-Ok-false.ensures.count in
+    omega (arith, count, c.loop-at.invariant.few)
+
+pub returns-in-Ok-false : goal.returns-in-Ok-false
+returns-in-Ok-false g c = record {
+  answer = λ text read.
+      let (before, grants, now, size, t, checked) = c.loop-at.invariant.taken text read in
+      let (all, ended) = rw c.in-Ok-false.field-0-test at (c.in-Ok-false.ensures.found text before grants now checked (omega (arith, t.counted, size))) in
+      taken-end (λ epochs. epochs.items) (records_of text) before grants c.finish.result t all (c.finish.ensures.answer grants ended.holds)
+      (if_ok-map c.finish.result c.finish.ensures.told (λ epochs told. told grants ended.holds ended.tells));
+}
+
+pub returns-in-Err-take_grant : goal.returns-in-Err-take_grant
+returns-in-Err-take_grant g c = record {
+  answer = λ text read.
+      let (before, grants, now, size, t, checked) = c.loop-at.invariant.taken text read in
+      rw c.flaw_at-in-Err-take_grant.ensures (first-flaw (records_of text) c.loop-at.at c.in-Err-take_grant.cause
+      (elim (c.in-Err-take_grant.ensures.refused text before grants now checked (omega (arith, t.counted, size))) [
+        | inl w ↦
+            let (fields, next, e) = w in
+            rw (← size) (stop_at header_cause record_cause IsOfReading g.R.Read.remaining c.take_grant.new.rows text before fields c.in-Err-take_grant.cause t.clean next
+            (at-grants before grants fields t c.in-Err-take_grant.cause e))
+        | inr w ↦ rw (← size) (stop-before header_cause record_cause IsOfReading g.R.Read.remaining c.loop-at.rows text before c.in-Err-take_grant.cause t.clean now w)
+      ]));
+}
+
+pub loop-at-preserved : goal.loop-at-preserved
+loop-at-preserved g c =
+    let count = rw c.in-Ok-true.field-0-test at c.in-Ok-true.ensures.count in
+    record {
+      few = omega (arith, c.in-Ok-true.ensures.few c.in-Ok-true.field-0-test);
+      count = omega (arith, count);
+      plain = c.in-Ok-true.ensures.plain;
+      taken = λ text read.
+          let (before, grants, now, size, t, checked) = c.loop-at.invariant.taken text read in
+          let (fields, grant, next, is, none, more) = rw c.in-Ok-true.field-0-test at (c.in-Ok-true.ensures.found text before grants now checked (omega (arith, t.counted, size))) in (
+            before ++ fields ∷ [],
+            grants ++ grant ∷ [],
+            next,
+            omega (arith, size, length-append before (fields ∷ [])),
+            taken-next before grants fields grant t is none,
+            more,
+          );
+    }

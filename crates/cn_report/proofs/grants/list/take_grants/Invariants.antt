@@ -1,0 +1,15 @@
+use Rattle.cn_report.proofs.Common.{◌≡◌, ◌<◌, ◌≤◌, ◌+◌, ℕ, List, [], length, MOST_RECORDS, HasRead, IsPlain, Record}
+use Rattle.cn_report.specs.Grants.Checked.{IsChecked}
+use Rattle.cn_report.specs.declared.grants.record.Granted.{Granted}
+use Rattle.cn_report.proofs.GrantLemmas.GrantRecords.{AreTaken}
+use Rattle.cn_report.proofs.grants.list.take_grants.Given as goal
+
+abbrev pub invariant-loop-at : goal.invariant-loop-at
+invariant-loop-at g l = record {
+  few : l.at ≤ MOST_RECORDS + 1;
+  count : l.granting.count < l.at;
+  plain : IsPlain l.rows;
+  taken : (text : List ℕ) → HasRead g.R.Read.remaining l.fn.rows text []
+      → (before : List Record) × (grants : List Granted) × HasRead g.R.Read.remaining l.rows text before × (length before ≡ l.at)
+      × AreTaken before grants × IsChecked l.granting grants;
+}

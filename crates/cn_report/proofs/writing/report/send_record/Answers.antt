@@ -1,6 +1,0 @@
-use Rattle.cn_report.proofs.WritingLemmas.Pieces.{put-then}
-use Rattle.cn_report.proofs.writing.report.send_record.Goals as goal
-
-pub returns : goal.returns
-returns g c =
-    put-then c.send_epoch_line.ensures (put-then (rw c.deref.ensures.value at c.send_exits.ensures) (rw (c.deref-2.ensures.value, c.requires.1) at c.send_holders.ensures))

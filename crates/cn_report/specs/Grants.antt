@@ -1,0 +1,8 @@
+-- Grant lists: what their records say, which of them are tight, and what is written of them.
+pub mod Checked
+pub mod Granted
+pub mod ListText
+pub mod Sets
+pub mod TightList
+pub mod TightText
+pub mod Told

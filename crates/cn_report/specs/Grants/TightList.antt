@@ -1,0 +1,122 @@
+-- Which records are a tight grant list, and what is wrong with those that are none.
+use Rattle.std.specs.Prelude.{ℕ, ◌≡◌, ◌<◌, ◌≤◌, ◌⊎◌, ◌∷◌, [], Bool, false, true, List, drop, length, map, Option, Some, None, MatchOption, codes, if◌then◌else◌, ⊤}
+use Rattle.std.specs.Cmp.Lexicographic.{pointwise}
+use Rattle.std.specs.Str.{bytes_eq}
+use Rattle.cn_spec.specs.Step.{IsEachBelow}
+use Rattle.cn_spec.specs.Sums.{times}
+use Rattle.cn_report.specs.Reading.Faults.{IsClean, IsFirstFault, cause_by}
+use Rattle.cn_report.specs.Grants.Granted.{grant_spelled, grants_spelled, has_name, of_epoch, spelled_cause, spelled_form}
+use Rattle.cn_report.specs.Reading.Records.{Record}
+use Rattle.cn_report.specs.declared.grants.record.Granted.{Granted}
+use Rattle.cn_report.specs.declared.grants.record.GrantCause.{GrantCause}
+use Rattle.cn_report.specs.declared.grants.record.GrantCause.TheVariants as cause
+use Rattle.cn_report.specs.declared.grants.record.Flaw.{Flaw}
+use Rattle.cn_report.specs.declared.grants.record.Flaw.TheVariants.{Read, Form, DuplicateClient, DuplicateName, Gap, Memory}
+use Rattle.cn_report.specs.declared.reading.rows.RowFault.{RowFault}
+use Rattle.cn_report.specs.declared.reading.rows.RowFault.TheVariants as row
+
+-- the cause for which no record came
+abbrev pub grant_cause_of_row : RowFault → GrantCause
+grant_cause_of_row row.Read = cause.Read
+grant_cause_of_row row.Memory = cause.Memory
+
+-- the name that a flaw prints
+abbrev pub flaw_name : Flaw → List ℕ
+flaw_name (Read at) = codes "Read"
+flaw_name (Form at) = codes "Form"
+flaw_name (DuplicateClient at) = codes "DuplicateClient"
+flaw_name (DuplicateName at) = codes "DuplicateName"
+flaw_name (Gap epoch name) = codes "Gap"
+flaw_name Memory = codes "Memory"
+
+-- the flaw of a record with this cause
+abbrev pub flaw_of : ℕ → GrantCause → Flaw
+flaw_of at cause.Read = Read at
+flaw_of at cause.Form = Form at
+flaw_of at cause.DuplicateClient = DuplicateClient at
+flaw_of at cause.DuplicateName = DuplicateName at
+flaw_of at cause.Memory = Memory
+
+-- the fields of the header of a grant list
+abbrev pub is_grants_header : Record → Bool
+is_grants_header fields = pointwise bytes_eq fields (codes "epoch" ∷ codes "client" ∷ codes "name" ∷ [])
+
+-- the cause of record 0
+abbrev pub header_cause : Record → Option GrantCause
+header_cause fields = if is_grants_header fields then None else Some cause.Form
+
+-- what is wrong with the form of a record after those before it, the header first
+abbrev pub record_form : List Record → Record → Option GrantCause
+record_form before fields = spelled_form (grants_spelled (drop 1 before)) (grant_spelled fields)
+
+-- the first cause of a record after those before it
+abbrev pub record_cause : List Record → Record → Option GrantCause
+record_cause before fields = spelled_cause (grants_spelled (drop 1 before)) (grant_spelled fields)
+
+-- the same of the record with this number
+abbrev pub grants_form : List Record → ℕ → Option GrantCause
+grants_form = cause_by header_cause record_form
+
+-- the first cause of the record with this number, if it has one
+abbrev pub grants_cause : List Record → ℕ → Option GrantCause
+grants_cause = cause_by header_cause record_cause
+
+-- no record's fault: the reader failed, or a growth was refused
+abbrev pub IsOfReading : GrantCause → Type 0
+IsOfReading why = (why ≡ cause.Read) ⊎ (why ≡ cause.Memory)
+
+-- the epoch lacks this name below its number of grants
+abbrev pub Lacks : List Granted → ℕ → ℕ → Type 0
+Lacks grants epoch name = (name < length (of_epoch epoch grants)) × (has_name name (of_epoch epoch grants) ≡ false)
+
+-- the least epoch that lacks a name, and the least name that it lacks
+pub record IsGap (grants : List Granted) (epoch name : ℕ) : Type 0 where
+  pub lacks : Lacks grants epoch name
+  pub first : (e n : ℕ) → Lacks grants e n → epoch ≤ e
+  pub least : (n : ℕ) → Lacks grants epoch n → name ≤ n
+
+-- the flaw of these grants at the end of the list
+abbrev pub IsEndFlaw : List Granted → Flaw → Type 0
+IsEndFlaw grants (Gap epoch name) = IsGap grants epoch name
+IsEndFlaw grants Memory = ⊤
+IsEndFlaw grants (Read at) = ⊥
+IsEndFlaw grants (Form at) = ⊥
+IsEndFlaw grants (DuplicateClient at) = ⊥
+IsEndFlaw grants (DuplicateName at) = ⊥
+
+-- the record has this cause, and it is the first with one
+abbrev pub IsFirstWithCause : List Record → ℕ → GrantCause → Type 0
+IsFirstWithCause rows at why = IsFirstFault grants_cause IsOfReading rows at why
+
+-- the first record with a cause, and its first cause; or the first gap if no record has one
+abbrev pub IsFlaw : List Record → Flaw → Type 0
+IsFlaw rows (Read at) = IsFirstWithCause rows at cause.Read
+IsFlaw rows (Form at) = IsFirstWithCause rows at cause.Form
+IsFlaw rows (DuplicateClient at) = IsFirstWithCause rows at cause.DuplicateClient
+IsFlaw rows (DuplicateName at) = IsFirstWithCause rows at cause.DuplicateName
+IsFlaw rows (Gap epoch name) = IsClean grants_cause rows × IsGap (grants_spelled (drop 1 rows)) epoch name
+IsFlaw rows Memory = ⊤
+
+-- the flaw is no fault of the records
+abbrev pub IsOutside : Flaw → Type 0
+IsOutside (Read at) = ⊤
+IsOutside Memory = ⊤
+IsOutside (Form at) = ⊥
+IsOutside (DuplicateClient at) = ⊥
+IsOutside (DuplicateName at) = ⊥
+IsOutside (Gap epoch name) = ⊥
+
+-- these grants of one epoch pair distinct clients with the names below their number, each once
+pub record AreTightGrants (grants : List Granted) : Type 0 where
+  pub clients : (client : ℕ) → times client (map (λ g. g.client) grants) ≤ 1
+  pub names : IsEachBelow (length grants) (map (λ g. g.name) grants)
+
+-- the form holds, and each epoch is tight
+pub record IsTightList (rows : List Record) : Type 0 where
+  pub form : IsClean grants_form rows
+  pub tight : (epoch : ℕ) → AreTightGrants (of_epoch epoch (grants_spelled (drop 1 rows)))
+
+-- the least number below the count that is not among these
+abbrev pub IsLeastMissing : (ℕ → Bool) → ℕ → Option ℕ → Type 0
+IsLeastMissing has count missing = MatchOption missing ((n : ℕ) → n < count → has n ≡ true)
+    (λ name. (name < count) × (has name ≡ false) × ((n : ℕ) → n < name → has n ≡ true))

@@ -1,0 +1,47 @@
+-- What a tight list says of its epochs.
+use Rattle.std.specs.Prelude.{ℕ, ◌≡◌, ◌∷◌, [], List, drop, length, map, ◌++◌, nat_eq, if◌then◌else◌}
+use Rattle.std.specs.List.{fold, list_any}
+use Rattle.cn_spec.specs.Step.{counts_of, shares}
+use Rattle.cn_report.specs.Grants.Granted.{grants_spelled, of_epoch}
+use Rattle.cn_report.specs.Grants.TightList.{IsTightList}
+use Rattle.cn_report.specs.Reading.Records.{Record}
+use Rattle.cn_report.specs.declared.grants.record.Granted.{Granted}
+use Rattle.cn_report.specs.declared.grants.epochs.NamedEpoch.{NamedEpoch}
+
+-- the numbers, and this one if it is not among them
+abbrev pub with_number : List ℕ → ℕ → List ℕ
+with_number numbers n = if list_any (nat_eq n) numbers then numbers else numbers ++ n ∷ []
+
+-- the epochs' numbers, each once, in the order of the grants
+abbrev pub epoch_numbers : List Granted → List ℕ
+epoch_numbers grants = fold (λ numbers g. with_number numbers g.epoch) [] grants
+
+-- an epoch: its number, and how many clients it has
+abbrev pub named_epoch : List Granted → ℕ → ℕ × ℕ
+named_epoch grants e = (e, length (of_epoch e grants))
+
+-- an epoch: its number, how many clients it has, and how many of its names are i modulo the width
+abbrev pub told_epoch : ℕ → List Granted → ℕ → ℕ × ℕ × List ℕ
+told_epoch width grants e = (e, length (of_epoch e grants), counts_of width (map (λ g. g.name) (of_epoch e grants)))
+
+-- an epoch, by its number and its number of clients
+abbrev pub plain_named : NamedEpoch → ℕ × ℕ
+plain_named epoch = (epoch.number, epoch.clients)
+
+-- the same, and the share of each remainder in so many names
+abbrev pub with_shares : ℕ → NamedEpoch → ℕ × ℕ × List ℕ
+with_shares width epoch = (epoch.number, epoch.clients, shares epoch.clients width)
+
+-- the names that the records give in an epoch
+abbrev pub names_in : ℕ → List Record → List ℕ
+names_in epoch rows = map (λ g. g.name) (of_epoch epoch (grants_spelled (drop 1 rows)))
+
+-- what the records say of their epochs, in order
+abbrev pub told_epochs : ℕ → List Record → List (ℕ × ℕ × List ℕ)
+told_epochs width rows =
+    map (told_epoch width (grants_spelled (drop 1 rows))) (epoch_numbers (grants_spelled (drop 1 rows)))
+
+-- the records are a tight list, and these are its epochs: by any width the counts of each are shares
+pub record IsNamedList (rows : List Record) (epochs : List NamedEpoch) : Type 0 where
+  pub tight : IsTightList rows
+  pub told : (width : ℕ) → map (with_shares width) epochs ≡ told_epochs width rows

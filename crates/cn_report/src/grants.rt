@@ -1,0 +1,14 @@
+//! Grant lists: what is read and what is written of them, and the text of one that is tight.
+
+mod epochs;
+mod list;
+mod record;
+mod sets;
+pub(crate) mod text;
+pub(crate) mod tight;
+
+pub use epochs::NamedEpoch;
+pub use list::named_grants;
+pub use record::Flaw;
+pub use text::write_grants;
+pub use tight::write_tight;
