@@ -13,19 +13,6 @@ use std::io::Write;
 /// Three numbers of 20 digits, and a byte after each; or two, and words of 23 bytes.
 const ROOM: usize = 64;
 
-/// Writes a word so that it ends at `end`, and returns where it starts.
-#[inline(always)]
-fn write_word(word: &str, buffer: &mut [u8], end: usize) -> usize
-    requires { (length word.now ≤ end) × (end ≤ length buffer.old) }
-    ensures start { result + length word.now ≡ end }
-    ensures written { drop result buffer.new ≡ word.now ++ drop end buffer.old }
-    ensures same { length buffer.new ≡ length buffer.old }
-{
-    let start = end - word.len();
-    buffer[start..end].copy_from_slice(word.as_bytes());
-    start
-}
-
 /// Writes a word and a number so that they end at `end`, and returns where they start.
 #[inline(always)]
 fn write_part(word: &str, number: u64, line: &mut [u8], end: usize) -> usize
@@ -36,8 +23,10 @@ fn write_part(word: &str, number: u64, line: &mut [u8], end: usize) -> usize
     ensures written { drop result line.new ≡ word.now ++ (decimal number ++ drop end line.old) }
     ensures same { length line.new ≡ length line.old }
 {
-    let start = write_digits(number, line, end);
-    write_word(word, line, start)
+    let middle = write_digits(number, line, end);
+    let start = middle - word.len();
+    line[start..middle].copy_from_slice(word.as_bytes());
+    start
 }
 
 /// Makes a line of two words, each with a number after it, before the line feed at the end of a buffer, and returns
