@@ -1,9 +1,12 @@
 """The rows of the built program whose growths checks/long/refuse refuses. What they wait for is reckoned by the rules: the
 n-th client of an epoch, counted from 0, has name n where one worker with one token in hand names them; and of c clients
-a network of width w lets (c + w - 1 - i) div w out by exit i."""
+a network of width w lets (c + w - 1 - i) div w out by exit i. But for help: that is as the program prints it with memory."""
+import subprocess
+
 from apart import ROOT
 
 STORED = ROOT / "crates" / "renamer"
+PROGRAM = STORED / "out" / "renamer"
 TREE_FOUR = "0 balancer 0,1 balancer 1,2 balancer 2,3 exit 0,4 exit 2,5 exit 1,6 exit 3"
 EPOCHS = [(1, 5), (3, 100), (4, 1)]
 # The row of limits, a full epoch, with so few that each growth can be refused in a minute.
@@ -130,12 +133,25 @@ def wide_rows():
     ]
 
 
+def refused_rows():
+    """Words and input that are refused: each with a name, the words, the input, the status and the line."""
+    tree = ["--network", "tree", "--width", "4"]
+    gap = "epoch,client,name\n1,10,0\n1,11,1\n1,12,3\n"
+    return [
+        ("words", ["run", *tree, "--hand", "65"], "", 2, "hand out of range: 1 to 64"),
+        ("a batch", ["run", *tree], "epoch,client,entry\n1,17,2\n", 1, "record 1: EntryRange"),
+        ("a schedule", ["replay", *tree], "op,client,wire\nleave,7,0\n", 1, "record 1: Op"),
+        ("a list of grants", ["check", "--width", "4"], gap, 4, "flaw: Gap epoch 1 name 2"),
+    ]
+
+
 def program_rows():
-    """Each with a name, the words, the input, the text, and how texts are compared."""
+    """Each with a name, the words, the input, the status, text and line, and how texts are compared."""
     stored = [(STORED / name).read_text() for name in ("stdin", "stdout")]
     wires = "".join(f"wire {line}\n" for line in TREE_FOUR.split(","))
     tree = f"network tree width 4 balancers 3 depth 2\n{wires}end wires 7\n"
-    return [
+    helped = subprocess.run([PROGRAM, "show", "--help"], capture_output=True, text=True, check=True).stdout
+    done = [
         ("renamer, the stored run", (STORED / "args").read_text().split(), *stored, same),
         *narrow_rows(),
         *wide_rows(),
@@ -143,4 +159,10 @@ def program_rows():
         ("renamer check, width 256", ["check", "--width", "256"], grants_of(EPOCHS), tight_of(256, EPOCHS), same),
         ("renamer replay", ["replay", "--network", "tree", "--width", "2"], schedule_of(100), replay_of(100), same),
         ("renamer show", ["show", "--network", "tree", "--width", "4"], "", tree, same),
+        ("renamer show --help", ["show", "--help"], "", helped, same),
+    ]
+    return [
+        *((name, words, given, (0, text, ""), compare) for name, words, given, text, compare in done),
+        *((f"renamer refuses {name}", words, given, (status, "", f"renamer: {line}\n"), same)
+          for name, words, given, status, line in refused_rows()),
     ]
