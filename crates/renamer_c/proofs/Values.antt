@@ -27,8 +27,8 @@ use Rattle.std.proofs.alloc.Global.TheLaws as heap_laws
 use Rattle.std.specs.contracts.impls.GlobalAllocator.TheImpl.{ghosts}
 use Rattle.std.specs.Box.Ownership.{box_owns}
 use Rattle.std.proofs.GlobalToken.{dealloc_token-Testable}
-use Rattle.renamer_c.specs.contracts.held.Held as held
 use Rattle.renamer_c.specs.contracts.handle.Handle as handle
+use Rattle.renamer_c.specs.Holding as held
 use Rattle.renamer_c.specs.Holding.{holds}
 
 abbrev pub both : Val → Val → Val

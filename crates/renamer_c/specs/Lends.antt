@@ -1,15 +1,14 @@
 -- What a handle has after the use of what it lent.
 use Rattle.std.specs.Prelude.{Option, Some}
 use Rattle.std.specs.Borrow.{Fml, LendsIf, MutBor}
+use Rattle.renamer_c.specs.Holding as held
 use Rattle.renamer_c.specs.contracts.handle.Handle as handle
-use Rattle.renamer_c.specs.contracts.held.Held as held
 use Rattle.renamer_c.specs.declared.handle.Handle.{Handle}
-use Rattle.renamer_c.specs.declared.held.Held.{Held}
 
 -- a handle that has this
-abbrev pub with_held : Handle → Held → Handle
+abbrev pub with_held : Handle → (held.the_row).Denot → Handle
 with_held h held = record h { held = Some held }
 
 -- it has what is then there; if it had none, it is as it was
-abbrev pub LendsHeld : MutBor Handle → Option (MutBor Held) → Fml
+abbrev pub LendsHeld : MutBor Handle → Option (MutBor (held.the_row).Denot) → Fml
 LendsHeld h r = LendsIf handle.the_row held.the_row h r (with_held h.now) h.now

@@ -22,7 +22,7 @@ pub extern "C" fn renamer_entered(lane: &mut Handle, entered: &mut u64) -> u32
     ensures refused { 0 < result → IsRefusal (NotThere (lane_in lane.old.held)) result }
 {
     let answer = match lane.get_mut() {
-        Some(held) => held.entered(),
+        Some(held) => held.with_lane(|lane| Ok(lane.entered())),
         None => Err(Refusal::Nothing),
     };
     write(answer, entered)
@@ -37,7 +37,7 @@ pub extern "C" fn renamer_reserve(lane: &mut Handle, clients: u64) -> u32
     ensures refused { 0 < result → IsRefusal (NotReserved (lane_in lane.old.held)) result }
 {
     let answer = match lane.get_mut() {
-        Some(held) => held.reserve(clients),
+        Some(held) => held.with_lane(|lane| lane.reserve(clients)),
         None => Err(Refusal::Nothing),
     };
     status(answer)
@@ -52,7 +52,7 @@ fn ask(lane: &mut Handle, question: Question, to: &mut u64) -> u32
     ensures refused { 0 < result → IsRefusal (NotThere (lane_in lane.old.held)) result }
 {
     let answer = match lane.get_mut() {
-        Some(held) => held.ask(question),
+        Some(held) => held.with_lane(|lane| Ok(lane.ask(question))),
         None => Err(Refusal::Nothing),
     };
     write(answer, to)

@@ -1,79 +1,42 @@
 //! What a handle has.
 
-mod naming_many;
-mod stepping;
-
-ghost use Rattle.std.specs.Prelude.{◌≡◌, Some, IfErr, IfOk, OnErr, OnOk};
-ghost use Rattle.renamer_c.specs.Calls.{Answers, Names, Reserves};
+ghost use Rattle.std.specs.Fn.{FnOnceReturnsAtMut};
+ghost use Rattle.std.specs.Prelude.{◌≡◌, ◌⊎◌, Err, None, Some, IfErr, IfOk};
 ghost use Rattle.renamer_c.specs.Handles.{lane_held, record_held};
-ghost use Rattle.renamer_c.specs.Questions.{number_asked};
-ghost use Rattle.renamer_c.specs.Placing.{IsPlaceOf};
-ghost use Rattle.renamer_c.specs.Refusals.{NotJoined, NotNamed, NotReserved, NotThere, WithLane};
-ghost use Rattle.renamer_c.specs.Returns.{IsBack};
+ghost use Rattle.renamer_c.specs.Refusals.{NotThere};
+ghost use Rattle.renamer_c.specs.declared.held.Held.TheVariants.{Lane};
 
 use crate::floor_record::FloorRecord;
 use crate::held_lane::HeldLane;
-use crate::places::Place;
-use crate::question::Question;
 use crate::refusal::Refusal;
-use cn_floor::Lane;
 
-/// What a handle has.
+/// What a handle has. What a lane and a record are stands open, as the checker passes no `&mut` with a lifetime in it to
+/// a closure.
 #[derive(Drop)]
-pub enum Held {
+pub enum Held<L = HeldLane, R = FloorRecord> {
     /// Nothing, while a call works on it.
     Nothing,
     /// A lane.
-    Lane(HeldLane),
+    Lane(L),
     /// A closed floor.
-    Closed(FloorRecord),
+    Closed(R),
 }
 
-impl Held {
-    /// Names a client.
+impl<L, R> Held<L, R> {
+    /// What a call makes of the lane that is there, and returns.
     ///
     /// # Errors
-    /// `Nothing` if there is no lane, else as [`HeldLane::name`]. Then nothing has changed.
-    pub(crate) fn name(&mut self, client: u64, entry: u64) -> Result<u64, Refusal>
-        ensures ok { IfOk result (λ name.
-            Names (lane_held self.old) (lane_held self.new) client entry name) }
-        ensures err { OnErr result (self.new ≡ self.old) }
-        ensures refused { IfErr result (NotNamed (lane_held self.old) entry) }
+    /// `Nothing` if there is no lane, with nothing changed, else as the call.
+    pub(crate) fn with_lane<T, F: FnOnce(&mut L) -> Result<T, Refusal>>(
+        &mut self,
+        call: F,
+    ) -> Result<T, Refusal>
+        requires { F.IsAlwaysCallable call }
+        ensures { ((lane_held self.old ≡ None) × (self.new ≡ self.old) × (result ≡ Err Refusal.Nothing))
+            ⊎ ((l k : L) × (self.old ≡ Lane l) × (self.new ≡ Lane k) × FnOnceReturnsAtMut F.FnOnce call l result k) }
     {
         match self {
-            Held::Lane(lane) => lane.name(client, entry),
-            _ => Err(Refusal::Nothing),
-        }
-    }
-
-    /// How many clients came in, by all lanes, as far as the lane can see.
-    ///
-    /// # Errors
-    /// `Nothing` if there is no lane.
-    pub(crate) fn entered(&mut self) -> Result<u64, Refusal>
-        ensures ok { IfOk result (λ entered.
-            Answers (lane_held self.old) (lane_held self.new) entered) }
-        ensures err { OnErr result (self.new ≡ self.old) }
-        ensures refused { IfErr result (NotThere (lane_held self.old)) }
-    {
-        match self {
-            Held::Lane(lane) => Ok(lane.entered()),
-            _ => Err(Refusal::Nothing),
-        }
-    }
-
-    /// Takes a lane out of those that were handed back to the floor of the lane that is there, with its place.
-    ///
-    /// # Errors
-    /// `Nothing` if no lane is there, else `NothingBack`.
-    pub(crate) fn take_back(&mut self) -> Result<(Lane, Place), Refusal>
-        ensures kept { self.new ≡ self.old }
-        ensures ok { IfOk result (λ r. WithLane (lane_held self.old)
-            (λ l. IsBack l.home r.0 × IsPlaceOf l.home r.1)) }
-        ensures refused { IfErr result (NotJoined (lane_held self.old)) }
-    {
-        match self {
-            Held::Lane(lane) => lane.take_back(),
+            Held::Lane(lane) => call(lane),
             _ => Err(Refusal::Nothing),
         }
     }
@@ -82,7 +45,7 @@ impl Held {
     ///
     /// # Errors
     /// `Nothing` if there is none.
-    pub(crate) fn lane(&self) -> Result<&HeldLane, Refusal>
+    pub(crate) fn lane(&self) -> Result<&L, Refusal>
         ensures ok { IfOk result (λ lane. lane_held self.now ≡ Some lane.now) }
         ensures refused { IfErr result (NotThere (lane_held self.now)) }
     {
@@ -96,42 +59,12 @@ impl Held {
     ///
     /// # Errors
     /// `Nothing` if there is none.
-    pub(crate) fn record(&self) -> Result<&FloorRecord, Refusal>
+    pub(crate) fn record(&self) -> Result<&R, Refusal>
         ensures ok { IfOk result (λ closed. record_held self.now ≡ Some closed.now) }
         ensures refused { IfErr result (NotThere (record_held self.now)) }
     {
         match self {
             Held::Closed(record) => Ok(record),
-            _ => Err(Refusal::Nothing),
-        }
-    }
-
-    /// What the lane answers.
-    ///
-    /// # Errors
-    /// `Nothing` if there is no lane.
-    pub(crate) fn ask(&self, question: Question) -> Result<u64, Refusal>
-        ensures ok { IfOk result (λ n.
-            WithLane (lane_held self.now) (λ l. n ≡ number_asked question l)) }
-        ensures refused { IfErr result (NotThere (lane_held self.now)) }
-    {
-        match self.lane() {
-            Ok(lane) => Ok(lane.ask(question)),
-            Err(refusal) => Err(refusal),
-        }
-    }
-
-    /// Makes room for so many clients.
-    ///
-    /// # Errors
-    /// `Nothing` if there is no lane, else as [`HeldLane::reserve`]. Then nothing has changed.
-    pub(crate) fn reserve(&mut self, clients: u64) -> Result<(), Refusal>
-        ensures ok { OnOk result (Reserves (lane_held self.old) (lane_held self.new) clients) }
-        ensures err { OnErr result (self.new ≡ self.old) }
-        ensures refused { IfErr result (NotReserved (lane_held self.old)) }
-    {
-        match self {
-            Held::Lane(lane) => lane.reserve(clients),
             _ => Err(Refusal::Nothing),
         }
     }

@@ -19,7 +19,7 @@ pub extern "C" fn renamer_name(lane: &mut Handle, client: u64, entry: u64, name:
     ensures refused { 0 < result → IsRefusal (NotNamed (lane_in lane.old.held) entry) result }
 {
     let answer = match lane.get_mut() {
-        Some(held) => held.name(client, entry),
+        Some(held) => held.with_lane(|lane| lane.name(client, entry)),
         None => Err(Refusal::Nothing),
     };
     write(answer, name)

@@ -1,16 +1,41 @@
 //! The call that names many clients.
 
-ghost use Rattle.std.specs.Prelude.{◌≡◌, ◌<◌, length};
-ghost use Rattle.renamer_c.specs.Handles.{lane_in};
+ghost use Rattle.std.specs.Prelude.{◌≡◌, ◌<◌, length, IfErr, OnErr, OnOk};
+ghost use Rattle.renamer_c.specs.Handles.{lane_in, lane_held};
 ghost use Rattle.renamer_c.specs.Many.{NamesMany};
 ghost use Rattle.renamer_c.specs.Refusals.{IsRefusal, NotNamedMany};
 ghost use Rattle.renamer_c.specs.declared.refusal.TheConstants.{DONE};
 
 use crate::answer::status;
 use crate::client::Client;
-use crate::granting::Grant;
+use crate::granting::{Grant, copy_from};
 use crate::handle::Handle;
+use crate::held::Held;
 use crate::refusal::Refusal;
+
+/// Names clients, and copies their grants.
+///
+/// # Errors
+/// The first that stands: `Nothing`, `Size`, `StillWalking`, `NoSuchEntry`, `QuotaSpent`, `Memory`. Then nothing has
+/// changed.
+fn name_many(held: &mut Held, clients: &[Client], grants: &mut [Grant]) -> Result<(), Refusal>
+    ensures ok { OnOk result
+        (NamesMany (lane_held held.old) (lane_held held.new) clients.now grants.new) }
+    ensures err { OnErr result ((held.new ≡ held.old) × (grants.new ≡ grants.old)) }
+    ensures refused { IfErr result
+        (NotNamedMany (lane_held held.old) clients.now (length grants.old)) }
+{
+    let Held::Lane(lane) = held else {
+        return Err(Refusal::Nothing);
+    };
+    if clients.len() != grants.len() {
+        return Err(Refusal::Size);
+    }
+    let first = lane.lane().grants().len();
+    lane.name_many(clients)?;
+    copy_from(lane.lane().grants(), first, grants);
+    Ok(())
+}
 
 /// Names clients, those who follow one another by one entry together. Copies their grants, in the order in which they
 /// left.
@@ -27,7 +52,7 @@ pub extern "C" fn renamer_name_many(
         → IsRefusal (NotNamedMany (lane_in lane.old.held) clients.now (length grants.old)) result }
 {
     let answer = match lane.get_mut() {
-        Some(held) => held.name_many(clients, grants),
+        Some(held) => name_many(held, clients, grants),
         None => Err(Refusal::Nothing),
     };
     status(answer)

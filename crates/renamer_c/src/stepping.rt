@@ -22,7 +22,7 @@ pub extern "C" fn renamer_enter(lane: &mut Handle, client: u64, entry: u64) -> u
     ensures refused { 0 < result → IsRefusal (NotEntered (lane_in lane.old.held) entry) result }
 {
     let answer = match lane.get_mut() {
-        Some(held) => held.enter(client, entry),
+        Some(held) => held.with_lane(|lane| lane.enter(client, entry)),
         None => Err(Refusal::Nothing),
     };
     status(answer)
@@ -37,7 +37,7 @@ pub extern "C" fn renamer_step(lane: &mut Handle, wire: u64, moved: &mut Moved) 
     ensures refused { 0 < result → IsRefusal (NobodyOn (lane_in lane.old.held) wire) result }
 {
     let answer = match lane.get_mut() {
-        Some(held) => held.step(wire),
+        Some(held) => held.with_lane(|lane| lane.step(wire)),
         None => Err(Refusal::Nothing),
     };
     write(answer, moved)
@@ -52,7 +52,7 @@ pub extern "C" fn renamer_sweep(lane: &mut Handle, wire: u64, swept: &mut Swept)
     ensures refused { 0 < result → IsRefusal (NobodyOn (lane_in lane.old.held) wire) result }
 {
     let answer = match lane.get_mut() {
-        Some(held) => held.sweep(wire),
+        Some(held) => held.with_lane(|lane| lane.sweep(wire)),
         None => Err(Refusal::Nothing),
     };
     write(answer, swept)
@@ -68,7 +68,7 @@ pub extern "C" fn renamer_lowest(lane: &mut Handle, wire: &mut u64) -> u32
     ensures refused { 0 < result → IsRefusal (NoLowestWire (lane_in lane.old.held)) result }
 {
     let answer = match lane.get_mut() {
-        Some(held) => held.lowest(),
+        Some(held) => held.with_lane(|lane| lane.lowest()),
         None => Err(Refusal::Nothing),
     };
     write(answer, wire)
