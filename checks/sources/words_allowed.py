@@ -49,8 +49,8 @@ MOST = {
     "cn_report/src/reading/batch/readers.rt": {"std::thread::join_mut": ANY},
     "cn_renamer/src/epochs.rt": {"std::thread::join_mut": ANY},
     # What the program gets from its system.
-    "renamer/src/main.rt": {"HostRuntime": 1, "Input": 1, "Print": 1, "std::env": ANY, "std::env::Env": ANY,
-                            "std::env::args": 1, "std::io::writer": 1, "std::process::ExitCode": ANY,
+    "renamer/src/main.rt": {"HostRuntime": 2, "Input": 1, "Print": 1, "std::env": ANY, "std::env::Env": ANY,
+                            "std::env::args": 1, "std::io::IsTerminal": ANY, "std::io::writer": 1, "std::process::ExitCode": ANY,
                             "std::process::ExitCode::from": 1},
     # The library's places for lanes that were handed back, their count, who goes there, and who owns a floor.
     LIBRARY: {f"counted_slot::{name}": ANY
@@ -60,7 +60,7 @@ MOST = {
                           ".leave": 1},
     LIBRARY + "places.rt": {ARC: ANY, ARC + "::new": 1, ARC + "::try_clone": 1},
     LIBRARY + "floor_with_places.rt": {"counted_slot::Counted": 2, COUNT: 2, COUNT + "::new": 1,
-                                       "std::sync::atomic::Ordering::SeqCst": 4, ".fetch_add": 1, ".fetch_sub": 1,
+                                       "std::sync::atomic::Ordering::SeqCst": 5, ".fetch_add": 1, ".fetch_sub": 2,
                                        ".load": 1, ".hand_back": 1},
     LIBRARY + "floor_share.rt": {ARC: ANY, ARC + "::get_mut": 2, ".clone": 0, "::clone": 0, "with_places": 2},
     LIBRARY + "held_lane.rt": {ARC: ANY, ARC + "::new": 2, ARC + "::try_clone": 1, ".hand_back": 1, ".share": 1,

@@ -10,7 +10,7 @@ use crate::floor_record::FloorRecord;
 use crate::held_lane::HeldLane;
 use crate::refusal::Refusal;
 
-/// What a handle has. What a lane and a record are stands open, as the checker passes no `&mut` with a lifetime in it to
+/// What a handle has. What a lane and a record are stands open: the checker passes no `&mut` with a lifetime in it to
 /// a closure.
 #[derive(Drop)]
 pub enum Held<L = HeldLane, R = FloorRecord> {
