@@ -50,8 +50,8 @@ MOST = {
     "cn_renamer/src/epochs.rt": {"std::thread::join_mut": ANY},
     # What the program gets from its system.
     "renamer/src/main.rt": {"HostRuntime": 2, "Input": 1, "Print": 1, "std::env": ANY, "std::env::Env": ANY,
-                            "std::env::args": 1, "std::io::IsTerminal": ANY, "std::io::writer": 1, "std::process::ExitCode": ANY,
-                            "std::process::ExitCode::from": 1},
+                            "std::env::args": 1, "std::io::IsTerminal": ANY, "std::io::writer": 1,
+                            "std::process::ExitCode": ANY, "std::process::ExitCode::from": 1},
     # The library's places for lanes that were handed back, their count, who goes there, and who owns a floor.
     LIBRARY: {f"counted_slot::{name}": ANY
               for name in ("Fits", "FREE", "MARKED", "MOST_READERS", "ONE_READER", "PRESENT", "TAKEN")},
