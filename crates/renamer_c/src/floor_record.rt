@@ -10,7 +10,7 @@ use std::marker::Model;
 /// What a closed floor leaves: its words, with which another may begin, how many left by each exit, and the clients by
 /// rising name.
 #[derive(Drop)]
-pub(crate) struct FloorRecord {
+pub struct FloorRecord {
     words: Words<'static>,
     counts: Vec<u64>,
     holders: Vec<u64>,

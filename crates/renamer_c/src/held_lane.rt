@@ -31,7 +31,7 @@ use std::marker::Model;
 use std::sync::Arc;
 
 /// A lane with its share of its floor. To contracts it is the lane. It is handed back where it is dropped.
-pub(crate) struct HeldLane {
+pub struct HeldLane {
     floor: FloorShare,
     lane: Lane,
     /// How many clients the floor may let in.
