@@ -8,6 +8,7 @@ ghost use Rattle.renamer_c.specs.Holding.{holds, the_row};
 use crate::held::Held;
 use crate::held_lane::HeldLane;
 use crate::loose::Loose;
+use crate::places::Place;
 use crate::refusal::Refusal;
 use std::alloc::Global;
 use std::marker::Model;
@@ -29,7 +30,9 @@ impl Model for Handle {
 impl Handle {
     ghost use Rattle.renamer_c.specs.Handles.{lane_in};
     ghost use Rattle.renamer_c.specs.Lends.{LendsHeld};
-    ghost use Rattle.renamer_c.specs.Refusals.{NotThere};
+    ghost use Rattle.renamer_c.specs.Placing.{IsPlaceOf};
+    ghost use Rattle.renamer_c.specs.Refusals.{NotJoined, NotThere, WithLane};
+    ghost use Rattle.renamer_c.specs.Returns.{IsBack};
     ghost use Rattle.renamer_c.specs.declared.held.Held.TheVariants.{Lane};
 
     fn none(alloc: Global) -> Handle
@@ -116,6 +119,22 @@ impl Handle {
         match replace(room.as_mut(), Held::Nothing) {
             Held::Lane(lane) => Ok((lane, room)),
             _ => unreachable!(),
+        }
+    }
+
+    /// Takes a lane out of those that were handed back to the floor of the lane that is there, with its place.
+    ///
+    /// # Errors
+    /// `Nothing` if no lane is there, else `NothingBack`.
+    pub(crate) fn take_back(&mut self) -> Result<(cn_floor::Lane, Place), Refusal>
+        ensures kept { self.new.held ≡ self.old.held }
+        ensures ok { IfOk result (λ r. WithLane (lane_in self.old.held)
+            (λ l. IsBack l.home r.0 × IsPlaceOf l.home r.1)) }
+        ensures refused { IfErr result (NotJoined (lane_in self.old.held)) }
+    {
+        match self.get_mut() {
+            Some(held) => held.with_lane(|lane| lane.take_back()),
+            None => Err(Refusal::Nothing),
         }
     }
 

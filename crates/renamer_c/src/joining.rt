@@ -40,10 +40,7 @@ fn join_one(alloc: Global, lane: &mut Handle) -> Result<(), Refusal>
     ensures kept { OnErr result (lane.new.held ≡ lane.old.held) }
     ensures refused { IfErr result (NotJoined (lane_in lane.old.held)) }
 {
-    let (other, other_place) = match lane.get_mut() {
-        Some(held) => held.with_lane(|lane| lane.take_back())?,
-        None => return Err(Refusal::Nothing),
-    };
+    let (other, other_place) = lane.take_back()?;
     let Ok((held, room)) = lane.take_lane(alloc) else {
         unreachable!()
     };
