@@ -33,7 +33,10 @@ fn say_input(rt: &HostRuntime) -> Result<(), Fault> {
         return Ok(());
     };
     if let Some(input) = input_of(&job) {
-        let _ = writeln!(rt.stderr(), "renamer: reading {input} from the terminal; Ctrl-D ends it");
+        let _ = writeln!(
+            rt.stderr(),
+            "renamer: reading {input} from the terminal; Ctrl-D ends it"
+        );
     }
     Ok(())
 }
@@ -42,7 +45,14 @@ fn run_words(
     rt: &(impl Alloc<A = Global> + Env + Input + Print + RandomSource + Threads + Wait + Sync),
 ) -> Result<(), Fault> {
     // The reader has a buffer of 8 KB: lent, it takes no room in the frames below.
-    run(rt, rt.alloc(), words_of(rt)?, &mut rt.reader(), &mut io::writer(rt), rt)
+    run(
+        rt,
+        rt.alloc(),
+        words_of(rt)?,
+        &mut rt.reader(),
+        &mut io::writer(rt),
+        rt,
+    )
 }
 
 fn main(rt: HostRuntime) -> ExitCode {
