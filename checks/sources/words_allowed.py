@@ -67,7 +67,7 @@ MOST = {
                                "with_places": 2},
     LIBRARY + "held_lane/returning.rt": {ARC: ANY, ARC + "::try_unwrap": 1, ".hand_back": 2, ".take_back": 1,
                                          "with_places": 4},
-    LIBRARY + "handle.rt": {"std::ptr::null_mut": ANY, "unsafe": 2, "*mut": 4},
+    LIBRARY + "handle.rt": {".take_back": 1, "std::ptr::null_mut": ANY, "unsafe": 2, "*mut": 4},
     LIBRARY + "joining.rt": {".hand_back": 1, ".take_back": 1},
     LIBRARY + "loose.rt": {"unsafe": 3, "*mut": 1},
 }
