@@ -3,7 +3,7 @@ pub mod Yards
 pub mod Outs
 pub mod Swept
 pub mod Lanes
-pub mod Lone
+pub mod Alone
 pub mod Named
 pub mod Listed
 pub mod InTurn

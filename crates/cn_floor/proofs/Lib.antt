@@ -1,4 +1,5 @@
-pub mod Lists
-pub mod AtMoments
-pub mod InLane
-pub mod AtClose
+mod Lists
+mod AtMoments
+mod InLane
+mod AtClose
+pub mod CallerLemmas

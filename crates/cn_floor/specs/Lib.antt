@@ -22,7 +22,7 @@ pub mod Receipts
 pub mod InsideReceipts
 pub mod InsideQuiet
 pub mod Laws
-pub mod Lone
+pub mod Alone
 pub mod Together
 pub mod Named
 pub mod Listed

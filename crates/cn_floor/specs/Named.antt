@@ -6,7 +6,7 @@ use Rattle.cn_ledger.specs.Events.{Enters}
 use Rattle.cn_floor.specs.declared.view.Start.{Start}
 use Rattle.cn_floor.specs.declared.view.View.{View}
 use Rattle.cn_floor.specs.Lane.{LaneValue}
-use Rattle.cn_floor.specs.Lone.{PassesOn}
+use Rattle.cn_floor.specs.Alone.{PassesOn}
 use Rattle.cn_floor.specs.Plays.{IsLetBy}
 use Rattle.cn_floor.specs.Steps.{HasMoment, IsAtomicStep}
 use Rattle.cn_floor.specs.Views.{after_enter, after_step}

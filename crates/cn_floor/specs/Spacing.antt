@@ -1,8 +1,8 @@
 -- How the words of a floor lie in memory.
 use Rattle.std.specs.Prelude.{ℕ}
 use Rattle.cn_floor.specs.declared.floor.counters.TheConstants.{MOST_STRIDE}
-use Rattle.cn_floor.specs.declared.floor.spacing.Spacing.{Spacing}
-use Rattle.cn_floor.specs.declared.floor.spacing.Spacing.TheVariants.{Packed, Apart}
+use Rattle.cn_floor.specs.declared.floor.words.Spacing.{Spacing}
+use Rattle.cn_floor.specs.declared.floor.words.Spacing.TheVariants.{Packed, Apart}
 
 -- how many words it is from one to the next: side by side one, apart as many as may be
 abbrev pub stride_of : Spacing → ℕ

@@ -12,7 +12,7 @@ use Rattle.cn_ledger.specs.declared.client.Client.{Client}
 use Rattle.cn_record.specs.declared.record.EpochRecord.{EpochRecord}
 use Rattle.cn_floor.specs.Carried.{zero_words}
 use Rattle.cn_floor.specs.Ends.{QuietValue}
-use Rattle.cn_floor.proofs.AtMoments.Openings.{none-came}
+use Rattle.cn_floor.proofs.CallerLemmas.{none-came}
 use Rattle.cn_walk.specs.declared.crew.Crew.{Crew}
 use Rattle.cn_report.specs.Reading.Batch.{AreServable, IsBatch, MayCome, clients_of_epochs}
 use Rattle.cn_report.specs.Reading.Records.{records_of}

@@ -7,8 +7,8 @@ use Rattle.cn_yard.specs.Lists.{last_on, on}
 use Rattle.cn_yard.proofs.CallerLemmas.{last_on-sum}
 use Rattle.cn_floor.specs.declared.view.View.{View}
 use Rattle.cn_floor.specs.Lane.{LaneValue}
-use Rattle.cn_floor.specs.Lone.{IsAlone, OnlyPassed}
-use Rattle.cn_floor.proofs.InLane.Lone.{off-own, on-own}
+use Rattle.cn_floor.specs.Alone.{IsAlone, OnlyPassed}
+use Rattle.cn_floor.proofs.CallerLemmas.{off-own, on-own}
 use Rattle.cn_walk.specs.Walks.{Walks, inside_by, steps_left}
 
 weight-alone : (f : ℕ → ℕ) (v : View) (token client wire : ℕ) → IsAlone v.tokens token client wire → inside_by f v ≡ f client

@@ -12,7 +12,7 @@ use Rattle.cn_walk.specs.Halves.{AreOf, AreReady, HasNothing, IsOne, IsPair, IsR
 use Rattle.cn_floor.specs.Lane.{FloorValue, LaneValue, empty_lane, with_room}
 use Rattle.cn_floor.specs.Views.{after_look, after_split, split_off}
 use Rattle.cn_walk.specs.Walks.{WalksAll}
-use Rattle.cn_floor.proofs.InLane.Yards.{nobody-in}
+use Rattle.cn_floor.proofs.CallerLemmas.{nobody-in}
 use Rattle.cn_walk.proofs.Walks.{length-both}
 
 -- how many pairs of halves there are

@@ -16,8 +16,7 @@ use Rattle.cn_floor.specs.declared.view.View.{View}
 use Rattle.cn_floor.specs.Lane.{FloorValue, LaneValue}
 use Rattle.cn_floor.specs.Rule.{IsStart}
 use Rattle.cn_floor.specs.Steps.{HasMoment, IsAtomicStep}
-use Rattle.cn_floor.proofs.AtClose.Closings.{ending-at}
-use Rattle.cn_floor.proofs.Lists.{ones}
+use Rattle.cn_floor.proofs.CallerLemmas.{ending-at, ones}
 use Rattle.cn_walk.specs.Walks.{AreInOrder, GrantsInOrder, IsSole, Walks, inside_by}
 use Rattle.cn_walk.proofs.Walks.{length-both}
 

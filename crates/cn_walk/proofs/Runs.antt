@@ -22,10 +22,7 @@ use Rattle.cn_walk.specs.Runs.{IsRun, IsRunAfter}
 use Rattle.cn_floor.specs.Views.{base}
 use Rattle.cn_walk.specs.Walks.{AreFor, AreInOrder, GrantsInOrder, IsSole, WalksAll}
 use Rattle.cn_floor.specs.Words.{count_in, entered_in}
-use Rattle.cn_floor.proofs.AtClose.Closings.{map-same}
-use Rattle.cn_floor.proofs.InLane.Yards.{nobody-in}
-use Rattle.cn_floor.proofs.AtMoments.Openings.{none-came, none-counted, none-entered}
-use Rattle.cn_floor.proofs.AtMoments.Raised.{count-word}
+use Rattle.cn_floor.proofs.CallerLemmas.{count-word, map-same, nobody-in, none-came, none-counted, none-entered}
 
 -- all clients lie between the first of the first worker and that of the one after the last
 pub all-first : (k w : ℕ) → 0 < w → first_position k w w - first_position k w 0 ≡ k

@@ -15,10 +15,7 @@ use Rattle.cn_floor.specs.declared.view.View.{View}
 use Rattle.cn_floor.specs.Lane.{LaneValue, LetsIn}
 use Rattle.cn_floor.specs.Views.{after_enter, after_step, on_in}
 use Rattle.cn_walk.specs.Walks.{WalksAll, Walks, inside_by, steps_left}
-use Rattle.cn_floor.proofs.AtClose.Closings.{inside-yard, none-on}
-use Rattle.cn_floor.proofs.AtMoments.Accounts.{at-none, at-one, weighed-went}
-use Rattle.cn_floor.proofs.AtMoments.Ledgers.{Lands}
-use Rattle.cn_floor.proofs.Lists.{ones, weigh-come, weigh-leave, weigh-pass}
+use Rattle.cn_floor.proofs.CallerLemmas.{Lands, at-none, at-one, inside-yard, none-on, ones, weigh-come, weigh-leave, weigh-pass, weighed-went}
 
 -- nothing happens
 pub stays : (a : LaneValue) → Walks a a []

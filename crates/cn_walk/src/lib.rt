@@ -1,17 +1,19 @@
 //! Walks of clients over a floor, by many workers, and the epochs that they run.
 #![tactic(auto)]
 
+mod callers;
 mod crew;
 mod forking;
 mod runner;
 mod running;
 mod walking;
 
+pub use callers::{run_epoch, run_epoch_after};
 pub use cn_floor::{
     CloseFault, ClosedFloor, Floor, Gate, Grant, JoinFault, Lane, LaneFault, Leftovers, Moment,
     OpenFault, OpenGate, Opening, Passage, Quiet, Receipts, SplitFault, Start, Sweep, View, Words,
 };
 pub use crew::Crew;
 pub use runner::Runner;
-pub use running::{RunFault, run_epoch, run_epoch_after};
+pub use running::RunFault;
 pub use walking::walk_all;

@@ -39,7 +39,7 @@ fn walk_in<'a, G: Gate, R: Wait>(
 }
 
 /// The lowest wire that has a token, once a token that is alone in the lane has passed all balancers on its way; else
-/// `lowest`, which is that wire. The lone token's wire is in a local, and its sweeps would be the same steps.
+/// `lowest`, which is that wire. The only token's wire is in a local, and its sweeps would be the same steps.
 fn bring_on<'a, G: Gate, R: Wait>(
     rt: &R,
     floor: &Floor<'a>,

@@ -9,7 +9,7 @@ use Rattle.cn_ledger.specs.Ledger.{Ledger}
 use Rattle.cn_yard.specs.Lists.{last_on, on, without}
 use Rattle.cn_floor.specs.declared.view.Start.{Start}
 use Rattle.cn_floor.specs.declared.view.View.{View}
-use Rattle.cn_floor.specs.Lone.{IsAlone, OnlyPassed, PassesOn}
+use Rattle.cn_floor.specs.Alone.{IsAlone, OnlyPassed, PassesOn}
 use Rattle.cn_floor.specs.Named.{WalksThrough}
 use Rattle.cn_floor.specs.Rule.{IsStart}
 use Rattle.cn_floor.specs.Steps.{HasMoment, IsAtomicStep}
@@ -19,7 +19,7 @@ use Rattle.cn_floor.proofs.AtClose.Rises.{all-empty}
 use Rattle.cn_floor.proofs.AtMoments.Bounds.{few-came}
 use Rattle.cn_floor.proofs.AtMoments.Fresh.{load-bound-few}
 use Rattle.cn_floor.proofs.AtMoments.Sweeps.{lists-after-on}
-use Rattle.cn_floor.proofs.InLane.Lone.{nobody-else, off-own}
+use Rattle.cn_floor.proofs.InLane.Alone.{nobody-else, off-own}
 use Rattle.cn_floor.proofs.InLane.Yards.{nobody-there}
 
 -- if nobody stands on any wire, who comes in stands alone

@@ -1,11 +1,11 @@
 //! A closed floor, before anybody asks what has risen.
 
-ghost use Rattle.std.specs.Prelude.{◌≡◌, IfOk, [], ◌∷◌, length};
+ghost use Rattle.std.specs.Prelude.{◌≡◌, IfOk, [], ◌∷◌, length, map};
+ghost use Rattle.cn_spec.specs.Step.{IsEachBelow};
 ghost use Rattle.cn_floor.specs.Carried.{words_before};
 ghost use Rattle.cn_floor.specs.Ends.{IsClosedFloor, ListsHolders};
 ghost use Rattle.cn_floor.specs.Words.{word_count};
 
-use super::holders::put_holders;
 use super::lane::Lane;
 use super::leftovers::Leftovers;
 use super::network_ref::NetworkRef;
@@ -148,5 +148,29 @@ impl Drop for ClosedFloor<'_> {
             grants: _grants,
         } = self;
         table.free();
+    }
+}
+
+/// The clients by rising name, in a list. The names are those below the number of grants, each once.
+///
+/// # Errors
+/// `AllocError` if the list gets no memory.
+pub(super) fn holders_of(alloc: Global, grants: &[Grant]) -> Result<Vec<u64>, AllocError>
+    requires { IsEachBelow (length grants.now) (map (λ g. g.name) grants.now) }
+    ensures { IfOk result (λ holders. ListsHolders grants.now holders.items) }
+{
+    let mut holders = vec![in alloc; 0; grants.len()]?;
+    put_holders(grants, &mut holders);
+    Ok(holders)
+}
+
+/// Writes each grant's client at the place of its name. The names are those below the number of grants, each once.
+pub(super) fn put_holders(grants: &[Grant], holders: &mut [u64])
+    requires places { length holders.old ≡ length grants.now }
+    requires names { IsEachBelow (length grants.now) (map (λ g. g.name) grants.now) }
+    ensures { ListsHolders grants.now holders.new }
+{
+    for grant in grants {
+        holders[grant.name as usize] = grant.client;
     }
 }

@@ -1,19 +1,24 @@
-//! A client is named by one call.
+//! One token is walked by one call, with its wire in a local: a client that is named, or a lane's only token.
 
-ghost use Rattle.std.specs.Prelude.{◌≡◌, ℕ, ◌<◌, ◌≤◌, ◌↔◌, [], length, replicate, IfOk, IsErrOf, OnErr};
+ghost use Rattle.std.specs.Prelude.{◌≡◌, ℕ, ◌<◌, ◌≤◌, ◌↔◌, [], List, length, replicate, IfOk, IsErrOf, OnErr};
+ghost use Rattle.cn_wiring.specs.declared.end.End.TheVariants.{Exit};
+ghost use Rattle.cn_wiring.specs.Table.{end_of};
 ghost use Rattle.cn_yard.specs.Lists.{on, tokens_in};
+ghost use Rattle.cn_floor.specs.Alone.{GoesAlone, IsAlone, OnlyPassed, PassesOn};
 ghost use Rattle.cn_floor.specs.Named.{IsNamed, WalksThrough};
 
 use super::Floor;
 use super::lane::{Lane, make_way};
 use crate::fault::LaneFault;
-use crate::gate::NoPause;
+use crate::gate::{Asked, Gate, Moment, NoPause, Pause};
 use crate::view::{Grant, View};
 use atomic_table::Seat;
+use cn_balancer::output_of;
 use cn_exit::name_of;
 use cn_wiring::End;
 use cn_yard::Token;
 use std::marker::Brand;
+use std::sync::Wait;
 
 impl<'a> Floor<'a> {
     /// Lets a client in by an entry and walks it out, in one atomic step for the entry, for each balancer on its way
@@ -86,4 +91,66 @@ impl<'a> Floor<'a> {
             }
         }
     }
+
+    /// Lets a token that stands alone in a view pass one balancer after the other, until its wire ends at an exit.
+    /// Gives this wire.
+    pub(super) fn pass_on<P: Pause>(
+        &self,
+        seat: &mut Seat<(), View>,
+        token: Token,
+        client: u64,
+        wire: u32,
+        pause: &P,
+    ) -> u32
+        requires own { (seat.old.table_id ≡ self.now.table)
+            × (seat.old.me.0.start ≡ self.now.start) }
+        requires slots { (seat.old.me.1 ≡ []) × (seat.old.me.0.loads ≡ []) }
+        requires wires { length seat.old.me.0.tokens ≡ length self.now.start.network.table.ends }
+        requires alone { IsAlone seat.old.me.0.tokens token client wire }
+        ensures seat { (seat.new.table_id ≡ seat.old.table_id) × (seat.new.me.1 ≡ []) }
+        ensures passed { OnlyPassed seat.old.me.0 seat.new.me.0 }
+        ensures alone { IsAlone seat.new.me.0.tokens token client result }
+        ensures onward { wire ≤ result }
+        ensures by { (numbers : List ℕ)
+            × PassesOn self.now.start token client numbers wire seat.old.me.0 result seat.new.me.0 }
+        ensures exit { (i : ℕ) × (end_of self.now.start.network.table result ≡ Exit i) }
+    {
+        let network = self.network();
+        let mut at = wire;
+        while let End::Balancer(balancer) = network.end(at) {
+            pause.before(Moment::Pass);
+            let end = End::Balancer(balancer);
+            let number = self.counters.step::<Brand>(seat, token, client, at, end);
+            at = network.entries() + 2 * balancer + output_of(number);
+        }
+        at
+    }
+}
+
+/// Lets the lane's only token, which stands on this wire, pass one balancer after the other, in one atomic step each,
+/// until its wire ends at an exit. Gives this wire. Only the final position is written to the yard. The gate is asked
+/// before each step, in the worker's name. It takes no memory, and refuses nothing, but returns only if the gate lets
+/// it.
+pub fn pass_alone<'a, G: Gate, R: Wait>(
+    rt: &R,
+    floor: &Floor<'a>,
+    lane: &mut Lane,
+    wire: u32,
+    gate: &G,
+    worker: u32,
+) -> u32
+    requires own { lane.old.home ≡ floor.now }
+    requires alone { tokens_in lane.old.yard.lists ≡ 1 }
+    requires stands { 0 < length (on lane.old.yard.lists wire) }
+    ensures { (token client : ℕ) × GoesAlone lane.old lane.new token client wire result }
+{
+    lane.lane_laws();
+    let Some(token) = lane.yard.first(wire) else {
+        unreachable!()
+    };
+    let client = lane.yard.client_of(token);
+    let asked = Asked { rt, gate, worker };
+    let to = floor.pass_on(&mut lane.seat, token, client, wire, &asked);
+    lane.yard.move_to(token, to);
+    to
 }

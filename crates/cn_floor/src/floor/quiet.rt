@@ -3,7 +3,7 @@
 ghost use Rattle.std.specs.Prelude.{◌≡◌, IfOk};
 ghost use Rattle.cn_floor.specs.Ends.{HasRisen, IsClosedFloor, ListsHolders, counts_by_exit, passes_of};
 
-use super::holders::holders_of;
+use super::closed_floor::holders_of;
 use super::lane::Lane;
 use super::words::Words;
 use crate::view::Grant;

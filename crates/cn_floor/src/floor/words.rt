@@ -1,21 +1,45 @@
-//! The words of closed floors.
+//! The words of closed floors, and how words lie in memory.
 
 ghost use Rattle.std.specs.Arc.{arc_value};
 ghost use Rattle.std.specs.Prelude.{◌≡◌, ◌<◌, None, length, IfOk, IfSome};
 ghost use Rattle.cn_wiring.specs.declared.end.End.TheVariants.{Balancer, Exit};
 ghost use Rattle.cn_floor.specs.Carried.{AreTight, IsClosed, client_count, zero_words};
 ghost use Rattle.cn_floor.specs.Ends.{words_after};
+ghost use Rattle.cn_floor.specs.Spacing.{stride_of};
+ghost use Rattle.cn_floor.specs.Spread.{IsStride};
 ghost use Rattle.cn_floor.specs.Words.{IsDifference, NoneWent, count_in, entered_in};
 
 use super::closed_floor::ClosedFloor;
+use super::counters::MOST_STRIDE;
 use super::network_ref::NetworkRef;
 use super::reading::rise;
-use super::spacing::Spacing;
 use super::zeros;
 use cn_wiring::Counting;
 use std::alloc::{AllocError, Global};
 use std::marker::Model;
 use std::sync::Arc;
+
+/// How the words of a floor lie in memory. Nothing that contracts see of a floor or of its words depends on it.
+#[derive(Clone, Copy)]
+pub(super) enum Spacing {
+    /// Side by side.
+    Packed,
+    /// 128 bytes apart: no two of them lie in one cache line, or in two lines that a processor fetches together.
+    Apart,
+}
+
+impl Spacing {
+    /// How many words it is from one to the next.
+    pub(super) fn stride(self) -> usize
+        ensures stride { IsStride result }
+        ensures exact { result ≡ stride_of self }
+    {
+        match self {
+            Spacing::Packed => 1,
+            Spacing::Apart => MOST_STRIDE,
+        }
+    }
+}
 
 /// The words of closed floors over a network: how many clients came in by each entry, passed each balancer and left by
 /// each exit since each word was 0. Another floor may go on from them ([`super::Floor::open_after`]).

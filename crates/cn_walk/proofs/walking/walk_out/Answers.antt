@@ -6,7 +6,7 @@ use Rattle.cn_floor.specs.Steps.{HasMoment}
 use Rattle.cn_walk.proofs.Ordered.{moment-after}
 use Rattle.cn_walk.proofs.SweptWalks.{clear-below, sweeps}
 use Rattle.cn_walk.proofs.Walks.{IsHeld, none_by, walks-on}
-use Rattle.cn_floor.proofs.InLane.Yards.{lowest-inside, nobody-there}
+use Rattle.cn_floor.proofs.CallerLemmas.{lowest-inside, nobody-there}
 use Rattle.cn_walk.proofs.walking.walk_out.Goals as goal
 
 pub loop-lowest-smaller : goal.loop-lowest-smaller

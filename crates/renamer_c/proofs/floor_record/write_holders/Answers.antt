@@ -1,7 +1,7 @@
 use Rattle.std.proofs.Common.{◌≡◌, ◌+◌, ◌<◌, List, length, get_or, set, sym, ap, subst, arith}
 use Rattle.std.specs.Prelude.{vec_len}
 use Rattle.cn_floor.specs.declared.view.Grant.{Grant}
-use Rattle.cn_floor.proofs.AtClose.Holding.{Stand, all-stand, name-low, one-more}
+use Rattle.cn_floor.proofs.CallerLemmas.{Stand, all-stand, name-low, one-more}
 use Rattle.renamer_c.proofs.floor_record.write_holders.Goals as goal
 
 abbrev none : Grant

@@ -5,10 +5,10 @@ use Rattle.cn_wiring.specs.Table.{IsWellFormed, end_of, output_wire}
 use Rattle.cn_floor.specs.declared.view.Start.{Start}
 use Rattle.cn_floor.specs.declared.view.View.{View}
 use Rattle.cn_floor.specs.Lane.{FloorValue}
-use Rattle.cn_floor.specs.Lone.{IsAlone, OnlyPassed, PassesOn}
+use Rattle.cn_floor.specs.Alone.{IsAlone, OnlyPassed, PassesOn}
 use Rattle.cn_floor.specs.Plays.{IsLetBy}
 use Rattle.cn_floor.specs.Views.{after_step}
-use Rattle.cn_floor.proofs.InLane.Lone.{alone-on, onward, passed-more, passed-on, passes-more, there-alone}
+use Rattle.cn_floor.proofs.InLane.Alone.{alone-on, onward, passed-more, passed-on, passes-more, there-alone}
 use Rattle.cn_floor.proofs.floor.Floor.pass_on.Given as given
 use Rattle.cn_floor.proofs.floor.Floor.pass_on.Goals as goal
 

@@ -1,5 +1,5 @@
 use Rattle.std.proofs.Common.{◌≡◌, ℕ, ◌-◌, ◌≤◌, List, [], length}
-use Rattle.cn_floor.specs.Lone.{IsAlone, OnlyPassed, PassesOn}
+use Rattle.cn_floor.specs.Alone.{IsAlone, OnlyPassed, PassesOn}
 use Rattle.cn_floor.proofs.floor.Floor.pass_on.Given as goal
 
 abbrev pub ghosts-step : goal.ghosts-step

@@ -11,8 +11,8 @@ use Rattle.cn_floor.specs.declared.view.View.{View}
 use Rattle.cn_floor.specs.Plays.{IsLetBy}
 use Rattle.cn_floor.specs.Steps.{IsAtomicStep}
 use Rattle.cn_floor.specs.Lane.{FloorValue}
-use Rattle.cn_floor.specs.Lone.{IsAlone}
-use Rattle.cn_floor.proofs.InLane.Lone.{there-alone}
+use Rattle.cn_floor.specs.Alone.{IsAlone}
+use Rattle.cn_floor.proofs.InLane.Alone.{there-alone}
 use Rattle.cn_floor.proofs.InLane.Named.{alone-entered, gone-alone}
 use Rattle.cn_floor.proofs.floor.Floor.walk_through.Goals as goal
 

@@ -2,8 +2,7 @@ use Rattle.std.proofs.Common.{rules, ◌≡◌, ℕ, ◌<◌, ◌∙◌, length,
 use Rattle.cn_yard.specs.Lists.{IsThere, Lists, on}
 use Rattle.cn_yard.proofs.CallerLemmas.{IsFirst, first-is, first-there, there-alike}
 use Rattle.cn_floor.specs.Lane.{LaneValue, StepsOn}
-use Rattle.cn_floor.proofs.InLane.Swept.{some-inside}
-use Rattle.cn_floor.proofs.InLane.Yards.{first-stands}
+use Rattle.cn_floor.proofs.CallerLemmas.{first-stands, some-inside}
 use Rattle.renamer_c.specs.Moves.{IsStepped, moved_of}
 use Rattle.renamer_c.proofs.held_lane.HeldLane.step.Goals as goal
 

@@ -6,11 +6,11 @@ use Rattle.cn_yard.specs.Lists.{Lists, Yard, on}
 use Rattle.cn_floor.specs.declared.view.View.{View}
 use Rattle.cn_floor.specs.InsideLane.{lane_of}
 use Rattle.cn_floor.specs.Lane.{FloorValue, LaneValue}
-use Rattle.cn_floor.specs.Lone.{IsAlone, PassesOn}
-use Rattle.cn_floor.proofs.InLane.Lone.{alone-alike, alone-in, alone-moved, there-alone}
+use Rattle.cn_floor.specs.Alone.{IsAlone, PassesOn}
+use Rattle.cn_floor.proofs.InLane.Alone.{alone-alike, alone-in, alone-moved, there-alone}
 use Rattle.cn_floor.proofs.InLane.Swept.{some-inside}
 use Rattle.cn_floor.proofs.InLane.Yards.{first-stands}
-use Rattle.cn_floor.proofs.floor.lone.pass_alone.Goals as goal
+use Rattle.cn_floor.proofs.floor.naming.pass_alone.Goals as goal
 
 pub client_of-client-requires : goal.client_of-client-requires
 client_of-client-requires g c =

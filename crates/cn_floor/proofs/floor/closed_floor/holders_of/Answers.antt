@@ -1,7 +1,7 @@
 use Rattle.std.proofs.Common.{◌≡◌, ◌++◌, ℕ, List, drop, length, sym, subst, take, arith}
 use Rattle.std.proofs.Math.Seq.{take-append_seam}
 use Rattle.cn_floor.specs.Ends.{ListsHolders}
-use Rattle.cn_floor.proofs.floor.holders.holders_of.Goals as goal
+use Rattle.cn_floor.proofs.floor.closed_floor.holders_of.Goals as goal
 
 pub put_holders-requires-clause-places : goal.put_holders-requires-clause-places
 put_holders-requires-clause-places c = omega (arith, c.deref_mut.ensures.len, c.in_ok-holders.ensures.len)

@@ -13,7 +13,7 @@ use Rattle.cn_yard.specs.Lists.{IsThere, Lists, Moves, Yard, first_of, last_on, 
 use Rattle.cn_yard.proofs.CallerLemmas.{IsFirst, first-is, first-there, last_on-sum, there-alike}
 use Rattle.cn_floor.specs.declared.view.Start.{Start}
 use Rattle.cn_floor.specs.declared.view.View.{View}
-use Rattle.cn_floor.specs.Lone.{IsAlone, OnlyPassed, PassesOn}
+use Rattle.cn_floor.specs.Alone.{IsAlone, OnlyPassed, PassesOn}
 use Rattle.cn_floor.specs.Plays.{IsLetBy}
 use Rattle.cn_floor.specs.declared.floor.lane.Lane.TheInside.{Inside}
 use Rattle.cn_floor.specs.InsideLane.{lane_of}

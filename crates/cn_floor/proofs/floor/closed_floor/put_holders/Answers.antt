@@ -1,7 +1,7 @@
 use Rattle.std.proofs.Common.{rules, ◌<◌, List, length, get_or, arith}
 use Rattle.cn_floor.specs.declared.view.Grant.{Grant}
 use Rattle.cn_floor.proofs.AtClose.Holding.{all-stand, name-low, one-more}
-use Rattle.cn_floor.proofs.floor.holders.put_holders.Goals as goal
+use Rattle.cn_floor.proofs.floor.closed_floor.put_holders.Goals as goal
 
 pub bounds-holders-grant : goal.bounds-holders-grant
 bounds-holders-grant c =

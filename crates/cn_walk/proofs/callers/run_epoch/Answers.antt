@@ -1,6 +1,6 @@
 use Rattle.std.proofs.lemmas.Result.{IfOk-weaker}
 use Rattle.cn_walk.proofs.Runs.{from-zero}
-use Rattle.cn_walk.proofs.running.run_epoch.Goals as goal
+use Rattle.cn_walk.proofs.callers.run_epoch.Goals as goal
 
 pub returns-clause-run : goal.returns-clause-run
 returns-clause-run g c =

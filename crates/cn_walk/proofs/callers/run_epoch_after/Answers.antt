@@ -2,7 +2,7 @@ use Rattle.std.proofs.Common.{ap, subst}
 use Rattle.std.specs.Prelude.{IfOk}
 use Rattle.cn_floor.specs.Carried.{WordsValue, words_before}
 use Rattle.cn_walk.specs.Runs.{IsRunAfter}
-use Rattle.cn_walk.proofs.running.run_epoch_after.Goals as goal
+use Rattle.cn_walk.proofs.callers.run_epoch_after.Goals as goal
 
 pub returns-clause-run : goal.returns-clause-run
 returns-clause-run g c =

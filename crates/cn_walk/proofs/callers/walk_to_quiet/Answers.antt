@@ -1,5 +1,5 @@
 use Rattle.std.proofs.Common.{rules}
-use Rattle.cn_walk.proofs.running.walk_to_quiet.Goals as goal
+use Rattle.cn_walk.proofs.callers.walk_to_quiet.Goals as goal
 
 pub walk_floor-requires-clause-lane : goal.walk_floor-requires-clause-lane
 walk_floor-requires-clause-lane g c κs within = search rules

@@ -1,0 +1,17 @@
+-- What proofs of other crates cite of this one. They cite nothing else of proofs/.
+
+-- tokens and their wires
+pub use Rattle.cn_floor.proofs.InLane.Yards.{first-stands, lowest-inside, nobody-in, nobody-there}
+pub use Rattle.cn_floor.proofs.InLane.Alone.{off-own, on-own}
+pub use Rattle.cn_floor.proofs.InLane.Swept.{grants-kept, grants-left, kin-by, some-inside}
+-- what a lane may do, and what it did
+pub use Rattle.cn_floor.proofs.AtMoments.Sweeps.{MayGo, goes-there, rest-may}
+pub use Rattle.cn_floor.proofs.AtMoments.Ledgers.{Lands}
+pub use Rattle.cn_floor.proofs.AtMoments.Accounts.{at-none, at-one, weighed-went}
+pub use Rattle.cn_floor.proofs.AtMoments.Raised.{count-word}
+pub use Rattle.cn_floor.proofs.Lists.{ones, weigh-come, weigh-leave, weigh-pass}
+-- a floor that nobody entered
+pub use Rattle.cn_floor.proofs.AtMoments.Openings.{none-came, none-counted, none-entered}
+-- a closed floor
+pub use Rattle.cn_floor.proofs.AtClose.Closings.{ending-at, inside-yard, map-same, none-on}
+pub use Rattle.cn_floor.proofs.AtClose.Holding.{Stand, all-stand, name-low, one-more}
