@@ -86,7 +86,7 @@ module _ (s : State) (h : List Event) (earlier : List (List Event)) (is : IsCore
         (ltb-true i w p, sym (eqb-true (name_of w i v) name q));
     once = λ c i v name. no-more (nat_lt i w) (name_of w i v == name) (0 == c) (given_before (after_carry s) i v);
     apart = λ c d i v differ. not-both c d differ (nat_lt i w) (name_of w i v == name_of w i v) (given_before (after_carry s) i v);
-    told = λ i v within g. (0, rw (lt-ltb i w within, eq-eqb (name_of w i v) (name_of w i v) refl) (rw (lt-ltb i w within) at g));
+    owned = λ i v within g. (0, rw (lt-ltb i w within, eq-eqb (name_of w i v) (name_of w i v) refl) (rw (lt-ltb i w within) at g));
   }
 
 pub IsCore-after_carry : (s : State) → IsCore s → inside_in s ≡ 0 → s.base + length s.clients ≤ MOST_CARRIED → IsCore (after_carry s)

@@ -255,7 +255,7 @@ sound-like s h g k m b sound = record {
   named = sound.named;
   once = sound.once;
   apart = sound.apart;
-  told = sound.told;
+  owned = sound.owned;
 }
   where
     numbered : (end : End) (n : ℕ) → Stands s.network.table end → given_in s g m end n ≡ once_below (past s end) n

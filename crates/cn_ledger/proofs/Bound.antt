@@ -175,7 +175,7 @@ tight t w counts l sound quiet =
         let is : name_of t.width (name % t.width) (name / t.width) ≡ name = name_of-exit_of t.width name in
         let one : once_below (all_entered t l) name ≡ 1 = ap {B = ℕ} (λ b. cond b 1 0) (lt-ltb name (all_entered t l) below) in
         let here : times_given t l name ≡ 1 = given name flow same ∙ one in
-        let (c, g) = sound.told (name % t.width) (name / t.width) h (omega arith) in (
+        let (c, g) = sound.owned (name % t.width) (name / t.width) h (omega arith) in (
           c,
           λ d. elim (cases_eq c d) [
             | inl e ↦

@@ -38,7 +38,7 @@ sound-nothing t l none = record {
   named = λ c i v name g. absurd (omega (arith, none.granted c i v name));
   once = λ c i v name. omega (arith, none.granted c i v name);
   apart = λ c d i v differ. omega (arith, none.granted c i v (name_of t.width i v), none.granted d i v (name_of t.width i v));
-  told = λ i v h g. absurd (omega (arith, none.given (Exit i) v));
+  owned = λ i v h g. absurd (omega (arith, none.given (Exit i) v));
 }
 
 pub sound-empty : (t : Table) → IsSound t empty_ledger

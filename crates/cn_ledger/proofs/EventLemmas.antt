@@ -216,8 +216,8 @@ sound-enters t old new c u ev sound = record {
   named = λ d i v name g. sound.named d i v name (rw (ev.granted d i v name) at g);
   once = λ d i v name. omega (arith, sound.once d i v name, ev.granted d i v name, ev.given (Exit i) v);
   apart = λ d e i v differ. omega (arith, sound.apart d e i v differ, ev.granted d i v (name_of t.width i v), ev.granted e i v (name_of t.width i v), ev.given (Exit i) v);
-  told = λ i v h g.
-      let (d, k) = sound.told i v h (omega (arith, ev.given (Exit i) v)) in
+  owned = λ i v h g.
+      let (d, k) = sound.owned i v h (omega (arith, ev.given (Exit i) v)) in
       (d, omega (arith, ev.granted d i v (name_of t.width i v)));
 }
 
@@ -233,8 +233,8 @@ sound-passes t old new c u b ev sound =
       named = λ d i v name g. sound.named d i v name (rw (ev.granted d i v name) at g);
       once = λ d i v name. omega (arith, sound.once d i v name, ev.granted d i v name, ev.goes.given (Exit i) v);
       apart = λ d e i v differ. omega (arith, sound.apart d e i v differ, ev.granted d i v (name_of t.width i v), ev.granted e i v (name_of t.width i v), ev.goes.given (Exit i) v);
-      told = λ i v h g.
-          let (d, k) = sound.told i v h (omega (arith, ev.goes.given (Exit i) v)) in
+      owned = λ i v h g.
+          let (d, k) = sound.owned i v h (omega (arith, ev.goes.given (Exit i) v)) in
           (d, omega (arith, ev.granted d i v (name_of t.width i v)));
     }
 
@@ -271,10 +271,10 @@ sound-leaves t w old new c u i ev sound =
             ev.goes.given (Exit j) v,
             apart-leave c d e i j n v (name_of t.width i n) (name_of t.width j v) differ,
           );
-      told = λ j v h g.
+      owned = λ j v h g.
           elim (cases_lt 0 (old.given (Exit j) v)) [
             | inl k ↦
-                let (d, m) = sound.told j v h k in
+                let (d, m) = sound.owned j v h k in
                 (d, omega (arith, ev.granted d j v (name_of t.width j v)))
             | inr k ↦
                 let one : 1 ≤ cond (eqb j i && eqb n v) 1 0 = omega (arith, ev.goes.given (Exit j) v) in

@@ -46,7 +46,7 @@ pub record IsSound (t : Table) (l : Ledger) : Type 0 where
   pub apart : (c d i v : ℕ) → c ≢ d
       → l.granted c i v (name_of t.width i v) + l.granted d i v (name_of t.width i v) ≤ l.given (Exit i) v
   -- each visit that is given is granted to a client
-  pub told : (i v : ℕ) → i < t.width → 1 ≤ l.given (Exit i) v
+  pub owned : (i v : ℕ) → i < t.width → 1 ≤ l.given (Exit i) v
       → (c : ℕ) × (1 ≤ l.granted c i v (name_of t.width i v))
 
 -- how many have come in
