@@ -23,7 +23,7 @@ same_ok x y r p q = let e : Ok x ≡ Ok y = sym p ∙ q in cc e
 
 -- so a word that is read as a number is the digits of no other number
 pub no_other : {E : Type 0} (number other : ℕ) (word : List ℕ) (r : Result ℕ E) → number < 2 ^ 32 → word ≡ decimal number → ParsesUnsigned 32 10 word r → r ≡ Ok other → other ≡ number
-no_other number other word r fits e parsed told = same_ok other number r told (parsed-number number word r fits e parsed)
+no_other number other word r fits e parsed said = same_ok other number r said (parsed-number number word r fits e parsed)
 
 pub one_value : (options : List Row) (name value other : Text) → Gives options name value → Gives options name other → value ≡ other
 one_value options name value other one another = let e : Some value ≡ Some other = sym one ∙ another in cc e

@@ -55,7 +55,7 @@ module _ (network : Network) (carried : Carried) (is : IsNetwork network) (share
     where
       by : (end : End) → end_of network.table wire ≡ end → Some (position_past network.table carried.enters end (steps_before network.table h carried end)) ≡ Some (Holds name) → Left h (Some (On wire)) name
       by (Balancer b) ends past = absurd (cc)
-      by (Exit i) ends past = record { exit = i; below = exit-below wire i ends; from = ap Some ends; named = let told : name_of network.table.width i (steps_before network.table h carried (Exit i)) - carried.enters ≡ name = cc in omega (arith, late h i (exit-below wire i ends)) }
+      by (Exit i) ends past = record { exit = i; below = exit-below wire i ends; from = ap Some ends; named = let known : name_of network.table.width i (steps_before network.table h carried (Exit i)) - carried.enters ≡ name = cc in omega (arith, late h i (exit-below wire i ends)) }
 
   -- what a step does to the positions: it changes only its client's
   mine : (h : List Event) (b name : ℕ) → position_after network.table (Step b ∷ h) carried b ≡ Some (Holds name) → Left h (position_after network.table h carried b) name

@@ -31,37 +31,37 @@ named None name e = absurd (cc)
 named (Some (On wire)) name e = absurd (cc)
 named (Some (Holds other)) name e = ap (λ n. Some (Holds n)) (let same : other ≡ name = cc in same)
 
-pub told-tight : (old : Epochs) (r : EpochRecord) → TellsEpoch old r → came_in old.core ≡ old.core.base + length old.core.clients
+pub said-tight : (old : Epochs) (r : EpochRecord) → TellsEpoch old r → came_in old.core ≡ old.core.base + length old.core.clients
     → IsTightState old.core → IsTightRecord old.core.network.table.width old.core.base r
-told-tight old r told came tight = record {
-  exits = told.exits;
+said-tight old r said came tight = record {
+  exits = said.exits;
   counts = λ i within.
-      let clients = told.clients in
-      told.counts i within ∙ tight.counts i within ∙ ap (λ n. share n old.core.network.table.width i) (omega (arith, came));
-  names = told.holders.all ∙ sym told.clients;
+      let clients = said.clients in
+      said.counts i within ∙ tight.counts i within ∙ ap (λ n. share n old.core.network.table.width i) (omega (arith, came));
+  names = said.holders.all ∙ sym said.clients;
   distinct = λ m n before within same.
-      let many = told.clients in
-      let one = told.holders.by_name m (omega arith) in
-      let other = told.holders.by_name n (omega arith) in
+      let many = said.clients in
+      let one = said.holders.by_name m (omega arith) in
+      let other = said.holders.by_name n (omega arith) in
       let both : ◌≡◌ {A = Option ℕ} (Some m) (Some n) = sym one ∙ rw same other in
       let equal : m ≡ n = cc in
       omega arith;
 }
 
-pub told-record : (old : Epochs) (r : EpochRecord) → TellsEpoch old r → (turns : ℕ) (history : List Event) (carried : Carried) → old.number ≡ turns → AgreesAfter old.core history carried
+pub said-record : (old : Epochs) (r : EpochRecord) → TellsEpoch old r → (turns : ℕ) (history : List Event) (carried : Carried) → old.number ≡ turns → AgreesAfter old.core history carried
     → HasShares old.core.network.table.width carried → IsRecordOf old.core.network.table turns history carried r
-told-record old r told turns history carried number agrees shares = record {
-  number = told.number ∙ number;
-  clients = told.clients ∙ agrees.total;
-  exits = told.exits;
+said-record old r said turns history carried number agrees shares = record {
+  number = said.number ∙ number;
+  clients = said.clients ∙ agrees.total;
+  exits = said.exits;
   counts = λ i within.
       let before : carried.steps (Exit i) ≡ share old.core.base old.core.network.table.width i = shares i within ∙ ap (λ m. share m old.core.network.table.width i) (sym agrees.base) in
-      omega (arith, told.counts i within, agrees.counts (Exit i));
-  names = told.holders.all ∙ agrees.total;
+      omega (arith, said.counts i within, agrees.counts (Exit i));
+  names = said.holders.all ∙ agrees.total;
   holders = λ name below.
       let total = agrees.total in
       let holder = slice_index r.holders.items name in
-      sym (agrees.positions holder) ∙ named (position_in old.core.clients holder) name (told.holders.by_name name (omega arith));
+      sym (agrees.positions holder) ∙ named (position_in old.core.clients holder) name (said.holders.by_name name (omega arith));
 }
 
 -- nobody is inside by history
@@ -87,8 +87,8 @@ begun-after old turns history (Some earlier) r quiet agrees = record {
 
 pub turned-after : (old new : Epochs) (r : EpochRecord) → TellsEpoch old r → core.ByHistories old.core (λ history carried. HasShares old.core.network.table.width carried) → inside_in old.core ≡ 0
     → new ≡ record { number = old.number + 1; carries = old.carries; core = next old.carries old.core } → AnswersByHistory old Turn (Turned r) new
-turned-after old new r told shares quiet is turns history kept agrees = (
-  (quiet-by_history old quiet turns history kept agrees, told-record old r told turns history (carried_by old.core.network.table (earlier_in kept)) agrees.number agrees.core.1 (shares history (earlier_in kept) agrees.core)),
+turned-after old new r said shares quiet is turns history kept agrees = (
+  (quiet-by_history old quiet turns history kept agrees, said-record old r said turns history (carried_by old.core.network.table (earlier_in kept)) agrees.number agrees.core.1 (shares history (earlier_in kept) agrees.core)),
   rw is (begun-after old turns history kept r quiet agrees),
 )
 
@@ -109,7 +109,7 @@ came-after old (Enter client entry) (TurnRefused fault) new none = absurd none
 came-after old (Step client) (Replied reply) new (goes, ledger, number, carries) = (carries, event-after old.core new.core (StepEvent client) reply goes)
 came-after old (Step client) (Turned r) new none = absurd none
 came-after old (Step client) (TurnRefused fault) new none = absurd none
-came-after old Turn (Turned r) new (quiet, told, tight, e) = rw e (refl, came-next old.core old.carries)
+came-after old Turn (Turned r) new (quiet, said, tight, e) = rw e (refl, came-next old.core old.carries)
 came-after old Turn (TurnRefused (NotQuiet s)) new (some, inside, e) = rw e (refl, omega arith)
 came-after old Turn (TurnRefused Memory) new (quiet, e) = rw e (refl, omega arith)
 came-after old Turn (Replied reply) new none = absurd none

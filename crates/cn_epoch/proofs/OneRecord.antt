@@ -45,34 +45,34 @@ module _ (network : Network) (is : IsNetwork network) where
 
   one-reply : (history : List Event) (carried : Carried) (event : Event) (reply other : Reply) → core.MayAnswer t history carried event reply → core.MayAnswer t history carried event other
       → HadMemory (Replied reply) → HadMemory (Replied other) → reply ≡ other
-  one-reply history carried event reply other (inl e) (inl f) told also = e ∙ sym f
-  one-reply history carried event reply other (inr (accepted, memory)) may told also = absurd (told memory)
-  one-reply history carried event reply other (inl e) (inr (accepted, memory)) told also = absurd (also memory)
+  one-reply history carried event reply other (inl e) (inl f) had also = e ∙ sym f
+  one-reply history carried event reply other (inr (accepted, memory)) may had also = absurd (had memory)
+  one-reply history carried event reply other (inl e) (inr (accepted, memory)) had also = absurd (also memory)
 
   same-reply : (history : List Event) (carried : Carried) (event : Event) (answer other : Answer) → MayReply t history carried event answer → MayReply t history carried event other
       → HadMemory answer → HadMemory other → IsSameAnswer answer other
-  same-reply history carried event (Replied reply) (Replied other) may might told also = one-reply history carried event reply other may might told also
-  same-reply history carried event (Turned r) other may might told also = absurd may
-  same-reply history carried event (TurnRefused fault) other may might told also = absurd may
-  same-reply history carried event (Replied reply) (Turned r) may might told also = absurd might
-  same-reply history carried event (Replied reply) (TurnRefused fault) may might told also = absurd might
+  same-reply history carried event (Replied reply) (Replied other) may might had also = one-reply history carried event reply other may might had also
+  same-reply history carried event (Turned r) other may might had also = absurd may
+  same-reply history carried event (TurnRefused fault) other may might had also = absurd may
+  same-reply history carried event (Replied reply) (Turned r) may might had also = absurd might
+  same-reply history carried event (Replied reply) (TurnRefused fault) may might had also = absurd might
 
   same-turn : (turns : ℕ) (history : List Event) (carried : Carried) (answer other : Answer) → HasOneHolder t history carried → MayTurn t turns history carried answer → MayTurn t turns history carried other
       → HadMemory answer → HadMemory other → IsSameAnswer answer other
-  same-turn turns history carried (Turned r) (Turned s) holder (quiet, one) (_, another) told also = one-record turns history carried holder r s one another
+  same-turn turns history carried (Turned r) (Turned s) holder (quiet, one) (_, another) had also = one-record turns history carried holder r s one another
   same-turn turns history carried (TurnRefused (NotQuiet s)) (TurnRefused (NotQuiet u)) holder (some, is) (more, also) _ _ = ap (λ n. NotQuiet n) (is ∙ sym also)
-  same-turn turns history carried (Turned r) (TurnRefused (NotQuiet s)) holder (quiet, one) (some, inside) told also = absurd (omega arith)
-  same-turn turns history carried (TurnRefused (NotQuiet s)) (Turned r) holder (some, inside) (quiet, one) told also = absurd (omega arith)
-  same-turn turns history carried (TurnRefused Memory) other holder may might told also = absurd (told refl)
-  same-turn turns history carried answer (TurnRefused Memory) holder may might told also = absurd (also refl)
-  same-turn turns history carried (Replied reply) other holder may might told also = absurd may
-  same-turn turns history carried answer (Replied reply) holder may might told also = absurd might
+  same-turn turns history carried (Turned r) (TurnRefused (NotQuiet s)) holder (quiet, one) (some, inside) had also = absurd (omega arith)
+  same-turn turns history carried (TurnRefused (NotQuiet s)) (Turned r) holder (some, inside) (quiet, one) had also = absurd (omega arith)
+  same-turn turns history carried (TurnRefused Memory) other holder may might had also = absurd (had refl)
+  same-turn turns history carried answer (TurnRefused Memory) holder may might had also = absurd (also refl)
+  same-turn turns history carried (Replied reply) other holder may might had also = absurd may
+  same-turn turns history carried answer (Replied reply) holder may might had also = absurd might
 
   same-answer : (turns : ℕ) (history : List Event) (carried : Carried) (command : Command) (answer other : Answer) → HasOneHolder t history carried → MayAnswer t turns history carried command answer → MayAnswer t turns history carried command other
       → HadMemory answer → HadMemory other → IsSameAnswer answer other
-  same-answer turns history carried (Enter client entry) answer other holder may might told also = same-reply history carried (EnterEvent client entry) answer other may might told also
-  same-answer turns history carried (Step client) answer other holder may might told also = same-reply history carried (StepEvent client) answer other may might told also
-  same-answer turns history carried Turn answer other holder may might told also = same-turn turns history carried answer other holder may might told also
+  same-answer turns history carried (Enter client entry) answer other holder may might had also = same-reply history carried (EnterEvent client entry) answer other may might had also
+  same-answer turns history carried (Step client) answer other holder may might had also = same-reply history carried (StepEvent client) answer other may might had also
+  same-answer turns history carried Turn answer other holder may might had also = same-turn turns history carried answer other holder may might had also
 
   -- ---- what an answer leaves was accepted
 
@@ -169,21 +169,21 @@ module _ (network : Network) (is : IsNetwork network) where
 
   pub one-list : (turns : ℕ) (history : List Event) (kept : Option (List (List Event))) (commands : List Command) → AreEpochs t (earlier_in kept) → IsHistory t history (carried_by t (earlier_in kept))
       → HaveOneAnswer t turns history kept commands
-  one-list turns history kept [] epochs was [] [] told also may might few = tt
-  one-list turns history kept (command ∷ commands) epochs was (answer ∷ answers) (other ∷ others) told also (may, rest) (might, remaining) few =
+  one-list turns history kept [] epochs was [] [] had also may might few = tt
+  one-list turns history kept (command ∷ commands) epochs was (answer ∷ answers) (other ∷ others) had also (may, rest) (might, remaining) few =
       let now : (carried_by t (earlier_in kept)).enters ≤ MOST_CARRIED = omega (arith, few, grows kept history (command ∷ commands) (answer ∷ answers)) in
       let holder : HasOneHolder t history (carried_by t (earlier_in kept)) = one-holder-after network history (earlier_in kept) is epochs now in
-      let same = same-answer turns history (carried_by t (earlier_in kept)) command answer other holder may might (All-head HadMemory answer answers told) (All-head HadMemory other others also) in
+      let same = same-answer turns history (carried_by t (earlier_in kept)) command answer other holder may might (All-head HadMemory answer answers had) (All-head HadMemory other others also) in
       let (before, accepted) = left turns history kept command answer may (epochs, was) in (
         same,
-        one-list (turns_after turns answer) (history_after history command answer) (kept_after kept history answer) commands before accepted answers others (All-tail HadMemory answer answers told) (All-tail HadMemory other others also) rest
+        one-list (turns_after turns answer) (history_after history command answer) (kept_after kept history answer) commands before accepted answers others (All-tail HadMemory answer answers had) (All-tail HadMemory other others also) rest
             (rw (turns-same turns answer other same, history-same history command answer other same, kept-same kept history answer other same) remaining)
             (rw (kept_by-next kept history command commands answer answers) at few),
       )
-  one-list turns history kept [] epochs was [] (other ∷ others) told also may might few = absurd might
-  one-list turns history kept [] epochs was (answer ∷ answers) others told also may might few = absurd may
-  one-list turns history kept (command ∷ commands) epochs was [] others told also may might few = absurd may
-  one-list turns history kept (command ∷ commands) epochs was (answer ∷ answers) [] told also may might few = absurd might
+  one-list turns history kept [] epochs was [] (other ∷ others) had also may might few = absurd might
+  one-list turns history kept [] epochs was (answer ∷ answers) others had also may might few = absurd may
+  one-list turns history kept (command ∷ commands) epochs was [] others had also may might few = absurd may
+  one-list turns history kept (command ∷ commands) epochs was (answer ∷ answers) [] had also may might few = absurd might
 
   -- the turns in a list of answers, and the history that it leaves
   pub turns-by-same : (turns : ℕ) (answers others : List Answer) → AllZip IsSameAnswer answers others → turns_by turns answers ≡ turns_by turns others

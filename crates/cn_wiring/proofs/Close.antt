@@ -78,13 +78,13 @@ module _ (t : Table) (d : Plan) (exits : List ℕ) (o : IsOrderly d) (plan : pla
   wires : length t.ends ≡ length d.ends
   wires = sym (length-map t.ends balancer_of) ∙ ap length ends-map
 
-  told : (u : ℕ) → u < length t.ends → balancer_of (get_or t.ends u (Balancer 0)) ≡ get_or d.ends u None
-  told u h = sym (get_or-map balancer_of t.ends u (Balancer 0) None h) ∙ ap (λ es. get_or es u None) ends-map
+  found : (u : ℕ) → u < length t.ends → balancer_of (get_or t.ends u (Balancer 0)) ≡ get_or d.ends u None
+  found u h = sym (get_or-map balancer_of t.ends u (Balancer 0) None h) ∙ ap (λ es. get_or es u None) ends-map
 
   -- an exit's wire is the one that the list has
   only : (u i : ℕ) → u < length t.ends → get_or t.ends u (Balancer 0) ≡ Exit i → (i < length exits) × (u ≡ get_or exits i 0)
   only u i h e =
-      let none : get_or d.ends u None ≡ None = sym (told u h) ∙ ap balancer_of e in
+      let none : get_or d.ends u None ≡ None = sym (found u h) ∙ ap balancer_of e in
       let below : u < length d.ends = omega (arith, wires) in
       let none' : get_or d.ends u (Some 0) ≡ None = get_or_default d.ends u (Some 0) None below ∙ none in
       let one : loose d u ≡ 1 = rw none' in
@@ -108,7 +108,7 @@ module _ (t : Table) (d : Plan) (exits : List ℕ) (o : IsOrderly d) (plan : pla
   balancers-is = ap (λ e. e.balancers) plan
 
   was : (u b : ℕ) → u < length t.ends → get_or t.ends u (Balancer 0) ≡ Balancer b → get_or d.ends u None ≡ Some b
-  was u b h e = sym (told u h) ∙ ap balancer_of e
+  was u b h e = sym (found u h) ∙ ap balancer_of e
 
   into-is : (b : ℕ) (f : ℕ → ℕ) → sum_at t (Balancer b) f ≡ passages d b f
   into-is b f = sym (into-passages t b f) ∙ ap (λ e. passages e b f) plan

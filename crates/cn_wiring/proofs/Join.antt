@@ -228,8 +228,8 @@ level-grown d ws o h n q w k at a (u ∷ us) p =
     let b = p.0.0 in
     let wires = o.wires in
     let same : b ≡ d.balancers = elim p.0.2 [ inl e ↦ omega arith | inr e ↦ omega arith ] in
-    let told : get_or (mark d.ends ws d.balancers) u None ≡ Some d.balancers = rw same at (end-grown d ws u b p.0.1) in
-    let inside : 1 ≤ times u ws = elim (mark-at d.ends ws d.balancers u told) [ inl t ↦ absurd (let x = (o.ends u d.balancers t).0 in omega arith) | inr t ↦ t ] in
+    let found : get_or (mark d.ends ws d.balancers) u None ≡ Some d.balancers = rw same at (end-grown d ws u b p.0.1) in
+    let inside : 1 ≤ times u ws = elim (mark-at d.ends ws d.balancers u found) [ inl t ↦ absurd (let x = (o.ends u d.balancers t).0 in omega arith) | inr t ↦ t ] in
     let here : u < length d.ends = below_from-loose d.ends u (let x = h u in omega arith) in
     let l : HasLevel d n u = a u inside in
     let m : length us ≡ n = l us (old-path d ws o h u us here p.1) in
@@ -262,16 +262,16 @@ orderly-grown d ws o h k two = record {
       let wires = o.wires in
       omega (arith, length-append (mark d.ends ws d.balancers ++ None ∷ []) (None ∷ []), length-append (mark d.ends ws d.balancers) (None ∷ []), length-mark d.ends ws d.balancers);
   ends = λ u b e.
-      let told = end-grown d ws u b e in
+      let found = end-grown d ws u b e in
       elim (cases_eq b d.balancers) [
         | inl same ↦ (
           omega arith,
-          elim (mark-at d.ends ws d.balancers u (rw same at told)) [
+          elim (mark-at d.ends ws d.balancers u (rw same at found)) [
             | inl t ↦ absurd (let x = (o.ends u d.balancers t).0 in omega arith)
             | inr t ↦ let here : u < length d.ends = below_from-loose d.ends u (let x = h u in omega arith) in let wires = o.wires in omega arith
           ],
         )
-        | inr other ↦ let was = o.ends u b (mark-other d.ends ws d.balancers u b other h told) in (omega arith, omega arith)
+        | inr other ↦ let was = o.ends u b (mark-other d.ends ws d.balancers u b other h found) in (omega arith, omega arith)
       ];
   degree = λ b l.
       elim (cases_eq b d.balancers) [

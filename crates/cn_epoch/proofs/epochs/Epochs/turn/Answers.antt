@@ -4,7 +4,7 @@ use Rattle.cn_core.specs.Tight.{IsTightState}
 use Rattle.cn_epoch.specs.Calls.{TellsEpoch}
 use Rattle.cn_epoch.specs.History.{next}
 use Rattle.cn_epoch.specs.InsideEpochs.{epochs_of}
-use Rattle.cn_epoch.proofs.Answering.{memory-after, told-tight, turned-after}
+use Rattle.cn_epoch.proofs.Answering.{memory-after, said-tight, turned-after}
 use Rattle.cn_epoch.proofs.epochs.Epochs.turn.Goals as goal
 
 pub returns-in_default-clause-history : goal.returns-in_default-clause-history
@@ -18,8 +18,8 @@ returns-in_default-holders-clause-history c =
     rw (← c.self.view_is) (memory-after (epochs_of c.self.inside) quiet)
 
 -- the record describes the state
-told : (c : goal.After-begin_next) → TellsEpoch (epochs_of c.self.inside) (record { number = c.self.inside.number; clients = c.entered.result; counts = c.in-Ok.counts; holders = c.in-Ok-holders.holders })
-told c = record {
+said : (c : goal.After-begin_next) → TellsEpoch (epochs_of c.self.inside) (record { number = c.self.inside.number; clients = c.entered.result; counts = c.in-Ok.counts; holders = c.in-Ok-holders.holders })
+said c = record {
   number = refl;
   clients = c.entered.ensures.value;
   exits = c.in-Ok.ensures.exits;
@@ -35,9 +35,9 @@ pub returns-clause-event : goal.returns-clause-event
 returns-clause-event c =
     let quiet : inside_in c.self.inside.core ≡ 0 = search rules in
     let tight : IsTightState c.self.inside.core = search rules in
-    rw (← c.self.view_is) (quiet, told c, told-tight (epochs_of c.self.inside) _ (told c) c.state_laws.ensures.came tight, begun c)
+    rw (← c.self.view_is) (quiet, said c, said-tight (epochs_of c.self.inside) _ (said c) c.state_laws.ensures.came tight, begun c)
 
 pub returns-clause-history : goal.returns-clause-history
 returns-clause-history c =
     let quiet : inside_in c.self.inside.core ≡ 0 = search rules in
-    rw (← c.self.view_is) (turned-after (epochs_of c.self.inside) c.begin_next.new.self _ (told c) c.state_laws.ensures.shares quiet (begun c))
+    rw (← c.self.view_is) (turned-after (epochs_of c.self.inside) c.begin_next.new.self _ (said c) c.state_laws.ensures.shares quiet (begun c))

@@ -19,7 +19,7 @@ returns-in-Ok-clause-everyone c =
 pub returns-in-Ok-clause-walking : goal.returns-in-Ok-clause-walking
 returns-in-Ok-clause-walking c =
     let e = c.is_any_walking.ensures in
-    (λ told. absurd (cc), λ someone. absurd (true≢false (sym (any-from-walking c.args.self.now someone.0 someone.1.0 someone.1.1) ∙ sym e.value ∙ c.if-is_any_walking.false)))
+    (λ said. absurd (cc), λ someone. absurd (true≢false (sym (any-from-walking c.args.self.now someone.0 someone.1.0 someone.1.1) ∙ sym e.value ∙ c.if-is_any_walking.false)))
 
 pub returns-in-Ok-clause-settled : goal.returns-in-Ok-clause-settled
 returns-in-Ok-clause-settled c =
@@ -29,4 +29,4 @@ returns-in-Ok-clause-settled c =
 pub returns-in-Err-clause-walking : goal.returns-in-Err-clause-walking
 returns-in-Err-clause-walking c =
     let e = c.is_any_walking.ensures in
-    (λ told. absurd (cc), λ someone. absurd (true≢false (sym (any-from-walking c.args.self.now someone.0 someone.1.0 someone.1.1) ∙ sym e.value ∙ c.if-is_any_walking.false)))
+    (λ said. absurd (cc), λ someone. absurd (true≢false (sym (any-from-walking c.args.self.now someone.0 someone.1.0 someone.1.1) ∙ sym e.value ∙ c.if-is_any_walking.false)))

@@ -13,7 +13,7 @@ below from y z is none = subst (λ (x : Yard). (u : ℕ) → u < from → on x.l
 
 -- there is a line
 kept : (y : Inside) → IsYard y → (empty : Bool) → empty ≡ nat_eq (vec_len y.lines) 0 → empty ≡ false → (order : ℕ → List ℕ) × Keeps y order
-kept y is empty told not =
+kept y is empty said not =
     let counted : vec_len y.lines ≡ length y.lines.items = search rules in
     kept-some y is (grind (arith, nat_tests))
 
@@ -21,7 +21,7 @@ pub returns-then-is_empty-clause-none : goal.returns-then-is_empty-clause-none
 returns-then-is_empty-clause-none c e wire =
     let y = c.self.inside in
     let counted : vec_len y.lines ≡ length y.lines.items = search rules in
-    let told = c.is_empty.ensures in
+    let said = c.is_empty.ensures in
     let test = c.if-is_empty.true in
     rw (← c.self.view_is) (nobody-all y c.self.invariant (grind (arith, nat_tests)) wire)
 

@@ -25,20 +25,20 @@ pub returns-then-index-number : goal.returns-then-index-number
 returns-then-index-number c wire client stands =
     let (order, k) = kept-live c.self.inside c.args.token c.self.invariant (rw (← c.self.view_is) at c.requires) in
     let y = c.self.inside in
-    let told = next-read y order k c.args.token c.index-record.result.now c.index.result.now wire client (rw (← c.self.view_is) at c.requires) (rw c.number.ensures at c.index-record.ensures) c.index.ensures
+    let seen = next-read y order k c.args.token c.index-record.result.now c.index.result.now wire client (rw (← c.self.view_is) at c.requires) (rw c.number.ensures at c.index-record.ensures) c.index.ensures
     (rw (← c.self.view_is) at stands) in
     let test = c.if-index-number.true in
     let number = c.number-2.ensures in
     let f : eqb c.index.result.now.last c.args.token ≡ true = grind (arith, nat_tests) in
-    rw (← c.self.view_is) (sym (told ∙ rw f refl))
+    rw (← c.self.view_is) (sym (seen ∙ rw f refl))
 
 pub returns : goal.returns
 returns c wire client stands =
     let (order, k) = kept-live c.self.inside c.args.token c.self.invariant (rw (← c.self.view_is) at c.requires) in
     let y = c.self.inside in
-    let told = next-read y order k c.args.token c.index-record.result.now c.index.result.now wire client (rw (← c.self.view_is) at c.requires) (rw c.number.ensures at c.index-record.ensures) c.index.ensures
+    let seen = next-read y order k c.args.token c.index-record.result.now c.index.result.now wire client (rw (← c.self.view_is) at c.requires) (rw c.number.ensures at c.index-record.ensures) c.index.ensures
     (rw (← c.self.view_is) at stands) in
     let test = c.if-index-number.false in
     let number = c.number-2.ensures in
     let f : eqb c.index.result.now.last c.args.token ≡ false = grind (arith, nat_tests) in
-    rw (← c.self.view_is, c.of.ensures) (sym (told ∙ rw f refl))
+    rw (← c.self.view_is, c.of.ensures) (sym (seen ∙ rw f refl))
