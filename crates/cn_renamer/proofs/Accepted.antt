@@ -6,11 +6,11 @@ use Rattle.std.proofs.lemmas.List.Sums.{sum_by-cons}
 use Rattle.cn_spec.specs.Step.{counts_after, shares, shares_after}
 use Rattle.cn_ledger.specs.declared.client.Client.{Client}
 use Rattle.cn_record.specs.declared.record.EpochRecord.{EpochRecord}
-use Rattle.cn_report.proofs.CallerLemmas.{IsSmallEpoch, batch-numbers, tight-after, told-back, written-tight}
+use Rattle.cn_report.proofs.CallerLemmas.{IsSmallEpoch, batch-numbers, printed-back, tight-after, written-tight}
 use Rattle.cn_report.specs.Reading.Batch.{AreRising}
 use Rattle.cn_report.specs.Grants.TightList.{IsTightList}
 use Rattle.cn_report.specs.Reading.Records.{records_of}
-use Rattle.cn_report.specs.Grants.Told.{names_in, told_epochs}
+use Rattle.cn_report.specs.Grants.Printed.{names_in, printed_epochs}
 use Rattle.cn_report.specs.Grants.ListText.{AreRisingRecords, AreTightRecords, HasOwnNames, checked_epoch}
 use Rattle.cn_report.specs.Writing.Report.{clients_of_records}
 use Rattle.cn_report.specs.declared.reading.batch.BatchEpoch.{BatchEpoch}
@@ -74,13 +74,13 @@ some-clients width (e ∷ epochs) [] served some = absurd served
 some-clients width (e ∷ epochs) (r ∷ records) served some =
     (omega (arith, served.0.1.clients, some.0), some-clients width epochs records served.1 some.1)
 
-told-alike : (width w : ℕ) (epochs : List BatchEpoch) (records : List EpochRecord) → AllZip (AfterSome width) epochs records
+printed-alike : (width w : ℕ) (epochs : List BatchEpoch) (records : List EpochRecord) → AllZip (AfterSome width) epochs records
     → map (checked_epoch w) records ≡ map (served_epoch w) epochs
-told-alike width w [] [] served = refl
-told-alike width w [] (r ∷ records) served = absurd served
-told-alike width w (e ∷ epochs) [] served = absurd served
-told-alike width w (e ∷ epochs) (r ∷ records) served =
-    λ i. (served.0.1.number i, served.0.1.clients i, shares (served.0.1.clients i) w) ∷ told-alike width w epochs records served.1 i
+printed-alike width w [] [] served = refl
+printed-alike width w [] (r ∷ records) served = absurd served
+printed-alike width w (e ∷ epochs) [] served = absurd served
+printed-alike width w (e ∷ epochs) (r ∷ records) served =
+    λ i. (served.0.1.number i, served.0.1.clients i, shares (served.0.1.clients i) w) ∷ printed-alike width w epochs records served.1 i
 
 module _ (net : Description) (carry : Bool) (bytes text : List ℕ) (run : IsRunOf net Grants carry bytes text) where
   each : AllZip (AfterSome run.network.table.width) run.epochs run.records
@@ -101,12 +101,12 @@ module _ (net : Description) (carry : Bool) (bytes text : List ℕ) (run : IsRun
   accepted = rw run.written (written-tight run.records tight)
 
   -- and lists the epochs of the batch
-  pub told : (w : ℕ) → told_epochs w (records_of text) ≡ map (served_epoch w) run.epochs
-  told w =
+  pub printed : (w : ℕ) → printed_epochs w (records_of text) ≡ map (served_epoch w) run.epochs
+  printed w =
       let width = run.network.table.width in
-      ap (λ (t : List ℕ). told_epochs w (records_of t)) run.written
-      ∙ told-back w run.records tight (some-clients width run.epochs run.records each run.batch.holds.some)
-      ∙ told-alike width w run.epochs run.records each
+      ap (λ (t : List ℕ). printed_epochs w (records_of t)) run.written
+      ∙ printed-back w run.records tight (some-clients width run.epochs run.records each run.batch.holds.some)
+      ∙ printed-alike width w run.epochs run.records each
 
   -- each epoch's names are shared out, after any number of clients
   pub counted_after : (w m epoch : ℕ) → counts_after m w (names_in epoch (records_of text)) ≡ shares_after m (length (names_in epoch (records_of text))) w

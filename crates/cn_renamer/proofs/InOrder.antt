@@ -21,70 +21,70 @@ use Rattle.cn_cli.specs.declared.options.Form.TheVariants.{Report, Grants}
 use Rattle.cn_renamer.specs.Headline.{AreServed, IsInOrder, IsRunInOrder, text_in}
 
 -- what texts show of a record
-record Told : Type 0 where
+record Printed : Type 0 where
   number : ℕ
   clients : ℕ
   counts : List ℕ
   holders : List ℕ
 
-abbrev told : EpochRecord → Told
-told r = record { number = r.number; clients = r.clients; counts = r.counts.items; holders = r.holders.items }
+abbrev printed : EpochRecord → Printed
+printed r = record { number = r.number; clients = r.clients; counts = r.counts.items; holders = r.holders.items }
 
-abbrev told-lines : ℕ → Told → List ℕ
-told-lines width t = epoch_line t.number t.clients ++ (exit_lines width t.counts ++ name_lines t.clients t.holders)
+abbrev printed-lines : ℕ → Printed → List ℕ
+printed-lines width t = epoch_line t.number t.clients ++ (exit_lines width t.counts ++ name_lines t.clients t.holders)
 
-abbrev told-grants : Told → List ℕ
-told-grants t = grant_lines t.number t.clients t.holders
+abbrev printed-grants : Printed → List ℕ
+printed-grants t = grant_lines t.number t.clients t.holders
 
-abbrev told_text : Form → Network → List Told → List ℕ
-told_text Report network ts = heading network ++ flat_map (told-lines network.table.width) ts ++ report_end (length ts) (sum_by (λ (t : Told). t.clients) ts)
-told_text Grants network ts = grants_header ++ flat_map told-grants ts
+abbrev printed-text : Form → Network → List Printed → List ℕ
+printed-text Report network ts = heading network ++ flat_map (printed-lines network.table.width) ts ++ report_end (length ts) (sum_by (λ (t : Printed). t.clients) ts)
+printed-text Grants network ts = grants_header ++ flat_map printed-grants ts
 
-flat-told : (g : EpochRecord → List ℕ) (f : Told → List ℕ) → ((r : EpochRecord) → g r ≡ f (told r)) → (records : List EpochRecord) → flat_map g records ≡ flat_map f (map told records)
-flat-told g f same [] = refl
-flat-told g f same (r ∷ records) = λ i. same r i ++ flat-told g f same records i
+flat-printed : (g : EpochRecord → List ℕ) (f : Printed → List ℕ) → ((r : EpochRecord) → g r ≡ f (printed r)) → (records : List EpochRecord) → flat_map g records ≡ flat_map f (map printed records)
+flat-printed g f same [] = refl
+flat-printed g f same (r ∷ records) = λ i. same r i ++ flat-printed g f same records i
 
-sum-told : (records : List EpochRecord) → sum_by (λ (r : EpochRecord). r.clients) records ≡ sum_by (λ (t : Told). t.clients) (map told records)
-sum-told [] = refl
-sum-told (r ∷ records) =
-    omega (arith, sum_by-cons (λ (x : EpochRecord). x.clients) r records, sum_by-cons (λ (t : Told). t.clients) (told r) (map told records), sum-told records)
+sum-printed : (records : List EpochRecord) → sum_by (λ (r : EpochRecord). r.clients) records ≡ sum_by (λ (t : Printed). t.clients) (map printed records)
+sum-printed [] = refl
+sum-printed (r ∷ records) =
+    omega (arith, sum_by-cons (λ (x : EpochRecord). x.clients) r records, sum_by-cons (λ (t : Printed). t.clients) (printed r) (map printed records), sum-printed records)
 
-text-told : (form : Form) (network : Network) (records : List EpochRecord) → text_in form network records ≡ told_text form network (map told records)
-text-told Report network records =
-    let lines : flat_map (epoch_lines network.table.width) records ≡ flat_map (told-lines network.table.width) (map told records) =
-    flat-told (epoch_lines network.table.width) (told-lines network.table.width) (λ r. refl) records in
-    λ i. heading network ++ lines i ++ report_end (sym (length-map records told) i) (sum-told records i)
-text-told Grants network records =
-    ap (λ (xs : List ℕ). grants_header ++ xs) (flat-told (λ r. grant_lines r.number r.clients r.holders.items) told-grants (λ r. refl) records)
+text-printed : (form : Form) (network : Network) (records : List EpochRecord) → text_in form network records ≡ printed-text form network (map printed records)
+text-printed Report network records =
+    let lines : flat_map (epoch_lines network.table.width) records ≡ flat_map (printed-lines network.table.width) (map printed records) =
+    flat-printed (epoch_lines network.table.width) (printed-lines network.table.width) (λ r. refl) records in
+    λ i. heading network ++ lines i ++ report_end (sym (length-map records printed) i) (sum-printed records i)
+text-printed Grants network records =
+    ap (λ (xs : List ℕ). grants_header ++ xs) (flat-printed (λ r. grant_lines r.number r.clients r.holders.items) printed-grants (λ r. refl) records)
 
 -- it follows from the batch
-abbrev told_of : Bool → ℕ → ℕ → List (ℕ × List Client) → List Told
-told_of carry w m [] = []
-told_of carry w m (e ∷ epochs) =
+abbrev printed-of : Bool → ℕ → ℕ → List (ℕ × List Client) → List Printed
+printed-of carry w m [] = []
+printed-of carry w m (e ∷ epochs) =
     record { number = e.0; clients = length e.1; counts = shares_after m (length e.1) w; holders = map (λ (c : Client). c.id) e.1 }
-    ∷ told_of carry w (when carry (m + length e.1)) epochs
+    ∷ printed-of carry w (when carry (m + length e.1)) epochs
 
-told-served : (carry : Bool) (w m : ℕ) (epochs : List BatchEpoch) (records : List EpochRecord) → AreServed carry w m epochs records → AllZip IsInOrder epochs records
-    → map told records ≡ told_of carry w m (map plain_epoch epochs)
+printed-served : (carry : Bool) (w m : ℕ) (epochs : List BatchEpoch) (records : List EpochRecord) → AreServed carry w m epochs records → AllZip IsInOrder epochs records
+    → map printed records ≡ printed-of carry w m (map plain_epoch epochs)
 unfolding AreServed
-told-served carry w m [] [] served ordered = refl
-told-served carry w m [] (r ∷ records) served ordered = absurd served
-told-served carry w m (e ∷ epochs) [] served ordered = absurd served
-told-served carry w m (e ∷ epochs) (r ∷ records) (one, rest) (order, others) =
+printed-served carry w m [] [] served ordered = refl
+printed-served carry w m [] (r ∷ records) served ordered = absurd served
+printed-served carry w m (e ∷ epochs) [] served ordered = absurd served
+printed-served carry w m (e ∷ epochs) (r ∷ records) (one, rest) (order, others) =
     let counts : r.counts.items ≡ shares_after m (length e.clients.items) w = one.counts ∙ ap (λ (k : ℕ). shares_after m k w) one.clients in
     λ i. record { number = one.number i; clients = one.clients i; counts = counts i; holders = order i }
-    ∷ told-served carry w (when carry (m + length e.clients.items)) epochs records rest others i
+    ∷ printed-served carry w (when carry (m + length e.clients.items)) epochs records rest others i
 
 pub one-text-in-order : (net : Description) (form : Form) (carry : Bool) (bytes text other : List ℕ) (one : IsRunInOrder net form carry bytes text) (another : IsRunInOrder net form carry bytes other)
     → map plain_epoch one.run.epochs ≡ map plain_epoch another.run.epochs → text ≡ other
 one-text-in-order net form carry bytes text other one another same =
     let networks = one-network net one.run.network another.run.network one.run.built another.run.built in
-    let first = told-served carry one.run.network.table.width 0 one.run.epochs one.run.records one.run.served one.ordered in
-    let second = told-served carry another.run.network.table.width 0 another.run.epochs another.run.records another.run.served another.ordered in
+    let first = printed-served carry one.run.network.table.width 0 one.run.epochs one.run.records one.run.served one.ordered in
+    let second = printed-served carry another.run.network.table.width 0 another.run.epochs another.run.records another.run.served another.ordered in
     one.run.written
-    ∙ text-told form one.run.network one.run.records
-    ∙ ap (told_text form one.run.network) first
-    ∙ (λ i. told_text form (networks i) (told_of carry (networks i).table.width 0 (same i)))
-    ∙ sym (ap (told_text form another.run.network) second)
-    ∙ sym (text-told form another.run.network another.run.records)
+    ∙ text-printed form one.run.network one.run.records
+    ∙ ap (printed-text form one.run.network) first
+    ∙ (λ i. printed-text form (networks i) (printed-of carry (networks i).table.width 0 (same i)))
+    ∙ sym (ap (printed-text form another.run.network) second)
+    ∙ sym (text-printed form another.run.network another.run.records)
     ∙ sym another.run.written

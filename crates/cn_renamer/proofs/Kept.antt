@@ -69,7 +69,7 @@ kept-same old new command (Turned r) (Replied reply) none takes same = absurd sa
 kept-same old new command (Turned r) (TurnRefused fault) none takes same = absurd same
 kept-same old new (Enter client entry) (Turned r) (Turned kept) none takes same = absurd takes
 kept-same old new (Step client) (Turned r) (Turned kept) none takes same = absurd takes
-kept-same old new Turn (Turned r) (Turned kept) none (quiet, told, tight, next) same =
+kept-same old new Turn (Turned r) (Turned kept) none (quiet, said, tight, next) same =
     record-kept old.core.network.table.width r kept (subst (λ base. IsTightRecord old.core.network.table.width base r) none tight) same
 
 pub kept-whole : (old new : Epochs) (command : Command) (answer kept : Answer) → old.core.base ≡ 0 → length old.core.clients ≤ MOST_CLIENTS → TakesTo old command answer new
@@ -80,8 +80,8 @@ kept-whole old new command (Turned r) (Replied reply) none few takes same = absu
 kept-whole old new command (Turned r) (TurnRefused fault) none few takes same = absurd same
 kept-whole old new (Enter client entry) (Turned r) (Turned kept) none few takes same = absurd takes
 kept-whole old new (Step client) (Turned r) (Turned kept) none few takes same = absurd takes
-kept-whole old new Turn (Turned r) (Turned kept) none few (quiet, told, tight, next) same =
-    record-whole old.core.network.table.width r kept (subst (λ base. IsTightRecord old.core.network.table.width base r) none tight) (omega (arith, few, told.clients)) same
+kept-whole old new Turn (Turned r) (Turned kept) none few (quiet, said, tight, next) same =
+    record-whole old.core.network.table.width r kept (subst (λ base. IsTightRecord old.core.network.table.width base r) none tight) (omega (arith, few, said.clients)) same
 
 -- what is kept fits the command
 fits-kept : (w : ℕ) (command : Command) (answer kept : Answer) → Fits command answer → IsKept w answer kept → Fits command kept

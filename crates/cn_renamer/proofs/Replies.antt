@@ -66,7 +66,7 @@ whole-may table turns h k command (Replied reply) may = tt
 whole-may table turns h k command (TurnRefused fault) may = tt
 whole-may table turns h k (Enter client entry) (Turned r) may = absurd may
 whole-may table turns h k (Step client) (Turned r) may = absurd may
-whole-may table turns h k Turn (Turned r) (quiet, told) = (told.exits, told.names ∙ sym told.clients)
+whole-may table turns h k Turn (Turned r) (quiet, said) = (said.exits, said.names ∙ sym said.clients)
 
 -- ---- so do all
 

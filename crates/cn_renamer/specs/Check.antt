@@ -2,7 +2,7 @@
 use Rattle.std.specs.Prelude.{ℕ, ◌≡◌, ◌≢◌, IfSome, List, Option, map}
 use Rattle.cn_report.specs.Grants.TightList.{IsFlaw, IsOutside, IsTightList}
 use Rattle.cn_report.specs.Reading.Records.{records_of}
-use Rattle.cn_report.specs.Grants.Told.{told_epochs, with_shares}
+use Rattle.cn_report.specs.Grants.Printed.{printed_epochs, with_shares}
 use Rattle.cn_report.specs.declared.grants.record.Flaw.TheVariants as flaw
 use Rattle.cn_report.specs.declared.grants.record.Flaw.{Flaw}
 use Rattle.cn_report.specs.declared.grants.epochs.NamedEpoch.{NamedEpoch}
@@ -21,7 +21,7 @@ IsTightTextOf width epochs text = text ≡ tight_text (map (with_shares width) e
 -- counted by their remainders
 pub record IsCheckOf (width : ℕ) (bytes text : List ℕ) : Type 0 where
   pub tight : IsTightList (records_of bytes)
-  pub told : text ≡ tight_text (told_epochs width (records_of bytes))
+  pub printed : text ≡ tight_text (printed_epochs width (records_of bytes))
 
 -- this text is that of a check of the bytes that a reader has left, if they are known
 abbrev pub IsCheckOfKnown : ℕ → Option (List ℕ) → List ℕ → Type 0

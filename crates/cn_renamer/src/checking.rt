@@ -71,7 +71,7 @@ impl CheckFault {
 }
 
 impl From<Flaw> for CheckFault {
-    ghost from_gives = { λ flaw told. told ≡ fault_of_flaw flaw };
+    ghost from_gives = { λ flaw reported. reported ≡ fault_of_flaw flaw };
 
     fn from(flaw: Flaw) -> Self {
         match flaw {
@@ -82,7 +82,7 @@ impl From<Flaw> for CheckFault {
 }
 
 impl From<OutputFault> for CheckFault {
-    ghost from_gives = { λ fault told. told ≡ fault_of_output fault };
+    ghost from_gives = { λ fault reported. reported ≡ fault_of_output fault };
 
     fn from(fault: OutputFault) -> Self {
         match fault {

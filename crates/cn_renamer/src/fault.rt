@@ -59,7 +59,7 @@ impl Fault {
 }
 
 impl From<ServeFault> for Fault {
-    ghost from_gives = { λ fault told. told ≡ Serve fault };
+    ghost from_gives = { λ fault reported. reported ≡ Serve fault };
 
     fn from(fault: ServeFault) -> Fault {
         Fault::Serve(fault)
@@ -67,7 +67,7 @@ impl From<ServeFault> for Fault {
 }
 
 impl From<ReplayFault> for Fault {
-    ghost from_gives = { λ fault told. told ≡ Replay fault };
+    ghost from_gives = { λ fault reported. reported ≡ Replay fault };
 
     fn from(fault: ReplayFault) -> Fault {
         Fault::Replay(fault)
@@ -75,7 +75,7 @@ impl From<ReplayFault> for Fault {
 }
 
 impl From<CheckFault> for Fault {
-    ghost from_gives = { λ fault told. told ≡ Check fault };
+    ghost from_gives = { λ fault reported. reported ≡ Check fault };
 
     fn from(fault: CheckFault) -> Fault {
         Fault::Check(fault)
@@ -83,7 +83,7 @@ impl From<CheckFault> for Fault {
 }
 
 impl From<OutputFault> for Fault {
-    ghost from_gives = { λ fault told. told ≡ Output fault };
+    ghost from_gives = { λ fault reported. reported ≡ Output fault };
 
     fn from(fault: OutputFault) -> Fault {
         Fault::Output(fault)
@@ -91,7 +91,7 @@ impl From<OutputFault> for Fault {
 }
 
 impl From<AllocError> for Fault {
-    ghost from_gives = { λ _ told. told ≡ Output Memory };
+    ghost from_gives = { λ _ reported. reported ≡ Output Memory };
 
     fn from(_error: AllocError) -> Fault {
         Fault::Output(OutputFault::Memory)
@@ -100,8 +100,8 @@ impl From<AllocError> for Fault {
 
 /// What the runtime answers when it is asked for arguments or random words.
 impl From<io::Error> for Fault {
-    ghost from_gives = { λ error told. IsOfRuntime told
-        × ((told ≡ Output Memory) ↔ (error_kind error ≡ OutOfMemory)) };
+    ghost from_gives = { λ error reported. IsOfRuntime reported
+        × ((reported ≡ Output Memory) ↔ (error_kind error ≡ OutOfMemory)) };
 
     fn from(error: io::Error) -> Fault {
         match error.kind() {

@@ -8,7 +8,7 @@ ghost use Rattle.cn_record.specs.declared.record.EpochRecord.{EpochRecord};
 ghost use Rattle.cn_report.specs.Reading.Batch.{IsBatch};
 ghost use Rattle.cn_report.specs.Grants.TightList.{IsTightList};
 ghost use Rattle.cn_report.specs.Reading.Records.{records_of};
-ghost use Rattle.cn_report.specs.Grants.Told.{names_in, told_epochs};
+ghost use Rattle.cn_report.specs.Grants.Printed.{names_in, printed_epochs};
 ghost use Rattle.cn_report.specs.declared.reading.batch.BatchEpoch.{BatchEpoch};
 ghost use Rattle.cn_nets.specs.Net.{Description, entries_of};
 ghost use Rattle.cn_cli.specs.declared.options.Form.{Form};
@@ -66,11 +66,11 @@ pub fn written_grants_are_accepted()
     ensures tight { (net : Description) (carry : Bool) (bytes text : List ℕ)
         → IsRunOf net Grants carry bytes text
         → IsTightList (records_of text) }
-    ensures told { (net : Description) (carry : Bool) (bytes text : List ℕ)
+    ensures printed { (net : Description) (carry : Bool) (bytes text : List ℕ)
         → IsRunOf net Grants carry bytes text
         → (epochs : List BatchEpoch)
         × IsBatch (entries_of net.kind net.width) (records_of bytes) epochs
-        × ((w : ℕ) → told_epochs w (records_of text) ≡ map (served_epoch w) epochs) }
+        × ((w : ℕ) → printed_epochs w (records_of text) ≡ map (served_epoch w) epochs) }
     ensures after { (net : Description) (carry : Bool) (bytes text : List ℕ)
         → IsRunOf net Grants carry bytes text
         → (w m epoch : ℕ) → let names = names_in epoch (records_of text) in

@@ -51,7 +51,7 @@ impl From<BuildFault> for OutputFault {
 }
 
 impl From<EmitFault> for OutputFault {
-    ghost from_gives = { λ fault told. told ≡ Write fault.written };
+    ghost from_gives = { λ fault reported. reported ≡ Write fault.written };
 
     fn from(fault: EmitFault) -> Self {
         OutputFault::Write {

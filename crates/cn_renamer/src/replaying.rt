@@ -51,7 +51,7 @@ impl ReplayFault {
 }
 
 impl From<ScheduleFault> for ReplayFault {
-    ghost from_gives = { λ fault told. told ≡ fault_of_schedule fault };
+    ghost from_gives = { λ fault reported. reported ≡ fault_of_schedule fault };
 
     fn from(fault: ScheduleFault) -> Self {
         match fault.cause {
@@ -62,7 +62,7 @@ impl From<ScheduleFault> for ReplayFault {
 }
 
 impl From<OutputFault> for ReplayFault {
-    ghost from_gives = { λ fault told. told ≡ fault_of_output fault };
+    ghost from_gives = { λ fault reported. reported ≡ fault_of_output fault };
 
     fn from(fault: OutputFault) -> Self {
         match fault {

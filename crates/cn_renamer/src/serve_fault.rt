@@ -40,7 +40,7 @@ impl ServeFault {
 }
 
 impl From<BatchFault> for ServeFault {
-    ghost from_gives = { λ fault told. told ≡ fault_of_batch fault };
+    ghost from_gives = { λ fault reported. reported ≡ fault_of_batch fault };
 
     fn from(fault: BatchFault) -> Self {
         match fault.cause {
@@ -68,7 +68,7 @@ impl From<AllocError> for ServeFault {
 }
 
 impl From<EmitFault> for ServeFault {
-    ghost from_gives = { λ fault told. told ≡ Write fault.written };
+    ghost from_gives = { λ fault reported. reported ≡ Write fault.written };
 
     fn from(fault: EmitFault) -> Self {
         ServeFault::Write {

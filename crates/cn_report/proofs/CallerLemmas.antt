@@ -8,9 +8,9 @@ pub use Rattle.cn_report.proofs.ReadingLemmas.FirstFaults.{known-map}
 pub use Rattle.cn_report.proofs.ReadBack.Batches.{IsSmallEpoch, batch-numbers}
 -- a grant list that is written of tight epochs is tight, and what a check finds of it
 pub use Rattle.cn_report.proofs.ReadBack.TightAgain.{written-tight}
-pub use Rattle.cn_report.proofs.ReadBack.ToldAgain.{told-back}
+pub use Rattle.cn_report.proofs.ReadBack.PrintedAgain.{printed-back}
 -- of a tight list each epoch's names are shared out, after any number of clients
-pub use Rattle.cn_report.proofs.ReadBack.ToldAgain.{tight-after}
+pub use Rattle.cn_report.proofs.ReadBack.PrintedAgain.{tight-after}
 -- records spell one list of commands
 pub use Rattle.cn_report.proofs.ReadingLemmas.ScheduleRecords.{one-schedule}
 -- what was written of a text

@@ -3,6 +3,6 @@ pub mod Batches
 pub mod Epochs
 pub mod Fields
 pub mod Form
+pub mod PrintedAgain
 pub mod Rows
 pub mod TightAgain
-pub mod ToldAgain

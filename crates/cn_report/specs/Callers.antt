@@ -1,7 +1,7 @@
 -- For callers in Rattle: an epoch of a grant list with its counts, and what a check with counts answers.
 use Rattle.std.specs.Prelude.{ℕ, ◌≡◌, List, map, Result, MatchResult}
 use Rattle.cn_report.specs.Grants.TightList.{IsFlaw, IsTightList}
-use Rattle.cn_report.specs.Grants.Told.{told_epochs}
+use Rattle.cn_report.specs.Grants.Printed.{printed_epochs}
 use Rattle.cn_report.specs.Reading.Records.{Record}
 use Rattle.cn_report.specs.declared.callers.checking.Tight.{Tight}
 use Rattle.cn_report.specs.declared.callers.checking.TightEpoch.{TightEpoch}
@@ -12,10 +12,10 @@ abbrev pub plain_tight : TightEpoch → ℕ × ℕ × List ℕ
 plain_tight epoch = (epoch.number, epoch.clients, epoch.counts.items)
 
 -- these are the epochs of the records
-abbrev pub IsTold : ℕ → List Record → List TightEpoch → Type 0
-IsTold width rows epochs = map plain_tight epochs ≡ told_epochs width rows
+abbrev pub IsPrinted : ℕ → List Record → List TightEpoch → Type 0
+IsPrinted width rows epochs = map plain_tight epochs ≡ printed_epochs width rows
 
 -- what a check of these records answers: their epochs if they are a tight list, or their flaw
 abbrev pub AnswersTight : ℕ → List Record → Result Tight Flaw → Type 0
 AnswersTight width rows result =
-    MatchResult result (λ tight. IsTightList rows × IsTold width rows tight.epochs.items) (IsFlaw rows)
+    MatchResult result (λ tight. IsTightList rows × IsPrinted width rows tight.epochs.items) (IsFlaw rows)

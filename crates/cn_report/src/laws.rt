@@ -7,7 +7,7 @@ ghost use Rattle.cn_report.specs.Reading.Batch.{IsBatch, plain_epoch};
 ghost use Rattle.cn_record.specs.declared.record.EpochRecord.{EpochRecord};
 ghost use Rattle.cn_report.specs.Grants.TightList.{IsTightList};
 ghost use Rattle.cn_report.specs.Reading.Records.{Record, records_of};
-ghost use Rattle.cn_report.specs.Grants.Told.{told_epochs};
+ghost use Rattle.cn_report.specs.Grants.Printed.{printed_epochs};
 ghost use Rattle.cn_report.specs.Grants.ListText.{AreTightRecords, checked_epoch, grants_text};
 
 /// The records of a text determine its batch: two batches that they are have the same epochs.
@@ -23,7 +23,7 @@ pub fn batch_is_one()
 pub fn written_grants_are_tight()
     ensures tight { (records : List EpochRecord) → AreTightRecords records
         → IsTightList (records_of (grants_text records)) }
-    ensures told { (width : ℕ) (records : List EpochRecord) → AreTightRecords records
+    ensures printed { (width : ℕ) (records : List EpochRecord) → AreTightRecords records
         → AllByRecursion (λ r. 0 < r.clients) records
-        → told_epochs width (records_of (grants_text records)) ≡ map (checked_epoch width) records }
+        → printed_epochs width (records_of (grants_text records)) ≡ map (checked_epoch width) records }
 {}

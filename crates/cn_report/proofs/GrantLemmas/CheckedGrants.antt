@@ -1,8 +1,8 @@
 -- The grants that were seen so far.
 use Rattle.cn_report.proofs.Common.{◌≡◌, ◌<◌, ◌≤◌, ◌+◌, ℕ, Bool, List, [], ◌∷◌, ◌++◌, true, false, Option, Some, None, length, refl, arith, suc, sym, ap, ◌∙◌, inl, inr, map, subst, length-append, if◌then◌else◌, ◌==◌, ◌||◌, ◌⊎◌, nat_eq, AllByRecursion, list_any, append-nil, map-append, filter-append, fold-append, lt-ltb, le-ltb, le-leb, lt-leb, ne_eqb, eq-eqb, leb_tells, MOST_RECORDS}
 use Rattle.std.proofs.Math.Dec.{leb}
-use Rattle.cn_report.specs.Grants.Checked.{AreTold, HoldsGrants, IsChecked, IsGapBelow, Tells, joining_cause, latest_number, latest_told}
-use Rattle.cn_report.specs.Grants.Told.{epoch_numbers, named_epoch, plain_named, with_number}
+use Rattle.cn_report.specs.Grants.Checked.{AreSeen, HoldsGrants, IsChecked, IsGapBelow, Tells, joining_cause, latest_number, latest_seen}
+use Rattle.cn_report.specs.Grants.Printed.{epoch_numbers, named_epoch, plain_named, with_number}
 use Rattle.cn_report.specs.Grants.Granted.{form_cause, first_cause, has_client, has_name, last_epoch, of_epoch, twice_cause}
 use Rattle.cn_report.specs.Grants.TightList.{Lacks}
 use Rattle.cn_report.specs.Grants.Sets.{has}
@@ -76,10 +76,10 @@ unfolding form_cause
 form-none before g h few = rw (le-ltb g.epoch (last_epoch before) h, lt-leb MOST_RECORDS (length before) few) refl
 
 -- the reported cause is that of the grant
-pub told : (g : Granting) (before : List Granted) (grant : Granted) → HoldsGrants g before → g.latest ≡ grant.epoch → last_epoch before ≤ grant.epoch → length before < MOST_RECORDS
+pub reported : (g : Granting) (before : List Granted) (grant : Granted) → HoldsGrants g before → g.latest ≡ grant.epoch → last_epoch before ≤ grant.epoch → length before < MOST_RECORDS
     → joining_cause g grant ≡ first_cause (form_cause before grant) (twice_cause before grant)
 unfolding twice_cause
-told g before grant held here last few =
+reported g before grant held here last few =
     let clients = held.clients grant.client in
     let names = held.names grant.name in
     rw (form-none before grant last few) (rw (clients, names, here) refl)
@@ -120,31 +120,31 @@ gap-more before grant (Some gap) least = record {
 }
 
 -- what is found of the epochs that ended, once the latest does too
-told-all : (k n : ℕ) (ended : List (ℕ × ℕ)) → k < n → AllByRecursion (λ p. p.0 < k) ended → AllByRecursion (λ p. p.0 < n) ended
-told-all k n [] h all = tt
-told-all k n (p ∷ ended) h all = (omega (arith, h, all.0), told-all k n ended h all.1)
+seen-all : (k n : ℕ) (ended : List (ℕ × ℕ)) → k < n → AllByRecursion (λ p. p.0 < k) ended → AllByRecursion (λ p. p.0 < n) ended
+seen-all k n [] h all = tt
+seen-all k n (p ∷ ended) h all = (omega (arith, h, all.0), seen-all k n ended h all.1)
 
-told-last : (n : ℕ) (ended : List (ℕ × ℕ)) (p : ℕ × ℕ) → AllByRecursion (λ p. p.0 < n) ended → p.0 < n → AllByRecursion (λ p. p.0 < n) (ended ++ p ∷ [])
-told-last n [] p all h = (h, tt)
-told-last n (x ∷ ended) p all h = (all.0, told-last n ended p all.1 h)
+seen-last : (n : ℕ) (ended : List (ℕ × ℕ)) (p : ℕ × ℕ) → AllByRecursion (λ p. p.0 < n) ended → p.0 < n → AllByRecursion (λ p. p.0 < n) (ended ++ p ∷ [])
+seen-last n [] p all h = (h, tt)
+seen-last n (x ∷ ended) p all h = (all.0, seen-last n ended p all.1 h)
 
-pub told-turn : (ended : List (ℕ × ℕ)) (latest count next : ℕ) (grants : List Granted) → AreTold ended latest count grants → count ≡ length (of_epoch latest grants) → latest < next
-    → AreTold (ended ++ latest_told latest count) next 0 grants
-told-turn ended latest count next grants t size h = each (leb_tells 1 count)
+pub seen-turn : (ended : List (ℕ × ℕ)) (latest count next : ℕ) (grants : List Granted) → AreSeen ended latest count grants → count ≡ length (of_epoch latest grants) → latest < next
+    → AreSeen (ended ++ latest_seen latest count) next 0 grants
+seen-turn ended latest count next grants t size h = each (leb_tells 1 count)
   where
-    each : ((leb 1 count ≡ true) × (1 ≤ count)) ⊎ ((leb 1 count ≡ false) × (count < 1)) → AreTold (ended ++ latest_told latest count) next 0 grants
+    each : ((leb 1 count ≡ true) × (1 ≤ count)) ⊎ ((leb 1 count ≡ false) × (count < 1)) → AreSeen (ended ++ latest_seen latest count) next 0 grants
     each (inl w) = rw w.0 (record {
       numbers = (rw w.0 at t.numbers) ∙ sym (append-nil (map (λ (p : ℕ × ℕ). p.0) ended ++ latest ∷ []))
           ∙ ap (λ (l : List ℕ). l ++ []) (sym (map-append (λ (p : ℕ × ℕ). p.0) ended ((latest, count) ∷ [])));
-      told = (λ i. t.told i ++ (latest, size i) ∷ [])
+      seen = (λ i. t.seen i ++ (latest, size i) ∷ [])
           ∙ sym (map-append (named_epoch grants) (map (λ (p : ℕ × ℕ). p.0) ended) (latest ∷ []))
           ∙ ap (map (named_epoch grants)) (sym (map-append (λ (p : ℕ × ℕ). p.0) ended ((latest, count) ∷ [])));
-      below = told-last next ended (latest, count) (told-all latest next ended h t.below) h;
+      below = seen-last next ended (latest, count) (seen-all latest next ended h t.below) h;
     })
     each (inr w) = rw (w.0, append-nil ended) (record {
       numbers = rw w.0 at t.numbers;
-      told = t.told;
-      below = told-all latest next ended h t.below;
+      seen = t.seen;
+      below = seen-all latest next ended h t.below;
     })
 
 shared_same : (latest : ℕ) (ended : List (ℕ × ℕ)) (grants : List Granted) (g : Granted) → g.epoch ≡ latest → AllByRecursion (λ p. p.0 < latest) ended
@@ -166,12 +166,12 @@ number-new : (n : ℕ) (ended : List (ℕ × ℕ)) → AllByRecursion (λ p. p.0
 number-new n [] all = refl
 number-new n (p ∷ ended) all = rw (ne_eqb n p.0 (λ x. omega (arith, x, all.0))) (number-new n ended all.1)
 
-told-more : (ended : List (ℕ × ℕ)) (latest count : ℕ) (grants : List Granted) (g : Granted) → AreTold ended latest count grants → g.epoch ≡ latest
-    → AreTold ended latest (count + 1) (grants ++ g ∷ [])
-told-more ended latest count grants g t here = record {
+seen-more : (ended : List (ℕ × ℕ)) (latest count : ℕ) (grants : List Granted) (g : Granted) → AreSeen ended latest count grants → g.epoch ≡ latest
+    → AreSeen ended latest (count + 1) (grants ++ g ∷ [])
+seen-more ended latest count grants g t here = record {
   numbers = fold-append (λ (numbers : List ℕ) (x : Granted). with_number numbers x.epoch) [] grants (g ∷ []) ∙ (λ i. with_number (t.numbers i) (here i)) ∙ each (leb_tells 1 count)
       ∙ ap (λ b. map (λ (p : ℕ × ℕ). p.0) ended ++ (if b then latest ∷ [] else [])) (sym (lt-ltb 0 (count + 1) (omega arith)));
-  told = t.told ∙ shared_same latest ended grants g here t.below;
+  seen = t.seen ∙ shared_same latest ended grants g here t.below;
   below = t.below;
 }
   where
@@ -179,14 +179,14 @@ told-more ended latest count grants g t here = record {
     each (inl w) = rw w.0 (rw (number-last latest ended) refl)
     each (inr w) = rw (w.0, append-nil (map (λ (p : ℕ × ℕ). p.0) ended)) (rw (number-new latest ended t.below) refl)
 
-told-joined : (old new : Granting) (before : List Granted) (grant : Granted) → old.latest ≡ grant.epoch → new.ended ≡ old.ended → new.latest ≡ old.latest → new.count ≡ old.count + 1
-    → AreTold (map plain_named old.ended.items) old.latest old.count before → AreTold (map plain_named new.ended.items) new.latest new.count (before ++ grant ∷ [])
-told-joined old new before grant here ended latest count t =
-    rw (ended, latest, count) (told-more (map plain_named old.ended.items) old.latest old.count before grant t (sym here))
+seen-joined : (old new : Granting) (before : List Granted) (grant : Granted) → old.latest ≡ grant.epoch → new.ended ≡ old.ended → new.latest ≡ old.latest → new.count ≡ old.count + 1
+    → AreSeen (map plain_named old.ended.items) old.latest old.count before → AreSeen (map plain_named new.ended.items) new.latest new.count (before ++ grant ∷ [])
+seen-joined old new before grant here ended latest count t =
+    rw (ended, latest, count) (seen-more (map plain_named old.ended.items) old.latest old.count before grant t (sym here))
 
 -- what is found at the end
-pub told-end : (ended : List (ℕ × ℕ)) (next : ℕ) (grants : List Granted) → AreTold ended next 0 grants → ended ≡ map (named_epoch grants) (epoch_numbers grants)
-told-end ended next grants t = t.told ∙ ap (map (named_epoch grants)) (sym (t.numbers ∙ append-nil (map (λ (p : ℕ × ℕ). p.0) ended)))
+pub seen-end : (ended : List (ℕ × ℕ)) (next : ℕ) (grants : List Granted) → AreSeen ended next 0 grants → ended ≡ map (named_epoch grants) (epoch_numbers grants)
+seen-end ended next grants t = t.seen ∙ ap (map (named_epoch grants)) (sym (t.numbers ∙ append-nil (map (λ (p : ℕ × ℕ). p.0) ended)))
 
 -- one more grant of the latest epoch
 pub joined : (old new : Granting) (before : List Granted) (grant : Granted) → HoldsGrants old before → Tells old before → old.latest ≡ grant.epoch → new.ended ≡ old.ended → new.gap ≡ old.gap → new.latest ≡ old.latest
@@ -205,7 +205,7 @@ joined old new before grant held tells here ended gap latest count clients names
             (rw gap (gap-more before grant old.gap (subst (λ (e : ℕ). IsGapBelow e before old.gap) here held.gap)));
       };
       last = fold-append (λ (epoch : ℕ) (g : Granted). g.epoch) 0 before (grant ∷ []) ∙ sym (latest ∙ here);
-      tells = λ none. told-joined old new before grant here ended latest count (tells (sym gap ∙ none));
+      tells = λ none. seen-joined old new before grant here ended latest count (tells (sym gap ∙ none));
     }
 
 pub no_gap : (g : Granting) (grants : List Granted) → HoldsGrants g grants → IsGapBelow (g.latest + 1) grants None → (e n : ℕ) → Lacks grants e n → ⊥

@@ -2,7 +2,7 @@
 use Rattle.cn_report.proofs.Common.{◌≡◌, ◌+◌, ℕ, List, ◌∷◌, [], ◌++◌, Some, None, length, drop, refl, arith, sym, ap, ◌∙◌, length-append, filter_map-append, IfOk, MatchResult, Ok, Err, Result, map, counts_of, shares, Record}
 use Rattle.cn_report.specs.Grants.Granted.{grant_spelled, grants_spelled, of_epoch, spelled_cause}
 use Rattle.cn_report.specs.Grants.TightList.{header_cause, record_cause}
-use Rattle.cn_report.specs.Grants.Told.{IsNamedList, epoch_numbers, named_epoch, plain_named, told_epoch, with_shares}
+use Rattle.cn_report.specs.Grants.Printed.{IsNamedList, epoch_numbers, named_epoch, plain_named, printed_epoch, with_shares}
 use Rattle.cn_report.specs.declared.grants.epochs.NamedEpoch.{NamedEpoch}
 use Rattle.cn_spec.proofs.CallerLemmas.{counts-shares}
 use Rattle.cn_report.specs.declared.grants.record.GrantCause.TheVariants as cause
@@ -60,12 +60,12 @@ taken-gap all rows grants (DuplicateClient at) t e gap = absurd gap
 taken-gap all rows grants (DuplicateName at) t e gap = absurd gap
 
 -- the shares of a tight epoch are its counts
-shared-told : (width : ℕ) (grants : List Granted) (numbers : List ℕ) → ((e : ℕ) → AreTightGrants (of_epoch e grants)) → map (λ (p : ℕ × ℕ). (p.0, p.1, shares p.1 width)) (map (named_epoch grants) numbers) ≡ map (told_epoch width grants) numbers
-shared-told width grants [] tight = refl
-shared-told width grants (e ∷ numbers) tight =
+shared-printed : (width : ℕ) (grants : List Granted) (numbers : List ℕ) → ((e : ℕ) → AreTightGrants (of_epoch e grants)) → map (λ (p : ℕ × ℕ). (p.0, p.1, shares p.1 width)) (map (named_epoch grants) numbers) ≡ map (printed_epoch width grants) numbers
+shared-printed width grants [] tight = refl
+shared-printed width grants (e ∷ numbers) tight =
     let counts : counts_of width (map (λ (g : Granted). g.name) (of_epoch e grants)) ≡ shares (length (of_epoch e grants)) width =
     counts-shares width (length (of_epoch e grants)) (map (λ (g : Granted). g.name) (of_epoch e grants)) (tight e).names in
-    λ i. (e, length (of_epoch e grants), sym counts i) ∷ shared-told width grants numbers tight i
+    λ i. (e, length (of_epoch e grants), sym counts i) ∷ shared-printed width grants numbers tight i
 
 -- the epochs with their shares
 with-shares : (width : ℕ) (epochs : List NamedEpoch) → map (with_shares width) epochs ≡ map (λ (p : ℕ × ℕ). (p.0, p.1, shares p.1 width)) (map plain_named epochs)
@@ -77,15 +77,15 @@ pub taken-end : {V : Type 0} (items : V → List NamedEpoch) (all rows : List Re
     → MatchResult result (λ _. (e n : ℕ) → Lacks grants e n → ⊥) (IsEndFlaw grants)
     → IfOk result (λ epochs. map plain_named (items epochs) ≡ map (named_epoch grants) (epoch_numbers grants))
     → MatchResult result (λ epochs. IsNamedList all (items epochs)) (IsFlaw all)
-taken-end items all rows grants (Ok epochs) t e full told =
+taken-end items all rows grants (Ok epochs) t e full found =
     let list = taken_all all rows grants t e full in
     let spells : grants_spelled (drop 1 all) ≡ grants = ap (λ (l : List Record). grants_spelled (drop 1 l)) e ∙ t.spells in
     record {
       tight = list;
-      told = λ width. with-shares width (items epochs) ∙ ap (map (λ (p : ℕ × ℕ). (p.0, p.1, shares p.1 width))) (told ∙ (λ i. map (named_epoch (sym spells i)) (epoch_numbers (sym spells i))))
-          ∙ shared-told width (grants_spelled (drop 1 all)) (epoch_numbers (grants_spelled (drop 1 all))) list.tight;
+      printed = λ width. with-shares width (items epochs) ∙ ap (map (λ (p : ℕ × ℕ). (p.0, p.1, shares p.1 width))) (found ∙ (λ i. map (named_epoch (sym spells i)) (epoch_numbers (sym spells i))))
+          ∙ shared-printed width (grants_spelled (drop 1 all)) (epoch_numbers (grants_spelled (drop 1 all))) list.tight;
     }
-taken-end items all rows grants (Err flaw) t e gap told = taken-gap all rows grants flaw t e gap
+taken-end items all rows grants (Err flaw) t e gap found = taken-gap all rows grants flaw t e gap
 
 -- a record's cause is the flaw's
 pub first-flaw : (rows : List Record) (at : ℕ) (why : GrantCause) → IsFirstWithCause rows at why → IsFlaw rows (flaw_of at why)

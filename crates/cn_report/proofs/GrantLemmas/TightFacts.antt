@@ -199,7 +199,7 @@ tight-full grants t n h e =
 
 no_first : (rows : List Record) (at : ℕ) (why : GrantCause) → (IsOfReading why → ⊥) → IsFirstWithCause rows at why → IsTightList rows → ⊥
 no_first rows at why inside fault t =
-    elim fault.told [
+    elim fault.reported [
       | inl e ↦ none-some why (sym (tight-clean rows t at) ∙ e)
       | inr other ↦ inside other
     ]

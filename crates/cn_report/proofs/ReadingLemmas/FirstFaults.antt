@@ -76,7 +76,7 @@ module _ {C : Type 0} (header : Record → Option C) (later : List Record → Re
     -- there is no record
     pub nothing : (rows : List Record) (why : C) → header [] ≡ Some why → rows ≡ [] → IsFirstFault (cause_by header later) IsOther rows 0 why
     unfolding cause_by
-    nothing rows why none e = rw e (record { within = omega arith; clean = λ at h. absurd (omega arith); told = inl none })
+    nothing rows why none e = rw e (record { within = omega arith; clean = λ at h. absurd (omega arith); reported = inl none })
 
     -- after records without one a record has a cause, whatever comes after it
     pub stop-in : (all rows more : List Record) (fields : Record) (why : C) → AreClean rows → all ≡ (rows ++ fields ∷ []) ++ more → later rows fields ≡ Some why
@@ -86,13 +86,13 @@ module _ {C : Type 0} (header : Record → Option C) (later : List Record → Re
         rw is (record {
           within = omega (arith, size, length-append (rows ++ fields ∷ []) more);
           clean = λ n h. cause-same (rows ++ fields ∷ []) more n (omega (arith, h, size)) ∙ cause-same rows (fields ∷ []) n h ∙ t.clean n h;
-          told = inl (cause-same (rows ++ fields ∷ []) more (length rows) (omega (arith, size)) ∙ cause-new rows fields t.some ∙ e);
+          reported = inl (cause-same (rows ++ fields ∷ []) more (length rows) (omega (arith, size)) ∙ cause-new rows fields t.some ∙ e);
         })
 
     -- after records without one there is what is no record's fault
     pub stop-other : (all rows more : List Record) (why : C) → AreClean rows → all ≡ rows ++ more → IsOther why → IsFirstFault (cause_by header later) IsOther all (length rows) why
     stop-other all rows more why t is other =
-        rw is (record { within = omega (arith, length-append rows more); clean = λ n h. cause-same rows more n h ∙ t.clean n h; told = inr other })
+        rw is (record { within = omega (arith, length-append rows more); clean = λ n h. cause-same rows more n h ∙ t.clean n h; reported = inr other })
 
     module _ {R : Type 0} (rem : R → Option (List ℕ)) (reader : Reader R) (text : List ℕ) where
       -- the first record is no header
@@ -101,7 +101,7 @@ module _ {C : Type 0} (header : Record → Option C) (later : List Record → Re
       unfolding cause_by
       no_header fields why read e =
           let (more, is) = read-first rem reader text (fields ∷ []) read in
-          rw is (record { within = omega arith; clean = λ at h. absurd (omega arith); told = inl e })
+          rw is (record { within = omega arith; clean = λ at h. absurd (omega arith); reported = inl e })
 
       -- the next record has a cause
       pub stop_at : (rows : List Record) (fields : Record) (why : C) → AreClean rows → HasRead rem reader text (rows ++ fields ∷ []) → later rows fields ≡ Some why

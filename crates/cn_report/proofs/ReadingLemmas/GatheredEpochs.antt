@@ -57,10 +57,10 @@ module _ (g : Gathering) (before : List Arrival) (held : HoldsArrivals g before)
       ∙ same-epoch g.latest.number g.latest.clients.items
 
   -- the cause reported of a client of the latest epoch is that of the arrival
-  pub told : (entries : ℕ) (c : Client) → last_epoch before ≤ g.latest.number → c.entry < entries → length before + 1 ≡ g.next
+  pub reported : (entries : ℕ) (c : Client) → last_epoch before ≤ g.latest.number → c.entry < entries → length before + 1 ≡ g.next
       → joining_cause g c ≡ arrival_cause entries before (arrival_at g.latest.number c)
   unfolding arrival_cause
-  told entries c last within size =
+  reported entries c last within size =
       rw (
         le-ltb g.latest.number (last_epoch before) last,
         lt-leb entries c.entry within,
@@ -172,10 +172,10 @@ as-arrival : (n : ℕ) (a : Arrival) → n ≡ a.epoch → arrival_at n (client_
 as-arrival n a e = λ i. record { epoch = e i; client = a.client; entry = a.entry }
 
 -- the cause of an arrival in whose epoch the gathering has come
-pub told_of : (g : Gathering) (before : List Arrival) (entries : ℕ) (a : Arrival) → HoldsArrivals g before → g.latest.number ≡ a.epoch → last_epoch before ≤ a.epoch → a.entry < entries
+pub reported-of : (g : Gathering) (before : List Arrival) (entries : ℕ) (a : Arrival) → HoldsArrivals g before → g.latest.number ≡ a.epoch → last_epoch before ≤ a.epoch → a.entry < entries
     → length before + 1 ≡ g.next → joining_cause g (client_of a) ≡ arrival_cause entries before a
-told_of g before entries a held number last within size =
-    told g before held entries (client_of a) (omega (arith, number, last)) within size ∙ ap (arrival_cause entries before) (as-arrival g.latest.number a number)
+reported-of g before entries a held number last within size =
+    reported g before held entries (client_of a) (omega (arith, number, last)) within size ∙ ap (arrival_cause entries before) (as-arrival g.latest.number a number)
 
 -- that arrival more
 pub taken_of : (old new : Gathering) (before : List Arrival) (a : Arrival) → HoldsArrivals old before → old.latest.number ≡ a.epoch → new.ended ≡ old.ended → new.latest.number ≡ old.latest.number

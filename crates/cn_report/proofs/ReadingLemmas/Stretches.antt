@@ -79,10 +79,10 @@ module _ (heading : Heading) (entries : ℕ) (before rows : List Record) (came a
       pub gathering-fault : (g : Gathering) (later : List Record) (cause : BatchCause) → GatheredTo heading entries before rows came arrivals g i
           → (arrival_cause entries (came ++ take i arrivals) arrival ≡ Some cause) ⊎ (cause ≡ Memory)
           → IsBatchFault entries ((before ++ rows) ++ later) (record { at = g.next; cause = cause })
-      gathering-fault g later cause to told =
+      gathering-fault g later cause to reported =
           let clean = clean-of heading entries (before ++ take i rows) (came ++ take i arrivals) to.taken in
           let many : length (before ++ take i rows) ≡ g.next = omega (arith, to.taken.counted, to.gathered.next) in
-          rw (← many) (elim told [
+          rw (← many) (elim reported [
             | inl e ↦
                 stop-in header_cause (record_cause entries) IsOfReading ((before ++ rows) ++ later) (before ++ take i rows) (drop (i + 1) rows ++ later) (get_or rows i []) cause clean split
                 (at-arrivals heading entries (before ++ take i rows) (came ++ take i arrivals) (get_or rows i []) to.taken cause (ap (spelled_cause entries (came ++ take i arrivals)) spells-it ∙ e))

@@ -3,7 +3,7 @@ use Rattle.std.specs.Prelude.{ℕ, ◌≡◌, ◌<◌, ◌≤◌, ◌++◌, ◌�
 use Rattle.std.specs.List.{AllByRecursion}
 use Rattle.cn_report.specs.Grants.Granted.{has_client, has_name, last_epoch, of_epoch}
 use Rattle.cn_report.specs.Grants.TightList.{Lacks}
-use Rattle.cn_report.specs.Grants.Told.{epoch_numbers, named_epoch, plain_named}
+use Rattle.cn_report.specs.Grants.Printed.{epoch_numbers, named_epoch, plain_named}
 use Rattle.cn_report.specs.Grants.Sets.{has}
 use Rattle.cn_report.specs.declared.grants.record.Granted.{Granted}
 use Rattle.cn_report.specs.declared.grants.record.GrantCause.{GrantCause}
@@ -36,18 +36,18 @@ abbrev pub latest_number : ℕ → ℕ → List ℕ
 latest_number latest count = if nat_lt 0 count then latest ∷ [] else []
 
 -- its number and its number of clients, if it has grants
-abbrev pub latest_told : ℕ → ℕ → List (ℕ × ℕ)
-latest_told latest count = if nat_lt 0 count then (latest, count) ∷ [] else []
+abbrev pub latest_seen : ℕ → ℕ → List (ℕ × ℕ)
+latest_seen latest count = if nat_lt 0 count then (latest, count) ∷ [] else []
 
 -- these are the numbers of the epochs before the latest, and their numbers of clients
-pub record AreTold (ended : List (ℕ × ℕ)) (latest count : ℕ) (grants : List Granted) : Type 0 where
+pub record AreSeen (ended : List (ℕ × ℕ)) (latest count : ℕ) (grants : List Granted) : Type 0 where
   pub numbers : epoch_numbers grants ≡ map (λ p. p.0) ended ++ latest_number latest count
-  pub told : ended ≡ map (named_epoch grants) (map (λ p. p.0) ended)
+  pub seen : ended ≡ map (named_epoch grants) (map (λ p. p.0) ended)
   pub below : AllByRecursion (λ p. p.0 < latest) ended
 
 -- they are, if no gap was found
 abbrev pub Tells : Granting → List Granted → Type 0
-Tells g grants = g.gap ≡ None → AreTold (map plain_named g.ended.items) g.latest g.count grants
+Tells g grants = g.gap ≡ None → AreSeen (map plain_named g.ended.items) g.latest g.count grants
 
 -- and the latest epoch is that of the last grant
 pub record IsChecked (g : Granting) (grants : List Granted) : Type 0 where

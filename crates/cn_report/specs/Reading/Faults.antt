@@ -25,4 +25,4 @@ pub record IsFirstFault {C : Type 0} (cause : List Record → ℕ → Option C) 
     (at : ℕ) (why : C) : Type 0 where
   pub within : at ≤ length rows
   pub clean : IsCleanBefore cause rows at
-  pub told : (cause rows at ≡ Some why) ⊎ IsOther why
+  pub reported : (cause rows at ≡ Some why) ⊎ IsOther why

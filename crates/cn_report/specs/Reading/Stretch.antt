@@ -80,7 +80,7 @@ pub record Gathers (entries : ℕ) (arrivals : List Arrival) (old new : Gatherin
     (result : Result (Unit {0}) BatchFault) : Type 0 where
   pub keeps : OnOk result (StaysServable entries new)
   pub next : OnOk result (new.next ≡ old.next + length arrivals)
-  -- a fault is told at the record that was being gathered
+  -- a fault is reported at the record that was being gathered
   pub at : IfErr result (λ fault. fault.at ≡ new.next)
   pub answer : (heading : Heading) (before rows later : List Record) (came : List Arrival)
       → AreTaken heading entries before came → IsGathered old came → AreSpelled heading entries rows arrivals

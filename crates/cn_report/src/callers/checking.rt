@@ -7,7 +7,7 @@ ghost use Rattle.cn_wiring.specs.Widths.{IsWidth};
 ghost use Rattle.cn_report.specs.Callers.{AnswersTight, plain_tight};
 ghost use Rattle.cn_report.specs.Grants.TightList.{IsOutside, IsTightList};
 ghost use Rattle.cn_report.specs.Grants.TightText.{tight_counts, tight_line, tight_text};
-ghost use Rattle.cn_report.specs.Grants.Told.{with_shares};
+ghost use Rattle.cn_report.specs.Grants.Printed.{with_shares};
 ghost use Rattle.cn_report.specs.Reading.Records.{records_of};
 ghost use Rattle.cn_report.specs.Writing.Pieces.{Puts};
 

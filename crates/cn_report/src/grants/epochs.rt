@@ -3,8 +3,8 @@
 ghost use Rattle.std.specs.Prelude.{◌≡◌, ◌==◌, ◌||◌, ◌<◌, ◌≤◌, ◌+◌, ◌⊎◌, ◌∷◌, ◌++◌, ℕ, [], List, None, Some, OnOk, IfErr, IfOk, MatchResult, length, map};
 ghost use Rattle.cn_report.specs.declared.grants.record.Granted.{Granted};
 ghost use Rattle.cn_report.specs.Grants.Granted.{spelled_cause};
-ghost use Rattle.cn_report.specs.Grants.Checked.{HoldsGrants, IsGapBelow, IsChecked, Tells, joining_cause, latest_told};
-ghost use Rattle.cn_report.specs.Grants.Told.{epoch_numbers, named_epoch, plain_named};
+ghost use Rattle.cn_report.specs.Grants.Checked.{HoldsGrants, IsGapBelow, IsChecked, Tells, joining_cause, latest_seen};
+ghost use Rattle.cn_report.specs.Grants.Printed.{epoch_numbers, named_epoch, plain_named};
 ghost use Rattle.cn_report.specs.Grants.TightList.{IsEndFlaw, Lacks};
 ghost use Rattle.cn_report.specs.Grants.Sets.{has};
 ghost use Rattle.cn_spec.specs.declared.limits.TheConstants.{MOST_RECORDS};
@@ -82,7 +82,7 @@ impl Granting {
         ensures ended { OnOk result (self.new.gap ≡ None → (self.old.gap ≡ None)
             × (map plain_named self.new.ended.items
             ≡ map plain_named self.old.ended.items
-            ++ latest_told self.old.latest self.old.count)) }
+            ++ latest_seen self.old.latest self.old.count)) }
     {
         self.gap = self.first_gap();
         if self.gap.is_none() && self.count > 0 {
@@ -167,7 +167,7 @@ impl Granting {
         requires few { self.count ≤ MOST_RECORDS }
         ensures answer { (grants : List Granted) → HoldsGrants self grants
             → MatchResult result (λ _. (e n : ℕ) → Lacks grants e n → ⊥) (IsEndFlaw grants) }
-        ensures told { IfOk result (λ epochs. (grants : List Granted) → HoldsGrants self grants
+        ensures found { IfOk result (λ epochs. (grants : List Granted) → HoldsGrants self grants
             → Tells self grants
             → map plain_named epochs.items ≡ map (named_epoch grants) (epoch_numbers grants)) }
     {

@@ -7,7 +7,7 @@ ghost use Rattle.cn_report.specs.declared.grants.record.Granted.{Granted};
 ghost use Rattle.cn_report.specs.Grants.Granted.{grant_spelled, spelled_cause};
 ghost use Rattle.cn_report.specs.Grants.TightList.{IsFirstWithCause, IsFlaw, IsOutside, IsTightList, header_cause};
 ghost use Rattle.cn_report.specs.Grants.Checked.{IsChecked};
-ghost use Rattle.cn_report.specs.Grants.Told.{IsNamedList};
+ghost use Rattle.cn_report.specs.Grants.Printed.{IsNamedList};
 ghost use Rattle.cn_report.specs.Reading.Records.{HasRead, IsPlain, Record, records_of};
 
 use crate::grants::epochs::{Granting, NamedEpoch};

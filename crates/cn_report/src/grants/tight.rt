@@ -5,7 +5,7 @@ ghost use Rattle.std.specs.List.{flat_map, sum_by};
 ghost use Rattle.cn_spec.specs.Step.{shares};
 ghost use Rattle.cn_spec.specs.declared.limits.TheConstants.{MOST_ENDS};
 ghost use Rattle.cn_report.specs.Grants.TightText.{tight_counts, tight_end, tight_head, tight_line, tight_text};
-ghost use Rattle.cn_report.specs.Grants.Told.{with_shares};
+ghost use Rattle.cn_report.specs.Grants.Printed.{with_shares};
 ghost use Rattle.cn_report.specs.Writing.Pieces.{Puts, nothing_put};
 ghost use Rattle.cn_report.specs.Writing.Written.{First, HasWritten, written_by};
 

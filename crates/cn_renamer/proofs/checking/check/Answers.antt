@@ -3,7 +3,7 @@ use Rattle.std.proofs.Common.{◌≡◌, ◌∙◌, ap, refl}
 use Rattle.std.proofs.lemmas.Result.{err_from_is_err_and}
 use Rattle.cn_report.proofs.CallerLemmas.{known-map, written-map}
 use Rattle.cn_report.specs.Reading.Records.{records_of}
-use Rattle.cn_report.specs.Grants.Told.{IsNamedList}
+use Rattle.cn_report.specs.Grants.Printed.{IsNamedList}
 use Rattle.cn_report.specs.Grants.TightText.{tight_text}
 use Rattle.cn_report.specs.declared.grants.epochs.NamedEpoch.{NamedEpoch}
 use Rattle.cn_renamer.specs.Check.{IsCheckOfKnown, IsTightTextOf, fault_of_output, until_check}
@@ -16,7 +16,7 @@ use Rattle.cn_renamer.proofs.checking.check.Goals as goal
 is-check : (width : ℕ) (known : Option (List ℕ)) (epochs : List NamedEpoch) → IfSome known (λ bytes. IsNamedList (records_of bytes) epochs)
     → (text : List ℕ) → IsTightTextOf width epochs text → IsCheckOfKnown width known text
 is-check width known epochs named text is =
-    known-map known _ _ named (λ bytes named. record { tight = named.tight; told = is ∙ ap tight_text (named.told width) })
+    known-map known _ _ named (λ bytes named. record { tight = named.tight; printed = is ∙ ap tight_text (named.printed width) })
 
 same-part : (fault : OutputFault) → until_check (fault_of_output fault) ≡ until_output fault
 same-part Memory = refl

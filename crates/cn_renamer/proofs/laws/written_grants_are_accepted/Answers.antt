@@ -1,11 +1,11 @@
-use Rattle.cn_renamer.proofs.Accepted.{accepted, counted_after, told}
+use Rattle.cn_renamer.proofs.Accepted.{accepted, counted_after, printed}
 use Rattle.cn_renamer.proofs.laws.written_grants_are_accepted.Goals as goal
 
 pub returns-clause-tight : goal.returns-clause-tight
 returns-clause-tight c = accepted
 
-pub returns-clause-told : goal.returns-clause-told
-returns-clause-told c = λ net carry bytes text run. (run.epochs, run.batch, told net carry bytes text run)
+pub returns-clause-printed : goal.returns-clause-printed
+returns-clause-printed c = λ net carry bytes text run. (run.epochs, run.batch, printed net carry bytes text run)
 
 pub returns-clause-after : goal.returns-clause-after
 returns-clause-after c = counted_after

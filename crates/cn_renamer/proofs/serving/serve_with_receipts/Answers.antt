@@ -19,13 +19,13 @@ run_epochs-requires-clause-may g c κs within = rw c.deref.ensures.value (may-ru
 
 pub returns-in_err-batch : goal.returns-in_err-batch
 returns-in_err-batch g c =
-    let told = err_from_is_err_and c.from_residual-in_err-batch.result c.from_residual-in_err-batch.ensures.1 in
+    let reported = err_from_is_err_and c.from_residual-in_err-batch.result c.from_residual-in_err-batch.ensures.1 in
     let options = c.args.options.now in
     let network : Network = c.in_ok-network.network in
     let built : IsNetworkOf options.net network = search rules in
     let known = g.I.Read.remaining c.args.reader in
     let contents = g.W.Write.contents in
-    rw (told.1, told.2) (record {
+    rw (reported.1, reported.2) (record {
       headline = none-written c.in_err-batch.field-0.0 contents (IsRunOfKnown options.net options.form options.carry known) c.args.writer.now;
       in_order = λ worker hand. none-written c.in_err-batch.field-0.0 contents (IsRunInOrderOfKnown options.net options.form options.carry known) c.args.writer.now;
       floors = tt;

@@ -1,5 +1,5 @@
 use Rattle.cn_report.proofs.Common.{[], IfErr, MatchResult, HasRead, records_of}
-use Rattle.cn_report.specs.Grants.Told.{IsNamedList}
+use Rattle.cn_report.specs.Grants.Printed.{IsNamedList}
 use Rattle.cn_report.specs.Grants.TightList.{IsFlaw, IsOutside, IsTightList}
 use Rattle.cn_report.proofs.ReadingLemmas.FirstFaults.{known-map}
 use Rattle.cn_report.proofs.GrantLemmas.TightFacts.{exact}

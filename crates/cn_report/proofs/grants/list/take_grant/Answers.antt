@@ -12,8 +12,8 @@ returns-in_default-clause-refused g c = λ text before grants read checked size.
 
 pub returns-in_err-add-clause-refused : goal.returns-in_err-add-clause-refused
 returns-in_err-add-clause-refused g c =
-    let told = err_from_is_err_and c.from_residual-in_err-add.result c.from_residual-in_err-add.ensures.1 in
-    rw (told.1, told.2) (λ text before grants read checked size.
+    let reported = err_from_is_err_and c.from_residual-in_err-add.result c.from_residual-in_err-add.ensures.1 in
+    rw (reported.1, reported.2) (λ text before grants read checked size.
     elim (c.in_err-add.ensures.err grants checked size) [
       | inl e ↦ inl (fields_of c.next_row.new.row, rw c.if-not-branch.false at (c.in_ok-next_row.ensures.reads text before read), rw (← c.in-Some.ensures) e)
       | inr e ↦ inr (inr e)

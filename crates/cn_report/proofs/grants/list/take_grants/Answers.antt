@@ -26,7 +26,7 @@ returns-in-Ok-false g c = record {
       let (before, grants, now, size, t, checked) = c.loop-at.invariant.taken text read in
       let (all, ended) = rw c.in-Ok-false.field-0-test at (c.in-Ok-false.ensures.found text before grants now checked (omega (arith, t.counted, size))) in
       taken-end (λ epochs. epochs.items) (records_of text) before grants c.finish.result t all (c.finish.ensures.answer grants ended.holds)
-      (if_ok-map c.finish.result c.finish.ensures.told (λ epochs told. told grants ended.holds ended.tells));
+      (if_ok-map c.finish.result c.finish.ensures.found (λ epochs found. found grants ended.holds ended.tells));
 }
 
 pub returns-in-Err-take_grant : goal.returns-in-Err-take_grant

@@ -1,6 +1,6 @@
 use Rattle.cn_report.proofs.Common.{◌∙◌, arith, get_or, map, sym, get_or-map, length-map}
 use Rattle.cn_report.specs.declared.grants.epochs.NamedEpoch.{NamedEpoch}
-use Rattle.cn_report.specs.Grants.Told.{with_shares}
+use Rattle.cn_report.specs.Grants.Printed.{with_shares}
 use Rattle.cn_report.specs.Grants.TightText.{tight_line}
 use Rattle.cn_report.proofs.WritingLemmas.Putting.{put-cut, put-last, put-next, put-none}
 use Rattle.cn_report.proofs.grants.tight.send_named_epochs.Goals as goal

@@ -1,5 +1,5 @@
 use Rattle.cn_report.proofs.Common.{map, take, flat_map, Puts}
-use Rattle.cn_report.specs.Grants.Told.{with_shares}
+use Rattle.cn_report.specs.Grants.Printed.{with_shares}
 use Rattle.cn_report.specs.Grants.TightText.{tight_line}
 use Rattle.cn_report.proofs.grants.tight.send_named_epochs.Given as goal
 

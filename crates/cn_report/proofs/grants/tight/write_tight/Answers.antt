@@ -1,5 +1,5 @@
 use Rattle.cn_report.proofs.Common.{length, map, refl}
-use Rattle.cn_report.specs.Grants.Told.{with_shares}
+use Rattle.cn_report.specs.Grants.Printed.{with_shares}
 use Rattle.cn_report.specs.Grants.TightText.{tight_text}
 use Rattle.cn_report.proofs.WritingLemmas.Putting.{put-all, put-same, put-then}
 use Rattle.cn_report.proofs.GrantLemmas.TightLines.{end-same}

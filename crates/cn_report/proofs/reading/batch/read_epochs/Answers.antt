@@ -39,9 +39,9 @@ returns-in_err-gathered-clause-answer g c =
     let source = c.args.source.now in
     let now = c.loop-end in
     let was = now.invariant in
-    let told = err_from_is_err_and c.from_residual.result c.from_residual.ensures.1 in
+    let reported = err_from_is_err_and c.from_residual.result c.from_residual.ensures.1 in
     let gathers = rw (c.in_err-gathered.was, c.deref.ensures.value, was.same.entries) at c.gather_and_read-gathered.ensures.gathers in
-    rw (told.1, told.2) (λ text header.
+    rw (reported.1, reported.2) (λ text header.
     stretch-fault g.I.Read.remaining source.heading source.entries text now.source.rows.value now.gathering c.gather_and_read-gathered.new.gathering now.stretch.items now.end (was.ahead text header)
     c.in_err-gathered.field-0.0 gathers)
 
@@ -50,9 +50,9 @@ returns-in_err-gather-clause-answer g c =
     let source = c.args.source.now in
     let now = c.loop-end in
     let was = now.invariant in
-    let told = err_from_is_err_and c.from_residual-in_err-gather.result c.from_residual-in_err-gather.ensures.1 in
+    let reported = err_from_is_err_and c.from_residual-in_err-gather.result c.from_residual-in_err-gather.ensures.1 in
     let gathers = rw (c.deref-2.ensures.value, c.entries.ensures, was.same.entries) at c.in_err-gather.ensures in
-    rw (told.1, told.2) (λ text header.
+    rw (reported.1, reported.2) (λ text header.
     stretch-fault g.I.Read.remaining source.heading source.entries text now.source.rows.value now.gathering c.gather.new.self now.stretch.items now.end (was.ahead text header)
     c.in_err-gather.field-0.0 gathers)
 

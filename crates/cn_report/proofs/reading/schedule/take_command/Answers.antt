@@ -8,8 +8,8 @@ returns-then-not-branch-clause-found g c = λ text before read. rw c.if-not-bran
 
 pub returns-in_err-command-clause-refused : goal.returns-in_err-command-clause-refused
 returns-in_err-command-clause-refused g c =
-    let told = err_from_is_err_and c.from_residual-in_err-command.result c.from_residual-in_err-command.ensures.1 in
-    rw (told.1, told.2) (λ text before read.
+    let reported = err_from_is_err_and c.from_residual-in_err-command.result c.from_residual-in_err-command.ensures.1 in
+    rw (reported.1, reported.2) (λ text before read.
     inl (fields_of c.next_row.new.row, rw c.if-not-branch.false at (c.in_ok-next_row.ensures.reads text before read), rw (← c.command_of.ensures, c.in_err-command.was) refl))
 
 pub returns-then-at-gt-MOST_RECORDS-clause-refused : goal.returns-then-at-gt-MOST_RECORDS-clause-refused

@@ -1,5 +1,5 @@
 use Rattle.cn_report.proofs.Common.{◌∙◌, sym, ap, inl, inr, arith}
-use Rattle.cn_report.proofs.GrantLemmas.CheckedGrants.{form-back, form-full, joined, told}
+use Rattle.cn_report.proofs.GrantLemmas.CheckedGrants.{form-back, form-full, joined, reported}
 use Rattle.cn_report.proofs.ReadingLemmas.Results.{if_err-map, on_ok-map}
 use Rattle.cn_report.specs.Grants.Granted.{first_cause, twice_cause}
 use Rattle.cn_report.proofs.grants.epochs.Granting.add.Goals as goal
@@ -19,7 +19,7 @@ returns-clause-ok c =
     on_ok-map c.join.result c.join.ensures.ok (λ j before checked size.
     let (none, ended, gap, latest, count, clients, names) = j in
     let held = c.in_ok-turn_to.ensures.holds before checked.holds in (
-      sym (told c.turn_to.new.self before c.args.grant held c.in_ok-turn_to.ensures.here (omega (arith, checked.last, c.if-grant-self.false)) (omega (arith, size, c.if-at-gt-MOST_RECORDS.false))) ∙ none,
+      sym (reported c.turn_to.new.self before c.args.grant held c.in_ok-turn_to.ensures.here (omega (arith, checked.last, c.if-grant-self.false)) (omega (arith, size, c.if-at-gt-MOST_RECORDS.false))) ∙ none,
       joined c.turn_to.new.self c.join.new.self before c.args.grant held (c.in_ok-turn_to.ensures.tells before checked.holds checked.tells) c.in_ok-turn_to.ensures.here ended gap latest count clients names,
     ))
 
@@ -29,6 +29,6 @@ returns-clause-err c =
     let held = c.in_ok-turn_to.ensures.holds before checked.holds in
     elim e [
       | inl is ↦
-          inl (sym (told c.turn_to.new.self before c.args.grant held c.in_ok-turn_to.ensures.here (omega (arith, checked.last, c.if-grant-self.false)) (omega (arith, size, c.if-at-gt-MOST_RECORDS.false))) ∙ is)
+          inl (sym (reported c.turn_to.new.self before c.args.grant held c.in_ok-turn_to.ensures.here (omega (arith, checked.last, c.if-grant-self.false)) (omega (arith, size, c.if-at-gt-MOST_RECORDS.false))) ∙ is)
       | inr is ↦ inr is
     ])

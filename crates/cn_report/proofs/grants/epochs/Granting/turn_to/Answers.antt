@@ -1,5 +1,5 @@
 use Rattle.cn_report.proofs.Common.{refl, arith}
-use Rattle.cn_report.proofs.GrantLemmas.CheckedGrants.{turned, told-turn}
+use Rattle.cn_report.proofs.GrantLemmas.CheckedGrants.{seen-turn, turned}
 use Rattle.cn_report.proofs.grants.epochs.Granting.turn_to.Goals as goal
 
 pub returns-clause-holds : goal.returns-clause-holds
@@ -9,4 +9,4 @@ returns-clause-holds c = λ grants held.
 pub returns-clause-tells : goal.returns-clause-tells
 returns-clause-tells c = λ grants held tells none.
     let (before, ended) = c.in_ok-end_latest.ensures.ended none in
-    rw ended (told-turn _ c.args.self.now.latest c.args.self.now.count c.args.epoch grants (tells before) held.count (omega (arith, c.requires.later, c.if-self-epoch.false)))
+    rw ended (seen-turn _ c.args.self.now.latest c.args.self.now.count c.args.epoch grants (tells before) held.count (omega (arith, c.requires.later, c.if-self-epoch.false)))

@@ -8,6 +8,6 @@ returns-then-not-branch-clause-next g c = λ text before read. rw c.if-not-branc
 
 pub returns-in_err-arrival_of-clause-refused : goal.returns-in_err-arrival_of-clause-refused
 returns-in_err-arrival_of-clause-refused g c =
-    let told = err_from_is_err_and c.from_residual-in_err-arrival_of.result c.from_residual-in_err-arrival_of.ensures.1 in
-    rw (told.1, told.2) (λ text before read.
+    let reported = err_from_is_err_and c.from_residual-in_err-arrival_of.result c.from_residual-in_err-arrival_of.ensures.1 in
+    rw (reported.1, reported.2) (λ text before read.
     inl (fields_of c.next_row.new.row, rw c.if-not-branch.false at (rw c.deref_mut.ensures.value at c.in_ok-next_row.ensures.reads text before read), rw (← c.arrival_of.ensures, c.in_err-arrival_of.was) refl))

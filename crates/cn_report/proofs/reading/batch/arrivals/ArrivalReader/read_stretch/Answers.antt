@@ -34,8 +34,8 @@ loop-taken-preserved g c =
 
 pub returns-in_err-arrival-clause-reads : goal.returns-in_err-arrival-clause-reads
 returns-in_err-arrival-clause-reads g c =
-    let told = err_from_is_err_and c.from_residual.result c.from_residual.ensures.1 in
-    rw (told.1, told.2) (record {
+    let reported = err_from_is_err_and c.from_residual.result c.from_residual.ensures.1 in
+    rw (reported.1, reported.2) (record {
       plain = tt;
       same = same-header _ _ _ c.loop-taken.invariant.same c.next_arrival.ensures.same;
       reads = λ text before read.

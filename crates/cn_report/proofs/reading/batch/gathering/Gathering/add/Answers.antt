@@ -1,6 +1,6 @@
 use Rattle.cn_report.proofs.Common.{◌≡◌, ◌∙◌, true, sym, inl, inr, arith, rules}
 use Rattle.std.specs.Result.{is_ok}
-use Rattle.cn_report.proofs.ReadingLemmas.GatheredEpochs.{backwards, out_of_range, taken_of, told_of}
+use Rattle.cn_report.proofs.ReadingLemmas.GatheredEpochs.{backwards, out_of_range, reported-of, taken_of}
 use Rattle.cn_report.proofs.ReadingLemmas.ServableEpochs.{joined-keeps}
 use Rattle.cn_report.proofs.ReadingLemmas.Results.{if_err-map, on_ok, on_ok-map}
 use Rattle.cn_report.proofs.reading.batch.gathering.Gathering.add.Goals as goal
@@ -19,7 +19,7 @@ returns-clause-ok c =
     on_ok-map c.join.result c.join.ensures.ok (λ j before gathered.
     let (none, ended, number, clients, keys, next) = j in
     let held = keeps before gathered.holds in (
-      sym (told_of c.turn_to.new.self before c.args.entries c.args.arrival held here (omega (arith, gathered.last, c.if-arrival-self.false)) (omega (arith, c.from.ensures, c.if-arrival-from.false)) (omega (arith, gathered.next, c.turn_to.ensures.next))) ∙ none,
+      sym (reported-of c.turn_to.new.self before c.args.entries c.args.arrival held here (omega (arith, gathered.last, c.if-arrival-self.false)) (omega (arith, c.from.ensures, c.if-arrival-from.false)) (omega (arith, gathered.next, c.turn_to.ensures.next))) ∙ none,
       taken_of c.turn_to.new.self c.join.new.self before c.args.arrival held here ended number clients keys (omega (arith, next, gathered.next, c.turn_to.ensures.next)),
     ))
 
@@ -27,10 +27,10 @@ pub returns-clause-err : goal.returns-clause-err
 returns-clause-err c =
     let good : is_ok c.turn_to.result ≡ true = search rules in
     let (here, keeps) = on_ok c.turn_to.result good c.turn_to.ensures.holds in
-    if_err-map c.join.result c.join.ensures.err (λ cause told before gathered.
-    elim told [
+    if_err-map c.join.result c.join.ensures.err (λ cause reported before gathered.
+    elim reported [
       | inl e ↦
-          inl (sym (told_of c.turn_to.new.self before c.args.entries c.args.arrival (keeps before gathered.holds) here (omega (arith, gathered.last, c.if-arrival-self.false)) (omega (arith, c.from.ensures, c.if-arrival-from.false)) (omega (arith, gathered.next, c.turn_to.ensures.next))) ∙ e)
+          inl (sym (reported-of c.turn_to.new.self before c.args.entries c.args.arrival (keeps before gathered.holds) here (omega (arith, gathered.last, c.if-arrival-self.false)) (omega (arith, c.from.ensures, c.if-arrival-from.false)) (omega (arith, gathered.next, c.turn_to.ensures.next))) ∙ e)
       | inr e ↦ inr e
     ])
 

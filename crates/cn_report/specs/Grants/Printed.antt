@@ -21,8 +21,8 @@ abbrev pub named_epoch : List Granted → ℕ → ℕ × ℕ
 named_epoch grants e = (e, length (of_epoch e grants))
 
 -- an epoch: its number, how many clients it has, and how many of its names are i modulo the width
-abbrev pub told_epoch : ℕ → List Granted → ℕ → ℕ × ℕ × List ℕ
-told_epoch width grants e = (e, length (of_epoch e grants), counts_of width (map (λ g. g.name) (of_epoch e grants)))
+abbrev pub printed_epoch : ℕ → List Granted → ℕ → ℕ × ℕ × List ℕ
+printed_epoch width grants e = (e, length (of_epoch e grants), counts_of width (map (λ g. g.name) (of_epoch e grants)))
 
 -- an epoch, by its number and its number of clients
 abbrev pub plain_named : NamedEpoch → ℕ × ℕ
@@ -37,11 +37,11 @@ abbrev pub names_in : ℕ → List Record → List ℕ
 names_in epoch rows = map (λ g. g.name) (of_epoch epoch (grants_spelled (drop 1 rows)))
 
 -- what the records say of their epochs, in order
-abbrev pub told_epochs : ℕ → List Record → List (ℕ × ℕ × List ℕ)
-told_epochs width rows =
-    map (told_epoch width (grants_spelled (drop 1 rows))) (epoch_numbers (grants_spelled (drop 1 rows)))
+abbrev pub printed_epochs : ℕ → List Record → List (ℕ × ℕ × List ℕ)
+printed_epochs width rows =
+    map (printed_epoch width (grants_spelled (drop 1 rows))) (epoch_numbers (grants_spelled (drop 1 rows)))
 
 -- the records are a tight list, and these are its epochs: by any width the counts of each are shares
 pub record IsNamedList (rows : List Record) (epochs : List NamedEpoch) : Type 0 where
   pub tight : IsTightList rows
-  pub told : (width : ℕ) → map (with_shares width) epochs ≡ told_epochs width rows
+  pub printed : (width : ℕ) → map (with_shares width) epochs ≡ printed_epochs width rows

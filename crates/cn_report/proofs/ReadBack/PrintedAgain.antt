@@ -6,7 +6,7 @@ use Rattle.cn_spec.proofs.CallerLemmas.{counts-shares, counts-shares-after}
 use Rattle.cn_record.specs.declared.record.EpochRecord.{EpochRecord}
 use Rattle.cn_report.specs.Grants.Granted.{grants_spelled, of_epoch}
 use Rattle.cn_report.specs.Grants.TightList.{IsTightList}
-use Rattle.cn_report.specs.Grants.Told.{epoch_numbers, names_in, told_epoch, told_epochs, with_number}
+use Rattle.cn_report.specs.Grants.Printed.{epoch_numbers, names_in, printed_epoch, printed_epochs, with_number}
 use Rattle.cn_report.specs.declared.grants.record.Granted.{Granted}
 use Rattle.cn_report.specs.Grants.ListText.{AreRisingRecords, AreTightRecords, checked_epoch, grants_text}
 use Rattle.cn_report.proofs.ReadBack.Epochs.{all_grants, first-epoch, grant_at, grants_of, later-epoch, names-given}
@@ -22,12 +22,12 @@ abbrev numbers-after : List ℕ → List Granted → List ℕ
 numbers-after numbers grants = fold (λ ns g. with_number ns g.epoch) numbers grants
 
 -- a number that is there does not come again
-told-before : (numbers : List ℕ) (r : EpochRecord) (from n : ℕ) → list_any (nat_eq r.number) numbers ≡ true
+known-before : (numbers : List ℕ) (r : EpochRecord) (from n : ℕ) → list_any (nat_eq r.number) numbers ≡ true
     → numbers-after numbers (map (grant_at r) (range_with_len from n)) ≡ numbers
-told-before numbers r from zero there = refl
-told-before numbers r from (suc n) there =
+known-before numbers r from zero there = refl
+known-before numbers r from (suc n) there =
     let same : with_number numbers r.number ≡ numbers = rw there refl in
-    ap (λ (ns : List ℕ). numbers-after ns (map (grant_at r) (range_with_len (from + 1) n))) same ∙ told-before numbers r (from + 1) n there
+    ap (λ (ns : List ℕ). numbers-after ns (map (grant_at r) (range_with_len (from + 1) n))) same ∙ known-before numbers r (from + 1) n there
 
 last-there : (numbers : List ℕ) (n : ℕ) → list_any (nat_eq n) (numbers ++ n ∷ []) ≡ true
 last-there [] n = rw (eq-eqb n n refl) refl
@@ -51,7 +51,7 @@ one_number numbers r zero some below = absurd (omega arith)
 one_number numbers r (suc n) some below =
     let next : with_number numbers r.number ≡ numbers ++ r.number ∷ [] = rw (not_there numbers r.number below) refl in
     ap (λ (ns : List ℕ). numbers-after ns (map (grant_at r) (range_with_len 1 n))) next
-    ∙ told-before (numbers ++ r.number ∷ []) r 1 n (last-there numbers r.number)
+    ∙ known-before (numbers ++ r.number ∷ []) r 1 n (last-there numbers r.number)
 
 below_next : (numbers : List ℕ) (n last : ℕ) → AreBelow n numbers → last < n → AreBelow n (numbers ++ last ∷ [])
 below_next [] n last below h = (h, tt)
@@ -97,8 +97,8 @@ own-grants (r ∷ records) rising =
     (first-epoch r records rising.0, own-later r records records rising.0 (own-grants records rising.1))
 
 -- the shares of its number of names
-told-one : (width : ℕ) (all : List Granted) (r : EpochRecord) → HasOwn all r → told_epoch width all r.number ≡ checked_epoch width r
-told-one width all r own =
+printed-one : (width : ℕ) (all : List Granted) (r : EpochRecord) → HasOwn all r → printed_epoch width all r.number ≡ checked_epoch width r
+printed-one width all r own =
     let range = range_with_len 0 r.clients in
     let many : length (of_epoch r.number all) ≡ r.clients = ap length own ∙ length-map-range_with_len (grant_at r) 0 r.clients in
     let names : map (λ (g : Granted). g.name) (of_epoch r.number all) ≡ range = ap (map (λ (g : Granted). g.name)) own ∙ names-given r range in
@@ -106,21 +106,21 @@ told-one width all r own =
     ap (counts_of width) names ∙ counts-shares width r.clients range (IsPermutation-refl range) in
     λ i. (r.number, many i, counts i)
 
-told-each : (width : ℕ) (all : List Granted) (records : List EpochRecord) → AllByRecursion (HasOwn all) records
-    → map (told_epoch width all) (map number_of records) ≡ map (checked_epoch width) records
-told-each width all [] own = refl
-told-each width all (r ∷ records) own = λ i. told-one width all r own.0 i ∷ told-each width all records own.1 i
+printed-each : (width : ℕ) (all : List Granted) (records : List EpochRecord) → AllByRecursion (HasOwn all) records
+    → map (printed_epoch width all) (map number_of records) ≡ map (checked_epoch width) records
+printed-each width all [] own = refl
+printed-each width all (r ∷ records) own = λ i. printed-one width all r own.0 i ∷ printed-each width all records own.1 i
 
 -- a check of a written list finds its epochs
-pub told-back : (width : ℕ) (records : List EpochRecord) → AreTightRecords records → AllByRecursion (λ r. 0 < r.clients) records
-    → told_epochs width (records_of (grants_text records)) ≡ map (checked_epoch width) records
-told-back width records tight some =
+pub printed-back : (width : ℕ) (records : List EpochRecord) → AreTightRecords records → AllByRecursion (λ r. 0 < r.clients) records
+    → printed_epochs width (records_of (grants_text records)) ≡ map (checked_epoch width) records
+printed-back width records tight some =
     let all = all_grants records in
     let spells : grants_spelled (drop 1 (records_of (grants_text records))) ≡ all =
     ap (λ (rows : List Record). grants_spelled (drop 1 rows)) (records-back records tight) ∙ grants-read all (small-grants records tight) in
-    (λ i. map (told_epoch width (spells i)) (epoch_numbers (spells i)))
-    ∙ ap (map (told_epoch width all)) (all-numbers [] records tight.rising some (none_below records))
-    ∙ told-each width all records (own-grants records tight.rising)
+    (λ i. map (printed_epoch width (spells i)) (epoch_numbers (spells i)))
+    ∙ ap (map (printed_epoch width all)) (all-numbers [] records tight.rising some (none_below records))
+    ∙ printed-each width all records (own-grants records tight.rising)
 
 -- ---- any tight list
 
