@@ -127,11 +127,11 @@ fn is_alike<R: Threads + Wait + Sync>(
     let batch = batch(alloc)?;
     let asked = (Kind::Bitonic, 4, workers, 1);
     let text = carried(rt, alloc, state, asked, Form::Report, &batch)?;
-    let told = parted(alloc, &text)?;
+    let written = parted(alloc, &text)?;
     let wanted = parted(alloc, &batch_served(alloc)?)?;
     Some([
-        told.rest.as_slice() == wanted.rest.as_slice(),
-        have_names(&told.clients),
+        written.rest.as_slice() == wanted.rest.as_slice(),
+        have_names(&written.clients),
     ])
 }
 

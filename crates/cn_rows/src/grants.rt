@@ -67,7 +67,7 @@ fn tight_lists(rt: HostRuntime) {
 /// Whether a list has this flaw.
 fn has_flaw<I: io::Read + Drop>(alloc: Global, reader: I, flaw: Flaw) -> bool {
     match judged(alloc, reader) {
-        Some(Err(told)) => told == flaw,
+        Some(Err(found)) => found == flaw,
         _ => false,
     }
 }

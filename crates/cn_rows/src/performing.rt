@@ -407,7 +407,7 @@ fn words_are_done(rt: HostRuntime) {
 
 /// Whether a fault is printed with this line, and ends with this status; also if the one write that fails is the first,
 /// after which no other is tried.
-fn is_told(alloc: Global, fault: Fault, line: &[u8], status: u8) -> bool {
+fn is_printed(alloc: Global, fault: Fault, line: &[u8], status: u8) -> bool {
     let done = Err(fault);
     let mut full = Narrow::new(alloc, 0, Then::FailsOnce);
     let ends = end(&done, &mut full) == status && full.taken.is_empty();
@@ -433,7 +433,7 @@ const REFUSED: ReplayFault = ReplayFault::Schedule(ScheduleFault {
 /// The first line that is not a replay's fault's.
 fn wrong_replay_fault(alloc: Global) -> Option<&'static [u8]> {
     for (fault, line, status) in &REPLAY_FAULTS {
-        if !is_told(alloc, Fault::Replay(*fault), line, *status) {
+        if !is_printed(alloc, Fault::Replay(*fault), line, *status) {
             return Some(*line);
         }
     }
@@ -459,7 +459,7 @@ const REFUSED_BATCH: ServeFault = ServeFault::Batch(BatchFault {
 /// The first line that is not a run's fault's.
 fn wrong_serve_fault(alloc: Global) -> Option<&'static [u8]> {
     for (fault, line, status) in &SERVE_FAULTS {
-        if !is_told(alloc, Fault::Serve(*fault), line, *status) {
+        if !is_printed(alloc, Fault::Serve(*fault), line, *status) {
             return Some(*line);
         }
     }
@@ -503,7 +503,7 @@ const GAP: CheckFault = CheckFault::Flaw(Flaw::Gap { epoch: 1, name: 2 });
 /// The first line that is not a check's fault's.
 fn wrong_check_fault(alloc: Global) -> Option<&'static [u8]> {
     for (fault, line, status) in &CHECK_FAULTS {
-        if !is_told(alloc, Fault::Check(*fault), line, *status) {
+        if !is_printed(alloc, Fault::Check(*fault), line, *status) {
             return Some(*line);
         }
     }
@@ -522,7 +522,7 @@ const OUTPUT_FAULTS: [(OutputFault, &[u8], u8); 2] = [
 /// The first line that is not an output's fault's.
 fn wrong_output_fault(alloc: Global) -> Option<&'static [u8]> {
     for (fault, line, status) in &OUTPUT_FAULTS {
-        if !is_told(alloc, Fault::Output(*fault), line, *status) {
+        if !is_printed(alloc, Fault::Output(*fault), line, *status) {
             return Some(*line);
         }
     }
@@ -530,11 +530,11 @@ fn wrong_output_fault(alloc: Global) -> Option<&'static [u8]> {
 }
 
 /// Whether words that are refused, and a runtime that fails, have their lines and statuses.
-fn are_told(alloc: Global) -> Option<[bool; 2]> {
+fn are_printed(alloc: Global) -> Option<[bool; 2]> {
     let no = String::from_str(alloc, "no\n").ok()?;
     Some([
-        is_told(alloc, Fault::Refused(no), b"no\n", 2),
-        is_told(
+        is_printed(alloc, Fault::Refused(no), b"no\n", 2),
+        is_printed(
             alloc,
             Fault::Runtime(RuntimeFault),
             b"renamer: runtime\n",
@@ -554,5 +554,5 @@ fn wrong_fault(alloc: Global) -> Option<&'static [u8]> {
 #[test]
 fn each_fault_has_its_line_and_its_status(rt: HostRuntime) {
     assert_eq!(rt; wrong_fault(rt.alloc()), None);
-    assert_eq!(rt; are_told(rt.alloc()), Some([true, true]));
+    assert_eq!(rt; are_printed(rt.alloc()), Some([true, true]));
 }

@@ -372,7 +372,7 @@ fn are_three_epochs_replayed(alloc: Global, state: RandomState) -> Option<bool> 
 
 #[test]
 fn a_hundred_commands_over_three_epochs(rt: HostRuntime) -> Result<(), Fail> {
-    let are_told = are_three_epochs_replayed(rt.alloc(), RandomState::new(&rt)?);
-    assert_eq!(rt; are_told, Some(true));
+    let are_replayed = are_three_epochs_replayed(rt.alloc(), RandomState::new(&rt)?);
+    assert_eq!(rt; are_replayed, Some(true));
     Ok(())
 }

@@ -22,11 +22,11 @@ fn has_line(alloc: Global, line: &str) -> bool {
 
 #[test]
 fn want_of_memory_has_its_line(rt: HostRuntime) {
-    let told = (
+    let found = (
         has_line(rt.alloc(), "renamer: memory"),
         WordsFault::Memory.status(),
     );
-    assert_eq!(rt; told, (true, 3));
+    assert_eq!(rt; found, (true, 3));
 }
 
 /// The status if there is not even the program's name.

@@ -7,7 +7,7 @@ use cn_walk::{Floor, Grant, Lane, LaneFault};
 use std::alloc::Global;
 
 /// The grants of two lanes, how many came in, and why each client was refused who was.
-type Told = (Option<Grant>, Option<Grant>, u64, [Option<LaneFault>; 2]);
+type Outcome = (Option<Grant>, Option<Grant>, u64, [Option<LaneFault>; 2]);
 
 /// Names a client, if nobody of the lane is inside.
 fn name(
@@ -27,7 +27,7 @@ fn name(
 
 /// On bitonic 2 client 7 comes in by entry 1, client 8 by entry 0, on a lane of its own; both lanes are looked at, and are
 /// what they were.
-fn by_two_lanes(alloc: Global) -> Option<Told> {
+fn by_two_lanes(alloc: Global) -> Option<Outcome> {
     let network = bitonic(alloc, 2).ok()?;
     let (floor, mut first) = Floor::open(alloc, &network, 2).ok()?;
     let mut second = floor.split_off(&mut first, 1).ok()?;

@@ -81,12 +81,12 @@ fn filled(rt: &impl Threads, alloc: Global, first: usize) -> Option<[bool; 2]> {
 #[test]
 fn two_threads_fill_the_first_slots(rt: HostRuntime) {
     let alloc = rt.alloc();
-    let told = [
+    let found = [
         filled(&rt, alloc, 1000),
         filled(&rt, alloc, 10),
         filled(&rt, alloc, 1990),
     ];
-    assert_eq!(rt; told, [Some([true, true]); 3]);
+    assert_eq!(rt; found, [Some([true, true]); 3]);
 }
 
 /// How many threads are started for both. Others start some too: so it is the least of 200 tries.

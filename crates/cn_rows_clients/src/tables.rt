@@ -52,7 +52,7 @@ const ROWS: [Row; 5] = [
 
 /// Whether one worker, with one client in hand, gives names in the order of the clients, and the floor has these counts
 /// and passes.
-fn is_told<R: Threads + Wait + Sync>(rt: &R, alloc: Global, row: &Row) -> Option<[bool; 4]> {
+fn is_so<R: Threads + Wait + Sync>(rt: &R, alloc: Global, row: &Row) -> Option<[bool; 4]> {
     let network = bitonic(alloc, 4).ok()?;
     let table = table_of(rt, alloc, &network, row.0, 1)?;
     let clients = row.0.len() as u64;
@@ -67,7 +67,7 @@ fn is_told<R: Threads + Wait + Sync>(rt: &R, alloc: Global, row: &Row) -> Option
 /// The place of the first row that is not so.
 fn wrong_row<R: Threads + Wait + Sync>(rt: &R, alloc: Global) -> Option<usize> {
     for (place, row) in ROWS.iter().enumerate() {
-        if is_told(rt, alloc, row) != Some([true; 4]) {
+        if is_so(rt, alloc, row) != Some([true; 4]) {
             return Some(place);
         }
     }
@@ -93,14 +93,14 @@ fn is_made<R: Threads + Wait + Sync>(
 #[test]
 fn workers_and_entries_at_their_limits(rt: HostRuntime) {
     let alloc = rt.alloc();
-    let told = [
+    let found = [
         is_made(&rt, alloc, &[0, 3], 0),
         is_made(&rt, alloc, &[0, 3], 1),
         is_made(&rt, alloc, &[0, 3], 64),
         is_made(&rt, alloc, &[0, 3], 65),
         is_made(&rt, alloc, &[0, 4], 1),
     ];
-    assert_eq!(rt; told, [false, true, true, false, false].map(Some));
+    assert_eq!(rt; found, [false, true, true, false, false].map(Some));
 }
 
 /// How many processes and threads the system has started so far.
@@ -133,13 +133,13 @@ fn threads_of<R: Threads + Wait + Sync + Files + AllocGlobal>(
 #[test]
 fn each_worker_but_the_last_has_a_thread(rt: HostRuntime) {
     let alloc = rt.alloc();
-    let told = [
+    let found = [
         threads_of(&rt, alloc, 1),
         threads_of(&rt, alloc, 2),
         threads_of(&rt, alloc, 3),
         threads_of(&rt, alloc, 4),
     ];
-    assert_eq!(rt; told, [0, 1, 2, 3].map(Some));
+    assert_eq!(rt; found, [0, 1, 2, 3].map(Some));
 }
 
 /// Whether two workers name 2,000 clients in another order than that of their numbers, in one of 1,000 epochs.

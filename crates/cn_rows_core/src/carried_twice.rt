@@ -34,7 +34,7 @@ const COMMANDS: [Command; 8] = [
 /// An answer in numbers: the wire and number of a passage, the exit, visit and name of a leave, the number and the two counts
 /// of a record with only client 7.
 #[derive(Clone, Copy, Debug, PartialEq, Eq)]
-enum Told {
+enum Said {
     Entered,
     Passed(u32, u64),
     Left(u32, u64, u64),
@@ -42,52 +42,52 @@ enum Told {
     Other,
 }
 
-fn told_of_move(moved: Moved) -> Told {
+fn said_of_move(moved: Moved) -> Said {
     match moved {
         Moved::On {
             balancer: 0,
             number,
             wire,
-        } => Told::Passed(wire, number),
-        Moved::On { .. } => Told::Other,
-        Moved::Out { exit, visit, name } => Told::Left(exit, visit, name),
+        } => Said::Passed(wire, number),
+        Moved::On { .. } => Said::Other,
+        Moved::Out { exit, visit, name } => Said::Left(exit, visit, name),
     }
 }
 
-fn told_of_record(record: &EpochRecord) -> Told {
+fn said_of_record(record: &EpochRecord) -> Said {
     match (record.counts.as_slice(), record.holders.as_slice()) {
         ([first, second], [7]) if record.clients == 1 => {
-            Told::Ended(record.number, *first, *second)
+            Said::Ended(record.number, *first, *second)
         }
-        _ => Told::Other,
+        _ => Said::Other,
     }
 }
 
-fn told_of(answer: &Answer) -> Told {
+fn said_of(answer: &Answer) -> Said {
     match answer {
-        Answer::Replied(Reply::Entered) => Told::Entered,
-        Answer::Replied(Reply::Stepped(moved)) => told_of_move(*moved),
-        Answer::Turned(record) => told_of_record(record),
-        _ => Told::Other,
+        Answer::Replied(Reply::Entered) => Said::Entered,
+        Answer::Replied(Reply::Stepped(moved)) => said_of_move(*moved),
+        Answer::Turned(record) => said_of_record(record),
+        _ => Said::Other,
     }
 }
 
 /// Each answer of each epoch in numbers, and how many epochs ended and how many clients are carried then.
-type Outcome = ([[Told; 4]; 2], [u64; 2]);
+type Outcome = ([[Said; 4]; 2], [u64; 2]);
 
-fn all_told(answers: &[Answer]) -> [[Told; 4]; 2] {
-    let mut told = [[Told::Other; 4]; 2];
+fn all_said(answers: &[Answer]) -> [[Said; 4]; 2] {
+    let mut said = [[Said::Other; 4]; 2];
     for (place, answer) in answers.iter().enumerate() {
         if place < 8 {
-            told[place / 4][place % 4] = told_of(answer);
+            said[place / 4][place % 4] = said_of(answer);
         }
     }
-    told
+    said
 }
 
 fn outcome_by(epochs: &mut Epochs<'_>, alloc: Global, calls: Calls) -> Option<Outcome> {
     let answers = answers_to(epochs, alloc, &COMMANDS, calls)?;
-    Some((all_told(&answers), [epochs.number(), epochs.base()]))
+    Some((all_said(&answers), [epochs.number(), epochs.base()]))
 }
 
 /// Those of epochs that carry their counts on, or clear them.
@@ -116,25 +116,25 @@ fn outcome(alloc: Global, state: RandomState, carries: bool, calls: Calls) -> Op
     }
 }
 
-const FIRST: [Told; 4] = [
-    Told::Entered,
-    Told::Passed(2, 0),
-    Told::Left(0, 0, 0),
-    Told::Ended(0, 1, 0),
+const FIRST: [Said; 4] = [
+    Said::Entered,
+    Said::Passed(2, 0),
+    Said::Left(0, 0, 0),
+    Said::Ended(0, 1, 0),
 ];
 
-const CARRIED: [Told; 4] = [
-    Told::Entered,
-    Told::Passed(3, 1),
-    Told::Left(1, 0, 0),
-    Told::Ended(1, 0, 1),
+const CARRIED: [Said; 4] = [
+    Said::Entered,
+    Said::Passed(3, 1),
+    Said::Left(1, 0, 0),
+    Said::Ended(1, 0, 1),
 ];
 
-const CLEARED: [Told; 4] = [
-    Told::Entered,
-    Told::Passed(2, 0),
-    Told::Left(0, 0, 0),
-    Told::Ended(1, 1, 0),
+const CLEARED: [Said; 4] = [
+    Said::Entered,
+    Said::Passed(2, 0),
+    Said::Left(0, 0, 0),
+    Said::Ended(1, 1, 0),
 ];
 
 /// By single calls and by a run.
@@ -148,9 +148,9 @@ fn by_both(alloc: Global, state: RandomState, carries: bool) -> [Option<Outcome>
 #[test]
 fn carried_twice_and_cleared_twice(rt: HostRuntime) -> Result<(), Fail> {
     let (alloc, state) = (rt.alloc(), RandomState::new(&rt)?);
-    let told = [by_both(alloc, state, true), by_both(alloc, state, false)];
+    let found = [by_both(alloc, state, true), by_both(alloc, state, false)];
     let wanted = [([FIRST, CARRIED], [2, 2]), ([FIRST, CLEARED], [2, 0])];
-    assert_eq!(rt; told, wanted.map(|outcome| [Some(outcome); 2]));
+    assert_eq!(rt; found, wanted.map(|outcome| [Some(outcome); 2]));
     Ok(())
 }
 
@@ -249,7 +249,7 @@ const STANDS: [Stand; 3] = [
 
 #[test]
 fn counts_go_on_until_they_are_cleared(rt: HostRuntime) -> Result<(), Fail> {
-    let told = stands(rt.alloc(), RandomState::new(&rt)?);
-    assert_eq!(rt; told, Some(STANDS));
+    let found = stands(rt.alloc(), RandomState::new(&rt)?);
+    assert_eq!(rt; found, Some(STANDS));
     Ok(())
 }

@@ -66,8 +66,8 @@ fn is_alone(record: &EpochRecord) -> bool {
 
 fn is_answer(answer: &Answer, wanted: &Wanted) -> bool {
     match (answer, wanted) {
-        (Answer::Replied(told), Wanted::Replied(reply)) => *told == *reply,
-        (Answer::TurnRefused(told), Wanted::TurnRefused(fault)) => *told == *fault,
+        (Answer::Replied(said), Wanted::Replied(reply)) => *said == *reply,
+        (Answer::TurnRefused(said), Wanted::TurnRefused(fault)) => *said == *fault,
         (Answer::Turned(record), Wanted::Alone) => is_alone(record),
         _ => false,
     }
@@ -86,7 +86,7 @@ fn are_answers(answers: &[Answer], wanted: &[Wanted]) -> bool {
 }
 
 /// Whether epochs answer so, and how they stand after it.
-fn told_after(
+fn seen_after(
     alloc: Global,
     state: RandomState,
     commands: &[Command],
@@ -98,15 +98,15 @@ fn told_after(
 }
 
 /// The same by single calls and by a run.
-fn told_by_both(
+fn seen_by_both(
     alloc: Global,
     state: RandomState,
     commands: &[Command],
     wanted: &[Wanted],
 ) -> [Option<(bool, [u64; 3])>; 2] {
     [
-        told_after(alloc, state, commands, Calls::Single, wanted),
-        told_after(alloc, state, commands, Calls::Run, wanted),
+        seen_after(alloc, state, commands, Calls::Single, wanted),
+        seen_after(alloc, state, commands, Calls::Run, wanted),
     ]
 }
 
@@ -155,29 +155,29 @@ const TURNS_ANSWERED: [Wanted; 7] = [
 #[test]
 fn turn_is_refused_then_done(rt: HostRuntime) -> Result<(), Fail> {
     let (alloc, state) = (rt.alloc(), RandomState::new(&rt)?);
-    let told = told_by_both(alloc, state, &TURNS[..5], &TURNS_ANSWERED[..5]);
+    let seen = seen_by_both(alloc, state, &TURNS[..5], &TURNS_ANSWERED[..5]);
     let wanted = Some((true, [1, 0, 0]));
-    assert_eq!(rt; told, [wanted, wanted]);
+    assert_eq!(rt; seen, [wanted, wanted]);
     Ok(())
 }
 
 /// Whether epochs answer so many of the commands so, and how they stand then.
-fn told_after_some(alloc: Global, state: RandomState, calls: usize) -> Option<(bool, [u64; 3])> {
+fn seen_after_some(alloc: Global, state: RandomState, calls: usize) -> Option<(bool, [u64; 3])> {
     let commands = TURNS.get(..calls)?;
     let wanted = TURNS_ANSWERED.get(..calls)?;
-    told_after(alloc, state, commands, Calls::Single, wanted)
+    seen_after(alloc, state, commands, Calls::Single, wanted)
 }
 
 #[test]
 fn a_client_comes_again_after_a_turn(rt: HostRuntime) -> Result<(), Fail> {
     let (alloc, state) = (rt.alloc(), RandomState::new(&rt)?);
-    let told = [
-        told_after_some(alloc, state, 4),
-        told_after_some(alloc, state, 5),
-        told_after_some(alloc, state, 7),
+    let seen = [
+        seen_after_some(alloc, state, 4),
+        seen_after_some(alloc, state, 5),
+        seen_after_some(alloc, state, 7),
     ];
     let wanted = [[0, 1, 0], [1, 0, 0], [1, 1, 1]].map(|stand| Some((true, stand)));
-    assert_eq!(rt; told, wanted);
+    assert_eq!(rt; seen, wanted);
     Ok(())
 }
 
@@ -226,8 +226,8 @@ const REFUSALS_ANSWERED: [Wanted; 10] = [
 #[test]
 fn every_refusal_then_turn(rt: HostRuntime) -> Result<(), Fail> {
     let (alloc, state) = (rt.alloc(), RandomState::new(&rt)?);
-    let told = told_by_both(alloc, state, &REFUSALS, &REFUSALS_ANSWERED);
+    let seen = seen_by_both(alloc, state, &REFUSALS, &REFUSALS_ANSWERED);
     let wanted = Some((true, [1, 1, 1]));
-    assert_eq!(rt; told, [wanted, wanted]);
+    assert_eq!(rt; seen, [wanted, wanted]);
     Ok(())
 }

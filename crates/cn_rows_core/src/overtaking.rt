@@ -89,20 +89,20 @@ const REPLIES: [Reply; 12] = [
 ];
 
 /// How many entered and are inside, and the names of the clients 10, 20, 30 and 40.
-type Told = ([u64; 2], [Option<u64>; 4]);
+type Said = ([u64; 2], [Option<u64>; 4]);
 
-fn told_by(core: &Core<'_>) -> Told {
+fn said_by(core: &Core<'_>) -> Said {
     let names = [core.name(10), core.name(20), core.name(30), core.name(40)];
     ([core.entered(), core.inside()], names)
 }
 
 /// Whether a new core replies so, what it answers then, and whether the holders are 30, 20 and 10.
-type Outcome = (bool, Told, bool);
+type Outcome = (bool, Said, bool);
 
 fn outcome_of(core: &mut Core<'_>, alloc: Global, calls: Calls) -> Option<Outcome> {
     let replies = replies_to(core, alloc, &EVENTS, calls).ok()?;
     let are_replies = replies.as_slice() == REPLIES.as_slice();
-    Some((are_replies, told_by(core), has_holders(core, &[30, 20, 10])))
+    Some((are_replies, said_by(core), has_holders(core, &[30, 20, 10])))
 }
 
 fn outcome_on(
@@ -193,7 +193,7 @@ fn is_ended(record: &EpochRecord, number: u64) -> bool {
 /// Whether this is the answer at a place of the epoch with this number.
 fn is_answer(answer: &Answer, number: u64, place: usize) -> bool {
     match (answer, REPLIES.get(place)) {
-        (Answer::Replied(told), Some(reply)) => *told == *reply,
+        (Answer::Replied(said), Some(reply)) => *said == *reply,
         (Answer::Turned(record), None) => is_ended(record, number),
         _ => false,
     }
@@ -301,7 +301,7 @@ const FAULTS: [Option<EnterFault>; 3] = [
 
 #[test]
 fn core_at_its_limit(rt: HostRuntime) -> Result<(), Fail> {
-    let told = full_tree(rt.alloc(), RandomState::new(&rt)?);
-    assert_eq!(rt; told, Some((true, FAULTS)));
+    let found = full_tree(rt.alloc(), RandomState::new(&rt)?);
+    assert_eq!(rt; found, Some((true, FAULTS)));
     Ok(())
 }

@@ -27,13 +27,13 @@ fn counts_of(core: &Core<'_>, network: &Counting) -> Option<(u64, u64, u64)>
 
 /// What a core on one balancer answers: how many entered, how many are inside and whether that is nobody; the counts of
 /// the balancer and of the exits; and the names of clients 7 and 9.
-type Told = (
+type Said = (
     (u64, u64, bool),
     Option<(u64, u64, u64)>,
     (Option<u64>, Option<u64>),
 );
 
-fn told_by(core: &Core<'_>, network: &Counting) -> Told
+fn said_by(core: &Core<'_>, network: &Counting) -> Said
     requires { core.now.network ≡ network.now }
 {
     (
@@ -44,7 +44,7 @@ fn told_by(core: &Core<'_>, network: &Counting) -> Told
 }
 
 /// The replies of a core to events, and what it answers then.
-type Outcome = (Vec<Reply>, Told);
+type Outcome = (Vec<Reply>, Said);
 
 fn outcome_by(
     core: &mut Core<'_>,
@@ -56,7 +56,7 @@ fn outcome_by(
     requires { core.old.network ≡ network.now }
 {
     let replies = replies_to(core, alloc, events, calls).ok()?;
-    Some((replies, told_by(core, network)))
+    Some((replies, said_by(core, network)))
 }
 
 fn outcome_on(
@@ -168,7 +168,7 @@ const REFUSALS_REPLIES: [Reply; 8] = [
 ];
 
 /// Events by one kind of calls, the replies to them, and what the core answers then.
-type Row = (Calls, &'static [Event], &'static [Reply], Told);
+type Row = (Calls, &'static [Event], &'static [Reply], Said);
 
 const ROWS: [Row; 4] = [
     (
@@ -199,9 +199,9 @@ const ROWS: [Row; 4] = [
 
 /// Whether a new core replies so, and answers this then.
 fn has_outcome(alloc: Global, state: RandomState, row: &Row) -> bool {
-    let (calls, events, wanted, wanted_told) = *row;
+    let (calls, events, wanted, wanted_said) = *row;
     match outcome_of(alloc, state, events, calls) {
-        Some((replies, told)) => replies.as_slice() == wanted && told == wanted_told,
+        Some((replies, said)) => replies.as_slice() == wanted && said == wanted_said,
         None => false,
     }
 }
@@ -224,17 +224,17 @@ fn two_clients_and_refusals_without_turn(rt: HostRuntime) -> Result<(), Fail> {
 }
 
 /// What a new core answers after events.
-fn told_after(alloc: Global, state: RandomState, events: &[Event]) -> Option<Told> {
-    let (_, told) = outcome_of(alloc, state, events, Calls::Run)?;
-    Some(told)
+fn said_after(alloc: Global, state: RandomState, events: &[Event]) -> Option<Said> {
+    let (_, said) = outcome_of(alloc, state, events, Calls::Run)?;
+    Some(said)
 }
 
-const ONE_INSIDE: Told = ((2, 1, false), Some((2, 1, 0)), (None, Some(0)));
+const ONE_INSIDE: Said = ((2, 1, false), Some((2, 1, 0)), (None, Some(0)));
 
 #[test]
 fn one_client_is_still_inside(rt: HostRuntime) -> Result<(), Fail> {
-    let told = told_after(rt.alloc(), RandomState::new(&rt)?, &TWO_CLIENTS[..5]);
-    assert_eq!(rt; told, Some(ONE_INSIDE));
+    let said = said_after(rt.alloc(), RandomState::new(&rt)?, &TWO_CLIENTS[..5]);
+    assert_eq!(rt; said, Some(ONE_INSIDE));
     Ok(())
 }
 
@@ -278,7 +278,7 @@ pub(crate) fn has_holders(core: &Core<'_>, wanted: &[u64]) -> bool {
 
 /// Whether the two clients hold names, what a core answers once it is cleared, and whether it replies to the same
 /// events as before.
-type Anew = (bool, Told, bool);
+type Anew = (bool, Said, bool);
 
 fn anew_by(core: &mut Core<'_>, network: &Counting) -> Option<Anew>
     requires { core.old.network ≡ network.now }
@@ -288,10 +288,10 @@ fn anew_by(core: &mut Core<'_>, network: &Counting) -> Option<Anew>
     }
     let are_holders = has_holders(core, &[9, 7]);
     clear(core)?;
-    let told = told_by(core, network);
+    let said = said_by(core, network);
     Some((
         are_holders,
-        told,
+        said,
         are(core.run(&TWO_CLIENTS), &TWO_CLIENTS_REPLIES),
     ))
 }
@@ -310,11 +310,11 @@ fn anew(alloc: Global, state: RandomState) -> Option<Anew> {
     }
 }
 
-const CLEARED: Told = ((0, 0, true), Some((0, 0, 0)), (None, None));
+const CLEARED: Said = ((0, 0, true), Some((0, 0, 0)), (None, None));
 
 #[test]
 fn a_core_has_its_holders_and_once_cleared_answers_anew(rt: HostRuntime) -> Result<(), Fail> {
-    let told = anew(rt.alloc(), RandomState::new(&rt)?);
-    assert_eq!(rt; told, Some((true, CLEARED, true)));
+    let found = anew(rt.alloc(), RandomState::new(&rt)?);
+    assert_eq!(rt; found, Some((true, CLEARED, true)));
     Ok(())
 }

@@ -108,9 +108,9 @@ fn forked(alloc: Global) -> Result<Wiring, AllocError> {
 }
 
 /// Entries, exits and balancers of a wiring, and the ends of its first four wires.
-type Told = ([u32; 3], [Option<End>; 4]);
+type Seen = ([u32; 3], [Option<End>; 4]);
 
-fn told_by(wiring: &Wiring) -> Told {
+fn seen_of(wiring: &Wiring) -> Seen {
     let wires = wiring.entries() + 2 * wiring.balancers();
     let end = |wire: u32| {
         if wire < wires {
@@ -126,9 +126,9 @@ fn told_by(wiring: &Wiring) -> Told {
 }
 
 /// The sizes and ends of both wirings.
-fn both_told(alloc: Global) -> Result<[Told; 2], AllocError> {
-    let joined = told_by(&two_wide(alloc)?);
-    Ok([joined, told_by(&forked(alloc)?)])
+fn both_seen(alloc: Global) -> Result<[Seen; 2], AllocError> {
+    let joined = seen_of(&two_wide(alloc)?);
+    Ok([joined, seen_of(&forked(alloc)?)])
 }
 
 const BALANCER: Option<End> = Some(End::Balancer(0));
@@ -137,14 +137,14 @@ const FIRST: Option<End> = Some(End::Exit(0));
 
 const SECOND: Option<End> = Some(End::Exit(1));
 
-const BOTH: [Told; 2] = [
+const BOTH: [Seen; 2] = [
     ([2, 2, 1], [BALANCER, BALANCER, FIRST, SECOND]),
     ([1, 2, 1], [BALANCER, FIRST, SECOND, None]),
 ];
 
 #[test]
 fn width_two_wire_by_wire(rt: HostRuntime) {
-    assert_eq!(rt; both_told(rt.alloc()), Ok(BOTH));
+    assert_eq!(rt; both_seen(rt.alloc()), Ok(BOTH));
 }
 
 #[test]

@@ -91,7 +91,7 @@ fn exits_and_names(rt: HostRuntime) {
 }
 
 /// The width, and the counts if there are two exits.
-fn told_by(exits: &Exits) -> (u32, Option<[u64; 2]>) {
+fn seen_of(exits: &Exits) -> (u32, Option<[u64; 2]>) {
     if exits.width() == 2 {
         (2, Some([exits.count(0), exits.count(1)]))
     } else {
@@ -105,9 +105,9 @@ type Cleared = ([Leave; 2], [(u32, Option<[u64; 2]>); 2]);
 fn cleared(alloc: Global) -> Result<Cleared, AllocError> {
     let mut exits = Exits::new(alloc, 2)?;
     let first = exits.take(1);
-    let before = told_by(&exits);
+    let before = seen_of(&exits);
     exits.clear();
-    let after = told_by(&exits);
+    let after = seen_of(&exits);
     Ok(([first, exits.take(1)], [before, after]))
 }
 

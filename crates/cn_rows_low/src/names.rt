@@ -23,9 +23,9 @@ fn standing_of(names: &Names, client: u64) -> Stands {
 }
 
 /// What a map answers: how many clients it has and whether that is nobody, and how clients 5, 7 and 9 stand.
-type Told = ((usize, bool), [Stands; 3]);
+type Said = ((usize, bool), [Stands; 3]);
 
-fn told_by(names: &Names) -> Told {
+fn said_by(names: &Names) -> Said {
     (
         (names.len(), names.is_empty()),
         [
@@ -56,22 +56,22 @@ fn two_tokens(alloc: Global) -> Result<[Token; 2], AllocError> {
     Ok([first, second])
 }
 
-const EMPTY: Told = (
+const EMPTY: Said = (
     (0, true),
     [Stands::Nowhere, Stands::Nowhere, Stands::Nowhere],
 );
 
 /// What a new map answers, and how many clients it lists.
-fn nobody(alloc: Global, state: RandomState) -> Option<(Told, usize)> {
+fn nobody(alloc: Global, state: RandomState) -> Option<(Said, usize)> {
     let names = Names::new(alloc, state).ok()?;
     let clients = listed(&names).ok()?;
-    Some((told_by(&names), clients.len()))
+    Some((said_by(&names), clients.len()))
 }
 
 #[test]
 fn nobody_has_a_name(rt: HostRuntime) -> Result<(), Fail> {
-    let told = nobody(rt.alloc(), RandomState::new(&rt)?);
-    assert_eq!(rt; told, Some((EMPTY, 0)));
+    let said = nobody(rt.alloc(), RandomState::new(&rt)?);
+    assert_eq!(rt; said, Some((EMPTY, 0)));
     Ok(())
 }
 
@@ -87,21 +87,21 @@ fn pair(clients: &[u64]) -> Option<[u64; 2]> {
 #[derive(Clone, Copy, Debug, PartialEq, Eq)]
 struct Outcome {
     admitted: [Result<(), NamesFault>; 3],
-    while_walking: (Option<ByNameFault>, Told),
-    settled: Told,
+    while_walking: (Option<ByNameFault>, Said),
+    settled: Said,
     by_name: Option<[u64; 2]>,
-    cleared: Told,
+    cleared: Said,
 }
 
 /// Both clients come in, and get names 1 and 0: what was admitted, and what the map answered while client 7 walked.
 fn come(
     names: &mut Names,
     tokens: [Token; 2],
-) -> ([Result<(), NamesFault>; 3], (Option<ByNameFault>, Told)) {
+) -> ([Result<(), NamesFault>; 3], (Option<ByNameFault>, Said)) {
     let [first, second] = tokens;
     let admitted = names.admit(7, first);
     let again = names.admit(7, first);
-    let while_walking = (listed(names).err(), told_by(names));
+    let while_walking = (listed(names).err(), said_by(names));
     settle(names, 7, 1);
     let later = names.admit(9, second);
     settle(names, 9, 0);
@@ -112,7 +112,7 @@ fn came_and_went(alloc: Global, state: RandomState) -> Option<Outcome> {
     let tokens = two_tokens(alloc).ok()?;
     let mut names = Names::new(alloc, state).ok()?;
     let (admitted, while_walking) = come(&mut names, tokens);
-    let settled = told_by(&names);
+    let settled = said_by(&names);
     let clients = listed(&names).ok()?;
     names.clear();
     Some(Outcome {
@@ -120,16 +120,16 @@ fn came_and_went(alloc: Global, state: RandomState) -> Option<Outcome> {
         while_walking,
         settled,
         by_name: pair(&clients),
-        cleared: told_by(&names),
+        cleared: said_by(&names),
     })
 }
 
-const WALKING: Told = (
+const WALKING: Said = (
     (1, false),
     [Stands::Nowhere, Stands::Walking, Stands::Nowhere],
 );
 
-const SETTLED: Told = (
+const SETTLED: Said = (
     (2, false),
     [Stands::Nowhere, Stands::Holds(1), Stands::Holds(0)],
 );

@@ -154,7 +154,7 @@ fn astray(ends: &[End], joins: &[(u32, usize, usize)]) -> Option<u32> {
 
 /// Of the network of width 8, the first balancer that does not join its two wires, and whether the wires from this one on
 /// are those of the exits.
-fn told_of_eight(
+fn seen_of_eight(
     alloc: Global,
     kind: Kind,
     joins: &[(u32, usize, usize)],
@@ -195,8 +195,8 @@ const MERGER_OF_EIGHT: [(u32, usize, usize); 12] = [
 
 #[test]
 fn merger_of_width_eight(rt: HostRuntime) {
-    let told = told_of_eight(rt.alloc(), Bitonic, &MERGER_OF_EIGHT, 48);
-    assert_eq!(rt; told, Some((None, true)));
+    let seen = seen_of_eight(rt.alloc(), Bitonic, &MERGER_OF_EIGHT, 48);
+    assert_eq!(rt; seen, Some((None, true)));
 }
 
 /// Balancers 0 to 11 are the first block, with the outputs 24 to 31, over which the second block begins. The last layer of
@@ -222,8 +222,8 @@ const BLOCK_OF_EIGHT: [(u32, usize, usize); 16] = [
 
 #[test]
 fn first_block_of_width_eight(rt: HostRuntime) {
-    let told = told_of_eight(rt.alloc(), Periodic, &BLOCK_OF_EIGHT, 72);
-    assert_eq!(rt; told, Some((None, true)));
+    let seen = seen_of_eight(rt.alloc(), Periodic, &BLOCK_OF_EIGHT, 72);
+    assert_eq!(rt; seen, Some((None, true)));
 }
 
 /// The kind of a network, its entries, exits and balancers, and its depth.

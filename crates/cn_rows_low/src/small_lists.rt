@@ -1,6 +1,6 @@
 //! All small lists of ends, against the rules of a wiring written plainly.
 
-use crate::wirings::{Sizes, is_told};
+use crate::wirings::{Sizes, is_answered};
 use cn_wiring::End::{self, Balancer, Exit};
 use cn_wiring::WiringFault::{self, Backward, ExitCount, InDegree, Length, NoSuchEnd};
 use std::alloc::{AllocError, Global};
@@ -71,17 +71,17 @@ fn list(alloc: Global, wires: u32, number: u64) -> Result<Vec<End>, AllocError> 
 }
 
 /// Whether the list with a number is answered with its first fault.
-fn is_list_told(alloc: Global, sizes: Sizes, wires: u32, number: u64) -> bool {
+fn is_list_answered(alloc: Global, sizes: Sizes, wires: u32, number: u64) -> bool {
     match list(alloc, wires, number) {
-        Ok(ends) => is_told(alloc, sizes, &ends, first_fault(sizes, &ends)),
+        Ok(ends) => is_answered(alloc, sizes, &ends, first_fault(sizes, &ends)),
         Err(_) => false,
     }
 }
 
 /// The first list, by its number, that is not answered with its first fault.
-fn mistold(alloc: Global, sizes: Sizes, wires: u32) -> Option<u64> {
+fn wrong_list(alloc: Global, sizes: Sizes, wires: u32) -> Option<u64> {
     for number in 0..6_u64.saturating_pow(wires) {
-        if !is_list_told(alloc, sizes, wires, number) {
+        if !is_list_answered(alloc, sizes, wires, number) {
             return Some(number);
         }
     }
@@ -102,9 +102,9 @@ const SMALL: [(Sizes, u32); 9] = [
 ];
 
 /// The first sizes, and the first list of them by its number, that is not answered with its first fault.
-fn first_mistold(alloc: Global) -> Option<(Sizes, u64)> {
+fn first_wrong_list(alloc: Global) -> Option<(Sizes, u64)> {
     for (sizes, wires) in &SMALL {
-        if let Some(number) = mistold(alloc, *sizes, *wires) {
+        if let Some(number) = wrong_list(alloc, *sizes, *wires) {
             return Some((*sizes, number));
         }
     }
@@ -113,5 +113,5 @@ fn first_mistold(alloc: Global) -> Option<(Sizes, u64)> {
 
 #[test]
 fn all_small_lists(rt: HostRuntime) {
-    assert_eq!(rt; first_mistold(rt.alloc()), None);
+    assert_eq!(rt; first_wrong_list(rt.alloc()), None);
 }

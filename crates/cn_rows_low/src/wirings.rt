@@ -18,18 +18,18 @@ fn ends_of(alloc: Global, wiring: &Wiring) -> Result<Vec<End>, AllocError> {
 }
 
 /// Whether the wiring has these sizes and these ends.
-fn is_told_back(alloc: Global, wiring: &Wiring, sizes: Sizes, ends: &[End]) -> bool {
+fn is_given_back(alloc: Global, wiring: &Wiring, sizes: Sizes, ends: &[End]) -> bool {
     match ends_of(alloc, wiring) {
-        Ok(told) => {
+        Ok(seen) => {
             [wiring.entries(), wiring.width(), wiring.balancers()] == sizes
-                && told.as_slice() == ends
+                && seen.as_slice() == ends
         }
         Err(_) => false,
     }
 }
 
 /// Whether the list of ends gets this fault, and comes back with it, or gets none, and is a wiring with these ends.
-pub(crate) fn is_told(
+pub(crate) fn is_answered(
     alloc: Global,
     sizes: Sizes,
     ends: &[End],
@@ -40,20 +40,20 @@ pub(crate) fn is_told(
         return false;
     };
     match Wiring::from_ends(alloc, entries, width, balancers, list) {
-        Ok(wiring) => wanted.is_none() && is_told_back(alloc, &wiring, sizes, ends),
+        Ok(wiring) => wanted.is_none() && is_given_back(alloc, &wiring, sizes, ends),
         Err((fault, back)) => wanted == Some(fault) && back.as_slice() == ends,
     }
 }
 
 /// Whether there is a list of ends, and it is answered so.
-fn is_told_all(
+fn are_answered(
     alloc: Global,
     ends: Option<Vec<End>>,
     sizes: Sizes,
     wanted: Option<WiringFault>,
 ) -> bool {
     match ends {
-        Some(ends) => is_told(alloc, sizes, &ends, wanted),
+        Some(ends) => is_answered(alloc, sizes, &ends, wanted),
         None => false,
     }
 }
@@ -99,7 +99,7 @@ const REFUSALS: [(Sizes, &[End], Option<WiringFault>); 9] = [
 /// The first list of the row that is not answered so.
 fn wrong_refusal(alloc: Global) -> Option<&'static [End]> {
     for (sizes, ends, wanted) in &REFUSALS {
-        if !is_told(alloc, *sizes, ends, *wanted) {
+        if !is_answered(alloc, *sizes, ends, *wanted) {
             return Some(*ends);
         }
     }
@@ -123,7 +123,7 @@ const HOSTILE: [Sizes; 6] = [
 /// The first sizes at which an empty list of ends is not refused for its length.
 fn wrong_hostile(alloc: Global) -> Option<Sizes> {
     for sizes in &HOSTILE {
-        if !is_told(alloc, *sizes, &[], Some(Length)) {
+        if !is_answered(alloc, *sizes, &[], Some(Length)) {
             return Some(*sizes);
         }
     }
@@ -160,7 +160,7 @@ const LIMITS: [(Sizes, Option<WiringFault>); 9] = [
 /// The first sizes at which such a list is not answered so.
 fn wrong_limit(alloc: Global) -> Option<Sizes> {
     for (sizes, wanted) in &LIMITS {
-        if !is_told_all(alloc, all_to_exit_zero(alloc, *sizes), *sizes, *wanted) {
+        if !are_answered(alloc, all_to_exit_zero(alloc, *sizes), *sizes, *wanted) {
             return Some(*sizes);
         }
     }
@@ -181,7 +181,7 @@ fn to_exits_backwards(alloc: Global, width: u32) -> Option<Vec<End>> {
 #[test]
 fn as_many_wires_as_can_be(rt: HostRuntime) {
     let ends = to_exits_backwards(rt.alloc(), 4_096);
-    assert!(rt; is_told_all(rt.alloc(), ends, [4_096, 4_096, 0], None));
+    assert!(rt; are_answered(rt.alloc(), ends, [4_096, 4_096, 0], None));
 }
 
 const GIVEN_BACK: [(Kind, Sizes); 4] = [
@@ -194,7 +194,7 @@ const GIVEN_BACK: [(Kind, Sizes); 4] = [
 /// The first network whose table is not taken for a wiring.
 fn wrong_table(alloc: Global) -> Option<(Kind, Sizes)> {
     for (kind, sizes) in &GIVEN_BACK {
-        if !is_told_all(alloc, table(alloc, *kind, sizes[1]), *sizes, None) {
+        if !are_answered(alloc, table(alloc, *kind, sizes[1]), *sizes, None) {
             return Some((*kind, *sizes));
         }
     }
@@ -230,7 +230,7 @@ const LAST_WIRES: [(Kind, Sizes, End, WiringFault); 9] = [
 /// The first network and end of its last wire for which another fault is reported.
 fn wrong_last_end(alloc: Global) -> Option<(Kind, End)> {
     for (kind, sizes, end, wanted) in &LAST_WIRES {
-        if !is_told_all(alloc, changed(alloc, *kind, *end), *sizes, Some(*wanted)) {
+        if !are_answered(alloc, changed(alloc, *kind, *end), *sizes, Some(*wanted)) {
             return Some((*kind, *end));
         }
     }
@@ -268,7 +268,7 @@ const ONE_MORE: [(Kind, Sizes, &[End], WiringFault); 6] = [
 /// The first network and sizes for which another fault is reported.
 fn wrong_more(alloc: Global) -> Option<(Kind, Sizes)> {
     for (kind, sizes, more, wanted) in &ONE_MORE {
-        if !is_told_all(alloc, with_more(alloc, *kind, more), *sizes, Some(*wanted)) {
+        if !are_answered(alloc, with_more(alloc, *kind, more), *sizes, Some(*wanted)) {
             return Some((*kind, *sizes));
         }
     }

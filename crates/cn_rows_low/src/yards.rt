@@ -290,6 +290,6 @@ fn full(alloc: Global, records: u32) -> Option<[(u32, u32); 2]> {
 
 #[test]
 fn room_for_all_clients_of_an_epoch(rt: HostRuntime) {
-    let told = full(rt.alloc(), 262_144);
-    assert_eq!(rt; told, Some([(3, 262_144), (262_144, 0)]));
+    let seen = full(rt.alloc(), 262_144);
+    assert_eq!(rt; seen, Some([(3, 262_144), (262_144, 0)]));
 }

@@ -97,9 +97,9 @@ fn is_left_in_order(floor: Floor<'_>, lane: Lane) -> bool
 fn walked(floor: Floor<'_>, mut lane: Lane, rooms: &[u64]) -> Option<Outcome>
     requires { lane.home ≡ floor }
 {
-    let told = rooms_of(&floor, &mut lane, rooms);
+    let seen = rooms_of(&floor, &mut lane, rooms);
     let is_in_order = is_left_in_order(floor, lane);
-    Some((told?, is_in_order))
+    Some((seen?, is_in_order))
 }
 
 fn on_network(alloc: Global, network: &Counting, rooms: &[u64]) -> Option<Outcome> {

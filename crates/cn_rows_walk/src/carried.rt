@@ -17,7 +17,7 @@ use std::thread::Threads;
 /// What a floor of one client answers on bitonic 2: how many came in, both answers, the counts, the passes, and how
 /// many came by its words.
 #[derive(Clone, Copy, Debug, PartialEq, Eq)]
-struct Told {
+struct Said {
     entered: u64,
     moves: [Option<Moved>; 2],
     counts: [u64; 2],
@@ -56,7 +56,7 @@ fn walk_seven(floor: &Floor<'_>, lane: &mut Lane) -> Option<Walk>
 }
 
 /// What a closed floor answers after this walk.
-fn told_by(quiet: &Quiet<'_>, walk: Walk) -> Option<Told> {
+fn said_by(quiet: &Quiet<'_>, walk: Walk) -> Option<Said> {
     let (entered, moves) = walk;
     let [first, second] = quiet.counts() else {
         return None;
@@ -64,7 +64,7 @@ fn told_by(quiet: &Quiet<'_>, walk: Walk) -> Option<Told> {
     let [passes] = quiet.passes() else {
         return None;
     };
-    Some(Told {
+    Some(Said {
         entered,
         moves,
         counts: [*first, *second],
@@ -74,17 +74,17 @@ fn told_by(quiet: &Quiet<'_>, walk: Walk) -> Option<Told> {
 }
 
 /// What a floor on which it walked answers, and its words.
-fn seven<'a>(floor: Floor<'a>, mut lane: Lane) -> Option<(Told, Words<'a>)>
+fn seven<'a>(floor: Floor<'a>, mut lane: Lane) -> Option<(Said, Words<'a>)>
     requires { lane.home ≡ floor }
 {
     let walk = walk_seven(&floor, &mut lane);
     let quiet = close(floor, lane)?;
-    let told = told_by(&quiet, walk?)?;
-    Some((told, quiet.into_words()))
+    let said = said_by(&quiet, walk?)?;
+    Some((said, quiet.into_words()))
 }
 
 /// The same of a floor that goes on from words.
-fn walked<'a>(alloc: Global, words: &Words<'a>) -> Option<(Told, Words<'a>)> {
+fn walked<'a>(alloc: Global, words: &Words<'a>) -> Option<(Said, Words<'a>)> {
     match open_after(alloc, words, 1) {
         Ok((floor, lane)) => seven(floor, lane),
         Err(_) => None,
@@ -92,29 +92,29 @@ fn walked<'a>(alloc: Global, words: &Words<'a>) -> Option<(Told, Words<'a>)> {
 }
 
 /// What the first floor answered, and what one that goes on from it does.
-fn and_next(alloc: Global, first: Option<(Told, Words<'_>)>) -> Option<[Told; 2]> {
+fn and_next(alloc: Global, first: Option<(Said, Words<'_>)>) -> Option<[Said; 2]> {
     match first {
         Some((first, words)) => Some([first, next(alloc, &words)?]),
         None => None,
     }
 }
 
-fn next(alloc: Global, words: &Words<'_>) -> Option<Told> {
+fn next(alloc: Global, words: &Words<'_>) -> Option<Said> {
     match walked(alloc, words) {
-        Some((told, _)) => Some(told),
+        Some((said, _)) => Some(said),
         None => None,
     }
 }
 
 /// A floor from words of 0, and another.
-fn twice(alloc: Global) -> Option<[Told; 2]> {
+fn twice(alloc: Global) -> Option<[Said; 2]> {
     match bitonic(alloc, 2) {
         Ok(network) => twice_on(alloc, &network),
         Err(_) => None,
     }
 }
 
-fn twice_on(alloc: Global, network: &Counting) -> Option<[Told; 2]> {
+fn twice_on(alloc: Global, network: &Counting) -> Option<[Said; 2]> {
     match Words::zero(alloc, network) {
         Ok(zero) => and_next(alloc, walked(alloc, &zero)),
         Err(_) => None,
@@ -122,14 +122,14 @@ fn twice_on(alloc: Global, network: &Counting) -> Option<[Told; 2]> {
 }
 
 /// The same of floors whose words lie apart.
-fn twice_apart(alloc: Global) -> Option<[Told; 2]> {
+fn twice_apart(alloc: Global) -> Option<[Said; 2]> {
     match bitonic(alloc, 2) {
         Ok(network) => twice_apart_on(alloc, &network),
         Err(_) => None,
     }
 }
 
-fn twice_apart_on(alloc: Global, network: &Counting) -> Option<[Told; 2]> {
+fn twice_apart_on(alloc: Global, network: &Counting) -> Option<[Said; 2]> {
     match Floor::open_apart(alloc, network, 1) {
         Ok((floor, lane)) => and_next(alloc, seven(floor, lane)),
         Err(_) => None,
@@ -155,14 +155,14 @@ fn out(exit: u32) -> Option<Moved> {
 
 #[test]
 fn carried_twice(rt: HostRuntime) -> Result<(), Fail> {
-    let first = Told {
+    let first = Said {
         entered: 1,
         moves: [on(0, 2), out(0)],
         counts: [1, 0],
         passes: 1,
         clients: 1,
     };
-    let second = Told {
+    let second = Said {
         entered: 1,
         moves: [on(1, 3), out(1)],
         counts: [0, 1],
@@ -240,15 +240,15 @@ const THREE_AFTER_FIVE: Row = (&THREE, [0, 1, 1, 1], &[1, 2, 3], 8);
 /// Whether an epoch has these counts, holders and clients.
 fn is_left(quiet: &Quiet<'_>, counts: &[u64], holders: &[u64], clients: u64) -> bool {
     let are_holders = match quiet.holders() {
-        Ok(told) => told.as_slice() == holders,
+        Ok(found) => found.as_slice() == holders,
         Err(_) => false,
     };
-    let told = [
+    let found = [
         quiet.counts() == counts,
         are_holders,
         quiet.words().clients() == clients,
     ];
-    told == [true; 3]
+    found == [true; 3]
 }
 
 /// Whether an epoch that goes on from words is as its row says, and its own words.
@@ -318,7 +318,7 @@ fn tell(words: &Words<'_>, network: &Counting) -> Option<[u64; 6]>
 }
 
 /// What they count after the five.
-fn told_after_five<R: Threads + Wait + Sync>(
+fn counted_after_five<R: Threads + Wait + Sync>(
     rt: &R,
     alloc: Global,
     zero: &Words<'_>,
@@ -333,15 +333,15 @@ fn told_after_five<R: Threads + Wait + Sync>(
 }
 
 /// The same on a network of their own.
-fn five_told<R: Threads + Wait + Sync>(rt: &R, alloc: Global) -> Option<[u64; 6]> {
+fn five_counted<R: Threads + Wait + Sync>(rt: &R, alloc: Global) -> Option<[u64; 6]> {
     let network = bitonic(alloc, 4).ok()?;
     match Words::zero(alloc, &network) {
-        Ok(zero) => told_after_five(rt, alloc, &zero, &network),
+        Ok(zero) => counted_after_five(rt, alloc, &zero, &network),
         Err(_) => None,
     }
 }
 
 #[test]
 fn words_tell(rt: HostRuntime) {
-    assert_eq!(rt; five_told(&rt, rt.alloc()), Some([0, 5, 0, 5, 2, 1]));
+    assert_eq!(rt; five_counted(&rt, rt.alloc()), Some([0, 5, 0, 5, 2, 1]));
 }

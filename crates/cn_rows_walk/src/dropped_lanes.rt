@@ -202,7 +202,7 @@ fn drop_lanes(floor: &Floor<'_>, lane: Lane, dropped: Dropped) -> Option<(Steps,
 }
 
 /// The steps of a story, and what a close answers then.
-fn told_by(floor: Floor<'_>, lane: Lane, dropped: Dropped) -> Option<(Steps, End)>
+fn outcome_by(floor: Floor<'_>, lane: Lane, dropped: Dropped) -> Option<(Steps, End)>
     requires { lane.home ≡ floor }
 {
     let (steps, lane) = drop_lanes(&floor, lane, dropped)?;
@@ -210,16 +210,16 @@ fn told_by(floor: Floor<'_>, lane: Lane, dropped: Dropped) -> Option<(Steps, End
     Some((steps, end))
 }
 
-fn told_on(alloc: Global, network: &Counting, dropped: Dropped) -> Option<(Steps, End)> {
+fn outcome_on(alloc: Global, network: &Counting, dropped: Dropped) -> Option<(Steps, End)> {
     match open(alloc, network, 3) {
-        Some((floor, lane)) => told_by(floor, lane, dropped),
+        Some((floor, lane)) => outcome_by(floor, lane, dropped),
         None => None,
     }
 }
 
-fn told(alloc: Global, dropped: Dropped) -> Option<(Steps, End)> {
+fn outcome(alloc: Global, dropped: Dropped) -> Option<(Steps, End)> {
     match bitonic(alloc, 2) {
-        Ok(network) => told_on(alloc, &network, dropped),
+        Ok(network) => outcome_on(alloc, &network, dropped),
         Err(_) => None,
     }
 }
@@ -240,7 +240,7 @@ const STORIES: [(Dropped, (Steps, End)); 4] = [
 /// The first story that ends otherwise.
 fn wrong_story(alloc: Global) -> Option<Dropped> {
     for (dropped, wanted) in &STORIES {
-        if told(alloc, *dropped) != Some(*wanted) {
+        if outcome(alloc, *dropped) != Some(*wanted) {
             return Some(*dropped);
         }
     }

@@ -82,8 +82,8 @@ pub(crate) type Often = (usize, [u64; 3]);
 
 /// Whether a worker that is among these asked so often, and any other not at all.
 fn has_asked(worker: usize, asked: &Asked, often: &[Often]) -> bool {
-    let wanted = match often.iter().find(|told| told.0 == worker) {
-        Some(told) => told.1,
+    let wanted = match often.iter().find(|row| row.0 == worker) {
+        Some(row) => row.1,
         None => [0, 0, 0],
     };
     asked.read() == wanted
@@ -108,7 +108,7 @@ pub(crate) fn are_named(quiet: &Quiet<'_>, counts: &[u64], clients: &[u64]) -> O
 
 /// Clients on bitonic 4, how many workers, and the hand; how many leave by each exit, who has names, and which workers ask
 /// how often.
-pub(crate) type Told<'a> = (&'a [Client], u32, u32, [u64; 4], &'a [u64], &'a [Often]);
+pub(crate) type Row<'a> = (&'a [Client], u32, u32, [u64; 4], &'a [u64], &'a [Often]);
 
 pub(crate) const THREE_CLIENTS: &[Client] = &[
     Client { id: 5, entry: 0 },
@@ -118,7 +118,7 @@ pub(crate) const THREE_CLIENTS: &[Client] = &[
 
 pub(crate) const ONE_CLIENT: [u64; 3] = [1, 3, 1];
 
-const BY_ONE: Told<'_> = (
+const BY_ONE: Row<'_> = (
     THREE_CLIENTS,
     1,
     1,
@@ -127,7 +127,7 @@ const BY_ONE: Told<'_> = (
     &[(0, [3, 9, 3])],
 );
 
-const BY_EIGHT: Told<'_> = (
+const BY_EIGHT: Row<'_> = (
     THREE_CLIENTS,
     8,
     1,
@@ -136,7 +136,7 @@ const BY_EIGHT: Told<'_> = (
     &[(2, ONE_CLIENT), (5, ONE_CLIENT), (7, ONE_CLIENT)],
 );
 
-const BY_SIXTY_FOUR: Told<'_> = (
+const BY_SIXTY_FOUR: Row<'_> = (
     THREE_CLIENTS,
     64,
     1,
@@ -146,7 +146,7 @@ const BY_SIXTY_FOUR: Told<'_> = (
 );
 
 /// The two come in by one entry, and go by its balancer together.
-pub(crate) const TWO_AT_ONCE: Told<'_> = (
+pub(crate) const TWO_AT_ONCE: Row<'_> = (
     &[Client { id: 5, entry: 0 }, Client { id: 6, entry: 0 }],
     1,
     2,
@@ -156,23 +156,23 @@ pub(crate) const TWO_AT_ONCE: Told<'_> = (
 );
 
 /// Whether so many leave by each exit, and these have names.
-fn are_told<R: Threads + Wait + Sync>(
+fn are_found<R: Threads + Wait + Sync>(
     rt: &R,
     alloc: Global,
-    row: &Told<'_>,
+    row: &Row<'_>,
     gate: &Tally,
 ) -> Option<[bool; 2]> {
     match bitonic(alloc, 4) {
-        Ok(network) => are_told_on(rt, alloc, &network, row, gate),
+        Ok(network) => are_found_on(rt, alloc, &network, row, gate),
         Err(_) => None,
     }
 }
 
-fn are_told_on<R: Threads + Wait + Sync>(
+fn are_found_on<R: Threads + Wait + Sync>(
     rt: &R,
     alloc: Global,
     network: &Counting,
-    row: &Told<'_>,
+    row: &Row<'_>,
     gate: &Tally,
 ) -> Option<[bool; 2]> {
     let (clients, workers, hand, counts, named, _) = row;
@@ -183,15 +183,15 @@ fn are_told_on<R: Threads + Wait + Sync>(
 }
 
 /// Whether all of a row is so.
-fn is_asked<R: Threads + Wait + Sync>(rt: &R, alloc: Global, row: &Told<'_>) -> bool {
+fn is_asked<R: Threads + Wait + Sync>(rt: &R, alloc: Global, row: &Row<'_>) -> bool {
     let Some(gate) = new_tally(alloc) else {
         return false;
     };
-    are_told(rt, alloc, row, &gate) == Some([true; 2]) && wrong_asker(&gate, row.5).is_none()
+    are_found(rt, alloc, row, &gate) == Some([true; 2]) && wrong_asker(&gate, row.5).is_none()
 }
 
 /// The place of the first of these rows that is not so.
-fn wrong_row<R: Threads + Wait + Sync>(rt: &R, alloc: Global, rows: &[Told<'_>]) -> Option<usize> {
+fn wrong_row<R: Threads + Wait + Sync>(rt: &R, alloc: Global, rows: &[Row<'_>]) -> Option<usize> {
     for (place, row) in rows.iter().enumerate() {
         if !is_asked(rt, alloc, row) {
             return Some(place);
@@ -339,9 +339,9 @@ fn fills<R: Threads + Wait + Sync>(rt: &R, alloc: Global, row: &Full) -> Option<
 
 #[test]
 fn limits(rt: HostRuntime) {
-    let told = [
+    let found = [
         fills(&rt, rt.alloc(), &FULL[0]),
         fills(&rt, rt.alloc(), &FULL[1]),
     ];
-    assert_eq!(rt; told, [Some([true, true]), Some([true, true])]);
+    assert_eq!(rt; found, [Some([true, true]), Some([true, true])]);
 }

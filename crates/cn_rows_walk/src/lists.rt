@@ -51,10 +51,10 @@ fn six_are_named(
 #[test]
 fn a_list_leaves_by_each_exit_its_share(rt: HostRuntime) -> Result<(), Fail> {
     let tree = tree(rt.alloc(), 4)?;
-    let told = six_are_named(rt.alloc(), &tree, 0, &[2, 2, 1, 1]);
-    assert_eq!(&rt; told, Some([true; 4]));
+    let found = six_are_named(rt.alloc(), &tree, 0, &[2, 2, 1, 1]);
+    assert_eq!(&rt; found, Some([true; 4]));
     let bitonic = bitonic(rt.alloc(), 8)?;
-    let told = six_are_named(rt.alloc(), &bitonic, 5, &[1, 1, 1, 1, 1, 1, 0, 0]);
-    assert_eq!(&rt; told, Some([true; 4]));
+    let found = six_are_named(rt.alloc(), &bitonic, 5, &[1, 1, 1, 1, 1, 1, 0, 0]);
+    assert_eq!(&rt; found, Some([true; 4]));
     Ok(())
 }

@@ -14,7 +14,7 @@ use std::test::Fail;
 #[derive(Clone, Copy, Debug, PartialEq, Eq)]
 struct Outcome {
     split: SplitFault,
-    told: u64,
+    seen: u64,
     refused: [Option<LaneFault>; 2],
     moves: [Option<Moved>; 2],
     joined: JoinFault,
@@ -81,7 +81,7 @@ fn not_joined_and_missed(floor: Floor<'_>, first: Lane, second: Lane) -> Option<
 type Seen = (u64, [Option<LaneFault>; 2], [Option<Moved>; 2]);
 
 /// A client comes in by each lane, and that of the first walks out.
-fn told(floor: &Floor<'_>, first: &mut Lane, second: &mut Lane) -> Option<Seen>
+fn answered(floor: &Floor<'_>, first: &mut Lane, second: &mut Lane) -> Option<Seen>
     requires first { first.old.home ≡ floor.now }
     requires second { second.old.home ≡ floor.now }
     ensures first { first.new.home ≡ first.old.home }
@@ -89,13 +89,13 @@ fn told(floor: &Floor<'_>, first: &mut Lane, second: &mut Lane) -> Option<Seen>
 {
     let token = enter(floor, first, 7, 0).ok()?;
     enter(floor, second, 9, 1).ok()?;
-    let told = entered(floor, first);
+    let seen = entered(floor, first);
     let refused = [
         enter(floor, first, 8, 2).err(),
         enter(floor, first, 8, 0).err(),
     ];
     let moves = [step(floor, first, token), step(floor, first, token)];
-    Some((told, refused, moves))
+    Some((seen, refused, moves))
 }
 
 /// The client of the first lane walks out; the second lane, whose client stays inside, is dropped.
@@ -107,12 +107,12 @@ fn one_walks_out(
 ) -> Option<Outcome>
     requires { (first.home ≡ floor) × (second.home ≡ floor) }
 {
-    let told = told(&floor, &mut first, &mut second);
+    let answers = answered(&floor, &mut first, &mut second);
     let (joined, (entered, granted, grant)) = not_joined_and_missed(floor, first, second)?;
-    let (told, refused, moves) = told?;
+    let (seen, refused, moves) = answers?;
     Some(Outcome {
         split,
-        told,
+        seen,
         refused,
         moves,
         joined,
@@ -140,7 +140,7 @@ fn one_dropped(alloc: Global) -> Option<Outcome> {
 fn dropped_lane(rt: HostRuntime) -> Result<(), Fail> {
     let wanted = Outcome {
         split: SplitFault::QuotaTooSmall,
-        told: 2,
+        seen: 2,
         refused: [Some(LaneFault::NoSuchEntry), Some(LaneFault::QuotaSpent)],
         moves: [
             Some(Moved::On {

@@ -11,7 +11,7 @@ use std::alloc::Global;
 
 /// What a floor answers about the three.
 #[derive(Drop)]
-struct Told {
+struct Said {
     entered: u64,
     moves: Vec<Moved>,
     counts: Vec<u64>,
@@ -72,8 +72,8 @@ fn walk_three(alloc: Global, floor: &Floor<'_>, lane: &mut Lane) -> Option<(u64,
 }
 
 /// What a closed floor answers.
-fn told_by(alloc: Global, quiet: &Quiet<'_>, entered: u64, moves: Vec<Moved>) -> Option<Told> {
-    Some(Told {
+fn said_by(alloc: Global, quiet: &Quiet<'_>, entered: u64, moves: Vec<Moved>) -> Option<Said> {
+    Some(Said {
         entered,
         moves,
         counts: Vec::from_slice(alloc, quiet.counts()).ok()?,
@@ -83,16 +83,16 @@ fn told_by(alloc: Global, quiet: &Quiet<'_>, entered: u64, moves: Vec<Moved>) ->
 }
 
 /// What the floor answers when they have walked.
-fn walked(alloc: Global, floor: Floor<'_>, mut lane: Lane) -> Option<Told>
+fn walked(alloc: Global, floor: Floor<'_>, mut lane: Lane) -> Option<Said>
     requires { lane.home ≡ floor }
 {
     let (entered, moves) = walk_three(alloc, &floor, &mut lane)?;
     let quiet = floor.close(lane).ok()?;
-    told_by(alloc, &quiet, entered, moves)
+    said_by(alloc, &quiet, entered, moves)
 }
 
 /// The same, on a floor of their own.
-fn three_clients(alloc: Global) -> Option<Told> {
+fn three_clients(alloc: Global) -> Option<Said> {
     let network = tree(alloc, 4).ok()?;
     let (floor, lane) = Floor::open(alloc, &network, 3).ok()?;
     walked(alloc, floor, lane)
@@ -148,24 +148,24 @@ const MOVES: [Moved; 9] = [
 ];
 
 /// Whether each answer is right: how many entered, each answer, the counts, the passes and the holders.
-fn is_told(told: &Told) -> [bool; 5] {
+fn is_right(said: &Said) -> [bool; 5] {
     [
-        told.entered == 3,
-        told.moves.as_slice() == MOVES.as_slice(),
-        told.counts.as_slice() == [1, 1, 1, 0].as_slice(),
-        told.passes.as_slice() == [3, 2, 1].as_slice(),
-        told.holders.as_slice() == [30, 20, 10].as_slice(),
+        said.entered == 3,
+        said.moves.as_slice() == MOVES.as_slice(),
+        said.counts.as_slice() == [1, 1, 1, 0].as_slice(),
+        said.passes.as_slice() == [3, 2, 1].as_slice(),
+        said.holders.as_slice() == [30, 20, 10].as_slice(),
     ]
 }
 
-fn are_told(alloc: Global) -> Option<[bool; 5]> {
+fn are_right(alloc: Global) -> Option<[bool; 5]> {
     match three_clients(alloc) {
-        Some(told) => Some(is_told(&told)),
+        Some(said) => Some(is_right(&said)),
         None => None,
     }
 }
 
 #[test]
 fn tree_on_one_lane(rt: HostRuntime) {
-    assert_eq!(rt; are_told(rt.alloc()), Some([true; 5]));
+    assert_eq!(rt; are_right(rt.alloc()), Some([true; 5]));
 }

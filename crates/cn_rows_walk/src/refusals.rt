@@ -13,7 +13,7 @@ use std::test::Fail;
 
 /// What a lane says of itself.
 #[derive(Clone, Copy, Debug, PartialEq, Eq)]
-struct Told {
+struct Said {
     quota: u64,
     room: u64,
     inside: u64,
@@ -29,8 +29,8 @@ fn lowest_of(lane: &Lane) -> Option<u32> {
     lane.lowest()
 }
 
-fn readings(lane: &Lane) -> Told {
-    Told {
+fn readings(lane: &Lane) -> Said {
+    Said {
         quota: lane.quota(),
         room: lane.room(),
         inside: inside_of(lane),
@@ -42,10 +42,10 @@ fn readings(lane: &Lane) -> Told {
 /// What a client meets that comes in on a floor of its own, with a close before its first step, and one after its last.
 #[derive(Clone, Copy, Debug, PartialEq, Eq)]
 struct Outcome {
-    before: Told,
-    entered: Told,
+    before: Said,
+    entered: Said,
     refused: [Option<LaneFault>; 2],
-    still: Told,
+    still: Said,
     moves: [Option<Moved>; 2],
     counts: [u64; 2],
     passes: u64,
@@ -77,7 +77,7 @@ fn left_by(quiet: &Quiet<'_>) -> Option<Left> {
 }
 
 /// What a lane says before a client comes in and after, its token, and what others are refused with.
-type Entered = ([Told; 2], Token, [Option<LaneFault>; 2]);
+type Entered = ([Said; 2], Token, [Option<LaneFault>; 2]);
 
 fn let_in(floor: &Floor<'_>, lane: &mut Lane) -> Option<Entered>
     requires { lane.old.home ≡ floor.now }
@@ -94,7 +94,7 @@ fn let_in(floor: &Floor<'_>, lane: &mut Lane) -> Option<Entered>
 }
 
 /// What a lane says, and then the last two steps of its token.
-fn let_out(floor: &Floor<'_>, lane: &mut Lane, token: Token) -> (Told, [Option<Moved>; 2])
+fn let_out(floor: &Floor<'_>, lane: &mut Lane, token: Token) -> (Said, [Option<Moved>; 2])
     requires { lane.old.home ≡ floor.now }
     ensures { lane.new.home ≡ lane.old.home }
 {
@@ -103,7 +103,7 @@ fn let_out(floor: &Floor<'_>, lane: &mut Lane, token: Token) -> (Told, [Option<M
 }
 
 /// What follows a close that is refused: what the lane says then, the last two steps, and what the floor leaves.
-type Ended = (Told, [Option<Moved>; 2], Left);
+type Ended = (Said, [Option<Moved>; 2], Left);
 
 /// The token walks out, and the floor is closed.
 fn ended(floor: Floor<'_>, mut lane: Lane, token: Token) -> Option<Ended>
@@ -151,7 +151,7 @@ fn alone(alloc: Global) -> Option<Outcome> {
 
 #[test]
 fn lane_refusals(rt: HostRuntime) -> Result<(), Fail> {
-    let entered = Told {
+    let entered = Said {
         quota: 0,
         room: 0,
         inside: 1,
@@ -159,7 +159,7 @@ fn lane_refusals(rt: HostRuntime) -> Result<(), Fail> {
         lowest: Some(0),
     };
     let wanted = Outcome {
-        before: Told {
+        before: Said {
             quota: 1,
             inside: 0,
             lowest: None,

@@ -16,14 +16,14 @@ const ONE: Crew = Crew {
 };
 
 /// An epoch on bitonic 2: how many left by each exit of the words with which the next begins, and how many came by them.
-type Told = ([u64; 2], u64);
+type Seen = ([u64; 2], u64);
 
 /// An epoch of only client 7, who gets its one name.
 fn next<'a, R: Threads + Wait + Sync>(
     rt: &R,
     alloc: Global,
     runner: Runner<'a>,
-) -> Option<(Told, Runner<'a>)> {
+) -> Option<(Seen, Runner<'a>)> {
     if runner.words().clients() > MOST_CARRIED {
         return None;
     }
@@ -38,12 +38,12 @@ fn next<'a, R: Threads + Wait + Sync>(
     if words.network().width() != 2 {
         return None;
     }
-    let told = ([words.exit_count(0), words.exit_count(1)], words.clients());
-    Some((told, runner))
+    let seen = ([words.exit_count(0), words.exit_count(1)], words.clients());
+    Some((seen, runner))
 }
 
 /// Two epochs.
-fn two<R: Threads + Wait + Sync>(rt: &R, alloc: Global, carries: bool) -> Option<[Told; 2]> {
+fn two<R: Threads + Wait + Sync>(rt: &R, alloc: Global, carries: bool) -> Option<[Seen; 2]> {
     let network = bitonic(alloc, 2).ok()?;
     let runner = Runner::new(alloc, &network, carries).ok()?;
     let (first, runner) = next(rt, alloc, runner)?;

@@ -13,7 +13,7 @@ use std::test::Fail;
 
 /// What a lane is answered, and whether grants and counts are as they should be.
 #[derive(Clone, Copy, Debug, PartialEq, Eq)]
-struct Told {
+struct Outcome {
     step: Option<Moved>,
     sweeps: [Option<Sweep>; 3],
     are_left: [bool; 2],
@@ -89,7 +89,7 @@ fn ended(floor: Floor<'_>, lane: Lane) -> Option<[bool; 2]>
 }
 
 /// They come in, and the wires 0, 2 and 3 are swept.
-fn swept(floor: Floor<'_>, mut lane: Lane) -> Option<Told>
+fn swept(floor: Floor<'_>, mut lane: Lane) -> Option<Outcome>
     requires { lane.home ≡ floor }
 {
     let step = come_in(&floor, &mut lane);
@@ -99,7 +99,7 @@ fn swept(floor: Floor<'_>, mut lane: Lane) -> Option<Told>
         sweep(&floor, &mut lane, 3),
     ];
     let are_left = ended(floor, lane)?;
-    Some(Told {
+    Some(Outcome {
         step: step?,
         sweeps,
         are_left,
@@ -107,14 +107,14 @@ fn swept(floor: Floor<'_>, mut lane: Lane) -> Option<Told>
 }
 
 /// The same, on a floor of its own.
-fn four_clients(alloc: Global) -> Option<Told> {
+fn four_clients(alloc: Global) -> Option<Outcome> {
     match bitonic(alloc, 2) {
         Ok(network) => four_on(alloc, &network),
         Err(_) => None,
     }
 }
 
-fn four_on(alloc: Global, network: &Counting) -> Option<Told> {
+fn four_on(alloc: Global, network: &Counting) -> Option<Outcome> {
     match open(alloc, network, 4) {
         Some((floor, lane)) => swept(floor, lane),
         None => None,
@@ -123,7 +123,7 @@ fn four_on(alloc: Global, network: &Counting) -> Option<Told> {
 
 #[test]
 fn bulk_pass(rt: HostRuntime) -> Result<(), Fail> {
-    let wanted = Told {
+    let wanted = Outcome {
         step: Some(Moved::On {
             balancer: 0,
             number: 0,

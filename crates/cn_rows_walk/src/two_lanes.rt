@@ -149,7 +149,7 @@ fn come_in(floor: &Floor<'_>, first: &mut Lane, second: &mut Lane) -> Option<[To
 }
 
 /// How many entered as far as each lane can see, and where the steps lead.
-fn told(floor: &Floor<'_>, first: &mut Lane, second: &mut Lane) -> Option<([u64; 2], Moves)>
+fn seen(floor: &Floor<'_>, first: &mut Lane, second: &mut Lane) -> Option<([u64; 2], Moves)>
     requires first { first.old.home ≡ floor.now }
     requires second { second.old.home ≡ floor.now }
     ensures first { first.new.home ≡ first.old.home }
@@ -182,9 +182,9 @@ fn left_on(floor: Floor<'_>, lane: Lane) -> Option<[bool; 3]>
 fn walked(floor: Floor<'_>, mut first: Lane, mut second: Lane) -> Option<Outcome>
     requires { (first.home ≡ floor) × (second.home ≡ floor) }
 {
-    let told = told(&floor, &mut first, &mut second);
+    let seen = seen(&floor, &mut first, &mut second);
     let are_ended = ended(floor, first, second)?;
-    let (entered, moves) = told?;
+    let (entered, moves) = seen?;
     Some((entered, moves, are_ended))
 }
 

@@ -2,7 +2,7 @@
 
 use crate::carried::run_after;
 use crate::epochs::{
-    ONE_CLIENT, THREE_CLIENTS, TWO_AT_ONCE, Tally, Told, are_named, new_tally, wrong_asker,
+    ONE_CLIENT, Row, THREE_CLIENTS, TWO_AT_ONCE, Tally, are_named, new_tally, wrong_asker,
 };
 use cn_bitonic::bitonic;
 use cn_walk::Words;
@@ -12,7 +12,7 @@ use std::sync::Wait;
 use std::thread::Threads;
 
 /// The first worker has one client, the second two, of whom one is in hand.
-const BY_TWO: Told<'_> = (
+const BY_TWO: Row<'_> = (
     THREE_CLIENTS,
     2,
     1,
@@ -22,11 +22,11 @@ const BY_TWO: Told<'_> = (
 );
 
 /// Whether so many leave by each exit, and these have names.
-fn are_told<R: Threads + Wait + Sync>(
+fn are_found<R: Threads + Wait + Sync>(
     rt: &R,
     alloc: Global,
     words: &Words<'_>,
-    row: &Told<'_>,
+    row: &Row<'_>,
     gate: &Tally,
 ) -> Option<[bool; 2]> {
     let ended = run_after(rt, alloc, words, row.0, row.1, row.2, gate);
@@ -34,33 +34,33 @@ fn are_told<R: Threads + Wait + Sync>(
 }
 
 /// The same from words of 0.
-fn are_told_at_first<R: Threads + Wait + Sync>(
+fn are_found_at_first<R: Threads + Wait + Sync>(
     rt: &R,
     alloc: Global,
     network: &Counting,
-    row: &Told<'_>,
+    row: &Row<'_>,
     gate: &Tally,
 ) -> Option<[bool; 2]> {
     match Words::zero(alloc, network) {
-        Ok(words) => are_told(rt, alloc, &words, row, gate),
+        Ok(words) => are_found(rt, alloc, &words, row, gate),
         Err(_) => None,
     }
 }
 
 /// Whether all of a row is so on bitonic 4.
-fn is_asked<R: Threads + Wait + Sync>(rt: &R, alloc: Global, row: &Told<'_>) -> Option<bool> {
+fn is_asked<R: Threads + Wait + Sync>(rt: &R, alloc: Global, row: &Row<'_>) -> Option<bool> {
     let gate = new_tally(alloc)?;
     let network = bitonic(alloc, 4).ok()?;
-    let told = are_told_at_first(rt, alloc, &network, row, &gate);
-    Some(told == Some([true; 2]) && wrong_asker(&gate, row.5).is_none())
+    let found = are_found_at_first(rt, alloc, &network, row, &gate);
+    Some(found == Some([true; 2]) && wrong_asker(&gate, row.5).is_none())
 }
 
 #[test]
 fn workers_and_hand(rt: HostRuntime) {
     let alloc = rt.alloc();
-    let told = [
+    let found = [
         is_asked(&rt, alloc, &BY_TWO),
         is_asked(&rt, alloc, &TWO_AT_ONCE),
     ];
-    assert_eq!(rt; told, [Some(true); 2]);
+    assert_eq!(rt; found, [Some(true); 2]);
 }

@@ -104,7 +104,7 @@ const CLIENTS: [Client; 4] = [
 /// Whether one client left by each exit, and these are the clients by name.
 fn are_counted(quiet: &Quiet<'_>, holders: &[u64; 4]) -> bool {
     let are_named = match quiet.holders() {
-        Ok(told) => told.as_slice() == holders.as_slice(),
+        Ok(found) => found.as_slice() == holders.as_slice(),
         Err(_) => false,
     };
     are_named && quiet.counts() == [1, 1, 1, 1].as_slice()
