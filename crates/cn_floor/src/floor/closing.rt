@@ -129,7 +129,7 @@ impl<'a> Floor<'a> {
         ensures spare { IfOk result (λ r. r.1.spare ≡ lane.yard.spare) }
         ensures refused { IfErr result (λ f. IsCloseRefused self.entry lane f) }
     {
-        let told = Snapshot::of(&lane);
+        let kept = Snapshot::of(&lane);
         let Floor {
             alloc,
             base,
@@ -156,7 +156,7 @@ impl<'a> Floor<'a> {
         }
         let closed = ClosedFloor {
             alloc,
-            lane: told,
+            lane: kept,
             network,
             table,
             stride,

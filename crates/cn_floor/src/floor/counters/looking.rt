@@ -47,7 +47,7 @@ impl Counters {
         requires slots { (seat.old.me.1 ≡ []) × (seat.old.me.0.loads ≡ []) }
         requires before { came_before ≡ base self.now.start }
         ensures seat { (seat.new.table_id ≡ seat.old.table_id) × (seat.new.me.1 ≡ []) }
-        ensures told { seat.new.me.0 ≡ after_entered self.now.start result seat.old.me.0 }
+        ensures view { seat.new.me.0 ≡ after_entered self.now.start result seat.old.me.0 }
         ensures answer { IsAnswer self.now.start seat.old.me.0 result }
         ensures moment { HasMoment self.now.start seat.new.me.0 }
     {

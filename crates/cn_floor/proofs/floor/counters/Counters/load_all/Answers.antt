@@ -46,8 +46,8 @@ module _ (c : goal.After-loop-entry) where
   all : c.loop-entry.entry ≡ c.args.self.now.start.network.table.entries
   all = omega (arith, c.loop-entry-test.false, c.loop-entry.auto.entry-end, c.self.invariant.entries, ap (λ (h : FloorValue). h.start.network.table.entries) c.self.view_is)
 
-pub returns-clause-told : goal.returns-clause-told
-returns-clause-told c =
+pub returns-clause-view : goal.returns-clause-view
+returns-clause-view c =
     let was : View = c.args.seat.now.me.0 in
     let is = all c in
     (c.loop-entry.invariant.2.at_end is).0

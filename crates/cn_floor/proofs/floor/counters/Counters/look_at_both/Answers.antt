@@ -28,14 +28,14 @@ pub returns-clause-apart : goal.returns-clause-apart
 returns-clause-apart g c =
     let joined = ap (λ me. me.0.grants) c.join_seat.ensures.2 in
     let grants : c.load_all-entered.new.seat.me.0.grants ≡ c.args.seat.now.me.0.grants ++ c.args.other.me.0.grants =
-    ap (λ (x : View). x.grants) c.load_all-entered.ensures.told ∙ joined
+    ap (λ (x : View). x.grants) c.load_all-entered.ensures.view ∙ joined
     ∙ (λ i. (c.look.ensures.looks.0 i).grants ++ (c.look-2.ensures.looks.0 i).grants) in
     names-apart c.args.self.now.start c.args.seat.now.me.0 c.args.other.me.0 c.load_all-entered.new.seat.me.0 grants c.load_all-entered.ensures.moment
 
 pub returns-clause-moment : goal.returns-clause-moment
 returns-clause-moment g c =
     let joined = ap (λ me. me.0) c.join_seat.ensures.2 ∙ (λ i. both_of (c.look.ensures.looks.0 i) (c.look-2.ensures.looks.0 i)) in
-    let is = c.load_all-entered.ensures.told ∙ ap (after_entered c.args.self.now.start c.load_all-entered.result) joined in
+    let is = c.load_all-entered.ensures.view ∙ ap (after_entered c.args.self.now.start c.load_all-entered.result) joined in
     (_, subst (HasMoment c.args.self.now.start) is c.load_all-entered.ensures.moment)
 
 pub returns-clause-answer : goal.returns-clause-answer
@@ -59,7 +59,7 @@ pub cut_apart-other-requires-clause-pair : goal.cut_apart-other-requires-clause-
 cut_apart-other-requires-clause-pair g c =
     let start : Start = c.args.self.now.start in
     let entered : ℕ = c.load_all-entered.result in
-    c.load_all-entered.ensures.told ∙ ap (λ me. after_entered start entered me.0) c.join_seat.ensures.2
+    c.load_all-entered.ensures.view ∙ ap (λ me. after_entered start entered me.0) c.join_seat.ensures.2
     ∙ (λ i. after_entered start entered (both_of ((c.look.ensures.looks.0 ∙ sym c.requires.pair.0) i) ((c.look-2.ensures.looks.0 ∙ sym c.requires.pair.1) i)))
 
 pub cut_apart-other-requires-clause-wires : goal.cut_apart-other-requires-clause-wires
@@ -84,7 +84,7 @@ returns-clause-first g c =
     let entered : ℕ = c.load_all-entered.result in
     let p : Pair = g.T.PairOf.pair in
     let is : c.load_all-entered.new.seat.me.0 ≡ after_entered start entered (both_of p.first p.second) =
-    c.load_all-entered.ensures.told ∙ ap (λ me. after_entered start entered me.0) c.join_seat.ensures.2
+    c.load_all-entered.ensures.view ∙ ap (λ me. after_entered start entered me.0) c.join_seat.ensures.2
     ∙ (λ i. after_entered start entered (both_of ((c.look.ensures.looks.0 ∙ sym c.requires.pair.0) i) ((c.look-2.ensures.looks.0 ∙ sym c.requires.pair.1) i))) in
     let view : cut_first p c.load_all-entered.new.seat.me.0 ≡ first_after start entered c.args.seat.now.me.0 = cut-first start entered p c.args.seat.now.me.0 _ c.requires.pair.0 is in (
       c.cut_apart-other.ensures.first.0 ∙ c.load_all-entered.ensures.seat.0 ∙ c.join_seat.ensures.0 ∙ c.look.ensures.seat.0,
@@ -94,7 +94,7 @@ returns-clause-first g c =
 pub returns-clause-second : goal.returns-clause-second
 returns-clause-second g c =
     let entered : ℕ = c.load_all-entered.result in
-    let seen : c.load_all-entered.new.seat.me.0.seen ≡ entered = ap (λ (x : View). x.seen) c.load_all-entered.ensures.told in (
+    let seen : c.load_all-entered.new.seat.me.0.seen ≡ entered = ap (λ (x : View). x.seen) c.load_all-entered.ensures.view in (
       c.cut_apart-other.ensures.second.0 ∙ c.load_all-entered.ensures.seat.0 ∙ c.join_seat.ensures.0 ∙ c.look.ensures.seat.0,
       c.cut_apart-other.ensures.second.1 ∙ (λ i. (record (c.requires.pair.1 i) { seen = seen i }, [])),
     )
