@@ -15,10 +15,10 @@ use Rattle.cn_cli.specs.declared.words.WordsFault.{WordsFault}
 use Rattle.cn_cli.specs.declared.words.WordsFault.TheVariants.{Help, Refused, Memory}
 
 -- the status that a fault ends the program with
-abbrev pub status_of : WordsFault → ℕ
-status_of (Help text) = 0
-status_of (Refused text) = 2
-status_of Memory = 3
+abbrev pub status_of_words : WordsFault → ℕ
+status_of_words (Help text) = 0
+status_of_words (Refused text) = 2
+status_of_words Memory = 3
 
 -- a subcommand with its options asks for this job: it is the job's, the options name what the job has
 -- and nothing else, and all of it is within the limits

@@ -3,7 +3,7 @@
 ghost use Rattle.std.specs.Prelude.{◌≡◌, ◌≢◌, IfErr, IfOk, MatchResult, map, string_bytes};
 ghost use Rattle.clap.specs.Words.{kind_of, subcommand_rows_of};
 ghost use Rattle.cn_cli.specs.Words.{Asks, AsksNone, IsFaultBy, IsFaultOf, IsJobOf, IsRefusalBy};
-ghost use Rattle.cn_cli.specs.Words.{IsRefusalOf, status_of};
+ghost use Rattle.cn_cli.specs.Words.{IsRefusalOf, status_of_words};
 ghost use Rattle.cn_cli.specs.declared.choices.ChoiceFault.TheVariants as choice;
 ghost use Rattle.cn_cli.specs.declared.words.WordsFault.TheVariants.{Memory};
 
@@ -57,7 +57,7 @@ impl WordsFault {
     /// The status with which the program ends: 0 for help and the version, 2 for words that are
     /// refused, 3 for want of memory.
     pub fn status(&self) -> u8
-        ensures { result ≡ status_of self.now }
+        ensures { result ≡ status_of_words self.now }
     {
         match self {
             WordsFault::Help(_) => 0,

@@ -12,8 +12,9 @@ AreNumbered entries clients =
     (map (λ c. c.id) clients ≡ range_with_len 0 (length entries)) × (map (λ c. c.entry) clients ≡ entries)
 
 -- a floor over the network on which such clients walked, and nobody else
-abbrev pub IsRunOf : Network → List ℕ → QuietValue → Type 0
-IsRunOf network entries quiet = (clients : List Client) × AreNumbered entries clients × IsRun network clients quiet
+abbrev pub IsRunByEntries : Network → List ℕ → QuietValue → Type 0
+IsRunByEntries network entries quiet =
+    (clients : List Client) × AreNumbered entries clients × IsRun network clients quiet
 
 -- the name of each client is that of a place at which it stands, and the client of each name has this name
 pub record AreInverse (names clients : List ℕ) : Type 0 where

@@ -5,7 +5,7 @@ ghost use Rattle.std.specs.Prelude.{◌≡◌, ◌+◌, ◌<◌, ◌≤◌, All,
 ghost use Rattle.cn_spec.specs.Step.{IsEachBelow};
 ghost use Rattle.cn_spec.specs.declared.limits.TheConstants.{MOST_CLIENTS, MOST_WORKERS};
 ghost use Rattle.cn_floor.specs.Ends.{ListsHolders};
-ghost use Rattle.cn_clients.specs.Tables.{AreInverse, AreNumbered, IsRunOf};
+ghost use Rattle.cn_clients.specs.Tables.{AreInverse, AreNumbered, IsRunByEntries};
 
 use cn_floor::{Grant, OpenGate, Quiet};
 use cn_ledger::Client;
@@ -50,7 +50,7 @@ fn run_numbered<'a, R: Threads + Wait + Sync>(
     entries: &[u64],
     workers: u32,
 ) -> Option<Quiet<'a>>
-    ensures run { IfSome result (IsRunOf network.now entries.now) }
+    ensures run { IfSome result (IsRunByEntries network.now entries.now) }
     ensures allowed { OnSome result ((1 ≤ workers) × (workers ≤ MOST_WORKERS)
         × (length entries.now ≤ MOST_CLIENTS) × All (λ e. e < network.now.table.entries) entries.now) }
 {
@@ -90,7 +90,7 @@ pub fn table_of<'a, R: Threads + Wait + Sync>(
     ensures many { IfSome result (λ table. (length table.names.items ≡ length entries.now)
         × (length table.clients.items ≡ length entries.now)) }
     ensures inverse { IfSome result (λ table. AreInverse table.names.items table.clients.items) }
-    ensures run { IfSome result (λ table. IsRunOf network.now entries.now table.quiet) }
+    ensures run { IfSome result (λ table. IsRunByEntries network.now entries.now table.quiet) }
     ensures own { IfSome result (λ table.
         ListsHolders table.quiet.did.grants table.clients.items) }
     ensures allowed { OnSome result ((1 ≤ workers) × (workers ≤ MOST_WORKERS)

@@ -12,7 +12,7 @@ use Rattle.cn_wiring.specs.Table.{Stands, is_end, sum_at}
 use Rattle.cn_core.specs.declared.event.Event.{Event}
 use Rattle.cn_core.specs.State.{State, after_carry, inside_in, past}
 use Rattle.cn_core.specs.History.{AgreesAfter, Carried, carried_by}
-use Rattle.cn_core.specs.StateLedger.{IsCore, ledger_of}
+use Rattle.cn_core.specs.StateLedger.{IsCore, state_ledger}
 use Rattle.cn_ledger.specs.Ledger.{IsSound, Ledger, put}
 use Rattle.cn_core.proofs.HistoryLemmas.{Agrees-after_carry}
 use Rattle.cn_core.proofs.StateLemmas.{given_before, IsState-after_carry}
@@ -46,7 +46,7 @@ not-both c d differ p q n = elim (cases_lt 0 c) [
 
 module _ (s : State) (h : List Event) (earlier : List (List Event)) (is : IsCore s) (quiet : inside_in s ≡ 0)
     (a : AgreesAfter s h (carried_by s.network.table earlier))
-    (sound : IsSound s.network.table (ledger_of s h (carried_by s.network.table earlier))) where
+    (sound : IsSound s.network.table (state_ledger s h (carried_by s.network.table earlier))) where
   abbrev w : ℕ
   w = s.network.table.width
 
@@ -54,10 +54,10 @@ module _ (s : State) (h : List Event) (earlier : List (List Event)) (is : IsCore
   next = carried_by s.network.table (h ∷ earlier)
 
   abbrev old : Ledger
-  old = ledger_of s h (carried_by s.network.table earlier)
+  old = state_ledger s h (carried_by s.network.table earlier)
 
   abbrev new : Ledger
-  new = ledger_of (after_carry s) [] next
+  new = state_ledger (after_carry s) [] next
 
   -- what has left by an exit is its share of the base
   shared : (i : ℕ) → i < w → slice_index s.visits i ≡ share (s.base + length s.clients) w i

@@ -13,14 +13,14 @@ use Rattle.cn_core.specs.declared.event.Event.{Event}
 use Rattle.cn_core.specs.declared.event.Event.TheVariants.{Enter, Step}
 use Rattle.cn_record.specs.declared.reply.EnterFault.TheVariants.{NoSuchEntry, AlreadyIn, EpochFull}
 use Rattle.cn_record.specs.declared.reply.Reply.TheVariants.{Entered, EnterRefused}
-use Rattle.cn_core.specs.State.{State, after_carry, after_enter, after_step, inside_in, position_in, start}
+use Rattle.cn_core.specs.State.{State, after_carry, inside_in, position_in, start, state_after_enter, state_after_step}
 use Rattle.cn_core.specs.History.{Agrees, HasOneHolder, AreEpochs, ByHistories, Carried, IsHistory, carried_by, enters_of, is_accepted, position_after, step_answer}
 use Rattle.cn_core.specs.StateLedger.{IsCore}
 use Rattle.cn_core.specs.Tight.{HasShares}
 use Rattle.cn_core.proofs.CarryLemmas.{IsCore-after_carry, visits-after-carry}
-use Rattle.cn_core.proofs.HistoryLemmas.{Agrees-after_carry, Agrees-after_step, Agrees-start, AgreesAfter-after_enter, inside-by_history, inside-or-named, network-after_step}
+use Rattle.cn_core.proofs.HistoryLemmas.{Agrees-after_carry, Agrees-start, Agrees-state_after_step, AgreesAfter-state_after_enter, inside-by_history, inside-or-named, network-state_after_step}
 use Rattle.cn_core.proofs.OneHolder.{one-holder}
-use Rattle.cn_core.proofs.LedgerLemmas.{IsCore-after_enter, IsCore-after_step, IsCore-start}
+use Rattle.cn_core.proofs.LedgerLemmas.{IsCore-start, IsCore-state_after_enter, IsCore-state_after_step}
 
 -- a core of the network that agrees with a history and the earlier epochs
 pub record Reaches (network : Network) (h : List Event) (earlier : List (List Event)) : Type 0 where
@@ -59,10 +59,10 @@ module _ (network : Network) (is : IsNetwork network) where
       let new : position_in s.clients client ≡ None = a.positions client ∙ rw r.same (nowhere (position_after network.table h k client) absent) in
       let few : length s.clients < MOST_CLIENTS = grind (arith, nat_tests, room, a.total) in
       record {
-        state = after_enter s client entry;
+        state = state_after_enter s client entry;
         same = r.same;
-        is = IsCore-after_enter s client entry r.is at new few;
-        agrees = (epochs, AgreesAfter-after_enter s h (carried_by s.network.table earlier) client entry r.is.state at new few a);
+        is = IsCore-state_after_enter s client entry r.is at new few;
+        agrees = (epochs, AgreesAfter-state_after_enter s h (carried_by s.network.table earlier) client entry r.is.state at new few a);
       }
 
   steps : (h : List Event) (earlier : List (List Event)) (client : ℕ) → Reaches network h earlier → IsHistory network.table (Step client ∷ h) (carried_by network.table earlier) → Reaches network (Step client ∷ h) earlier
@@ -73,10 +73,10 @@ module _ (network : Network) (is : IsNetwork network) where
       let (wire, there) = stepped-by network.table h k (position_after network.table h k client) accepted in
       let on : position_in s.clients client ≡ Some (On wire) = a.positions client ∙ rw r.same there in
       record {
-        state = after_step s client (end_of s.network.table wire);
-        same = network-after_step s client (end_of s.network.table wire) ∙ r.same;
-        is = IsCore-after_step s client wire (end_of s.network.table wire) r.is on refl;
-        agrees = Agrees-after_step s h earlier client wire (end_of s.network.table wire) r.is.state on refl (epochs, a);
+        state = state_after_step s client (end_of s.network.table wire);
+        same = network-state_after_step s client (end_of s.network.table wire) ∙ r.same;
+        is = IsCore-state_after_step s client wire (end_of s.network.table wire) r.is on refl;
+        agrees = Agrees-state_after_step s h earlier client wire (end_of s.network.table wire) r.is.state on refl (epochs, a);
       }
 
   -- one epoch more

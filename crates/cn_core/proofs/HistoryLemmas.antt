@@ -19,7 +19,7 @@ use Rattle.cn_record.specs.declared.reply.EnterFault.TheVariants.{NoSuchEntry, A
 use Rattle.cn_record.specs.declared.reply.StepFault.TheVariants.{Stranger, HasName}
 use Rattle.cn_record.specs.declared.reply.Reply.{Reply}
 use Rattle.cn_record.specs.declared.reply.Reply.TheVariants.{Entered, EnterRefused, Stepped, StepRefused}
-use Rattle.cn_core.specs.State.{State, IsState, position_in, position_past, past, after_carry, after_enter, after_step, start, is_named, is_inside, inside_in}
+use Rattle.cn_core.specs.State.{State, IsState, position_in, position_past, past, after_carry, state_after_enter, state_after_step, start, is_named, is_inside, inside_in}
 use Rattle.cn_core.specs.InsideClients.{with_position}
 use Rattle.cn_core.specs.History.{Carried, position_after, leaves_of, inside_of, end_at, is_leave, IsHistory, Agrees, AgreesAfter, MayAnswerAll, carried_by, history_after, steps_before}
 use Rattle.cn_core.specs.Calls.{EntersTo, StepsTo, TakesTo, IsLedgerEvent, AnswersByHistory, RunsByHistory, RunsTo}
@@ -33,9 +33,9 @@ Agrees-start network = (tt, record { base = refl; accepted = tt; positions = λ 
     none (Balancer b) = zero_at network.table.balancers b
     none (Exit i) = zero_at network.table.width i
 
-pub AgreesAfter-after_enter : (s : State) (h : List Event) (k : Carried) (client entry : ℕ) → IsState s → entry < s.network.table.entries → position_in s.clients client ≡ None → length s.clients < MOST_CLIENTS
-    → AgreesAfter s h k → AgreesAfter (after_enter s client entry) (Enter client entry ∷ h) k
-AgreesAfter-after_enter s h k client entry is within absent room a = record {
+pub AgreesAfter-state_after_enter : (s : State) (h : List Event) (k : Carried) (client entry : ℕ) → IsState s → entry < s.network.table.entries → position_in s.clients client ≡ None → length s.clients < MOST_CLIENTS
+    → AgreesAfter s h k → AgreesAfter (state_after_enter s client entry) (Enter client entry ∷ h) k
+AgreesAfter-state_after_enter s h k client entry is within absent room a = record {
   base = a.base;
   accepted = (grind (arith, nat_tests, a.positions client, a.total), a.accepted);
   positions = λ q. rw (lookup-push s.clients client (On entry) q absent, a.positions q) refl;
@@ -46,52 +46,52 @@ AgreesAfter-after_enter s h k client entry is within absent room a = record {
 }
 
 -- one more past an end, and no other
-pub past-after_step : (s : State) (client wire : ℕ) (end other : End) → IsState s → wire < length s.network.table.ends → end_of s.network.table wire ≡ end
-    → past (after_step s client end) other ≡ past s other + cond (is_end other end) 1 0
-past-after_step s client wire (Balancer b) (Balancer a) is within ends =
+pub past-state_after_step : (s : State) (client wire : ℕ) (end other : End) → IsState s → wire < length s.network.table.ends → end_of s.network.table wire ≡ end
+    → past (state_after_step s client end) other ≡ past s other + cond (is_end other end) 1 0
+past-state_after_step s client wire (Balancer b) (Balancer a) is within ends =
     let there : b < s.network.table.balancers = stands-at s.network is.network wire (Balancer b) within ends in
     grind (arith, nat_tests, one_more-at s.passes b a, is.balancers)
-past-after_step s client wire (Balancer b) (Exit i) is within ends = omega arith
-past-after_step s client wire (Exit i) (Balancer b) is within ends = omega arith
-past-after_step s client wire (Exit i) (Exit j) is within ends =
+past-state_after_step s client wire (Balancer b) (Exit i) is within ends = omega arith
+past-state_after_step s client wire (Exit i) (Balancer b) is within ends = omega arith
+past-state_after_step s client wire (Exit i) (Exit j) is within ends =
     let there : i < s.network.table.width = stands-at s.network is.network wire (Exit i) within ends in
     grind (arith, nat_tests, one_more-at s.visits i j, is.exits)
 
-pub network-after_step : (s : State) (client : ℕ) (end : End) → (after_step s client end).network ≡ s.network
-network-after_step s client (Balancer b) = refl
-network-after_step s client (Exit i) = refl
+pub network-state_after_step : (s : State) (client : ℕ) (end : End) → (state_after_step s client end).network ≡ s.network
+network-state_after_step s client (Balancer b) = refl
+network-state_after_step s client (Exit i) = refl
 
-pub base-after_step : (s : State) (client : ℕ) (end : End) → (after_step s client end).base ≡ s.base
-base-after_step s client (Balancer b) = refl
-base-after_step s client (Exit i) = refl
+pub base-state_after_step : (s : State) (client : ℕ) (end : End) → (state_after_step s client end).base ≡ s.base
+base-state_after_step s client (Balancer b) = refl
+base-state_after_step s client (Exit i) = refl
 
-pub entered-after_step : (s : State) (client : ℕ) (end : End) → (after_step s client end).entered ≡ s.entered
-entered-after_step s client (Balancer b) = refl
-entered-after_step s client (Exit i) = refl
+pub entered-state_after_step : (s : State) (client : ℕ) (end : End) → (state_after_step s client end).entered ≡ s.entered
+entered-state_after_step s client (Balancer b) = refl
+entered-state_after_step s client (Exit i) = refl
 
-pub clients-after_step : (s : State) (client : ℕ) (end : End) → (after_step s client end).clients ≡ with_position s.clients client (position_past s.network.table s.base end (past s end))
-clients-after_step s client (Balancer b) = refl
-clients-after_step s client (Exit i) = refl
+pub clients-state_after_step : (s : State) (client : ℕ) (end : End) → (state_after_step s client end).clients ≡ with_position s.clients client (position_past s.network.table s.base end (past s end))
+clients-state_after_step s client (Balancer b) = refl
+clients-state_after_step s client (Exit i) = refl
 
 -- a token that goes past an exit has a name, and past a balancer it has none
 named-past : (table : Table) (base : ℕ) (end : End) (n : ℕ) → is_named (position_past table base end n) ≡ is_leave (Some end)
 named-past table base (Balancer b) n = refl
 named-past table base (Exit i) n = refl
 
-pub AgreesAfter-after_step : (s : State) (h : List Event) (k : Carried) (client wire : ℕ) (end : End) → IsState s → position_in s.clients client ≡ Some (On wire) → end_of s.network.table wire ≡ end
-    → AgreesAfter s h k → AgreesAfter (after_step s client end) (Step client ∷ h) k
-AgreesAfter-after_step s h k client wire end is on ends a = record {
-  base = rw (base-after_step s client end) a.base;
-  accepted = subst (λ (n : Network). IsHistory n.table (Step client ∷ h) k) (sym (network-after_step s client end)) (rw (← a.positions client, on) refl, a.accepted);
-  positions = λ q. rw (clients-after_step s client end, network-after_step s client end, lookup-set s.clients client (position_past s.network.table s.base end (past s end)) (On wire) q on, a.positions q, here, a.counts end, a.base) refl;
-  entered = λ e. rw (entered-after_step s client end) (a.entered e);
-  total = rw (clients-after_step s client end, length-set_value (nat_eq client) s.clients (position_past s.network.table s.base end (past s end))) a.total;
-  left = rw (clients-after_step s client end, network-after_step s client end, here)
+pub AgreesAfter-state_after_step : (s : State) (h : List Event) (k : Carried) (client wire : ℕ) (end : End) → IsState s → position_in s.clients client ≡ Some (On wire) → end_of s.network.table wire ≡ end
+    → AgreesAfter s h k → AgreesAfter (state_after_step s client end) (Step client ∷ h) k
+AgreesAfter-state_after_step s h k client wire end is on ends a = record {
+  base = rw (base-state_after_step s client end) a.base;
+  accepted = subst (λ (n : Network). IsHistory n.table (Step client ∷ h) k) (sym (network-state_after_step s client end)) (rw (← a.positions client, on) refl, a.accepted);
+  positions = λ q. rw (clients-state_after_step s client end, network-state_after_step s client end, lookup-set s.clients client (position_past s.network.table s.base end (past s end)) (On wire) q on, a.positions q, here, a.counts end, a.base) refl;
+  entered = λ e. rw (entered-state_after_step s client end) (a.entered e);
+  total = rw (clients-state_after_step s client end, length-set_value (nat_eq client) s.clients (position_past s.network.table s.base end (past s end))) a.total;
+  left = rw (clients-state_after_step s client end, network-state_after_step s client end, here)
       (let more = count-set is_named s.clients client (position_past s.network.table s.base end (past s end)) (On wire) on in
       let same = ap {B = ℕ} (λ b. cond b 1 0) (named-past s.network.table s.base end (past s end)) in
-      let kept : leaves_of (after_step s client end).network.table h k ≡ leaves_of s.network.table h k = ap (λ (n : Network). leaves_of n.table h k) (network-after_step s client end) in
+      let kept : leaves_of (state_after_step s client end).network.table h k ≡ leaves_of s.network.table h k = ap (λ (n : Network). leaves_of n.table h k) (network-state_after_step s client end) in
       omega (arith, a.left));
-  counts = λ other. rw (network-after_step s client end, past-after_step s client wire end other is (is.on_wires client wire on) ends, a.counts other, here) refl;
+  counts = λ other. rw (network-state_after_step s client end, past-state_after_step s client wire end other is (is.on_wires client wire on) ends, a.counts other, here) refl;
 }
   where
     here : end_at s.network.table (position_after s.network.table h k client) ≡ Some end
@@ -100,7 +100,7 @@ AgreesAfter-after_step s h k client wire end is on ends a = record {
 pub history-enter : (old : State) (client entry : ℕ) (reply : Reply) (new : State) → IsState old → EntersTo old client entry reply new
     → AnswersByHistory old (Enter client entry) reply new
 history-enter old client entry Entered new is (within, absent, room, e) h earlier (epochs, a) =
-    (inl (grind (arith, nat_tests, a.positions client, a.total)), rw e (epochs, AgreesAfter-after_enter old h (carried_by old.network.table earlier) client entry is within absent room a))
+    (inl (grind (arith, nat_tests, a.positions client, a.total)), rw e (epochs, AgreesAfter-state_after_enter old h (carried_by old.network.table earlier) client entry is within absent room a))
 history-enter old client entry (EnterRefused NoSuchEntry) new is (beyond, e) h earlier a = (inl (grind (arith, nat_tests)), rw e a)
 history-enter old client entry (EnterRefused AlreadyIn) new is (within, there, e) h earlier a = (inl (grind (arith, nat_tests, a.1.positions client)), rw e a)
 history-enter old client entry (EnterRefused EpochFull) new is (within, absent, full, e) h earlier a = (inl (grind (arith, nat_tests, a.1.positions client, a.1.total)), rw e a)
@@ -108,15 +108,15 @@ history-enter old client entry (EnterRefused Memory) new is (within, absent, roo
 history-enter old client entry (Stepped moved) new is none h earlier a = absurd none
 history-enter old client entry (StepRefused fault) new is none h earlier a = absurd none
 
-pub Agrees-after_step : (s : State) (h : List Event) (earlier : List (List Event)) (client wire : ℕ) (end : End) → IsState s → position_in s.clients client ≡ Some (On wire) → end_of s.network.table wire ≡ end
-    → Agrees s h earlier → Agrees (after_step s client end) (Step client ∷ h) earlier
-Agrees-after_step s h earlier client wire (Balancer b) is on ends (epochs, a) = (epochs, AgreesAfter-after_step s h (carried_by s.network.table earlier) client wire (Balancer b) is on ends a)
-Agrees-after_step s h earlier client wire (Exit i) is on ends (epochs, a) = (epochs, AgreesAfter-after_step s h (carried_by s.network.table earlier) client wire (Exit i) is on ends a)
+pub Agrees-state_after_step : (s : State) (h : List Event) (earlier : List (List Event)) (client wire : ℕ) (end : End) → IsState s → position_in s.clients client ≡ Some (On wire) → end_of s.network.table wire ≡ end
+    → Agrees s h earlier → Agrees (state_after_step s client end) (Step client ∷ h) earlier
+Agrees-state_after_step s h earlier client wire (Balancer b) is on ends (epochs, a) = (epochs, AgreesAfter-state_after_step s h (carried_by s.network.table earlier) client wire (Balancer b) is on ends a)
+Agrees-state_after_step s h earlier client wire (Exit i) is on ends (epochs, a) = (epochs, AgreesAfter-state_after_step s h (carried_by s.network.table earlier) client wire (Exit i) is on ends a)
 
 pub history-step : (old : State) (client : ℕ) (reply : Reply) (new : State) → IsState old → StepsTo old client reply new
     → AnswersByHistory old (Step client) reply new
 history-step old client (Stepped moved) new is (wire, on, m, e) h earlier a =
-    (inl (rw (← a.1.positions client, on, m, ← a.1.base, a.1.counts (end_of old.network.table wire)) refl), rw e (Agrees-after_step old h earlier client wire (end_of old.network.table wire) is on refl a))
+    (inl (rw (← a.1.positions client, on, m, ← a.1.base, a.1.counts (end_of old.network.table wire)) refl), rw e (Agrees-state_after_step old h earlier client wire (end_of old.network.table wire) is on refl a))
 history-step old client (StepRefused Stranger) new is (none, e) h earlier a = (inl (rw (← a.1.positions client, none) refl), rw e a)
 history-step old client (StepRefused (HasName name)) new is (named, e) h earlier a = (inl (rw (← a.1.positions client, named) refl), rw e a)
 history-step old client Entered new is none h earlier a = absurd none
@@ -184,8 +184,8 @@ came-after old new (Enter client entry) (Stepped moved) none = absurd none
 came-after old new (Enter client entry) (StepRefused fault) none = absurd none
 came-after old new (Step client) (Stepped moved) (wire, on, m, e) =
     let end : End = end_of old.network.table wire in
-    let same = ap length (clients-after_step old client end) ∙ length-set_value (nat_eq client) old.clients (position_past old.network.table old.base end (past old end)) in
-    rw e (omega (arith, base-after_step old client end))
+    let same = ap length (clients-state_after_step old client end) ∙ length-set_value (nat_eq client) old.clients (position_past old.network.table old.base end (past old end)) in
+    rw e (omega (arith, base-state_after_step old client end))
 came-after old new (Step client) (StepRefused Stranger) (none, e) = rw e (omega arith)
 came-after old new (Step client) (StepRefused (HasName name)) (named, e) = rw e (omega arith)
 came-after old new (Step client) Entered none = absurd none

@@ -13,13 +13,13 @@ use Rattle.std.proofs.lemmas.List.Sums.{sum_by-cons}
 use Rattle.cn_yard.specs.Lists.{Lists}
 use Rattle.cn_names.specs.declared.standing.Standing.{Standing}
 use Rattle.cn_names.specs.declared.standing.Standing.TheVariants.{Walking, Holds as Named}
-use Rattle.cn_names.specs.Grants.{IsRising, ListsByName, grants_in as named_in}
+use Rattle.cn_names.specs.Grants.{IsRising, ListsByName, grants_in}
 use Rattle.cn_core.specs.declared.position.Position.{Position}
 use Rattle.cn_core.specs.declared.position.Position.TheVariants.{On, Holds}
 use Rattle.cn_core.specs.InsideClients.{Clients, position_by, positions}
 use Rattle.cn_core.specs.State.{State, inside_in, is_inside, name_at, position_in, times_entered}
 use Rattle.cn_core.specs.StateLedger.{IsCore}
-use Rattle.cn_core.specs.Tight.{ListsHolders, grants_in}
+use Rattle.cn_core.specs.Tight.{ListsStateHolders, grants_of_clients}
 use Rattle.cn_core.proofs.Clientele.{placed}
 use Rattle.cn_core.proofs.TightLemmas.{tight-state}
 
@@ -65,13 +65,13 @@ rising-each_below k xs order rising =
 -- ---- the names that the table's clients hold
 
 -- the table's grants are the state's
-grants-of : (y : Lists) (names : List (ℕ × Standing)) → grants_in (placed y names) ≡ named_in names
+grants-of : (y : Lists) (names : List (ℕ × Standing)) → grants_of_clients (placed y names) ≡ grants_in names
 grants-of y [] = refl
 grants-of y ((client, Walking token) ∷ names) = grants-of y names
 grants-of y ((client, Named name) ∷ names) = ap (λ grants. (name, client) ∷ grants) (grants-of y names)
 
 -- where nobody is inside, the grants are those of all clients
-keys-granted : (clients : List (ℕ × Position)) → count_by is_inside (values_of clients) ≡ 0 → map (λ grant. grant.1) (grants_in clients) ≡ keys_of clients
+keys-granted : (clients : List (ℕ × Position)) → count_by is_inside (values_of clients) ≡ 0 → map (λ grant. grant.1) (grants_of_clients clients) ≡ keys_of clients
 keys-granted [] none = refl
 keys-granted ((client, On wire) ∷ clients) none =
     absurd (omega (arith, sum_by-cons (λ (p : Position). cond (is_inside p) 1 0) (On wire) (values_of clients)))
@@ -114,7 +114,7 @@ found-later client e clients p once later = by (nat_eq client e.0) refl
     by false here = later (omega (arith, sum))
 
 -- a grant of the table is the position of its client
-holder-found : (y : Lists) (names : List (ℕ × Standing)) (name client : ℕ) → times_entered client (placed y names) ≤ 1 → Contains (named_in names) (name, client) → position_in (placed y names) client ≡ Some (Holds name)
+holder-found : (y : Lists) (names : List (ℕ × Standing)) (name client : ℕ) → times_entered client (placed y names) ≤ 1 → Contains (grants_in names) (name, client) → position_in (placed y names) client ≡ Some (Holds name)
 holder-found y [] name client once (k, within, is) = absurd (omega arith)
 holder-found y ((c, Walking token) ∷ names) name client once has =
     found-later client (c, position_by y (Walking token)) (placed y names) (Holds name) once (λ once. holder-found y names name client once has)
@@ -135,7 +135,7 @@ names-rise grants rising i j d before within =
     let order : (get_or grants i (0, 0)).0 ≤ (get_or grants j (0, 0)).0 = elim (rising i j (0, 0) before there) [ inl less ↦ omega arith | inr (same, clients) ↦ omega arith ] in
     omega arith
 
-pub holders-listed : (s : State) (c : Clients) (holders : List ℕ) → s.clients ≡ positions c → IsCore s → inside_in s ≡ 0 → ListsByName c.names holders → ListsHolders s holders
+pub holders-listed : (s : State) (c : Clients) (holders : List ℕ) → s.clients ≡ positions c → IsCore s → inside_in s ≡ 0 → ListsByName c.names holders → ListsStateHolders s holders
 holders-listed s c holders clients is none l = record { all = all; by_name = by_name; own = own; once = once }
   where
     k : ℕ
@@ -144,13 +144,13 @@ holders-listed s c holders clients is none l = record { all = all; by_name = by_
     f : ℕ × ℕ → ℕ
     f = λ (grant : ℕ × ℕ). grant.0
 
-    same : grants_in s.clients ≡ named_in c.names
-    same = ap grants_in clients ∙ grants-of c.yard.lists c.names
+    same : grants_of_clients s.clients ≡ grants_in c.names
+    same = ap grants_of_clients clients ∙ grants-of c.yard.lists c.names
 
     own : IsPermutation (keys_of s.clients) holders
     own =
-        let keys : map (λ (grant : ℕ × ℕ). grant.1) (named_in c.names) ≡ keys_of s.clients = ap (map (λ (grant : ℕ × ℕ). grant.1)) (sym same) ∙ keys-granted s.clients none in
-        rw l.listed (subst (λ (ks : List ℕ). IsPermutation ks (map (λ (grant : ℕ × ℕ). grant.1) l.grants)) keys (IsPermutation-map (λ (grant : ℕ × ℕ). grant.1) (named_in c.names) l.grants l.all))
+        let keys : map (λ (grant : ℕ × ℕ). grant.1) (grants_in c.names) ≡ keys_of s.clients = ap (map (λ (grant : ℕ × ℕ). grant.1)) (sym same) ∙ keys-granted s.clients none in
+        rw l.listed (subst (λ (ks : List ℕ). IsPermutation ks (map (λ (grant : ℕ × ℕ). grant.1) l.grants)) keys (IsPermutation-map (λ (grant : ℕ × ℕ). grant.1) (grants_in c.names) l.grants l.all))
 
     once : (client : ℕ) → count_by (nat_eq client) holders ≤ 1
     once client =
@@ -158,8 +158,8 @@ holders-listed s c holders clients is none l = record { all = all; by_name = by_
 
     order : IsPermutation (range_with_len 0 k) (map f l.grants)
     order =
-        let names : map f (grants_in s.clients) ≡ map f (named_in c.names) = ap (map f) same in
-        IsPermutation-trans _ _ _ (rw names at (tight-state s is none).tight.names) (IsPermutation-map f (named_in c.names) l.grants l.all)
+        let names : map f (grants_of_clients s.clients) ≡ map f (grants_in c.names) = ap (map f) same in
+        IsPermutation-trans _ _ _ (rw names at (tight-state s is none).tight.names) (IsPermutation-map f (grants_in c.names) l.grants l.all)
 
     names-are : map f l.grants ≡ range_with_len 0 k
     names-are = rising-each_below k (map f l.grants) order (names-rise l.grants l.rising)
@@ -176,6 +176,6 @@ holders-listed s c holders clients is none l = record { all = all; by_name = by_
         let grant = get_or l.grants name (0, 0) in
         let its : grant.0 ≡ name = sym (get_or-map f l.grants name (0, 0) 0 there) ∙ ap (λ ns. get_or ns name 0) names-are ∙ get_or-range_with_len 0 k name 0 below ∙ zero-add name in
         let who : get_or holders name 0 ≡ grant.1 = ap (λ hs. get_or hs name 0) l.listed ∙ get_or-map (λ (g : ℕ × ℕ). g.1) l.grants name (0, 0) 0 there in
-        let has = Contains-permutation l.grants (named_in c.names) grant (IsPermutation-sym (named_in c.names) l.grants l.all) (Contains-get_or l.grants name (0, 0) there) in
+        let has = Contains-permutation l.grants (grants_in c.names) grant (IsPermutation-sym (grants_in c.names) l.grants l.all) (Contains-get_or l.grants name (0, 0) there) in
         let found = holder-found c.yard.lists c.names grant.0 grant.1 (subst (λ cs. times_entered grant.1 cs ≤ 1) clients (is.state.once grant.1)) has in
         rw (who, clients, found, its) refl

@@ -15,7 +15,7 @@ use Rattle.cn_core.specs.declared.position.Position.{Position}
 use Rattle.cn_core.specs.declared.position.Position.TheVariants.{On}
 use Rattle.cn_core.specs.declared.event.Event.{Event}
 use Rattle.cn_core.specs.declared.event.Event.TheVariants.{Enter, Step}
-use Rattle.cn_core.specs.State.{State, IsState, position_in, position_past, past, after_enter, after_step, start}
+use Rattle.cn_core.specs.State.{State, IsState, position_in, position_past, past, state_after_enter, state_after_step, start}
 use Rattle.cn_core.specs.InsideClients.{with_position}
 use Rattle.cn_core.specs.History.{AgreesAfter, ByHistories, Carried, carried_by, position_after, steps_before, end_at, is_same_end, moved_past, times_passed}
 use Rattle.cn_ledger.specs.Ledger.{IsSound}
@@ -24,10 +24,10 @@ use Rattle.cn_ledger.specs.declared.moved.Moved.{Moved}
 use Rattle.cn_record.specs.declared.reply.Reply.TheVariants.{Stepped}
 use Rattle.cn_ledger.specs.Moves.{IsMoveOf}
 use Rattle.cn_core.specs.Calls.{IsLedgerEvent, StepsTo}
-use Rattle.cn_core.specs.StateLedger.{is_on, holds, given_in, ledger_of, HasSoundLedger, IsCore}
+use Rattle.cn_core.specs.StateLedger.{is_on, holds, given_in_state, state_ledger, HasSoundLedger, IsCore}
 use Rattle.cn_yard.proofs.CallerLemmas.{count-push, count-set, count-pair-push, count-pair-set}
-use Rattle.cn_core.proofs.StateLemmas.{given_before, name-later, share-zero, stands-at, IsState-start, IsState-after_enter, IsState-after_step}
-use Rattle.cn_core.proofs.HistoryLemmas.{past-after_step, Agrees-start, AgreesAfter-after_enter, AgreesAfter-after_step}
+use Rattle.cn_core.proofs.StateLemmas.{given_before, name-later, share-zero, stands-at, IsState-start, IsState-state_after_enter, IsState-state_after_step}
+use Rattle.cn_core.proofs.HistoryLemmas.{past-state_after_step, Agrees-start, AgreesAfter-state_after_enter, AgreesAfter-state_after_step}
 use Rattle.cn_core.proofs.PassageLemmas.{sound-passages}
 use Rattle.cn_ledger.proofs.CallerLemmas.{eqb-sym, is_end-sym, sound-enters, sound-leaves, sound-nothing, sound-passes}
 
@@ -38,7 +38,7 @@ and-sym false true = refl
 and-sym false false = refl
 
 pub ledger-enters : (s : State) (h : List Event) (k : Carried) (client entry : ℕ) → IsState s → entry < s.network.table.entries
-    → Enters s.network.table (ledger_of s h k) (ledger_of (after_enter s client entry) (Enter client entry ∷ h) k) client entry
+    → Enters s.network.table (state_ledger s h k) (state_ledger (state_after_enter s client entry) (Enter client entry ∷ h) k) client entry
 ledger-enters s h k client entry is within = record {
   inside = within;
   entered = λ e. one_more-at s.entered entry e (omega (arith, is.entries)) ∙ ap (λ (b : Bool). slice_index s.entered e + cond b 1 0) (eqb-sym e entry);
@@ -54,15 +54,15 @@ ledger-enters s h k client entry is within = record {
     none true n = omega arith
     none false n = omega arith
 
-    given : (end : End) (n : ℕ) → given_in (after_enter s client entry) (Enter client entry ∷ h) k end n ≡ given_in s h k end n
+    given : (end : End) (n : ℕ) → given_in_state (state_after_enter s client entry) (Enter client entry ∷ h) k end n ≡ given_in_state s h k end n
     given (Balancer b) n = refl
     given (Exit i) v = ap (λ (n : ℕ). when (nat_lt i s.network.table.width) (given_before s i v + n)) (count-push (holds s.base (name_of s.network.table.width i v)) s.clients client (On entry) ∙ none true _)
 
 -- what passages and leaves have in common
 count-after : (s : State) (client wire : ℕ) (end other : End) → IsState s → wire < length s.network.table.ends → end_of s.network.table wire ≡ end
-    → past (after_step s client end) other ≡ past s other + when (is_end end other) 1
+    → past (state_after_step s client end) other ≡ past s other + when (is_end end other) 1
 count-after s client wire end other is within ends =
-    past-after_step s client wire end other is within ends ∙ ap (λ (b : Bool). past s other + cond b 1 0) (is_end-sym other end)
+    past-state_after_step s client wire end other is within ends ∙ ap (λ (b : Bool). past s other + cond b 1 0) (is_end-sym other end)
 
 standing-after : (s : State) (client wire : ℕ) (to : Position) (u d : ℕ) → position_in s.clients client ≡ Some (On wire)
     → count_by (λ e. nat_eq d e.0 && is_on u e.1) (with_position s.clients client to) + when ((wire == u) && (client == d)) 1
@@ -101,7 +101,7 @@ and-false true = refl
 and-false false = refl
 
 pub ledger-passes : (s : State) (h : List Event) (k : Carried) (client wire b : ℕ) → IsState s → position_in s.clients client ≡ Some (On wire) → end_of s.network.table wire ≡ Balancer b → AgreesAfter s h k
-    → Passes s.network.table (ledger_of s h k) (ledger_of (after_step s client (Balancer b)) (Step client ∷ h) k) client wire b
+    → Passes s.network.table (state_ledger s h k) (state_ledger (state_after_step s client (Balancer b)) (Step client ∷ h) k) client wire b
 ledger-passes s h k client wire b is on ends a = record {
   goes = record {
     inside = is.on_wires client wire on;
@@ -119,7 +119,7 @@ ledger-passes s h k client wire b is on ends a = record {
     to : Position
     to = position_past s.network.table s.base (Balancer b) (slice_index s.passes b)
 
-    given : (other : End) (n : ℕ) → given_in (after_step s client (Balancer b)) (Step client ∷ h) k other n ≡ given_in s h k other n + when (is_end (Balancer b) other && (slice_index s.passes b == n)) 1
+    given : (other : End) (n : ℕ) → given_in_state (state_after_step s client (Balancer b)) (Step client ∷ h) k other n ≡ given_in_state s h k other n + when (is_end (Balancer b) other && (slice_index s.passes b == n)) 1
     given (Balancer c) n =
         let passed = passed-after s h k client wire (Balancer b) on ends a c n in
         let m : ℕ = steps_before s.network.table h k (Balancer c) in
@@ -132,7 +132,7 @@ ledger-passes s h k client wire b is on ends a = record {
         omega (arith, passed, ap {B = ℕ} (λ (q : Bool). cond q 1 0) here)
     given (Exit i) v =
         ap (λ (n : ℕ). when (nat_lt i s.network.table.width) (given_before s i v + n)) (held-after s (name_of s.network.table.width i v) client wire to on ∙ add-zero (count_by (holds s.base (name_of s.network.table.width i v)) (values_of s.clients)))
-        ∙ sym (add-zero (given_in s h k (Exit i) v))
+        ∙ sym (add-zero (given_in_state s h k (Exit i) v))
 
 -- two names are the same exactly where exits and visits are
 names-same : (w i j x v : ℕ) → i < w → j < w → eqb (name_of w i x) (name_of w j v) ≡ (eqb j i && eqb x v)
@@ -198,7 +198,7 @@ granted-leave w i j x v name c d m n li more =
         bools true true true = refl
 
 pub ledger-leaves : (s : State) (h : List Event) (k : Carried) (client wire i : ℕ) → IsState s → position_in s.clients client ≡ Some (On wire) → end_of s.network.table wire ≡ Exit i → AgreesAfter s h k
-    → Leaves s.network.table (ledger_of s h k) (ledger_of (after_step s client (Exit i)) (Step client ∷ h) k) client wire i
+    → Leaves s.network.table (state_ledger s h k) (state_ledger (state_after_step s client (Exit i)) (Step client ∷ h) k) client wire i
 ledger-leaves s h k client wire i is on ends a = record {
   goes = record {
     inside = is.on_wires client wire on;
@@ -232,10 +232,10 @@ ledger-leaves s h k client wire i is on ends a = record {
     whole : name_of w i (slice_index s.visits i) - s.base + s.base ≡ name_of w i (slice_index s.visits i)
     whole = omega (arith, name-later s is i below)
 
-    given : (other : End) (n : ℕ) → given_in (after_step s client (Exit i)) (Step client ∷ h) k other n ≡ given_in s h k other n + when (is_end (Exit i) other && (slice_index s.visits i == n)) 1
+    given : (other : End) (n : ℕ) → given_in_state (state_after_step s client (Exit i)) (Step client ∷ h) k other n ≡ given_in_state s h k other n + when (is_end (Exit i) other && (slice_index s.visits i == n)) 1
     given (Balancer b) n =
         ap (λ (t : ℕ). once_below (k.steps (Balancer b)) n + t) (passed-after s h k client wire (Exit i) on ends a b n ∙ add-zero (times_passed s.network.table h k b n))
-        ∙ sym (add-zero (given_in s h k (Balancer b) n))
+        ∙ sym (add-zero (given_in_state s h k (Balancer b) n))
     given (Exit j) v =
         given-leave w i j (slice_index s.visits i) v
         (given_before s j v + count_by (holds s.base (name_of w j v)) (values_of s.clients)) (given_before s j v + count_by (holds s.base (name_of w j v)) (values_of (with_position s.clients client to)))
@@ -247,7 +247,7 @@ ledger-leaves s h k client wire i is on ends a = record {
 -- ---- every state is a sound ledger
 
 -- a ledger whose numbers are those of another is as sound
-sound-like : (s : State) (h g : List Event) (k m : Carried) → AgreesAfter s g m → IsSound s.network.table (ledger_of s h k) → IsSound s.network.table (ledger_of s g m)
+sound-like : (s : State) (h g : List Event) (k m : Carried) → AgreesAfter s g m → IsSound s.network.table (state_ledger s h k) → IsSound s.network.table (state_ledger s g m)
 sound-like s h g k m b sound = record {
   balanced = sound.balanced;
   clients = sound.clients;
@@ -258,7 +258,7 @@ sound-like s h g k m b sound = record {
   owned = sound.owned;
 }
   where
-    numbered : (end : End) (n : ℕ) → Stands s.network.table end → given_in s g m end n ≡ once_below (past s end) n
+    numbered : (end : End) (n : ℕ) → Stands s.network.table end → given_in_state s g m end n ≡ once_below (past s end) n
     numbered (Balancer c) n there = sound-passages s.network.table g m c n ∙ ap (λ m. once_below m n) (sym (b.counts (Balancer c)))
     numbered (Exit i) n there = sound.numbered (Exit i) n there
 
@@ -275,7 +275,7 @@ IsCore-start network is = record {
     [],
     [],
     Agrees-start network,
-    sound-nothing network.table (ledger_of (start network) [] (carried_by network.table []))
+    sound-nothing network.table (state_ledger (start network) [] (carried_by network.table []))
         (record { entered = zero_at network.table.entries; count = count; on = λ u. refl; standing = λ u c. refl; given = given; granted = granted }),
   );
 }
@@ -290,7 +290,7 @@ IsCore-start network is = record {
     before : (i v : ℕ) → i < network.table.width → given_before (start network) i v ≡ 0
     before i v within = none-below (share 0 network.table.width i) v (share-zero network.table.width i within)
 
-    given : (end : End) (n : ℕ) → given_in (start network) [] (carried_by network.table []) end n ≡ 0
+    given : (end : End) (n : ℕ) → given_in_state (start network) [] (carried_by network.table []) end n ≡ 0
     given (Balancer b) n = omega (arith, none-below 0 n refl)
     given (Exit i) v = elim (cases_lt i network.table.width) [
       | inl within ↦ rw (lt-ltb i network.table.width within) (omega (arith, before i v within))
@@ -308,45 +308,45 @@ IsCore-start network is = record {
         cond-zero true false = refl
         cond-zero false d = refl
 
-pub IsCore-after_enter : (s : State) (client entry : ℕ) → IsCore s → entry < s.network.table.entries → position_in s.clients client ≡ None → length s.clients < MOST_CLIENTS
-    → IsCore (after_enter s client entry)
-IsCore-after_enter s client entry is within absent room =
+pub IsCore-state_after_enter : (s : State) (client entry : ℕ) → IsCore s → entry < s.network.table.entries → position_in s.clients client ≡ None → length s.clients < MOST_CLIENTS
+    → IsCore (state_after_enter s client entry)
+IsCore-state_after_enter s client entry is within absent room =
     let (h, earlier, (epochs, a), sound) = is.reached in
     let k : Carried = carried_by s.network.table earlier in
     record {
-      state = IsState-after_enter s client entry is.state within absent room;
+      state = IsState-state_after_enter s client entry is.state within absent room;
       reached = (
         Enter client entry ∷ h,
         earlier,
-        (epochs, AgreesAfter-after_enter s h k client entry is.state within absent room a),
-        sound-enters s.network.table (ledger_of s h k) (ledger_of (after_enter s client entry) (Enter client entry ∷ h) k) client entry (ledger-enters s h k client entry is.state within) sound,
+        (epochs, AgreesAfter-state_after_enter s h k client entry is.state within absent room a),
+        sound-enters s.network.table (state_ledger s h k) (state_ledger (state_after_enter s client entry) (Enter client entry ∷ h) k) client entry (ledger-enters s h k client entry is.state within) sound,
       );
     }
 
-pub IsCore-after_step : (s : State) (client wire : ℕ) (end : End) → IsCore s → position_in s.clients client ≡ Some (On wire) → end_of s.network.table wire ≡ end
-    → IsCore (after_step s client end)
-IsCore-after_step s client wire (Balancer b) is on ends =
+pub IsCore-state_after_step : (s : State) (client wire : ℕ) (end : End) → IsCore s → position_in s.clients client ≡ Some (On wire) → end_of s.network.table wire ≡ end
+    → IsCore (state_after_step s client end)
+IsCore-state_after_step s client wire (Balancer b) is on ends =
     let (h, earlier, (epochs, a), sound) = is.reached in
     let k : Carried = carried_by s.network.table earlier in
     record {
-      state = IsState-after_step s client wire (Balancer b) is.state on ends;
+      state = IsState-state_after_step s client wire (Balancer b) is.state on ends;
       reached = (
         Step client ∷ h,
         earlier,
-        (epochs, AgreesAfter-after_step s h k client wire (Balancer b) is.state on ends a),
-        sound-passes s.network.table (ledger_of s h k) (ledger_of (after_step s client (Balancer b)) (Step client ∷ h) k) client wire b (ledger-passes s h k client wire b is.state on ends a) sound,
+        (epochs, AgreesAfter-state_after_step s h k client wire (Balancer b) is.state on ends a),
+        sound-passes s.network.table (state_ledger s h k) (state_ledger (state_after_step s client (Balancer b)) (Step client ∷ h) k) client wire b (ledger-passes s h k client wire b is.state on ends a) sound,
       );
     }
-IsCore-after_step s client wire (Exit i) is on ends =
+IsCore-state_after_step s client wire (Exit i) is on ends =
     let (h, earlier, (epochs, a), sound) = is.reached in
     let k : Carried = carried_by s.network.table earlier in
     record {
-      state = IsState-after_step s client wire (Exit i) is.state on ends;
+      state = IsState-state_after_step s client wire (Exit i) is.state on ends;
       reached = (
         Step client ∷ h,
         earlier,
-        (epochs, AgreesAfter-after_step s h k client wire (Exit i) is.state on ends a),
-        sound-leaves s.network.table is.state.network.formed (ledger_of s h k) (ledger_of (after_step s client (Exit i)) (Step client ∷ h) k) client wire i (ledger-leaves s h k client wire i is.state on ends a) sound,
+        (epochs, AgreesAfter-state_after_step s h k client wire (Exit i) is.state on ends a),
+        sound-leaves s.network.table is.state.network.formed (state_ledger s h k) (state_ledger (state_after_step s client (Exit i)) (Step client ∷ h) k) client wire i (ledger-leaves s h k client wire i is.state on ends a) sound,
       );
     }
 
@@ -359,7 +359,7 @@ ledger-step old client moved new is (wire, on, m, e) h earlier (epochs, a) = rw 
     k = carried_by old.network.table earlier
 
     by : (end : End) → end_of old.network.table wire ≡ end
-        → IsMoveOf old.network.table old.base (ledger_of old h k) (ledger_of (after_step old client end) (Step client ∷ h) k) client (moved_past old.network.table old.base end (past old end))
+        → IsMoveOf old.network.table old.base (state_ledger old h k) (state_ledger (state_after_step old client end) (Step client ∷ h) k) client (moved_past old.network.table old.base end (past old end))
     by (Balancer b) ends = (wire, ledger-passes old h k client wire b is on ends a, refl, refl)
     by (Exit i) ends =
         let below : i < old.network.table.width = stands-at old.network is.network wire (Exit i) (is.on_wires client wire on) ends in

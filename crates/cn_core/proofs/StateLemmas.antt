@@ -15,7 +15,7 @@ use Rattle.cn_wiring.specs.Table.{end_of, Stands, LeadsOn}
 use Rattle.cn_wiring.specs.Network.{Network, IsNetwork}
 use Rattle.cn_core.specs.declared.position.Position.{Position}
 use Rattle.cn_core.specs.declared.position.Position.TheVariants.{On}
-use Rattle.cn_core.specs.State.{State, IsState, came_in, position_in, position_past, after_carry, after_enter, after_step, start, times_entered}
+use Rattle.cn_core.specs.State.{State, IsState, came_in, position_in, position_past, after_carry, state_after_enter, state_after_step, start, times_entered}
 use Rattle.cn_yard.proofs.CallerLemmas.{lookup-push, lookup-set, times-push, times-absent, times-set}
 
 -- how often the name of a visit of an exit was given in earlier epochs: they gave each exit its share of the base
@@ -33,9 +33,9 @@ once-push : (clients : List (ℕ × Position)) (client : ℕ) (position : Positi
     → (q : ℕ) → times_entered q (clients ++ (client, position) ∷ []) ≤ 1
 once-push clients client position absent once q = grind (arith, nat_tests, once q, times-push clients client position q, times-absent clients client absent)
 
-pub IsState-after_enter : (s : State) (client entry : ℕ) → IsState s → entry < s.network.table.entries → position_in s.clients client ≡ None → length s.clients < MOST_CLIENTS
-    → IsState (after_enter s client entry)
-IsState-after_enter s client entry is within absent room = record {
+pub IsState-state_after_enter : (s : State) (client entry : ℕ) → IsState s → entry < s.network.table.entries → position_in s.clients client ≡ None → length s.clients < MOST_CLIENTS
+    → IsState (state_after_enter s client entry)
+IsState-state_after_enter s client entry is within absent room = record {
   network = is.network;
   entries = length-set s.entered entry (slice_index s.entered entry + 1) ∙ is.entries;
   balancers = is.balancers;
@@ -64,9 +64,9 @@ half : (n : ℕ) → n % 2 < 2
 half n = omega arith
 
 -- a token that steps off a wire goes past the balancer there, which it had not passed
-pub IsState-after_step : (s : State) (client wire : ℕ) (end : End) → IsState s → position_in s.clients client ≡ Some (On wire) → end_of s.network.table wire ≡ end
-    → IsState (after_step s client end)
-IsState-after_step s client wire (Balancer b) is on ends = record {
+pub IsState-state_after_step : (s : State) (client wire : ℕ) (end : End) → IsState s → position_in s.clients client ≡ Some (On wire) → end_of s.network.table wire ≡ end
+    → IsState (state_after_step s client end)
+IsState-state_after_step s client wire (Balancer b) is on ends = record {
   network = is.network;
   entries = is.entries;
   balancers = length-set s.passes b (slice_index s.passes b + 1) ∙ is.balancers;
@@ -93,7 +93,7 @@ IsState-after_step s client wire (Balancer b) is on ends = record {
 
     within : s.network.table.entries + 2 * b + slice_index s.passes b % 2 < length s.network.table.ends
     within = omega (arith, half (slice_index s.passes b), is.network.formed.wires, below)
-IsState-after_step s client wire (Exit i) is on ends = record {
+IsState-state_after_step s client wire (Exit i) is on ends = record {
   network = is.network;
   entries = is.entries;
   balancers = is.balancers;

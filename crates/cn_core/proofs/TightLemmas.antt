@@ -16,8 +16,8 @@ use Rattle.cn_core.specs.declared.position.Position.TheVariants.{On, Holds}
 use Rattle.cn_core.specs.State.{State, IsState, came_in, past, position_in, name_at, name_in, times_entered, is_inside, is_named, inside_in}
 use Rattle.cn_ledger.specs.Ledger.{IsQuiescent, Ledger, times_given}
 use Rattle.cn_core.specs.History.{carried_by}
-use Rattle.cn_core.specs.StateLedger.{is_on, holds, granted_in, ledger_of, IsCore}
-use Rattle.cn_core.specs.Tight.{grants_in, IsTightState, IsBoundedState}
+use Rattle.cn_core.specs.StateLedger.{is_on, holds, granted_in_state, state_ledger, IsCore}
+use Rattle.cn_core.specs.Tight.{grants_of_clients, IsTightState, IsBoundedState}
 use Rattle.cn_ledger.proofs.CallerLemmas.{bounded, counts-few, names-differ, tight}
 use Rattle.cn_yard.proofs.CallerLemmas.{count-pair-found}
 use Rattle.cn_core.proofs.HistoryLemmas.{inside-or-named}
@@ -30,7 +30,7 @@ named-position (Some (Holds other)) name e = ap (λ n. Some (Holds n)) (let same
 
 -- who holds a name was granted it, with the base
 granted-name : (s : State) → IsState s → (client name : ℕ) → name_in s client ≡ Some name
-    → 1 ≤ granted_in s client ((name + s.base) % s.network.table.width) ((name + s.base) / s.network.table.width) (name + s.base)
+    → 1 ≤ granted_in_state s client ((name + s.base) % s.network.table.width) ((name + s.base) / s.network.table.width) (name + s.base)
 granted-name s is client name e =
     let w : ℕ = s.network.table.width in
     let n : ℕ = name + s.base in
@@ -43,7 +43,7 @@ granted-name s is client name e =
 pub bounded-state : (s : State) → IsCore s → IsBoundedState s
 bounded-state s is =
     let (h, earlier, a, sound) = is.reached in
-    let l : Ledger = ledger_of s h (carried_by s.network.table earlier) in
+    let l : Ledger = state_ledger s h (carried_by s.network.table earlier) in
     let b = bounded s.network.table is.state.network.formed is.state.network.counts l sound in
     let w : ℕ = s.network.table.width in
     record {
@@ -76,17 +76,17 @@ on-inside u ((c, Holds name) ∷ rest) =
     omega (arith, on-inside u rest, sum_by-cons (λ (p : Position). cond (is_on u p) 1 0) (Holds name) (values_of rest), sum_by-cons (λ (p : Position). cond (is_inside p) 1 0) (Holds name) (values_of rest))
 
 -- the grants are those of the clients that hold names
-length-grants-in : (clients : List (ℕ × Position)) → length (grants_in clients) ≡ count_by is_named (values_of clients)
+length-grants-in : (clients : List (ℕ × Position)) → length (grants_of_clients clients) ≡ count_by is_named (values_of clients)
 length-grants-in [] = refl
 length-grants-in ((c, On wire) ∷ rest) = omega (arith, length-grants-in rest, sum_by-cons (λ (p : Position). cond (is_named p) 1 0) (On wire) (values_of rest))
 length-grants-in ((c, Holds name) ∷ rest) = omega (arith, length-grants-in rest, sum_by-cons (λ (p : Position). cond (is_named p) 1 0) (Holds name) (values_of rest))
 
-clients-grants-in : (q : ℕ) (clients : List (ℕ × Position)) → count_by (λ grant. nat_eq q grant.1) (grants_in clients) ≤ times_entered q clients
+clients-grants-in : (q : ℕ) (clients : List (ℕ × Position)) → count_by (λ grant. nat_eq q grant.1) (grants_of_clients clients) ≤ times_entered q clients
 clients-grants-in q [] = omega arith
 clients-grants-in q ((c, On wire) ∷ rest) =
     omega (arith, clients-grants-in q rest, sum_by-cons (λ (e : ℕ × Position). cond (nat_eq q e.0) 1 0) (c, On wire) rest)
 clients-grants-in q ((c, Holds name) ∷ rest) =
-    omega (arith, clients-grants-in q rest, sum_by-cons (λ (e : ℕ × Position). cond (nat_eq q e.0) 1 0) (c, Holds name) rest, sum_by-cons (λ (grant : ℕ × ℕ). cond (nat_eq q grant.1) 1 0) (name, c) (grants_in rest))
+    omega (arith, clients-grants-in q rest, sum_by-cons (λ (e : ℕ × Position). cond (nat_eq q e.0) 1 0) (c, Holds name) rest, sum_by-cons (λ (grant : ℕ × ℕ). cond (nat_eq q grant.1) 1 0) (name, c) (grants_of_clients rest))
 
 eqb-shift : (m n base : ℕ) → (m + base == n + base) ≡ (m == n)
 eqb-shift m n base = elim (cases_eq m n) [
@@ -94,13 +94,13 @@ eqb-shift m n base = elim (cases_eq m n) [
   | inr d ↦ ne_eqb (m + base) (n + base) (λ e. d (omega arith)) ∙ sym (ne_eqb m n d)
 ]
 
-names-grants-in : (base n : ℕ) (clients : List (ℕ × Position)) → times n (map (λ grant. grant.0) (grants_in clients)) ≡ count_by (holds base (n + base)) (values_of clients)
+names-grants-in : (base n : ℕ) (clients : List (ℕ × Position)) → times n (map (λ grant. grant.0) (grants_of_clients clients)) ≡ count_by (holds base (n + base)) (values_of clients)
 names-grants-in base n [] = times-nil n
 names-grants-in base n ((c, On wire) ∷ rest) =
     omega (arith, names-grants-in base n rest, sum_by-cons (λ (p : Position). cond (holds base (n + base) p) 1 0) (On wire) (values_of rest))
 names-grants-in base n ((c, Holds name) ∷ rest) =
     let same : ◌≡◌ {A = ℕ} (cond (name + base == n + base) 1 0) (cond (name == n) 1 0) = ap {B = ℕ} (λ b. cond b 1 0) (eqb-shift name n base) in
-    omega (arith, names-grants-in base n rest, times-cons n name (map (λ grant. grant.0) (grants_in rest)), sum_by-cons (λ (p : Position). cond (holds base (n + base) p) 1 0) (Holds name) (values_of rest))
+    omega (arith, names-grants-in base n rest, times-cons n name (map (λ grant. grant.0) (grants_of_clients rest)), sum_by-cons (λ (p : Position). cond (holds base (n + base) p) 1 0) (Holds name) (values_of rest))
 
 -- a name from the base on was not given before
 not-before : (base w n : ℕ) → n % w < w → base ≤ n → once_below (share base w (n % w)) (n / w) ≡ 0
@@ -120,7 +120,7 @@ once-shift base k n all e = elim (cases_lt n k) [
 pub tight-state : (s : State) → IsCore s → inside_in s ≡ 0 → IsTightState s
 tight-state s is none =
     let (h, earlier, a, sound) = is.reached in
-    let l : Ledger = ledger_of s h (carried_by s.network.table earlier) in
+    let l : Ledger = state_ledger s h (carried_by s.network.table earlier) in
     let quiet : IsQuiescent s.network.table l = λ u within. omega (arith, on-inside u s.clients) in
     let t = tight s.network.table is.state.network.formed is.state.network.counts l sound quiet in
     let w : ℕ = s.network.table.width in
@@ -130,7 +130,7 @@ tight-state s is none =
       everyone = omega (arith, length-grants-in s.clients, inside-or-named s.clients);
       tight = record {
         clients = λ q. omega (arith, clients-grants-in q s.clients, is.state.once q);
-        names = each_below (length s.clients) (map (λ grant. grant.0) (grants_in s.clients)) (λ n.
+        names = each_below (length s.clients) (map (λ grant. grant.0) (grants_of_clients s.clients)) (λ n.
             let m : ℕ = n + s.base in
             let below : m % w < w = mod_below m w (omega arith) in
             let before : given_before s (m % w) (m / w) ≡ 0 = not-before s.base w m below (omega arith) in

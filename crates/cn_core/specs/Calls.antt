@@ -11,15 +11,15 @@ use Rattle.cn_core.specs.declared.event.Event.{Event}
 use Rattle.cn_core.specs.declared.event.Event.TheVariants.{Enter, Step}
 use Rattle.cn_ledger.specs.Events.{Enters}
 use Rattle.cn_ledger.specs.Moves.{IsMoveOf}
-use Rattle.cn_core.specs.StateLedger.{ledger_of}
-use Rattle.cn_core.specs.State.{State, position_in, past, after_enter, after_step}
+use Rattle.cn_core.specs.StateLedger.{state_ledger}
+use Rattle.cn_core.specs.State.{State, position_in, past, state_after_enter, state_after_step}
 use Rattle.cn_core.specs.History.{Agrees, ByHistories, carried_by, MayAnswer, MayAnswerAll, history_after, history_by, moved_past}
 
 -- an enter with this reply takes the old state to the new one
 abbrev pub EntersTo : State → ℕ → ℕ → Reply → State → Type 0
 EntersTo old client entry Entered new =
     (entry < old.network.table.entries) × (position_in old.clients client ≡ None)
-    × (length old.clients < MOST_CLIENTS) × (new ≡ after_enter old client entry)
+    × (length old.clients < MOST_CLIENTS) × (new ≡ state_after_enter old client entry)
 EntersTo old client entry (EnterRefused NoSuchEntry) new = (old.network.table.entries ≤ entry) × (new ≡ old)
 EntersTo old client entry (EnterRefused AlreadyIn) new =
     (entry < old.network.table.entries) × IsSome (position_in old.clients client) × (new ≡ old)
@@ -38,7 +38,7 @@ StepsTo old client (Stepped moved) new =
     (wire : ℕ) × (position_in old.clients client ≡ Some (On wire))
     × (moved ≡ moved_past old.network.table old.base (end_of old.network.table wire)
     (past old (end_of old.network.table wire)))
-    × (new ≡ after_step old client (end_of old.network.table wire))
+    × (new ≡ state_after_step old client (end_of old.network.table wire))
 StepsTo old client (StepRefused Stranger) new = (position_in old.clients client ≡ None) × (new ≡ old)
 StepsTo old client (StepRefused (HasName name)) new = (position_in old.clients client ≡ Some (Holds name)) × (new ≡ old)
 StepsTo old client Entered new = ⊥
@@ -76,12 +76,12 @@ CarriesByHistory old new =
 abbrev pub IsLedgerEvent : State → Event → Reply → State → Type 0
 IsLedgerEvent old (Enter client entry) Entered new =
     ByHistories old (λ history carried.
-    Enters old.network.table (ledger_of old history carried)
-    (ledger_of new (Enter client entry ∷ history) carried) client entry)
+    Enters old.network.table (state_ledger old history carried)
+    (state_ledger new (Enter client entry ∷ history) carried) client entry)
 IsLedgerEvent old (Step client) (Stepped moved) new =
     ByHistories old (λ history carried.
-    IsMoveOf old.network.table old.base (ledger_of old history carried)
-    (ledger_of new (Step client ∷ history) carried) client moved)
+    IsMoveOf old.network.table old.base (state_ledger old history carried)
+    (state_ledger new (Step client ∷ history) carried) client moved)
 IsLedgerEvent old event reply new = Unit {0}
 
 -- events with these replies take the old state to the new one, one after another, each accepted one by one event on the

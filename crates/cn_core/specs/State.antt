@@ -43,8 +43,8 @@ abbrev pub came_in : State → ℕ
 came_in s = sum_below s.network.table.entries (λ entry. slice_index s.entered entry)
 
 -- the state after a client enters
-abbrev pub after_enter : State → ℕ → ℕ → State
-after_enter s client entry = record {
+abbrev pub state_after_enter : State → ℕ → ℕ → State
+state_after_enter s client entry = record {
   network = s.network;
   base = s.base;
   entered = one_more s.entered entry;
@@ -54,8 +54,8 @@ after_enter s client entry = record {
 }
 
 -- the state after a client steps off a wire with this end
-abbrev pub after_step : State → ℕ → End → State
-after_step s client (Balancer b) = record {
+abbrev pub state_after_step : State → ℕ → End → State
+state_after_step s client (Balancer b) = record {
   network = s.network;
   base = s.base;
   entered = s.entered;
@@ -64,7 +64,7 @@ after_step s client (Balancer b) = record {
   clients = set_value (nat_eq client) s.clients
       (position_past s.network.table s.base (Balancer b) (slice_index s.passes b));
 }
-after_step s client (Exit i) = record {
+state_after_step s client (Exit i) = record {
   network = s.network;
   base = s.base;
   entered = s.entered;

@@ -25,35 +25,35 @@ holds base name (Holds other) = other + base == name
 
 -- how often a number was given: a passage's in earlier epochs and in the history; a visit's in earlier epochs, which
 -- gave each exit its share of the base, and to the clients that hold its name
-abbrev pub given_in : State → List Event → Carried → End → ℕ → ℕ
-given_in s history carried (Balancer b) n =
+abbrev pub given_in_state : State → List Event → Carried → End → ℕ → ℕ
+given_in_state s history carried (Balancer b) n =
     once_below (carried.steps (Balancer b)) n + times_passed s.network.table history carried b n
-given_in s history carried (Exit i) v =
+given_in_state s history carried (Exit i) v =
     when (nat_lt i s.network.table.width)
     (once_below (share s.base s.network.table.width i) v
     + count_by (holds s.base (name_of s.network.table.width i v)) (values_of s.clients))
 
 -- how often a client was granted a visit of an exit and its name
-abbrev pub granted_in : State → ℕ → ℕ → ℕ → ℕ → ℕ
-granted_in s c i v name =
+abbrev pub granted_in_state : State → ℕ → ℕ → ℕ → ℕ → ℕ
+granted_in_state s c i v name =
     when (nat_lt i s.network.table.width && (name_of s.network.table.width i v == name))
     (when (0 == c) (once_below (share s.base s.network.table.width i) v)
     + count_by (λ e. nat_eq c e.0 && holds s.base name e.1) s.clients)
 
 -- the ledger of a state, with the passages of a history after what is carried
-abbrev pub ledger_of : State → List Event → Carried → Ledger
-ledger_of s history carried = record {
+abbrev pub state_ledger : State → List Event → Carried → Ledger
+state_ledger s history carried = record {
   entered = λ entry. slice_index s.entered entry;
   count = past s;
   on = λ u. count_by (is_on u) (values_of s.clients);
   standing = λ u c. count_by (λ e. nat_eq c e.0 && is_on u e.1) s.clients;
-  given = given_in s history carried;
-  granted = granted_in s;
+  given = given_in_state s history carried;
+  granted = granted_in_state s;
 }
 
 -- the ledger is sound by this history after what is carried
 abbrev pub HasSoundLedger : State → List Event → Carried → Type 0
-HasSoundLedger s history carried = IsSound s.network.table (ledger_of s history carried)
+HasSoundLedger s history carried = IsSound s.network.table (state_ledger s history carried)
 
 -- some history and earlier epochs lead to this state, and the ledger is sound by them
 abbrev pub IsReached : State → Type 0

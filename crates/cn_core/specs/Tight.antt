@@ -14,10 +14,10 @@ use Rattle.cn_core.specs.History.{Carried}
 use Rattle.cn_core.specs.State.{State, came_in, name_in, past}
 
 -- the name and the client of each client that holds a name, in the order in which they entered
-abbrev pub grants_in : List (ℕ × Position) → List (ℕ × ℕ)
-grants_in [] = []
-grants_in ((client, On wire) ∷ clients) = grants_in clients
-grants_in ((client, Holds name) ∷ clients) = (name, client) ∷ grants_in clients
+abbrev pub grants_of_clients : List (ℕ × Position) → List (ℕ × ℕ)
+grants_of_clients [] = []
+grants_of_clients ((client, On wire) ∷ clients) = grants_of_clients clients
+grants_of_clients ((client, Holds name) ∷ clients) = (name, client) ∷ grants_of_clients clients
 
 -- the grants, each a name and its client, pair the numbers below k with distinct clients, one to one and onto
 pub record IsTightEpoch (k : ℕ) (grants : List (ℕ × ℕ)) : Type 0 where
@@ -30,8 +30,8 @@ pub record IsTightState (s : State) : Type 0 where
   pub counts : (i : ℕ) → i < s.network.table.width
       → slice_index s.visits i ≡ share (came_in s) s.network.table.width i
   -- each client has a name, and the names are those below the number of clients
-  pub everyone : length (grants_in s.clients) ≡ length s.clients
-  pub tight : IsTightEpoch (length s.clients) (grants_in s.clients)
+  pub everyone : length (grants_of_clients s.clients) ≡ length s.clients
+  pub tight : IsTightEpoch (length s.clients) (grants_of_clients s.clients)
 
 -- what earlier epochs left by each exit is its share of their clients
 abbrev pub HasShares : ℕ → Carried → Type 0
@@ -64,7 +64,7 @@ pub record IsBoundedState (s : State) : Type 0 where
       → name_in s other ≡ Some name → client ≡ other
 
 -- the clients of a state by rising name
-pub record ListsHolders (s : State) (holders : List ℕ) : Type 0 where
+pub record ListsStateHolders (s : State) (holders : List ℕ) : Type 0 where
   -- there are as many places as clients
   pub all : length holders ≡ length s.clients
   -- at each place stands the client that holds the place's number

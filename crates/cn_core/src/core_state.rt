@@ -72,7 +72,7 @@ impl<'a> Core<'a> {
     ghost use Rattle.cn_core.specs.State.{after_carry, came_in, inside_in, name_in, start};
     ghost use Rattle.cn_core.specs.History.{Agrees, ByHistories, enters_of, inside_of};
     ghost use Rattle.cn_core.specs.StateLedger.{HasSoundLedger};
-    ghost use Rattle.cn_core.specs.Tight.{BringsAll, HasShares, IsBoundedState, IsTightState, ListsHolders};
+    ghost use Rattle.cn_core.specs.Tight.{BringsAll, HasShares, IsBoundedState, IsTightState, ListsStateHolders};
     ghost use Rattle.cn_core.specs.Calls.{AnswersByHistory, CarriesByHistory, EntersTo, IsLedgerEvent, StepsTo};
     ghost use Rattle.cn_record.specs.Answers.{entered_reply, stepped_reply};
 
@@ -194,7 +194,7 @@ impl<'a> Core<'a> {
     /// `AllocError` if the list gets no memory.
     pub fn holders(&self) -> Result<Vec<u64>, AllocError>
         requires { inside_in self.now ≡ 0 }
-        ensures { IfOk result (λ holders. ListsHolders self.now holders.items) }
+        ensures { IfOk result (λ holders. ListsStateHolders self.now holders.items) }
     {
         self.clients.by_name()
     }

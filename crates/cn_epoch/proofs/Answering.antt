@@ -10,7 +10,7 @@ use Rattle.cn_core.specs.declared.position.Position.TheVariants.{On, Holds}
 use Rattle.cn_record.specs.declared.reply.Reply.{Reply}
 use Rattle.cn_core.specs.History as core
 use Rattle.cn_core.specs.History.{AgreesAfter, Carried, inside_of, carried_by}
-use Rattle.cn_core.specs.Calls.{AnswersByHistory as EventByHistory}
+use Rattle.cn_core.specs.Calls.{AnswersByHistory}
 use Rattle.cn_core.specs.State.{State, came_in, inside_in, name_at, position_in}
 use Rattle.cn_core.specs.Tight.{HasShares, IsTightState}
 use Rattle.cn_core.proofs.CallerLemmas.{came-after as event-after, Agrees-after_carry, Agrees-start, inside-by_history}
@@ -20,8 +20,8 @@ use Rattle.cn_record.specs.declared.answer.TurnFault.TheVariants.{Memory, NotQui
 use Rattle.cn_record.specs.declared.command.Command.{Command}
 use Rattle.cn_record.specs.declared.command.Command.TheVariants.{Enter, Step, Turn}
 use Rattle.cn_record.specs.declared.record.EpochRecord.{EpochRecord}
-use Rattle.cn_epoch.specs.Calls.{AnswersByHistory, RepliesByHistory, RunsByHistory, RunsTo, TakesTo, TellsEpoch}
-use Rattle.cn_epoch.specs.History.{Agrees, ByHistories, Epochs, IsRecordOf, earlier_after, earlier_in, kept_after, next}
+use Rattle.cn_epoch.specs.Calls.{AnswersCommandByHistory, RepliesByHistory, RunsCommandsByHistory, RunsCommandsTo, TakesCommandTo, TellsEpoch}
+use Rattle.cn_epoch.specs.History.{ByEpochHistories, Epochs, EpochsAgree, IsRecordOf, earlier_after, earlier_in, kept_after, next}
 use Rattle.cn_epoch.specs.Turns.{IsTightRecord}
 
 -- ---- a turn
@@ -65,15 +65,15 @@ said-record old r said turns history carried number agrees shares = record {
 }
 
 -- nobody is inside by history
-quiet-by_history : (old : Epochs) → inside_in old.core ≡ 0 → ByHistories old (λ turns history carried. inside_of old.core.network.table history carried ≡ 0)
+quiet-by_history : (old : Epochs) → inside_in old.core ≡ 0 → ByEpochHistories old (λ turns history carried. inside_of old.core.network.table history carried ≡ 0)
 quiet-by_history old quiet turns history kept agrees = sym (inside-by_history old.core history (carried_by old.core.network.table (earlier_in kept)) agrees.core.1) ∙ quiet
 
 next-by : (core : State) (carries is : Bool) → carries ≡ is → next carries core ≡ next is core
 next-by core carries is same = ap (λ carries. next carries core) same
 
 -- the next epoch agrees with the history that a turn leaves
-begun-after : (old : Epochs) (turns : ℕ) (history : List Event) (kept : Option (List (List Event))) (r : EpochRecord) → inside_in old.core ≡ 0 → Agrees old turns history kept
-    → Agrees (record { number = old.number + 1; carries = old.carries; core = next old.carries old.core }) (turns + 1) [] (kept_after kept history (Turned r))
+begun-after : (old : Epochs) (turns : ℕ) (history : List Event) (kept : Option (List (List Event))) (r : EpochRecord) → inside_in old.core ≡ 0 → EpochsAgree old turns history kept
+    → EpochsAgree (record { number = old.number + 1; carries = old.carries; core = next old.carries old.core }) (turns + 1) [] (kept_after kept history (Turned r))
 begun-after old turns history None r quiet agrees = record {
   number = ap (λ (n : ℕ). n + 1) agrees.number;
   carries = agrees.carries;
@@ -86,13 +86,13 @@ begun-after old turns history (Some earlier) r quiet agrees = record {
 }
 
 pub turned-after : (old new : Epochs) (r : EpochRecord) → TellsEpoch old r → core.ByHistories old.core (λ history carried. HasShares old.core.network.table.width carried) → inside_in old.core ≡ 0
-    → new ≡ record { number = old.number + 1; carries = old.carries; core = next old.carries old.core } → AnswersByHistory old Turn (Turned r) new
+    → new ≡ record { number = old.number + 1; carries = old.carries; core = next old.carries old.core } → AnswersCommandByHistory old Turn (Turned r) new
 turned-after old new r said shares quiet is turns history kept agrees = (
   (quiet-by_history old quiet turns history kept agrees, said-record old r said turns history (carried_by old.core.network.table (earlier_in kept)) agrees.number agrees.core.1 (shares history (earlier_in kept) agrees.core)),
   rw is (begun-after old turns history kept r quiet agrees),
 )
 
-pub memory-after : (old : Epochs) → inside_in old.core ≡ 0 → AnswersByHistory old Turn (TurnRefused Memory) old
+pub memory-after : (old : Epochs) → inside_in old.core ≡ 0 → AnswersCommandByHistory old Turn (TurnRefused Memory) old
 memory-after old quiet turns history None agrees = (quiet-by_history old quiet turns history None agrees, agrees)
 memory-after old quiet turns history (Some earlier) agrees = (quiet-by_history old quiet turns history (Some earlier) agrees, agrees)
 
@@ -101,7 +101,7 @@ came-next : (core : State) (carries : Bool) → (next carries core).base + lengt
 came-next core true = omega arith
 came-next core false = omega arith
 
-pub came-after : (old : Epochs) (command : Command) (answer : Answer) (new : Epochs) → TakesTo old command answer new
+pub came-after : (old : Epochs) (command : Command) (answer : Answer) (new : Epochs) → TakesCommandTo old command answer new
     → (new.carries ≡ old.carries) × (new.core.base + length new.core.clients ≤ old.core.base + length old.core.clients + 1)
 came-after old (Enter client entry) (Replied reply) new (goes, ledger, number, carries) = (carries, event-after old.core new.core (EnterEvent client entry) reply goes)
 came-after old (Enter client entry) (Turned r) new none = absurd none
@@ -116,13 +116,13 @@ came-after old Turn (Replied reply) new none = absurd none
 
 -- ---- commands one after another
 
-pub runs-none : (epochs : Epochs) → RunsByHistory epochs [] [] epochs
+pub runs-none : (epochs : Epochs) → RunsCommandsByHistory epochs [] [] epochs
 runs-none epochs turns history None agrees = (tt, agrees)
 runs-none epochs turns history (Some earlier) agrees = (tt, agrees)
 
 -- the first answer, and those to what is left
 runs-first : (old mid new : Epochs) (c : Command) (cs : List Command) (a : Answer) (rest : List Answer)
-    → AnswersByHistory old c a mid → mid.core.network ≡ old.core.network → RunsByHistory mid cs rest new → RunsByHistory old (c ∷ cs) (a ∷ rest) new
+    → AnswersCommandByHistory old c a mid → mid.core.network ≡ old.core.network → RunsCommandsByHistory mid cs rest new → RunsCommandsByHistory old (c ∷ cs) (a ∷ rest) new
 runs-first old mid new c cs a rest answered same runs turns history None agrees =
     let (may, after) = answered turns history None agrees in
     let (others, last) = runs _ _ None after in
@@ -133,24 +133,24 @@ runs-first old mid new c cs a rest answered same runs turns history (Some earlie
     ((may, rw same at others), last)
 
 pub runs-at : (old mid new : Epochs) (cs : List Command) (i : ℕ) (d : Command) (a : Answer) (rest : List Answer) → i < length cs
-    → AnswersByHistory old (get_or cs i d) a mid → mid.core.network ≡ old.core.network → RunsByHistory mid (drop (i + 1) cs) rest new → RunsByHistory old (drop i cs) (a ∷ rest) new
+    → AnswersCommandByHistory old (get_or cs i d) a mid → mid.core.network ≡ old.core.network → RunsCommandsByHistory mid (drop (i + 1) cs) rest new → RunsCommandsByHistory old (drop i cs) (a ∷ rest) new
 runs-at old mid new cs i d a rest within answered same runs = rw (drop_more cs i d within) (runs-first old mid new (get_or cs i d) (drop (i + 1) cs) a rest answered same runs)
 
 pub runs_to-at : (old mid new : Epochs) (cs : List Command) (i : ℕ) (d : Command) (a : Answer) (rest : List Answer) → i < length cs
-    → TakesTo old (get_or cs i d) a mid → RunsTo mid (drop (i + 1) cs) rest new → RunsTo old (drop i cs) (a ∷ rest) new
+    → TakesCommandTo old (get_or cs i d) a mid → RunsCommandsTo mid (drop (i + 1) cs) rest new → RunsCommandsTo old (drop i cs) (a ∷ rest) new
 runs_to-at old mid new cs i d a rest within goes runs = rw (drop_more cs i d within) (mid, goes, runs)
 
 -- ---- the reply to an event, as the answer to a command
 
-pub replied : (old new : Epochs) (event : Event) (reply : Reply) → EventByHistory old.core event reply new.core → (new.number ≡ old.number) × (new.carries ≡ old.carries) → RepliesByHistory old event reply new
+pub replied : (old new : Epochs) (event : Event) (reply : Reply) → AnswersByHistory old.core event reply new.core → (new.number ≡ old.number) × (new.carries ≡ old.carries) → RepliesByHistory old event reply new
 replied old new event reply by (number, carries) turns history kept agrees =
     let (may, after) = by history (earlier_in kept) agrees.core in
     (may, record { number = number ∙ agrees.number; carries = carries ∙ agrees.carries; core = after })
 
-pub entered-by : (old new : Epochs) (client entry : ℕ) (reply : Reply) → RepliesByHistory old (EnterEvent client entry) reply new → AnswersByHistory old (Enter client entry) (Replied reply) new
+pub entered-by : (old new : Epochs) (client entry : ℕ) (reply : Reply) → RepliesByHistory old (EnterEvent client entry) reply new → AnswersCommandByHistory old (Enter client entry) (Replied reply) new
 entered-by old new client entry reply by turns history None agrees = by turns history None agrees
 entered-by old new client entry reply by turns history (Some earlier) agrees = by turns history (Some earlier) agrees
 
-pub stepped-by : (old new : Epochs) (client : ℕ) (reply : Reply) → RepliesByHistory old (StepEvent client) reply new → AnswersByHistory old (Step client) (Replied reply) new
+pub stepped-by : (old new : Epochs) (client : ℕ) (reply : Reply) → RepliesByHistory old (StepEvent client) reply new → AnswersCommandByHistory old (Step client) (Replied reply) new
 stepped-by old new client reply by turns history None agrees = by turns history None agrees
 stepped-by old new client reply by turns history (Some earlier) agrees = by turns history (Some earlier) agrees

@@ -18,7 +18,7 @@ use Rattle.cn_record.specs.declared.answer.Answer.TheVariants.{Replied, Turned, 
 use Rattle.cn_record.specs.declared.answer.TurnFault.TheVariants.{NotQuiet, Memory}
 use Rattle.cn_record.specs.declared.command.Command.{Command}
 use Rattle.cn_record.specs.declared.command.Command.TheVariants.{Enter, Step, Turn}
-use Rattle.cn_epoch.specs.History.{MayAnswer, MayReply, MayTurn, cut_by, earlier_after, earlier_by, earlier_in, history_after, history_by, kept_after, kept_by, replied_to, turns_after, turns_by}
+use Rattle.cn_epoch.specs.History.{MayAnswerCommand, MayReply, MayTurn, cut_by, earlier_after, earlier_by, earlier_in, history_after_command, history_by_commands, kept_after, kept_by, replied_to, turns_after, turns_by}
 use Rattle.cn_record.specs.Answers.{HadMemory, IsSameAnswer}
 use Rattle.cn_epoch.specs.Turns.{HasOneRecord, HaveOneAnswer}
 
@@ -68,7 +68,7 @@ module _ (network : Network) (is : IsNetwork network) where
   same-turn turns history carried (Replied reply) other holder may might had also = absurd may
   same-turn turns history carried answer (Replied reply) holder may might had also = absurd might
 
-  same-answer : (turns : ℕ) (history : List Event) (carried : Carried) (command : Command) (answer other : Answer) → HasOneHolder t history carried → MayAnswer t turns history carried command answer → MayAnswer t turns history carried command other
+  same-answer : (turns : ℕ) (history : List Event) (carried : Carried) (command : Command) (answer other : Answer) → HasOneHolder t history carried → MayAnswerCommand t turns history carried command answer → MayAnswerCommand t turns history carried command other
       → HadMemory answer → HadMemory other → IsSameAnswer answer other
   same-answer turns history carried (Enter client entry) answer other holder may might had also = same-reply history carried (EnterEvent client entry) answer other may might had also
   same-answer turns history carried (Step client) answer other holder may might had also = same-reply history carried (StepEvent client) answer other may might had also
@@ -104,8 +104,8 @@ module _ (network : Network) (is : IsNetwork network) where
   turned turns h (Some earlier) (TurnRefused fault) may was = was
   turned turns h kept (Replied reply) may was = absurd may
 
-  left : (turns : ℕ) (h : List Event) (kept : Option (List (List Event))) (command : Command) (answer : Answer) → MayAnswer t turns h (carried_by t (earlier_in kept)) command answer → AreAccepted kept h
-      → AreAccepted (kept_after kept h answer) (history_after h command answer)
+  left : (turns : ℕ) (h : List Event) (kept : Option (List (List Event))) (command : Command) (answer : Answer) → MayAnswerCommand t turns h (carried_by t (earlier_in kept)) command answer → AreAccepted kept h
+      → AreAccepted (kept_after kept h answer) (history_after_command h command answer)
   left turns h kept (Enter client entry) answer may was = replied h kept (EnterEvent client entry) answer may was
   left turns h kept (Step client) answer may was = replied h kept (StepEvent client) answer may was
   left turns h kept Turn answer may was = turned turns h kept answer may was
@@ -120,14 +120,14 @@ module _ (network : Network) (is : IsNetwork network) where
   all-more earlier h [] answers = omega arith
   all-more earlier h (command ∷ commands) [] = omega arith
   all-more earlier h (command ∷ commands) (answer ∷ answers) =
-      omega (arith, one-more earlier h answer, all-more (earlier_after earlier h answer) (history_after h command answer) commands answers)
+      omega (arith, one-more earlier h answer, all-more (earlier_after earlier h answer) (history_after_command h command answer) commands answers)
 
   grows : (kept : Option (List (List Event))) (h : List Event) (commands : List Command) (answers : List Answer) → (carried_by t (earlier_in kept)).enters ≤ (carried_by t (earlier_in (kept_by kept h commands answers))).enters
   grows None h commands answers = omega arith
   grows (Some earlier) h commands answers = all-more earlier h commands answers
 
   kept_by-next : (kept : Option (List (List Event))) (h : List Event) (command : Command) (commands : List Command) (answer : Answer) (answers : List Answer)
-      → kept_by kept h (command ∷ commands) (answer ∷ answers) ≡ kept_by (kept_after kept h answer) (history_after h command answer) commands answers
+      → kept_by kept h (command ∷ commands) (answer ∷ answers) ≡ kept_by (kept_after kept h answer) (history_after_command h command answer) commands answers
   kept_by-next None h command commands answer answers = refl
   kept_by-next (Some earlier) h command commands answer answers = refl
 
@@ -147,7 +147,7 @@ module _ (network : Network) (is : IsNetwork network) where
   turns-same : (turns : ℕ) (answer other : Answer) → IsSameAnswer answer other → turns_after turns answer ≡ turns_after turns other
   turns-same turns answer other same = (left-same turns [] (StepEvent 0) answer other same).0
 
-  history-same : (history : List Event) (command : Command) (answer other : Answer) → IsSameAnswer answer other → history_after history command answer ≡ history_after history command other
+  history-same : (history : List Event) (command : Command) (answer other : Answer) → IsSameAnswer answer other → history_after_command history command answer ≡ history_after_command history command other
   history-same history (Enter client entry) answer other same = (left-same 0 history (EnterEvent client entry) answer other same).1
   history-same history (Step client) answer other same = (left-same 0 history (StepEvent client) answer other same).1
   history-same history Turn answer other same = (left-same 0 history (StepEvent 0) answer other same).2
@@ -176,7 +176,7 @@ module _ (network : Network) (is : IsNetwork network) where
       let same = same-answer turns history (carried_by t (earlier_in kept)) command answer other holder may might (All-head HadMemory answer answers had) (All-head HadMemory other others also) in
       let (before, accepted) = left turns history kept command answer may (epochs, was) in (
         same,
-        one-list (turns_after turns answer) (history_after history command answer) (kept_after kept history answer) commands before accepted answers others (All-tail HadMemory answer answers had) (All-tail HadMemory other others also) rest
+        one-list (turns_after turns answer) (history_after_command history command answer) (kept_after kept history answer) commands before accepted answers others (All-tail HadMemory answer answers had) (All-tail HadMemory other others also) rest
             (rw (turns-same turns answer other same, history-same history command answer other same, kept-same kept history answer other same) remaining)
             (rw (kept_by-next kept history command commands answer answers) at few),
       )
@@ -193,10 +193,10 @@ module _ (network : Network) (is : IsNetwork network) where
   turns-by-same turns [] (other ∷ others) same = absurd same
   turns-by-same turns (answer ∷ answers) [] same = absurd same
 
-  pub history-by-same : (history : List Event) (commands : List Command) (answers others : List Answer) → AllZip IsSameAnswer answers others → history_by history commands answers ≡ history_by history commands others
+  pub history-by-same : (history : List Event) (commands : List Command) (answers others : List Answer) → AllZip IsSameAnswer answers others → history_by_commands history commands answers ≡ history_by_commands history commands others
   history-by-same history [] answers others same = refl
   history-by-same history (command ∷ commands) [] [] same = refl
   history-by-same history (command ∷ commands) (answer ∷ answers) (other ∷ others) (same, rest) =
-      ap (λ h. history_by h commands answers) (history-same history command answer other same) ∙ history-by-same (history_after history command other) commands answers others rest
+      ap (λ h. history_by_commands h commands answers) (history-same history command answer other same) ∙ history-by-same (history_after_command history command other) commands answers others rest
   history-by-same history (command ∷ commands) [] (other ∷ others) same = absurd same
   history-by-same history (command ∷ commands) (answer ∷ answers) [] same = absurd same

@@ -5,17 +5,17 @@ use Rattle.cn_core.specs.declared.event.Event.{Event}
 use Rattle.cn_core.specs.declared.event.Event.TheVariants.{Enter as EnterEvent, Step as StepEvent}
 use Rattle.cn_core.specs.Calls as core
 use Rattle.cn_core.specs.Calls.{IsLedgerEvent}
-use Rattle.cn_core.specs.History.{MayAnswer as MayAnswerEvent, history_after as history_after_event, carried_by}
+use Rattle.cn_core.specs.History.{MayAnswer, history_after, carried_by}
 use Rattle.cn_core.specs.State.{inside_in}
 use Rattle.cn_record.specs.declared.reply.Reply.{Reply}
-use Rattle.cn_core.specs.Tight.{ListsHolders}
+use Rattle.cn_core.specs.Tight.{ListsStateHolders}
 use Rattle.cn_record.specs.declared.answer.Answer.{Answer}
 use Rattle.cn_record.specs.declared.answer.Answer.TheVariants.{Replied, Turned, TurnRefused}
 use Rattle.cn_record.specs.declared.answer.TurnFault.TheVariants.{NotQuiet, Memory}
 use Rattle.cn_record.specs.declared.command.Command.{Command}
 use Rattle.cn_record.specs.declared.command.Command.TheVariants.{Enter, Step, Turn}
 use Rattle.cn_record.specs.declared.record.EpochRecord.{EpochRecord}
-use Rattle.cn_epoch.specs.History.{Agrees, Epochs, MayAnswerAll, MayAnswer, MayTurn, cut_by, history_after, history_by, kept_after, kept_by, next, turns_after, turns_by, earlier_in}
+use Rattle.cn_epoch.specs.History.{EpochsAgree, Epochs, MayAnswerCommands, MayAnswerCommand, MayTurn, cut_by, history_after_command, history_by_commands, kept_after, kept_by, next, turns_after, turns_by, earlier_in}
 use Rattle.cn_epoch.specs.Turns.{IsTightRecord}
 
 -- a record describes the epoch that stands open: how many ended before it, how many clients entered it, how many left
@@ -27,7 +27,7 @@ pub record TellsEpoch (epochs : Epochs) (r : EpochRecord) : Type 0 where
   pub counts : (exit : ℕ) → exit < epochs.core.network.table.width
       → slice_index r.counts.items exit + share epochs.core.base epochs.core.network.table.width exit
       ≡ slice_index epochs.core.visits exit
-  pub holders : ListsHolders epochs.core r.holders.items
+  pub holders : ListsStateHolders epochs.core r.holders.items
 
 -- a turn with this answer takes the old epochs to the new ones
 abbrev pub TurnsTo : Epochs → Answer → Epochs → Type 0
@@ -51,44 +51,46 @@ RepliesTo old event (TurnRefused fault) new = ⊥
 -- the new epochs agree with those after it: no epoch ends
 abbrev pub RepliesByHistory : Epochs → Event → Reply → Epochs → Type 0
 RepliesByHistory old event reply new =
-    (turns : ℕ) (history : List Event) (kept : Option (List (List Event))) → Agrees old turns history kept
-    → MayAnswerEvent old.core.network.table history (carried_by old.core.network.table (earlier_in kept)) event reply
-    × Agrees new turns (history_after_event history event reply) kept
+    (turns : ℕ) (history : List Event) (kept : Option (List (List Event))) → EpochsAgree old turns history kept
+    → MayAnswer old.core.network.table history (carried_by old.core.network.table (earlier_in kept)) event reply
+    × EpochsAgree new turns (history_after history event reply) kept
 
 -- and of a turn
 abbrev pub TurnsByHistory : Epochs → Answer → Epochs → Type 0
 TurnsByHistory old answer new =
-    (turns : ℕ) (history : List Event) (kept : Option (List (List Event))) → Agrees old turns history kept
+    (turns : ℕ) (history : List Event) (kept : Option (List (List Event))) → EpochsAgree old turns history kept
     → MayTurn old.core.network.table turns history (carried_by old.core.network.table (earlier_in kept)) answer
-    × Agrees new (turns_after turns answer) (cut_by history answer) (kept_after kept history answer)
+    × EpochsAgree new (turns_after turns answer) (cut_by history answer) (kept_after kept history answer)
 
 -- a command with this answer takes the old epochs to the new ones
-abbrev pub TakesTo : Epochs → Command → Answer → Epochs → Type 0
-TakesTo old (Enter client entry) answer new = RepliesTo old (EnterEvent client entry) answer new
-TakesTo old (Step client) answer new = RepliesTo old (StepEvent client) answer new
-TakesTo old Turn answer new = TurnsTo old answer new
+abbrev pub TakesCommandTo : Epochs → Command → Answer → Epochs → Type 0
+TakesCommandTo old (Enter client entry) answer new = RepliesTo old (EnterEvent client entry) answer new
+TakesCommandTo old (Step client) answer new = RepliesTo old (StepEvent client) answer new
+TakesCommandTo old Turn answer new = TurnsTo old answer new
 
 -- by every number of turns, history and earlier epochs that the old epochs agree with this is an answer to the command,
 -- and the new epochs agree with those after it
-abbrev pub AnswersByHistory : Epochs → Command → Answer → Epochs → Type 0
-AnswersByHistory old command answer new =
-    (turns : ℕ) (history : List Event) (kept : Option (List (List Event))) → Agrees old turns history kept
-    → MayAnswer old.core.network.table turns history (carried_by old.core.network.table (earlier_in kept))
+abbrev pub AnswersCommandByHistory : Epochs → Command → Answer → Epochs → Type 0
+AnswersCommandByHistory old command answer new =
+    (turns : ℕ) (history : List Event) (kept : Option (List (List Event))) → EpochsAgree old turns history kept
+    → MayAnswerCommand old.core.network.table turns history (carried_by old.core.network.table (earlier_in kept))
     command answer
-    × Agrees new (turns_after turns answer) (history_after history command answer) (kept_after kept history answer)
+    × EpochsAgree new (turns_after turns answer) (history_after_command history command answer)
+    (kept_after kept history answer)
 
 -- commands with these answers take the old epochs to the new ones, one after another
-abbrev pub RunsTo : Epochs → List Command → List Answer → Epochs → Type 0
-RunsTo old [] [] new = new ≡ old
-RunsTo old (command ∷ commands) (answer ∷ answers) new =
-    (mid : Epochs) × TakesTo old command answer mid × RunsTo mid commands answers new
-RunsTo old [] (answer ∷ answers) new = ⊥
-RunsTo old (command ∷ commands) [] new = ⊥
+abbrev pub RunsCommandsTo : Epochs → List Command → List Answer → Epochs → Type 0
+RunsCommandsTo old [] [] new = new ≡ old
+RunsCommandsTo old (command ∷ commands) (answer ∷ answers) new =
+    (mid : Epochs) × TakesCommandTo old command answer mid × RunsCommandsTo mid commands answers new
+RunsCommandsTo old [] (answer ∷ answers) new = ⊥
+RunsCommandsTo old (command ∷ commands) [] new = ⊥
 
 -- by every number of turns, history and earlier epochs that the old epochs agree with these are answers to the
 -- commands, and the new epochs agree with those after them
-abbrev pub RunsByHistory : Epochs → List Command → List Answer → Epochs → Type 0
-RunsByHistory old commands answers new =
-    (turns : ℕ) (history : List Event) (kept : Option (List (List Event))) → Agrees old turns history kept
-    → MayAnswerAll old.core.network.table turns history kept commands answers
-    × Agrees new (turns_by turns answers) (history_by history commands answers) (kept_by kept history commands answers)
+abbrev pub RunsCommandsByHistory : Epochs → List Command → List Answer → Epochs → Type 0
+RunsCommandsByHistory old commands answers new =
+    (turns : ℕ) (history : List Event) (kept : Option (List (List Event))) → EpochsAgree old turns history kept
+    → MayAnswerCommands old.core.network.table turns history kept commands answers
+    × EpochsAgree new (turns_by turns answers) (history_by_commands history commands answers)
+    (kept_by kept history commands answers)

@@ -35,16 +35,16 @@ earlier_in None = []
 earlier_in (Some earlier) = earlier
 
 -- epochs agree with a number of turns done, the history since the last of them and, if turns carry, the earlier epochs
-pub record Agrees (epochs : Epochs) (turns : ℕ) (history : List Event)
+pub record EpochsAgree (epochs : Epochs) (turns : ℕ) (history : List Event)
     (kept : Option (List (List Event))) : Type 0 where
   pub number : epochs.number ≡ turns
   pub carries : epochs.carries ≡ is_some kept
   pub core : core.Agrees epochs.core history (earlier_in kept)
 
 -- something holds of each number of turns, each history and what is carried, that epochs agree with
-abbrev pub ByHistories : Epochs → (ℕ → List Event → Carried → Type 0) → Type 0
-ByHistories epochs P =
-    (turns : ℕ) (history : List Event) (kept : Option (List (List Event))) → Agrees epochs turns history kept
+abbrev pub ByEpochHistories : Epochs → (ℕ → List Event → Carried → Type 0) → Type 0
+ByEpochHistories epochs P =
+    (turns : ℕ) (history : List Event) (kept : Option (List (List Event))) → EpochsAgree epochs turns history kept
     → P turns history (carried_by epochs.core.network.table (earlier_in kept))
 
 -- the record of a history: its enters, its leaves by exit, and the client of each name
@@ -75,11 +75,12 @@ MayReply table history carried event (Turned r) = ⊥
 MayReply table history carried event (TurnRefused fault) = ⊥
 
 -- the answers that a command may have
-abbrev pub MayAnswer : Table → ℕ → List Event → Carried → Command → Answer → Type 0
-MayAnswer table turns history carried (Enter client entry) answer =
+abbrev pub MayAnswerCommand : Table → ℕ → List Event → Carried → Command → Answer → Type 0
+MayAnswerCommand table turns history carried (Enter client entry) answer =
     MayReply table history carried (EnterEvent client entry) answer
-MayAnswer table turns history carried (Step client) answer = MayReply table history carried (StepEvent client) answer
-MayAnswer table turns history carried Turn answer = MayTurn table turns history carried answer
+MayAnswerCommand table turns history carried (Step client) answer =
+    MayReply table history carried (StepEvent client) answer
+MayAnswerCommand table turns history carried Turn answer = MayTurn table turns history carried answer
 
 -- how many turns are done after an answer
 abbrev pub turns_after : ℕ → Answer → ℕ
@@ -100,10 +101,10 @@ cut_by history (Replied reply) = history
 cut_by history (TurnRefused fault) = history
 
 -- the history after an answer to a command
-abbrev pub history_after : List Event → Command → Answer → List Event
-history_after history (Enter client entry) answer = replied_to history (EnterEvent client entry) answer
-history_after history (Step client) answer = replied_to history (StepEvent client) answer
-history_after history Turn answer = cut_by history answer
+abbrev pub history_after_command : List Event → Command → Answer → List Event
+history_after_command history (Enter client entry) answer = replied_to history (EnterEvent client entry) answer
+history_after_command history (Step client) answer = replied_to history (StepEvent client) answer
+history_after_command history Turn answer = cut_by history answer
 
 -- the earlier epochs after an answer, if turns carry: a turn that is done adds the history
 abbrev pub earlier_after : List (List Event) → List Event → Answer → List (List Event)
@@ -116,14 +117,14 @@ abbrev pub kept_after : Option (List (List Event)) → List Event → Answer →
 kept_after kept history answer = option_map (λ earlier. earlier_after earlier history answer) kept
 
 -- epochs may give these answers to these commands, one after another
-abbrev pub MayAnswerAll : Table → ℕ → List Event → Option (List (List Event)) → List Command → List Answer → Type 0
-MayAnswerAll table turns history kept [] [] = Unit {0}
-MayAnswerAll table turns history kept (command ∷ commands) (answer ∷ answers) =
-    MayAnswer table turns history (carried_by table (earlier_in kept)) command answer
-    × MayAnswerAll table (turns_after turns answer) (history_after history command answer)
+abbrev pub MayAnswerCommands : Table → ℕ → List Event → Option (List (List Event)) → List Command → List Answer → Type 0
+MayAnswerCommands table turns history kept [] [] = Unit {0}
+MayAnswerCommands table turns history kept (command ∷ commands) (answer ∷ answers) =
+    MayAnswerCommand table turns history (carried_by table (earlier_in kept)) command answer
+    × MayAnswerCommands table (turns_after turns answer) (history_after_command history command answer)
     (kept_after kept history answer) commands answers
-MayAnswerAll table turns history kept [] (answer ∷ answers) = ⊥
-MayAnswerAll table turns history kept (command ∷ commands) [] = ⊥
+MayAnswerCommands table turns history kept [] (answer ∷ answers) = ⊥
+MayAnswerCommands table turns history kept (command ∷ commands) [] = ⊥
 
 -- how many turns are done once commands have these answers
 abbrev pub turns_by : ℕ → List Answer → ℕ
@@ -131,18 +132,18 @@ turns_by turns [] = turns
 turns_by turns (answer ∷ answers) = turns_by (turns_after turns answer) answers
 
 -- the history then
-abbrev pub history_by : List Event → List Command → List Answer → List Event
-history_by history [] answers = history
-history_by history (command ∷ commands) [] = history
-history_by history (command ∷ commands) (answer ∷ answers) =
-    history_by (history_after history command answer) commands answers
+abbrev pub history_by_commands : List Event → List Command → List Answer → List Event
+history_by_commands history [] answers = history
+history_by_commands history (command ∷ commands) [] = history
+history_by_commands history (command ∷ commands) (answer ∷ answers) =
+    history_by_commands (history_after_command history command answer) commands answers
 
 -- the earlier epochs then, if turns carry
 abbrev pub earlier_by : List (List Event) → List Event → List Command → List Answer → List (List Event)
 earlier_by earlier history [] answers = earlier
 earlier_by earlier history (command ∷ commands) [] = earlier
 earlier_by earlier history (command ∷ commands) (answer ∷ answers) =
-    earlier_by (earlier_after earlier history answer) (history_after history command answer) commands answers
+    earlier_by (earlier_after earlier history answer) (history_after_command history command answer) commands answers
 
 -- the same, if turns may clear
 abbrev pub kept_by : Option (List (List Event)) → List Event → List Command → List Answer → Option (List (List Event))

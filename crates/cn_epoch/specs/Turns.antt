@@ -10,7 +10,7 @@ use Rattle.cn_record.specs.declared.answer.Answer.{Answer}
 use Rattle.cn_record.specs.declared.command.Command.{Command}
 use Rattle.cn_record.specs.declared.record.EpochRecord.{EpochRecord}
 use Rattle.cn_record.specs.Answers.{HadMemory, IsSameAnswer, IsSameRecord}
-use Rattle.cn_epoch.specs.History.{IsRecordOf, MayAnswerAll, kept_by, earlier_in}
+use Rattle.cn_epoch.specs.History.{IsRecordOf, MayAnswerCommands, kept_by, earlier_in}
 
 -- what a record says is tight after so many clients: each exit has let out what its share has grown by, and each name
 -- below the number of clients has a holder of its own
@@ -33,7 +33,7 @@ HasOneRecord table turns history carried =
 abbrev pub HaveOneAnswer : Table → ℕ → List Event → Option (List (List Event)) → List Command → Type 0
 HaveOneAnswer table turns history kept commands =
     (answers others : List Answer) → All HadMemory answers → All HadMemory others
-    → MayAnswerAll table turns history kept commands answers
-    → MayAnswerAll table turns history kept commands others
+    → MayAnswerCommands table turns history kept commands answers
+    → MayAnswerCommands table turns history kept commands others
     → (carried_by table (earlier_in (kept_by kept history commands answers))).enters ≤ MOST_CARRIED
     → AllZip IsSameAnswer answers others

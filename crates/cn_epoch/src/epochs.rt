@@ -13,7 +13,7 @@ ghost use Rattle.cn_core.specs.State.{came_in, inside_in, start};
 ghost use Rattle.cn_core.specs.StateLedger.{HasSoundLedger};
 ghost use Rattle.cn_core.specs.Tight.{HasShares, IsBoundedState};
 ghost use Rattle.cn_epoch.specs.Calls.{RepliesByHistory, TurnsByHistory, TurnsTo};
-ghost use Rattle.cn_epoch.specs.History.{Agrees, ByHistories, next};
+ghost use Rattle.cn_epoch.specs.History.{ByEpochHistories, EpochsAgree, next};
 
 use cn_core::{Core, EnterFault, Moved, StepFault};
 use cn_exit::expected;
@@ -108,7 +108,7 @@ impl<'a> Epochs<'a> {
     pub fn new(alloc: Global, network: &'a Counting, state: RandomState) -> Result<Self, AllocError>
         ensures start { IfOk result (λ epochs.
             epochs ≡ record { number = 0; carries = false; core = start network.now }) }
-        ensures history { IfOk result (λ epochs. Agrees epochs 0 [] None) }
+        ensures history { IfOk result (λ epochs. EpochsAgree epochs 0 [] None) }
     {
         Epochs::begin(alloc, network, false, state)
     }
@@ -124,7 +124,7 @@ impl<'a> Epochs<'a> {
     ) -> Result<Self, AllocError>
         ensures start { IfOk result (λ epochs.
             epochs ≡ record { number = 0; carries = true; core = start network.now }) }
-        ensures history { IfOk result (λ epochs. Agrees epochs 0 [] (Some [])) }
+        ensures history { IfOk result (λ epochs. EpochsAgree epochs 0 [] (Some [])) }
     {
         Epochs::begin(alloc, network, true, state)
     }
@@ -132,7 +132,7 @@ impl<'a> Epochs<'a> {
     /// How many epochs have ended.
     pub fn number(&self) -> u64
         ensures value { result ≡ self.now.number }
-        ensures by_turns { ByHistories self.now (λ turns history carried. result ≡ turns) }
+        ensures by_turns { ByEpochHistories self.now (λ turns history carried. result ≡ turns) }
     {
         self.number
     }
@@ -140,7 +140,7 @@ impl<'a> Epochs<'a> {
     /// How many clients entered the epoch that stands open: at most [`MOST_CLIENTS`] ([`Epochs::state_laws`]).
     pub fn entered(&self) -> u64
         ensures value { result ≡ length self.now.core.clients }
-        ensures by_history { ByHistories self.now (λ turns history carried. result
+        ensures by_history { ByEpochHistories self.now (λ turns history carried. result
             ≡ enters_of history) }
     {
         self.core.entered()
@@ -150,7 +150,7 @@ impl<'a> Epochs<'a> {
     /// and at most [`MOST_CARRIED`]. It takes no memory.
     pub fn base(&self) -> u64
         ensures value { result ≡ self.now.core.base }
-        ensures by_history { ByHistories self.now (λ turns history carried. result
+        ensures by_history { ByEpochHistories self.now (λ turns history carried. result
             ≡ carried.enters) }
         ensures few { result ≤ MOST_CARRIED }
         ensures cleared { self.now.carries ≡ false → result ≡ 0 }
@@ -168,9 +168,9 @@ impl<'a> Epochs<'a> {
         ensures carried { self.now.core.base ≤ MOST_CARRIED }
         ensures came { came_in self.now.core ≡ self.now.core.base + length self.now.core.clients }
         ensures reached { (history : List Event) × (kept : Option (List (List Event)))
-            × Agrees self.now self.now.number history kept }
-        ensures sound { ByHistories self.now (λ turns. HasSoundLedger self.now.core) }
-        ensures shares { ByHistories self.now (λ turns history carried.
+            × EpochsAgree self.now self.now.number history kept }
+        ensures sound { ByEpochHistories self.now (λ turns. HasSoundLedger self.now.core) }
+        ensures shares { ByEpochHistories self.now (λ turns history carried.
             HasShares self.now.core.network.table.width carried) }
         ensures bounded { IsBoundedState self.now.core }
     {
@@ -180,7 +180,7 @@ impl<'a> Epochs<'a> {
     /// How many clients are inside: they entered the epoch that stands open, and hold no name.
     pub fn inside(&self) -> u64
         ensures value { result ≡ inside_in self.now.core }
-        ensures by_history { ByHistories self.now (λ turns history carried.
+        ensures by_history { ByEpochHistories self.now (λ turns history carried.
             result ≡ inside_of self.now.core.network.table history carried) }
     {
         self.core.inside()

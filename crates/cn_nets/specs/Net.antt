@@ -36,10 +36,10 @@ levels_of Periodic level = periodic.periodic_depth level
 levels_of Tree level = level
 
 -- its plan, balancer by balancer, and the wires that end at its exits, in order
-abbrev pub plan_of : Kind → ℕ → Plan × List ℕ
-plan_of Bitonic level = bitonic_plan level
-plan_of Periodic level = periodic_plan level
-plan_of Tree level = tree_plan level
+abbrev pub plan_of_kind : Kind → ℕ → Plan × List ℕ
+plan_of_kind Bitonic level = bitonic_plan level
+plan_of_kind Periodic level = periodic_plan level
+plan_of_kind Tree level = tree_plan level
 
 -- the counting network of this kind and width: of its sizes, and wire by wire that of its recursion
 abbrev pub IsNetworkOf : Description → Network → Type 0
@@ -47,4 +47,4 @@ IsNetworkOf net network =
     (level : ℕ) × (net.width ≡ 2 ^ level)
     × IsBuilt network net.kind (entries_of net.kind net.width) net.width
     (size_of net.kind net.width level) (levels_of net.kind level)
-    × IsTableOf network.table (plan_of net.kind level)
+    × IsTableOf network.table (plan_of_kind net.kind level)

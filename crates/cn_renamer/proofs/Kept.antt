@@ -19,8 +19,8 @@ use Rattle.cn_wiring.specs.Network.{Network}
 use Rattle.cn_core.specs.declared.event.Event.{Event}
 use Rattle.cn_core.specs.History.{carried_by, enters_of, inside_of}
 use Rattle.cn_core.specs.State.{start}
-use Rattle.cn_epoch.specs.Calls.{TakesTo}
-use Rattle.cn_epoch.specs.History.{Agrees, ByHistories, Epochs, history_by, turns_by}
+use Rattle.cn_epoch.specs.Calls.{TakesCommandTo}
+use Rattle.cn_epoch.specs.History.{ByEpochHistories, Epochs, EpochsAgree, history_by_commands, turns_by}
 use Rattle.cn_epoch.specs.Turns.{IsTightRecord}
 use Rattle.cn_report.specs.Writing.Replay.{AreAnswers, Fits, IsEnterReply, IsKept, IsKeptRecord, IsStepReply, IsWholeKept, IsWholeKeptRecord, counts_or_shares, kept_counts, replay_text}
 use Rattle.cn_renamer.specs.Replay.{AreAnsweredAs, IsReplayText, IsWithoutCounts}
@@ -61,7 +61,7 @@ record-whole w r kept tight few (number, clients, none, holders) = record {
 }
 
 -- what is kept of an answer that takes epochs on which nothing is carried
-pub kept-same : (old new : Epochs) (command : Command) (answer kept : Answer) → old.core.base ≡ 0 → TakesTo old command answer new → IsWithoutCounts answer kept
+pub kept-same : (old new : Epochs) (command : Command) (answer kept : Answer) → old.core.base ≡ 0 → TakesCommandTo old command answer new → IsWithoutCounts answer kept
     → IsKept old.core.network.table.width answer kept
 kept-same old new command (Replied reply) kept none takes same = subst (IsKept old.core.network.table.width (Replied reply)) (sym same) refl
 kept-same old new command (TurnRefused fault) kept none takes same = subst (IsKept old.core.network.table.width (TurnRefused fault)) (sym same) refl
@@ -72,7 +72,7 @@ kept-same old new (Step client) (Turned r) (Turned kept) none takes same = absur
 kept-same old new Turn (Turned r) (Turned kept) none (quiet, said, tight, next) same =
     record-kept old.core.network.table.width r kept (subst (λ base. IsTightRecord old.core.network.table.width base r) none tight) same
 
-pub kept-whole : (old new : Epochs) (command : Command) (answer kept : Answer) → old.core.base ≡ 0 → length old.core.clients ≤ MOST_CLIENTS → TakesTo old command answer new
+pub kept-whole : (old new : Epochs) (command : Command) (answer kept : Answer) → old.core.base ≡ 0 → length old.core.clients ≤ MOST_CLIENTS → TakesCommandTo old command answer new
     → IsWithoutCounts answer kept → IsWholeKept old.core.network.table.width kept
 kept-whole old new command (Replied reply) kept none few takes same = subst (IsWholeKept old.core.network.table.width) (sym same) tt
 kept-whole old new command (TurnRefused fault) kept none few takes same = subst (IsWholeKept old.core.network.table.width) (sym same) tt
@@ -132,12 +132,12 @@ all-memory w (a ∷ rest) [] had same = absurd same
 -- ---- the text of what is kept
 
 pub replay-is : (network : Network) (old new : Epochs) (commands : List Command) (answers kept : List Answer) (number entered inside : ℕ) → old ≡ record { number = 0; carries = false; core = start network }
-    → Agrees old 0 [] None → AreAnsweredAs old commands answers kept new → new.core.network ≡ old.core.network → ByHistories new (λ turns history carried. number ≡ turns)
-    → ByHistories new (λ turns history carried. entered ≡ enters_of history) → ByHistories new (λ turns history carried. inside ≡ inside_of new.core.network.table history carried)
+    → EpochsAgree old 0 [] None → AreAnsweredAs old commands answers kept new → new.core.network ≡ old.core.network → ByEpochHistories new (λ turns history carried. number ≡ turns)
+    → ByEpochHistories new (λ turns history carried. entered ≡ enters_of history) → ByEpochHistories new (λ turns history carried. inside ≡ inside_of new.core.network.table history carried)
     → (text : List ℕ) → text ≡ replay_text network commands answers number entered inside → IsReplayText network commands text
 replay-is network old new commands answers kept number entered inside begun agrees given same turned came within text is =
     let (may, after) = given.by_history 0 [] None agrees in
-    let history : List Event = history_by [] commands answers in
+    let history : List Event = history_by_commands [] commands answers in
     let ours : old.core.network ≡ network = ap (λ (e : Epochs). e.core.network) begun in
     let last : inside ≡ inside_of network.table history (carried_by network.table []) =
     within (turns_by 0 answers) history None after ∙ ap (λ (n : Network). inside_of n.table history (carried_by n.table [])) (same ∙ ours) in

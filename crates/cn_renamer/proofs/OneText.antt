@@ -3,7 +3,7 @@ use Rattle.std.proofs.Common.{◌≡◌, ℕ, List, [], None, ◌++◌, sym, ap,
 use Rattle.cn_wiring.specs.Network.{Network, IsNetwork}
 use Rattle.cn_core.specs.History.{carried_by, enters_of, inside_of}
 use Rattle.cn_record.specs.declared.command.Command.{Command}
-use Rattle.cn_epoch.specs.History.{history_by, turns_by}
+use Rattle.cn_epoch.specs.History.{history_by_commands, turns_by}
 use Rattle.cn_epoch.proofs.CallerLemmas.{history-by-same, one-list, turns-by-same}
 use Rattle.cn_report.specs.Writing.Replay.{end_line}
 use Rattle.cn_report.proofs.CallerLemmas.{lines-same}
@@ -21,7 +21,7 @@ module _ (network : Network) (is : IsNetwork network) where
       let same = one-list network is 0 [] None commands tt tt one.answers another.answers one.memory another.memory one.by_history another.by_history (omega arith) in
       one.replayed
       ∙ rw (turns-by-same network is 0 one.answers another.answers same, history-by-same network is [] commands one.answers another.answers same)
-      (ap (λ (lines : List ℕ). heading network ++ lines ++ end_line (turns_by 0 another.answers) (enters_of (history_by [] commands another.answers)) (inside_of network.table (history_by [] commands another.answers) (carried_by network.table [])))
+      (ap (λ (lines : List ℕ). heading network ++ lines ++ end_line (turns_by 0 another.answers) (enters_of (history_by_commands [] commands another.answers)) (inside_of network.table (history_by_commands [] commands another.answers) (carried_by network.table [])))
       (lines-same network.table.width commands one.answers another.answers same))
       ∙ sym another.replayed
 

@@ -17,7 +17,7 @@ use Rattle.cn_record.specs.declared.answer.Answer.{Answer}
 use Rattle.cn_record.specs.declared.answer.Answer.TheVariants.{Replied, Turned, TurnRefused}
 use Rattle.cn_record.specs.declared.command.Command.{Command}
 use Rattle.cn_record.specs.declared.command.Command.TheVariants.{Enter, Step, Turn}
-use Rattle.cn_epoch.specs.History.{MayAnswer, MayAnswerAll, history_after, kept_after, turns_after, earlier_in}
+use Rattle.cn_epoch.specs.History.{MayAnswerCommand, MayAnswerCommands, history_after_command, kept_after, turns_after, earlier_in}
 use Rattle.cn_report.specs.Writing.Replay.{AreAnswers, Fits, IsEnterReply, IsStepReply, IsWhole}
 
 -- ---- a reply by history fits its event
@@ -50,7 +50,7 @@ step-may table h k client reply (inr (entered, e)) = absurd (subst IsStepReply e
 
 -- ---- an answer fits its command, and its record is whole
 
-fits-may : (table : Table) (turns : ℕ) (h : List Event) (k : Carried) (command : Command) (answer : Answer) → MayAnswer table turns h k command answer → Fits command answer
+fits-may : (table : Table) (turns : ℕ) (h : List Event) (k : Carried) (command : Command) (answer : Answer) → MayAnswerCommand table turns h k command answer → Fits command answer
 fits-may table turns h k (Enter client entry) (Replied reply) may = enter-may table h k client entry reply may
 fits-may table turns h k (Enter client entry) (Turned r) may = may
 fits-may table turns h k (Enter client entry) (TurnRefused fault) may = may
@@ -61,7 +61,7 @@ fits-may table turns h k Turn (Replied reply) may = may
 fits-may table turns h k Turn (Turned r) may = tt
 fits-may table turns h k Turn (TurnRefused fault) may = tt
 
-whole-may : (table : Table) (turns : ℕ) (h : List Event) (k : Carried) (command : Command) (answer : Answer) → MayAnswer table turns h k command answer → IsWhole table.width answer
+whole-may : (table : Table) (turns : ℕ) (h : List Event) (k : Carried) (command : Command) (answer : Answer) → MayAnswerCommand table turns h k command answer → IsWhole table.width answer
 whole-may table turns h k command (Replied reply) may = tt
 whole-may table turns h k command (TurnRefused fault) may = tt
 whole-may table turns h k (Enter client entry) (Turned r) may = absurd may
@@ -70,17 +70,17 @@ whole-may table turns h k Turn (Turned r) (quiet, said) = (said.exits, said.name
 
 -- ---- so do all
 
-pub fits_all : (table : Table) (turns : ℕ) (h : List Event) (kept : Option (List (List Event))) (commands : List Command) (answers : List Answer) → MayAnswerAll table turns h kept commands answers → AreAnswers commands answers
+pub fits_all : (table : Table) (turns : ℕ) (h : List Event) (kept : Option (List (List Event))) (commands : List Command) (answers : List Answer) → MayAnswerCommands table turns h kept commands answers → AreAnswers commands answers
 fits_all table turns h kept [] [] may = tt
 fits_all table turns h kept [] (a ∷ rest) may = may
 fits_all table turns h kept (c ∷ cs) [] may = may
-fits_all table turns h kept (c ∷ cs) (a ∷ rest) may = (fits-may table turns h (carried_by table (earlier_in kept)) c a may.0, fits_all table (turns_after turns a) (history_after h c a) (kept_after kept h a) cs rest may.1)
+fits_all table turns h kept (c ∷ cs) (a ∷ rest) may = (fits-may table turns h (carried_by table (earlier_in kept)) c a may.0, fits_all table (turns_after turns a) (history_after_command h c a) (kept_after kept h a) cs rest may.1)
 
-pub whole_all : (table : Table) (turns : ℕ) (h : List Event) (kept : Option (List (List Event))) (commands : List Command) (answers : List Answer) → MayAnswerAll table turns h kept commands answers → All (IsWhole table.width) answers
+pub whole_all : (table : Table) (turns : ℕ) (h : List Event) (kept : Option (List (List Event))) (commands : List Command) (answers : List Answer) → MayAnswerCommands table turns h kept commands answers → All (IsWhole table.width) answers
 whole_all table turns h kept [] [] may = λ k d l. absurd (omega arith)
 whole_all table turns h kept [] (a ∷ rest) may = absurd may
 whole_all table turns h kept (c ∷ cs) [] may = absurd may
-whole_all table turns h kept (c ∷ cs) (a ∷ rest) may = by (whole-may table turns h (carried_by table (earlier_in kept)) c a may.0) (whole_all table (turns_after turns a) (history_after h c a) (kept_after kept h a) cs rest may.1)
+whole_all table turns h kept (c ∷ cs) (a ∷ rest) may = by (whole-may table turns h (carried_by table (earlier_in kept)) c a may.0) (whole_all table (turns_after turns a) (history_after_command h c a) (kept_after kept h a) cs rest may.1)
   where
     by : IsWhole table.width a → All (IsWhole table.width) rest → All (IsWhole table.width) (a ∷ rest)
     by here later zero d l = here

@@ -6,8 +6,8 @@ use Rattle.cn_core.specs.History.{carried_by, enters_of, inside_of}
 use Rattle.cn_record.specs.declared.answer.Answer.{Answer}
 use Rattle.cn_record.specs.declared.answer.Answer.TheVariants.{Replied, Turned, TurnRefused}
 use Rattle.cn_record.specs.declared.command.Command.{Command}
-use Rattle.cn_epoch.specs.Calls.{AnswersByHistory, RunsByHistory}
-use Rattle.cn_epoch.specs.History.{Epochs, MayAnswerAll, history_by, turns_by}
+use Rattle.cn_epoch.specs.Calls.{AnswersCommandByHistory, RunsCommandsByHistory}
+use Rattle.cn_epoch.specs.History.{Epochs, MayAnswerCommands, history_by_commands, turns_by}
 use Rattle.cn_record.specs.Answers.{HadMemory}
 use Rattle.cn_report.specs.Reading.Records.{records_of}
 use Rattle.cn_report.specs.Writing.Replay.{IsKept, IsWholeKept, replay_text}
@@ -33,7 +33,7 @@ IsWithoutCounts (Turned r) (TurnRefused fault) = ⊥
 
 -- the command has an answer by history, which is not want of memory, and this is kept of it
 pub record IsAnsweredAs (old : Epochs) (command : Command) (answer kept : Answer) (new : Epochs) : Type 0 where
-  pub by_history : AnswersByHistory old command answer new
+  pub by_history : AnswersCommandByHistory old command answer new
   pub memory : HadMemory answer
   pub same : IsKept old.core.network.table.width answer kept
   pub whole : IsWholeKept old.core.network.table.width kept
@@ -41,7 +41,7 @@ pub record IsAnsweredAs (old : Epochs) (command : Command) (answer kept : Answer
 -- so have the commands, one after another
 pub record AreAnsweredAs (old : Epochs) (commands : List Command) (answers kept : List Answer)
     (new : Epochs) : Type 0 where
-  pub by_history : RunsByHistory old commands answers new
+  pub by_history : RunsCommandsByHistory old commands answers new
   pub memory : All HadMemory answers
   pub same : AllZip (IsKept old.core.network.table.width) answers kept
   pub whole : All (IsWholeKept old.core.network.table.width) kept
@@ -50,12 +50,12 @@ pub record AreAnsweredAs (old : Epochs) (commands : List Command) (answers kept 
 -- them want of memory
 pub record IsReplayText (network : Network) (commands : List Command) (text : List ℕ) : Type 0 where
   pub answers : List Answer
-  pub by_history : MayAnswerAll network.table 0 [] None commands answers
+  pub by_history : MayAnswerCommands network.table 0 [] None commands answers
   pub memory : All HadMemory answers
   -- the end line gives the number of epochs that ended, and how many entered the open one and are inside
   pub replayed : text
-      ≡ replay_text network commands answers (turns_by 0 answers) (enters_of (history_by [] commands answers))
-      (inside_of network.table (history_by [] commands answers) (carried_by network.table []))
+      ≡ replay_text network commands answers (turns_by 0 answers) (enters_of (history_by_commands [] commands answers))
+      (inside_of network.table (history_by_commands [] commands answers) (carried_by network.table []))
 
 -- this text is that of a replay of the commands on a network of this kind and width
 pub record IsReplayOfCommands (net : Description) (commands : List Command) (text : List ℕ) : Type 0 where

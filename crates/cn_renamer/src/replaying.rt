@@ -2,7 +2,7 @@
 
 ghost use Rattle.std.specs.Prelude.{◌≡◌, ◌↔◌, ◌+◌, ◌<◌, ◌≤◌, ◌^◌, [], false, IfErr, IfOk, IsTrue, List, None, length};
 ghost use Rattle.cn_core.specs.State.{start};
-ghost use Rattle.cn_epoch.specs.History.{Agrees};
+ghost use Rattle.cn_epoch.specs.History.{EpochsAgree};
 ghost use Rattle.cn_record.specs.Answers.{HadMemory};
 ghost use Rattle.cn_record.specs.declared.answer.Answer.{Answer};
 ghost use Rattle.cn_report.specs.Writing.Written.{HasWritten, written_by};
@@ -151,7 +151,7 @@ fn write_replayed<W: Write>(
     commands: &[Command],
 ) -> Result<(), OutputFault>
     requires begun { epochs.old ≡ record { number = 0; carries = false; core = start network.now } }
-    requires agrees { Agrees epochs.old 0 [] None }
+    requires agrees { EpochsAgree epochs.old 0 [] None }
     ensures { HasWritten W.contents (IsReplayText network.now commands.now)
         (written_by until_output result) writer.old writer.new }
 {

@@ -8,7 +8,7 @@ use Rattle.cn_floor.specs.Carried.{client_count}
 use Rattle.cn_floor.specs.Lane.{LaneValue}
 use Rattle.renamer_c.specs.Records.{RecordValue, list_of}
 use Rattle.renamer_c.specs.Returns.{IsBack}
-use Rattle.renamer_c.specs.Statuses.{status_of}
+use Rattle.renamer_c.specs.Statuses.{status_of_refusal}
 use Rattle.renamer_c.specs.declared.client.Client.{Client}
 use Rattle.renamer_c.specs.declared.floor_record.RecordList.{RecordList}
 use Rattle.renamer_c.specs.declared.refusal.Refusal.{Refusal}
@@ -16,7 +16,7 @@ use Rattle.renamer_c.specs.declared.refusal.Refusal.TheVariants.{Nothing, Memory
 
 -- a status that is one of these refusals
 abbrev pub IsRefusal : (Refusal → Type 0) → ℕ → Type 0
-IsRefusal Why status = (r : Refusal) × (status ≡ status_of r) × Why r
+IsRefusal Why status = (r : Refusal) × (status ≡ status_of_refusal r) × Why r
 
 -- there is a lane, and this holds of it
 abbrev pub WithLane : Option LaneValue → (LaneValue → Type 0) → Type 0
@@ -27,8 +27,8 @@ abbrev pub WithRecord : Option RecordValue → (RecordValue → Type 0) → Type
 WithRecord closed P = (r : RecordValue) × (closed ≡ Some r) × P r
 
 -- how many entries the network of a lane has
-abbrev pub entries_of : LaneValue → ℕ
-entries_of l = l.home.start.network.table.entries
+abbrev pub entries_of_lane : LaneValue → ℕ
+entries_of_lane l = l.home.start.network.table.entries
 
 -- why a floor is not opened
 abbrev pub NotOpened : ℕ → ℕ → ℕ → Refusal → Type 0
@@ -49,10 +49,10 @@ NotSplit lane quota r = ⊥
 abbrev pub NotNamed : Option LaneValue → ℕ → Refusal → Type 0
 NotNamed lane entry Nothing = lane ≡ None
 NotNamed lane entry StillWalking = WithLane lane (λ l. 0 < tokens_in l.yard.lists)
-NotNamed lane entry NoSuchEntry = WithLane lane (λ l. (tokens_in l.yard.lists ≡ 0) × (entries_of l ≤ entry))
-NotNamed lane entry QuotaSpent = WithLane lane (λ l. (tokens_in l.yard.lists ≡ 0) × (entry < entries_of l)
+NotNamed lane entry NoSuchEntry = WithLane lane (λ l. (tokens_in l.yard.lists ≡ 0) × (entries_of_lane l ≤ entry))
+NotNamed lane entry QuotaSpent = WithLane lane (λ l. (tokens_in l.yard.lists ≡ 0) × (entry < entries_of_lane l)
     × (l.view.quota ≡ 0))
-NotNamed lane entry Memory = WithLane lane (λ l. (tokens_in l.yard.lists ≡ 0) × (entry < entries_of l)
+NotNamed lane entry Memory = WithLane lane (λ l. (tokens_in l.yard.lists ≡ 0) × (entry < entries_of_lane l)
     × (0 < l.view.quota) × (l.room ≡ 0))
 NotNamed lane entry r = ⊥
 
@@ -63,19 +63,19 @@ NotNamedMany lane clients size Size = WithLane lane (λ l. size ≢ length clien
 NotNamedMany lane clients size StillWalking = WithLane lane (λ l. (size ≡ length clients)
     × (0 < tokens_in l.yard.lists))
 NotNamedMany lane clients size NoSuchEntry = WithLane lane (λ l. (size ≡ length clients) × (tokens_in l.yard.lists ≡ 0)
-    × (¬ All (λ c. c.entry < entries_of l) clients))
+    × (¬ All (λ c. c.entry < entries_of_lane l) clients))
 NotNamedMany lane clients size QuotaSpent = WithLane lane (λ l. (size ≡ length clients) × (tokens_in l.yard.lists ≡ 0)
-    × All (λ c. c.entry < entries_of l) clients × (l.view.quota < length clients))
+    × All (λ c. c.entry < entries_of_lane l) clients × (l.view.quota < length clients))
 NotNamedMany lane clients size Memory = WithLane lane (λ l. (size ≡ length clients) × (tokens_in l.yard.lists ≡ 0)
-    × All (λ c. c.entry < entries_of l) clients × (length clients ≤ l.view.quota) × (l.room < length clients))
+    × All (λ c. c.entry < entries_of_lane l) clients × (length clients ≤ l.view.quota) × (l.room < length clients))
 NotNamedMany lane clients size r = ⊥
 
 -- why a client is not let in
 abbrev pub NotEntered : Option LaneValue → ℕ → Refusal → Type 0
 NotEntered lane entry Nothing = lane ≡ None
-NotEntered lane entry NoSuchEntry = WithLane lane (λ l. entries_of l ≤ entry)
-NotEntered lane entry QuotaSpent = WithLane lane (λ l. (entry < entries_of l) × (l.view.quota ≡ 0))
-NotEntered lane entry Memory = WithLane lane (λ l. (entry < entries_of l) × (0 < l.view.quota) × (l.room ≡ 0))
+NotEntered lane entry NoSuchEntry = WithLane lane (λ l. entries_of_lane l ≤ entry)
+NotEntered lane entry QuotaSpent = WithLane lane (λ l. (entry < entries_of_lane l) × (l.view.quota ≡ 0))
+NotEntered lane entry Memory = WithLane lane (λ l. (entry < entries_of_lane l) × (0 < l.view.quota) × (l.room ≡ 0))
 NotEntered lane entry r = ⊥
 
 -- why nobody goes by the end of a wire

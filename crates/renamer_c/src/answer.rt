@@ -1,7 +1,7 @@
 //! How calls answer: a status, and what is asked for, written where the caller wants it.
 
 ghost use Rattle.std.specs.Prelude.{◌≡◌, ◌<◌, Err, Ok};
-ghost use Rattle.renamer_c.specs.Statuses.{status_of};
+ghost use Rattle.renamer_c.specs.Statuses.{status_of_refusal};
 ghost use Rattle.renamer_c.specs.declared.refusal.Refusal.{Refusal};
 ghost use Rattle.renamer_c.specs.declared.refusal.TheConstants.{DONE};
 
@@ -10,7 +10,7 @@ use crate::refusal::{DONE, Refusal};
 /// The status of what was done or refused.
 pub(crate) fn status(answer: Result<(), Refusal>) -> u32
     ensures done { result ≡ DONE → answer ≡ Ok tt }
-    ensures refused { 0 < result → (r : Refusal) × (answer ≡ Err r) × (result ≡ status_of r) }
+    ensures refused { 0 < result → (r : Refusal) × (answer ≡ Err r) × (result ≡ status_of_refusal r) }
 {
     match answer {
         Ok(()) => DONE,
@@ -22,7 +22,7 @@ pub(crate) fn status(answer: Result<(), Refusal>) -> u32
 pub(crate) fn write<T: Copy>(answer: Result<T, Refusal>, to: &mut T) -> u32
     ensures done { result ≡ DONE → answer ≡ Ok to.new }
     ensures kept { 0 < result → to.new ≡ to.old }
-    ensures refused { 0 < result → (r : Refusal) × (answer ≡ Err r) × (result ≡ status_of r) }
+    ensures refused { 0 < result → (r : Refusal) × (answer ≡ Err r) × (result ≡ status_of_refusal r) }
 {
     match answer {
         Ok(value) => {

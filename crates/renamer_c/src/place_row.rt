@@ -1,7 +1,7 @@
 //! One row of places for lanes that are handed back.
 
 ghost use Rattle.std.specs.Prelude.{◌≡◌, ◌+◌, ◌%◌, ◌<◌, ◌≤◌, IfErr, IfOk, IfSome, length};
-ghost use Rattle.renamer_c.specs.Placing.{AreFor, HasPut, IsNotIn, state_of};
+ghost use Rattle.renamer_c.specs.Placing.{AreTagsOf, HasPut, IsNotIn, state_by_word};
 ghost use Rattle.renamer_c.specs.Returns.{IsBack};
 
 use crate::loose::Loose;
@@ -77,7 +77,7 @@ pub(crate) fn free_row(
     floor: &Floor<'static>,
     many: usize,
 ) -> Result<Vec<OnePlace>, AllocError>
-    ensures { IfOk result (λ row. AreFor floor.now row.items) }
+    ensures { IfOk result (λ row. AreTagsOf floor.now row.items) }
 {
     let mut row = Vec::new(alloc);
     for _ in 0..many {
@@ -149,7 +149,7 @@ fn take_at(
     floor: &Floor<'static>,
 ) -> Result<(Lane, Box<Option<Lane>>), Miss>
     requires place { place.now ≡ floor.now }
-    requires there { state_of seen ≡ PRESENT }
+    requires there { state_by_word seen ≡ PRESENT }
     ensures ok { IfOk result (λ r. IsBack floor.now r.0) }
     ensures err { IfErr result (IsNotIn PRESENT) }
 {
@@ -203,7 +203,7 @@ fn take_between(
     floor: &Floor<'static>,
     mut seen: Seen,
 ) -> Result<(usize, Lane, Box<Option<Lane>>), Seen>
-    requires for_lanes { AreFor floor.now row.now }
+    requires for_lanes { AreTagsOf floor.now row.now }
     requires there { (from ≤ to) × (to ≤ length row.now) }
     requires few { (seen.places + to ≤ length row.now + from)
         × (length row.now < 18446744073709551616) }
@@ -237,7 +237,7 @@ pub(crate) fn take_round(
     from: usize,
     floor: &Floor<'static>,
 ) -> Result<(usize, Lane, Box<Option<Lane>>), Seen>
-    requires { AreFor floor.now row.now }
+    requires { AreTagsOf floor.now row.now }
     ensures ok { IfOk result (λ r. (r.0 < length row.now) × IsBack floor.now r.1) }
     ensures err { IfErr result (λ all. all.places ≡ length row.now) }
 {

@@ -1,7 +1,7 @@
 //! Why calls are refused, and the statuses of that.
 
 ghost use Rattle.std.specs.Prelude.{◌≡◌, ◌<◌};
-ghost use Rattle.renamer_c.specs.Statuses.{status_of};
+ghost use Rattle.renamer_c.specs.Statuses.{status_of_refusal};
 
 use cn_floor::{JoinFault, LaneFault, OpenFault, SplitFault};
 
@@ -46,7 +46,7 @@ pub enum Refusal {
 impl Refusal {
     /// Its status.
     pub(crate) fn status(self) -> u32
-        ensures status { result ≡ status_of self }
+        ensures status { result ≡ status_of_refusal self }
         ensures refused { 0 < result }
     {
         match self {

@@ -2,7 +2,7 @@
 
 ghost use Rattle.std.specs.Prelude.{◌≡◌, IfErr, IfOk, IfSome, length};
 ghost use Rattle.renamer_c.specs.Looking.{IsNoneBack};
-ghost use Rattle.renamer_c.specs.Placing.{AreFor, IsPlaceOf, IsRowOf};
+ghost use Rattle.renamer_c.specs.Placing.{AreTagsOf, IsPlaceOf, IsRowOf};
 ghost use Rattle.renamer_c.specs.Returns.{IsBack};
 
 use crate::places::{Place, Places};
@@ -27,7 +27,7 @@ pub(crate) fn no_rows(
     alloc: Global,
     floor: &Floor<'static>,
 ) -> Result<Vec<Counted<Option<Places>>>, AllocError>
-    ensures { IfOk result (λ rows. AreFor floor.now rows.items) }
+    ensures { IfOk result (λ rows. AreTagsOf floor.now rows.items) }
 {
     let mut rows = Vec::new(alloc);
     for _ in 0..ROWS {
@@ -97,7 +97,7 @@ pub(crate) fn first_free(
     floor: &Floor<'static>,
     mut room: Box<Option<Lane>>,
 ) -> Result<Place, AllocError>
-    requires { AreFor floor.now rows.now }
+    requires { AreTagsOf floor.now rows.now }
     ensures { IfOk result (IsPlaceOf floor.now) }
 {
     let mut many = FIRST_ROW;
@@ -126,7 +126,7 @@ pub(crate) struct Round {
 /// # Errors
 /// What was seen, if no lane is there.
 fn look(rows: &[Counted<Option<Places>>], floor: &Floor<'static>) -> Result<(Lane, Place), Round>
-    requires { AreFor floor.now rows.now }
+    requires { AreTagsOf floor.now rows.now }
     ensures ok { IfOk result (λ r. IsBack floor.now r.0 × IsPlaceOf floor.now r.1) }
     ensures err { IfErr result (λ round. round.rows ≡ length rows.now) }
 {
@@ -163,7 +163,7 @@ pub(crate) fn look_twice(
     rows: &[Counted<Option<Places>>],
     floor: &Floor<'static>,
 ) -> Result<(Lane, Place), NoneBack>
-    requires { AreFor floor.now rows.now }
+    requires { AreTagsOf floor.now rows.now }
     ensures ok { IfOk result (λ r. IsBack floor.now r.0 × IsPlaceOf floor.now r.1) }
     ensures err { IfErr result (IsNoneBack (length rows.now)) }
 {

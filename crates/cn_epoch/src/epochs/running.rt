@@ -2,7 +2,7 @@
 
 ghost use Rattle.std.specs.Prelude.{◌≡◌, ◌+◌, ◌<◌, ◌≤◌, ◌^◌, true, length, IfOk, OnErr};
 ghost use Rattle.cn_spec.specs.declared.limits.TheConstants.{MOST_CARRIED};
-ghost use Rattle.cn_epoch.specs.Calls.{AnswersByHistory, RunsTo, TakesTo, RunsByHistory};
+ghost use Rattle.cn_epoch.specs.Calls.{AnswersCommandByHistory, RunsCommandsTo, TakesCommandTo, RunsCommandsByHistory};
 
 use super::Epochs;
 use cn_record::{Answer, Command};
@@ -15,8 +15,8 @@ impl<'a> Epochs<'a> {
         requires number { self.old.number + 1 < 2 ^ 64 }
         requires carried { self.old.carries ≡ true
             → self.old.core.base + length self.old.core.clients ≤ MOST_CARRIED }
-        ensures event { TakesTo self.old command result self.new }
-        ensures history { AnswersByHistory self.old command result self.new }
+        ensures event { TakesCommandTo self.old command result self.new }
+        ensures history { AnswersCommandByHistory self.old command result self.new }
         ensures network { self.new.core.network ≡ self.old.core.network }
         ensures number { self.new.number ≤ self.old.number + 1 }
         ensures carries { self.new.carries ≡ self.old.carries }
@@ -48,9 +48,9 @@ impl<'a> Epochs<'a> {
             → self.old.core.base + length self.old.core.clients + length commands.now
             ≤ MOST_CARRIED }
         ensures events { IfOk result (λ answers.
-            RunsTo self.old commands.now answers.items self.new) }
+            RunsCommandsTo self.old commands.now answers.items self.new) }
         ensures history { IfOk result (λ answers.
-            RunsByHistory self.old commands.now answers.items self.new) }
+            RunsCommandsByHistory self.old commands.now answers.items self.new) }
         ensures network { self.new.core.network ≡ self.old.core.network }
         ensures refused { OnErr result (self.new ≡ self.old) }
     {

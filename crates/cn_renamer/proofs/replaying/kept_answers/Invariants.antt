@@ -2,7 +2,7 @@ use Rattle.std.proofs.Common.{◌≡◌, ◌+◌, ◌≤◌, ◌++◌, List, fal
 use Rattle.std.specs.List.{All, AllZip}
 use Rattle.cn_record.specs.Answers.{HadMemory}
 use Rattle.cn_record.specs.declared.answer.Answer.{Answer}
-use Rattle.cn_epoch.specs.Calls.{RunsByHistory}
+use Rattle.cn_epoch.specs.Calls.{RunsCommandsByHistory}
 use Rattle.cn_epoch.specs.History.{Epochs}
 use Rattle.cn_report.specs.Writing.Replay.{IsKept, IsWholeKept}
 use Rattle.cn_renamer.proofs.replaying.kept_answers.Given as goal
@@ -16,6 +16,6 @@ invariant-loop-command l = record {
   number : l.epochs.number ≤ l.fn.epochs.number + l.command-index;
   clears : l.epochs.carries ≡ false;
   answered : (done : List Answer) × All HadMemory done × AllZip (IsKept l.fn.epochs.core.network.table.width) done l.answers.items
-      × ((rest : List Answer) (new : Epochs) → RunsByHistory l.epochs (drop l.command-index l.commands) rest new → RunsByHistory l.fn.epochs l.commands (done ++ rest) new);
+      × ((rest : List Answer) (new : Epochs) → RunsCommandsByHistory l.epochs (drop l.command-index l.commands) rest new → RunsCommandsByHistory l.fn.epochs l.commands (done ++ rest) new);
   whole : All (IsWholeKept l.fn.epochs.core.network.table.width) l.answers.items;
 }

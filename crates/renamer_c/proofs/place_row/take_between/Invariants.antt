@@ -1,5 +1,5 @@
 use Rattle.std.specs.Prelude.{◌≡◌, ◌+◌, ◌≤◌, length}
-use Rattle.renamer_c.specs.Placing.{AreFor}
+use Rattle.renamer_c.specs.Placing.{AreTagsOf}
 use Rattle.renamer_c.proofs.place_row.take_between.Given as goal
 
 -- the places so far had no lane

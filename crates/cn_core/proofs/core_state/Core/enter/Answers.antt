@@ -1,5 +1,5 @@
 use Rattle.std.proofs.Common.{◌∙◌, rules, ◌≡◌, arith, None, ◌++◌, ◌∷◌, []}
-use Rattle.cn_core.proofs.LedgerLemmas.{IsCore-after_enter, ledger-enters}
+use Rattle.cn_core.proofs.LedgerLemmas.{IsCore-state_after_enter, ledger-enters}
 use Rattle.cn_core.proofs.TightLemmas.{room-entered}
 use Rattle.cn_core.proofs.HistoryLemmas.{history-enter}
 use Rattle.cn_core.specs.History.{carried_by}
@@ -18,7 +18,7 @@ invariant_of-self-2 c =
     let absent : position_in s.clients c.args.client ≡ None = search rules in
     let clients : positions c.add.new.self ≡ s.clients ++ (c.args.client, On c.args.entry) ∷ [] = search rules in
     record {
-      core = rw (c.count_one.ensures.after, clients) (IsCore-after_enter s c.args.client c.args.entry c.self.invariant.core (omega arith) absent (omega arith));
+      core = rw (c.count_one.ensures.after, clients) (IsCore-state_after_enter s c.args.client c.args.entry c.self.invariant.core (omega arith) absent (omega arith));
       wires = c.add.ensures.wires ∙ c.self.invariant.wires;
     }
 

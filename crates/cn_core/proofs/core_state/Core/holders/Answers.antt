@@ -2,7 +2,7 @@ use Rattle.std.proofs.Common.{refl}
 use Rattle.std.proofs.lemmas.Result.{IfOk-weaker}
 use Rattle.cn_names.specs.Grants.{ListsByName}
 use Rattle.cn_core.specs.InsideCore.{state_of}
-use Rattle.cn_core.specs.Tight.{ListsHolders}
+use Rattle.cn_core.specs.Tight.{ListsStateHolders}
 use Rattle.cn_core.proofs.Holders.{holders-listed}
 use Rattle.cn_core.proofs.core_state.Core.holders.Goals as goal
 
@@ -10,5 +10,5 @@ pub returns : goal.returns
 returns c =
     let clients = c.self.inside.clients in
     rw (← c.self.view_is)
-    (IfOk-weaker c.by_name.result (λ v. ListsByName clients.names v.items) (λ v. ListsHolders (state_of c.self.inside) v.items)
+    (IfOk-weaker c.by_name.result (λ v. ListsByName clients.names v.items) (λ v. ListsStateHolders (state_of c.self.inside) v.items)
     (λ v listed. holders-listed (state_of c.self.inside) clients v.items refl c.self.invariant.core (rw (← c.self.view_is) at c.requires) listed) c.by_name.ensures)

@@ -5,13 +5,13 @@ use Rattle.cn_names.specs.Names.{standing_of_client}
 use Rattle.cn_names.specs.declared.standing.Standing.TheVariants.{Walking}
 use Rattle.cn_core.specs.InsideClients.{positions, with_position}
 use Rattle.cn_core.specs.InsideCore.{state_of}
-use Rattle.cn_core.specs.State.{State, after_step, position_in, position_past}
+use Rattle.cn_core.specs.State.{State, position_in, position_past, state_after_step}
 use Rattle.cn_core.specs.declared.position.Position.TheVariants.{On}
 use Rattle.cn_ledger.specs.declared.moved.Moved.TheVariants.{On as Passed, Out}
 use Rattle.cn_core.proofs.HistoryLemmas.{history-step}
 use Rattle.cn_core.proofs.TightLemmas.{room-past}
 use Rattle.cn_core.proofs.StateLemmas.{name-later}
-use Rattle.cn_core.proofs.LedgerLemmas.{IsCore-after_step, ledger-step}
+use Rattle.cn_core.proofs.LedgerLemmas.{IsCore-state_after_step, ledger-step}
 use Rattle.cn_core.proofs.core_state.Core.step.Goals as goal
 
 pub count_one-number-requires-clause-room : goal.count_one-number-requires-clause-room
@@ -28,7 +28,7 @@ overflow_sub-name c =
     rw (c.take-visit.ensures.name, c.take-visit.ensures.visit, c.self.invariant.core.state.exits) later
 
 -- the clients once the token stands on the wire behind the balancer
-walked : (c : goal.After-walk) → positions c.walk.new.self ≡ (after_step (state_of c.self.inside) c.args.client (Balancer c.in-Balancer.balancer)).clients
+walked : (c : goal.After-walk) → positions c.walk.new.self ≡ (state_after_step (state_of c.self.inside) c.args.client (Balancer c.in-Balancer.balancer)).clients
 walked c =
     let token : standing_of_client c.self.inside.clients.names c.args.client ≡ Some (Walking c.in-Walking.token) = rw c.in-Walking.is at c.in-Some.ensures.token in
     rw (c.entries.ensures.value, c.output_of.ensures, c.count_one-number.ensures.before) at (c.walk.ensures.walked c.args.client token)
@@ -38,7 +38,7 @@ invariant_of-self c =
     let s : State = state_of c.self.inside in
     let on : position_in s.clients c.args.client ≡ Some (On c.in-Walking.wire) = sym (rw c.in-Walking.is at c.in-Some.ensures.position) in
     record {
-      core = rw (c.count_one-number.ensures.after, walked c) (IsCore-after_step s c.args.client c.in-Walking.wire (Balancer c.in-Balancer.balancer) c.self.invariant.core on c.in-Balancer.ensures.at);
+      core = rw (c.count_one-number.ensures.after, walked c) (IsCore-state_after_step s c.args.client c.in-Walking.wire (Balancer c.in-Balancer.balancer) c.self.invariant.core on c.in-Balancer.ensures.at);
       wires = c.walk.ensures.wires ∙ c.self.invariant.wires;
     }
 
@@ -54,7 +54,7 @@ invariant_of-self-in-Exit c =
     let clients : positions c.settle.new.self ≡ with_position s.clients c.args.client (position_past s.network.table s.base (Exit c.in-Exit.exit) (slice_index s.visits c.in-Exit.exit)) =
     rw (c.take-visit.ensures.name, c.take-visit.ensures.visit, exits) at c.settle.ensures.settled in
     record {
-      core = rw (c.take-visit.ensures.counted, c.take-visit.ensures.visit, clients) (IsCore-after_step s c.args.client c.in-Walking.wire (Exit c.in-Exit.exit) c.self.invariant.core on c.in-Exit.ensures.at);
+      core = rw (c.take-visit.ensures.counted, c.take-visit.ensures.visit, clients) (IsCore-state_after_step s c.args.client c.in-Walking.wire (Exit c.in-Exit.exit) c.self.invariant.core on c.in-Exit.ensures.at);
       wires = c.settle.ensures.wires ∙ c.self.invariant.wires;
     }
 

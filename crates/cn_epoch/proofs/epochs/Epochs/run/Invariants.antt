@@ -1,6 +1,6 @@
 use Rattle.std.proofs.Common.{◌≡◌, ◌+◌, ◌≤◌, ◌++◌, List, drop, length, vec_capacity, vec_len}
 use Rattle.cn_record.specs.declared.answer.Answer.{Answer}
-use Rattle.cn_epoch.specs.Calls.{RunsTo, RunsByHistory}
+use Rattle.cn_epoch.specs.Calls.{RunsCommandsTo, RunsCommandsByHistory}
 use Rattle.cn_epoch.specs.History.{Epochs}
 use Rattle.cn_epoch.proofs.epochs.Epochs.run.Given as goal
 
@@ -13,6 +13,6 @@ invariant-loop-command l = record {
   number : l.self.number ≤ l.fn.self.number + l.command-index;
   carries : l.self.carries ≡ l.fn.self.carries;
   came : l.self.core.base + length l.self.core.clients ≤ l.fn.self.core.base + length l.fn.self.core.clients + l.command-index;
-  events : (rest : List Answer) (new : Epochs) → RunsTo l.self (drop l.command-index l.commands) rest new → RunsTo l.fn.self l.commands (l.answers.items ++ rest) new;
-  rest : (rest : List Answer) (new : Epochs) → RunsByHistory l.self (drop l.command-index l.commands) rest new → RunsByHistory l.fn.self l.commands (l.answers.items ++ rest) new;
+  events : (rest : List Answer) (new : Epochs) → RunsCommandsTo l.self (drop l.command-index l.commands) rest new → RunsCommandsTo l.fn.self l.commands (l.answers.items ++ rest) new;
+  rest : (rest : List Answer) (new : Epochs) → RunsCommandsByHistory l.self (drop l.command-index l.commands) rest new → RunsCommandsByHistory l.fn.self l.commands (l.answers.items ++ rest) new;
 }
