@@ -19,7 +19,7 @@ use cn_exit::expected;
 use std::alloc::{AllocError, Global};
 use std::io::{Read, Write};
 
-/// What a grant list says of an epoch.
+/// What a grant list says of an epoch: a [`crate::NamedEpoch`] and its counts by one width.
 #[derive(Debug, Drop)]
 pub struct TightEpoch {
     /// The epoch's number.

@@ -21,7 +21,8 @@ pub(crate) struct Gap {
     pub(crate) name: u64,
 }
 
-/// An epoch whose clients got the names below their number, each once.
+/// An epoch whose clients got the names below their number, each once: a [`crate::TightEpoch`] without its counts,
+/// which are the shares of so many clients, by any width.
 #[derive(Clone, Copy, Debug, PartialEq, Eq)]
 pub struct NamedEpoch {
     /// The epoch's number.
