@@ -101,7 +101,7 @@ pub fn name_by_two<R: Threads>(
     ensures low { IfSome result (λ r. All (λ name. name < r.2.entered) r.2.first.items
         × All (λ name. name < r.2.entered) r.2.second.items) }
     ensures few { IfSome result (λ r. r.2.entered ≤ floor.now.start.quota) }
-    ensures moment { IfSome result (λ r. StoodAsOne floor.now.start r.0.view r.1.view r.2.entered) }
+    ensures in_state { IfSome result (λ r. StoodAsOne floor.now.start r.0.view r.1.view r.2.entered) }
     ensures later { IfSome result (λ r. (r.0.view.seen ≡ r.2.entered) × (r.1.view.seen ≡ r.2.entered)) }
 {
     let named = name_in_threads(rt, alloc, floor, lane, other, first, second);

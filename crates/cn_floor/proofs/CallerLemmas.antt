@@ -5,13 +5,13 @@ pub use Rattle.cn_floor.proofs.InLane.Yards.{first-stands, lowest-inside, nobody
 pub use Rattle.cn_floor.proofs.InLane.Alone.{off-own, on-own}
 pub use Rattle.cn_floor.proofs.InLane.Swept.{grants-kept, grants-left, kin-by, some-inside}
 -- what a lane may do, and what it did
-pub use Rattle.cn_floor.proofs.AtMoments.Sweeps.{MayGo, goes-there, rest-may}
-pub use Rattle.cn_floor.proofs.AtMoments.Ledgers.{Lands}
-pub use Rattle.cn_floor.proofs.AtMoments.Accounts.{at-none, at-one, weighed-went}
-pub use Rattle.cn_floor.proofs.AtMoments.Raised.{count-word}
+pub use Rattle.cn_floor.proofs.InStates.Sweeps.{MayGo, goes-there, rest-may}
+pub use Rattle.cn_floor.proofs.InStates.Ledgers.{Lands}
+pub use Rattle.cn_floor.proofs.InStates.Accounts.{at-none, at-one, weighed-went}
+pub use Rattle.cn_floor.proofs.InStates.Raised.{count-word}
 pub use Rattle.cn_floor.proofs.Lists.{ones, weigh-come, weigh-leave, weigh-pass}
 -- a floor that nobody entered
-pub use Rattle.cn_floor.proofs.AtMoments.Openings.{none-came, none-counted, none-entered}
+pub use Rattle.cn_floor.proofs.InStates.Openings.{none-came, none-counted, none-entered}
 -- a closed floor
 pub use Rattle.cn_floor.proofs.AtClose.Closings.{ending-at, inside-yard, map-same, none-on}
 pub use Rattle.cn_floor.proofs.AtClose.Holding.{Stand, all-stand, name-low, one-more}

@@ -1,5 +1,5 @@
 mod Lists
-mod AtMoments
+mod InStates
 mod InLane
 mod AtClose
 pub mod CallerLemmas

@@ -8,15 +8,15 @@ use Rattle.cn_floor.specs.declared.view.View.{View}
 use Rattle.cn_floor.specs.Ends.{IsClosedFloor}
 use Rattle.cn_floor.specs.Lane.{FloorValue, LaneValue}
 use Rattle.cn_floor.specs.Rule.{FloorState}
-use Rattle.cn_floor.specs.Steps.{IsMoment}
+use Rattle.cn_floor.specs.Steps.{IsStateOf}
 use Rattle.cn_floor.specs.Views.{base}
 use Rattle.cn_floor.specs.Words.{clients_in, word_count}
 
 -- what the words at the end are, if the last seat has the view v
 pub record IsEnding (start : Start) (v : View) (words : List ℕ) : Type 0 where
-  -- they are those of a moment at which the lane has this view
+  -- they are those of a state in which the lane has this view
   pub state : FloorState
-  pub moment : IsMoment start v state
+  pub in_state : IsStateOf start v state
   pub same : state.words ≡ words
   pub count : length words ≡ word_count start.network.table
   pub few : clients_in start.network.table words ≤ base start + start.quota
@@ -28,10 +28,10 @@ pub record IsEnding (start : Start) (v : View) (words : List ℕ) : Type 0 where
   pub quiet : tokens_in v.tokens ≡ 0 → clients_in start.network.table words ≡ base start + length v.grants
       → IsClosedFloor start v words
 
--- more came in than the lane has grants: this number, by the words of a moment at which the lane has this view
+-- more came in than the lane has grants: this number, by the words of a state in which the lane has this view
 pub record IsMissing (start : Start) (v : View) (entered : ℕ) : Type 0 where
   pub state : FloorState
-  pub moment : IsMoment start v state
+  pub in_state : IsStateOf start v state
   pub came : clients_in start.network.table state.words ≡ base start + entered
   pub more : length v.grants < entered
   -- it comes only if other lanes have a part of the quota, spent or not

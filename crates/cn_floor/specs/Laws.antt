@@ -17,12 +17,12 @@ use Rattle.cn_floor.specs.Views.{base, given_in, levels_in}
 use Rattle.cn_floor.specs.Words.{clients_in, count_in}
 
 -- each state that keeps the rule of a floor has this property
-abbrev pub AtEachMoment : Start → (Start → FloorState → Type 0) → Type 0
-AtEachMoment start P = (s : FloorState) → KeepsRule start s → P start s
+abbrev pub InEachState : Start → (Start → FloorState → Type 0) → Type 0
+InEachState start P = (s : FloorState) → KeepsRule start s → P start s
 
 -- each view in each state that keeps the rule of a floor has this property
 abbrev pub InEachView : Start → (Start → FloorState → View → Type 0) → Type 0
-InEachView start P = AtEachMoment start (λ start s. (id : ℕ) (v : View) → get_elem? s.views id ≡ some v → P start s v)
+InEachView start P = InEachState start (λ start s. (id : ℕ) (v : View) → get_elem? s.views id ≡ some v → P start s v)
 
 -- the ledger of all that ever came
 abbrev pub ledger_at : Start → FloorState → Ledger

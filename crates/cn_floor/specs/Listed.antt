@@ -9,7 +9,7 @@ use Rattle.cn_floor.specs.declared.view.Start.{Start}
 use Rattle.cn_floor.specs.declared.view.View.{View}
 use Rattle.cn_floor.specs.Lane.{LaneValue}
 use Rattle.cn_floor.specs.EntersAll.{EnterInRow, after_enter_all}
-use Rattle.cn_floor.specs.Steps.{HasMoment, IsAtomicStep}
+use Rattle.cn_floor.specs.Steps.{IsAtomicStep, StoodInState}
 use Rattle.cn_floor.specs.Sweeps.{SweptBy}
 
 -- of a list's clients those at the places first, first + stride and so on, so many; each is a token with the number of
@@ -57,7 +57,7 @@ pub record HaveLeft (v w : View) (wire : ℕ) (tokens : List (ℕ × ℕ)) : Typ
   pub empty : on w.tokens wire ≡ []
   pub others : (u : ℕ) → u ≢ wire → on w.tokens u ≡ on v.tokens u
   pub grants : (more : List Grant) × (w.grants ≡ v.grants ++ more) × AreTheirs tokens more
-  pub moment : 0 < length tokens → HasMoment v.start w
+  pub in_state : 0 < length tokens → StoodInState v.start w
   pub nobody : length tokens ≡ 0 → w ≡ v
 
 -- the clients of a list come in by an entry, in one step, and leave by sweeps of these wires
@@ -78,7 +78,7 @@ pub record AreNamed (old new : LaneValue) (clients : List ℕ) (entry : ℕ) : T
   pub seen : new.view.seen ≡ old.view.seen
   pub grants : (more : List Grant) × (new.view.grants ≡ old.view.grants ++ more) × (length more ≡ length clients)
       × ((client : ℕ) → count_by (λ g. g.client == client) more ≡ times client clients)
-  -- the lane stands at some moment: so the rule holds of its names
-  pub moment : 0 < length clients → HasMoment old.home.start new.view
+  -- the lane stands in some state: so the rule holds of its names
+  pub in_state : 0 < length clients → StoodInState old.home.start new.view
   pub yard : new.yard ≡ old.yard
   pub room : new.room ≡ old.room - length clients

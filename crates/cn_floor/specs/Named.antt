@@ -8,7 +8,7 @@ use Rattle.cn_floor.specs.declared.view.View.{View}
 use Rattle.cn_floor.specs.Lane.{LaneValue}
 use Rattle.cn_floor.specs.Alone.{PassesOn}
 use Rattle.cn_floor.specs.Plays.{IsLetBy}
-use Rattle.cn_floor.specs.Steps.{HasMoment, IsAtomicStep}
+use Rattle.cn_floor.specs.Steps.{IsAtomicStep, StoodInState}
 use Rattle.cn_floor.specs.Views.{after_enter, after_step}
 
 -- a client comes in by an entry, passes balancers, and leaves by an exit with this visit: by one event each
@@ -37,8 +37,8 @@ pub record IsNamed (old new : LaneValue) (client entry name : ℕ) : Type 0 wher
   pub grants : new.view.grants
       ≡ old.view.grants ++ record { client = client; exit = exit; visit = visit; name = name } ∷ []
   pub seen : new.view.seen ≡ old.view.seen
-  -- the name is below what the floor may let in, and the lane stands at some moment
+  -- the name is below what the floor may let in, and the lane stands in some state
   pub low : name < old.home.start.quota
-  pub moment : HasMoment old.home.start new.view
+  pub in_state : StoodInState old.home.start new.view
   pub yard : new.yard ≡ old.yard
   pub room : new.room ≡ old.room - 1

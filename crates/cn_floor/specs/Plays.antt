@@ -8,7 +8,7 @@ use Rattle.cn_ledger.specs.Events.{Enters}
 use Rattle.cn_yard.specs.Lists.{tokens_in}
 use Rattle.cn_floor.specs.declared.view.Start.{Start}
 use Rattle.cn_floor.specs.declared.view.View.{View}
-use Rattle.cn_floor.specs.Steps.{HasMoment, IsAnswer, IsAtomicStep, answer_at}
+use Rattle.cn_floor.specs.Steps.{IsAnswer, IsAtomicStep, StoodInState, answer_at}
 use Rattle.cn_floor.specs.Views.{after_enter, after_load, after_look, after_step, base, no_start, own_count}
 use Rattle.cn_floor.specs.Words.{count_in}
 
@@ -61,11 +61,11 @@ pub record IsLoad (start : Start) (v : View) (n : ℕ) : Type 0 where
   pub last : length v.loads + 1 ≡ start.network.table.entries
       → (base start ≤ sum (v.loads ++ n ∷ [])) × IsAnswer start v (sum (v.loads ++ n ∷ []) - base start)
 
--- the number n is loaded, and the lane then stands at a moment
+-- the number n is loaded, and the lane then stands in a state
 abbrev pub Loads : Start → View → ℕ → View → Type 0
-Loads start v n w = (w ≡ after_load start n v) × IsLoad start v n × HasMoment start w
+Loads start v n w = (w ≡ after_load start n v) × IsLoad start v n × StoodInState start w
 
--- a look, at a moment at which the lane has its view
+-- a look, in a state in which the lane has its view
 abbrev pub Looks : Start → View → View → Type 0
 Looks start v w =
-    (w ≡ after_look v) × HasMoment start w × (tokens_in v.tokens + v.quota ≤ MOST_CLIENTS)
+    (w ≡ after_look v) × StoodInState start w × (tokens_in v.tokens + v.quota ≤ MOST_CLIENTS)

@@ -14,17 +14,17 @@ use Rattle.cn_floor.specs.declared.view.View.{View}
 use Rattle.cn_floor.specs.Rule.{FloorState, KeepsRule, ledger_of}
 use Rattle.cn_floor.specs.Views.{base}
 
--- At this moment of the floor a lane has this view: the state keeps the rule.
-pub record IsMoment (start : Start) (v : View) (s : FloorState) : Type 0 where
+-- In this state of the floor, which keeps the rule, a lane has this view.
+pub record IsStateOf (start : Start) (v : View) (s : FloorState) : Type 0 where
   pub id : ℕ
   pub here : get_elem? s.views id ≡ some v
   pub kept : KeepsRule start s
 
--- at some moment of the floor a lane has this view
-abbrev pub HasMoment : Start → View → Type 0
-HasMoment start v = (s : FloorState) × IsMoment start v s
+-- in some state of the floor a lane has this view
+abbrev pub StoodInState : Start → View → Type 0
+StoodInState start v = (s : FloorState) × IsStateOf start v s
 
--- At a moment of the floor one view becomes another and no other changes, and that is this event on the ledger; the
+-- In one step of the floor one view becomes another and no other changes, and that is this event on the ledger; the
 -- rule holds before it and after.
 pub record IsAtomicStep (start : Start) (v w : View) (event : Ledger → Ledger → Type 0) : Type 0 where
   pub old : FloorState

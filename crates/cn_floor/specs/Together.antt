@@ -5,7 +5,7 @@ use Rattle.cn_spec.specs.Sums.{times}
 use Rattle.cn_yard.specs.Lists.{on}
 use Rattle.cn_floor.specs.declared.view.Start.{Start}
 use Rattle.cn_floor.specs.declared.view.View.{View}
-use Rattle.cn_floor.specs.Steps.{HasMoment}
+use Rattle.cn_floor.specs.Steps.{StoodInState}
 use Rattle.cn_floor.specs.Views.{after_entered, nobody}
 
 -- two views as one, in one step: on each wire the tokens of the first, and then those of the second
@@ -43,9 +43,9 @@ abbrev pub NamesApart : View → View → Type 0
 NamesApart v w =
     (name : ℕ) → times name (map (λ g. g.name) v.grants) + times name (map (λ g. g.name) w.grants) ≤ 1
 
--- at some moment of the floor a lane has both views as one, with this answer of how many came in
+-- in some state of the floor a lane has both views as one, with this answer of how many came in
 abbrev pub StoodAsOne : Start → View → View → ℕ → Type 0
-StoodAsOne start v w answer = (steps : ℕ) × HasMoment start (record (both_of v w) { seen = answer; steps = steps })
+StoodAsOne start v w answer = (steps : ℕ) × StoodInState start (record (both_of v w) { seen = answer; steps = steps })
 
 -- a lane looked so many times
 abbrev pub after_looks : ℕ → View → View

@@ -15,14 +15,14 @@ use Rattle.cn_floor.specs.declared.view.Start.{Start}
 use Rattle.cn_floor.specs.declared.view.View.{View}
 use Rattle.cn_floor.specs.Lane.{FloorValue, LaneValue}
 use Rattle.cn_floor.specs.Rule.{IsStart}
-use Rattle.cn_floor.specs.Steps.{HasMoment, IsAtomicStep}
+use Rattle.cn_floor.specs.Steps.{IsAtomicStep, StoodInState}
 use Rattle.cn_floor.proofs.CallerLemmas.{ending-at, ones}
 use Rattle.cn_walk.specs.Walks.{AreInOrder, GrantsInOrder, IsSole, Walks, inside_by}
 use Rattle.cn_walk.proofs.Walks.{length-both}
 
--- after a step the lane stands at a moment
-pub moment-after : (start : Start) (v w : View) (event : Ledger → Ledger → Type 0) → IsAtomicStep start v w event → HasMoment start w
-moment-after start v w event step = (step.new, record { id = step.id; here = step.there; kept = step.kept_after })
+-- after a step the lane stands in a state
+pub state-after : (start : Start) (v w : View) (event : Ledger → Ledger → Type 0) → IsAtomicStep start v w event → StoodInState start w
+state-after start v w event step = (step.new, record { id = step.id; here = step.there; kept = step.kept_after })
 
 -- ---- one after the other
 
@@ -83,18 +83,18 @@ of-one m old (x ∷ y ∷ xs) more one single same was is = absurd (omega (arith
 
 -- a client that walks alone in a lane with the whole quota gets the next name
 pub next-in-order : (start : Start) (a b : LaneValue) (xs : List Client) → IsStart start → length xs ≡ 1 → a.home.start ≡ start → Walks a b xs
-    → ((f : ℕ → ℕ) → inside_by f a.view ≡ 0) → ((f : ℕ → ℕ) → inside_by f b.view ≡ 0) → HasMoment start b.view → IsSole a → IsSole b × GrantsInOrder a b xs
-next-in-order start a b xs began one home walks before after (s, moment) sole =
+    → ((f : ℕ → ℕ) → inside_by f a.view ≡ 0) → ((f : ℕ → ℕ) → inside_by f b.view ≡ 0) → StoodInState start b.view → IsSole a → IsSole b × GrantsInOrder a b xs
+next-in-order start a b xs began one home walks before after (s, in_state) sole =
     let v : View = b.view in
     let m : ℕ = length a.view.grants in
     let name : Grant → ℕ = λ g. g.name in
     let (more, grants, even) = walks.grants in
-    let e = ending-at start s moment.id v (record { began = began; rule = moment.kept }) moment.here in
+    let e = ending-at start s in_state.id v (record { began = began; rule = in_state.kept }) in_state.here in
     let out : tokens_in v.tokens ≡ 0 =
     sum-below-same (length v.tokens) (λ u. length (on v.tokens u)) (λ u. sum_by (λ (_ : ℕ × ℕ). 1) (on v.tokens u)) (λ u l. sym (ones (on v.tokens u))) ∙ after (λ _. 1) in
     let entered : length v.entries ≡ length a.view.entries + length xs = ap length walks.entries ∙ length-both a.view.entries (map (λ (k : Client). k.entry) xs) ∙ ap (λ (k : ℕ). length a.view.entries + k) (length-map xs (λ (k : Client). k.entry)) in
     let quota : start.quota ≤ v.quota + length v.entries = omega (arith, sole.quota, ap (λ (z : Start). z.quota) home, walks.quota, entered) in
-    let all = (moment.kept.accounted moment.id v moment.here).all in
+    let all = (in_state.kept.accounted in_state.id v in_state.here).all in
     let names : IsEachBelow (length v.grants) (map name v.grants) = (e.quiet out (omega (arith, e.sole (omega (arith, quota, e.within)), all, out))).names in
     let single : length more ≡ 1 = omega (arith, even (λ _. 1), before (λ _. 1), after (λ _. 1), ones more, ones xs, one) in
     let client : sum_by (λ (g : Grant). g.client) more ≡ sum_by (λ (k : Client). k.id) xs = omega (arith, even (λ k. k), before (λ k. k), after (λ k. k)) in

@@ -39,7 +39,7 @@ new-nothing home q yard a is idle =
 -- a lane that has as many grants as the floor may let in misses nothing
 pub none-missing : (start : Start) (v : View) (entered : ℕ) → IsMissing start v entered → length v.grants ≡ start.quota → ⊥
 none-missing start v entered is all =
-    omega (arith, is.short, (is.moment.kept.accounted is.moment.id v is.moment.here).all)
+    omega (arith, is.short, (is.in_state.kept.accounted is.in_state.id v is.in_state.here).all)
 
 -- a quiet floor that went on from words, where its lane let these clients in
 module _ (q : QuietValue) (clients : List Client) (quiet : IsClosedFloor q.start q.did q.words) where

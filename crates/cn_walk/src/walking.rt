@@ -2,7 +2,7 @@
 
 ghost use Rattle.std.specs.Prelude.{◌≡◌, ℕ, ◌+◌, ◌<◌, ◌≤◌, [], All, length};
 ghost use Rattle.cn_yard.specs.Lists.{IsLowest, tokens_in};
-ghost use Rattle.cn_floor.specs.Steps.{HasMoment};
+ghost use Rattle.cn_floor.specs.Steps.{StoodInState};
 ghost use Rattle.cn_walk.specs.Walks.{GrantsInOrder, IsSole, WalksAll, Walks, inside_by, steps_left};
 
 use cn_floor::{Floor, Gate, Lane, Moment, pass_alone};
@@ -26,7 +26,7 @@ fn walk_in<'a, G: Gate, R: Wait>(
     requires room { length clients.now ≤ lane.old.room }
     requires hand { tokens_in lane.old.yard.lists + length clients.now ≤ _hand }
     ensures walked { Walks lane.old lane.new clients.now }
-    ensures moment { 0 < length clients.now → HasMoment floor.now.start lane.new.view }
+    ensures in_state { 0 < length clients.now → StoodInState floor.now.start lane.new.view }
 {
     floor.start_laws();
     for client in clients {
@@ -70,7 +70,7 @@ fn walk_out<'a, G: Gate, R: Wait>(rt: &R, floor: &Floor<'a>, lane: &mut Lane, ga
     ensures walked { Walks lane.old lane.new [] }
     ensures out { tokens_in lane.new.yard.lists ≡ 0 }
     ensures nobody { (f : ℕ → ℕ) → inside_by f lane.new.view ≡ 0 }
-    ensures moment { HasMoment floor.now.start lane.old.view → HasMoment floor.now.start lane.new.view }
+    ensures in_state { StoodInState floor.now.start lane.old.view → StoodInState floor.now.start lane.new.view }
 {
     lane.lane_laws();
     let mut from = 0;

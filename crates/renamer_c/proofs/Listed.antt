@@ -106,7 +106,7 @@ with-more-room a b clients less is =
         seen = is.walked.seen;
         grants = is.walked.grants;
       };
-      moment = is.moment;
+      in_state = is.in_state;
       runs = is.runs;
       once = is.once;
     }

@@ -8,7 +8,7 @@ use Rattle.cn_floor.specs.Carried.{start_after}
 use Rattle.cn_floor.specs.Ends.{IsClosedFloor, ListsHolders, counts_by_exit}
 use Rattle.cn_floor.specs.Lane.{LaneValue, empty_lane, with_room}
 use Rattle.cn_floor.specs.Named.{IsNamed}
-use Rattle.cn_floor.specs.Steps.{HasMoment, IsAnswer}
+use Rattle.cn_floor.specs.Steps.{IsAnswer, StoodInState}
 use Rattle.cn_floor.specs.Views.{after_entered, after_look, after_split, base, split_off}
 use Rattle.renamer_c.specs.Records.{RecordValue}
 
@@ -22,14 +22,14 @@ pub record IsOpened (lane : LaneValue) (most : ℕ) : Type 0 where
 pub record IsSplit (old lane other : LaneValue) (quota : ℕ) : Type 0 where
   pub first : lane ≡ record old { view = after_look (after_split quota old.view) }
   pub second : other ≡ record (empty_lane old.home quota) { view = after_look (split_off quota old.view) }
-  pub moments : HasMoment old.home.start lane.view × HasMoment old.home.start other.view
+  pub in_states : StoodInState old.home.start lane.view × StoodInState old.home.start other.view
   pub within : quota ≤ old.view.quota
 
 -- a lane was answered how many came in
 pub record IsAnswered (old new : LaneValue) (answer : ℕ) : Type 0 where
   pub fresh : IsAnswer old.home.start old.view answer
   pub lane : new ≡ record old { view = after_entered old.home.start answer old.view }
-  pub moment : HasMoment old.home.start new.view
+  pub in_state : StoodInState old.home.start new.view
 
 -- the same of what handles have, in which lanes are
 abbrev pub Names : Option LaneValue → Option LaneValue → ℕ → ℕ → ℕ → Type 0

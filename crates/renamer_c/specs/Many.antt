@@ -1,12 +1,12 @@
 -- What the naming of many clients by one call makes of a lane.
-use Rattle.std.specs.Prelude.{◌≡◌, ◌≢◌, ℕ, ◌<◌, ◌≤◌, List, [], ◌∷◌, Option, Some}
+use Rattle.std.specs.Prelude.{List, Option, Some, [], ℕ, ◌<◌, ◌∷◌, ◌≡◌, ◌≢◌, ◌≤◌}
 use Rattle.std.specs.Prelude.{drop, get_or, length, map, slice_index, take}
 use Rattle.cn_spec.specs.Sums.{times}
 use Rattle.cn_ledger.specs.declared.client.Client as ledger
 use Rattle.cn_floor.specs.Lane.{LaneValue}
 use Rattle.cn_floor.specs.Listed.{AreNamed}
 use Rattle.cn_floor.specs.Named.{IsNamed}
-use Rattle.cn_floor.specs.Steps.{HasMoment}
+use Rattle.cn_floor.specs.Steps.{StoodInState}
 use Rattle.cn_walk.specs.Walks.{WalksAll}
 use Rattle.renamer_c.specs.Questions.{AreGrantsFrom}
 use Rattle.renamer_c.specs.declared.client.Client.{Client}
@@ -51,7 +51,7 @@ AreNamedByRuns (n ∷ ns) old new clients = (next : LaneValue) × (entry : ℕ) 
 -- lane with the room that it may get first
 pub record AreAllNamed (old new : LaneValue) (clients : List Client) : Type 0 where
   pub walked : WalksAll old new (map client_from clients)
-  pub moment : 0 < length clients → HasMoment old.home.start new.view
+  pub in_state : 0 < length clients → StoodInState old.home.start new.view
   pub runs : (first : LaneValue) × (lengths : List ℕ) × (first.home ≡ old.home) × (first.view ≡ old.view)
       × (first.yard.lists ≡ old.yard.lists) × AreNamedByRuns lengths first new clients
   pub once : 0 < length clients → (name : ℕ) → times name (map (λ g. g.name) new.view.grants) ≤ 1

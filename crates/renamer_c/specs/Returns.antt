@@ -2,7 +2,7 @@
 use Rattle.std.specs.Prelude.{◌≡◌, ◌-◌, ℕ, zero, suc, Option, Some, length}
 use Rattle.cn_yard.specs.Lists.{tokens_in}
 use Rattle.cn_floor.specs.Lane.{FloorValue, LaneValue}
-use Rattle.cn_floor.specs.Steps.{HasMoment}
+use Rattle.cn_floor.specs.Steps.{StoodInState}
 use Rattle.cn_floor.specs.Views.{after_join, after_look}
 
 -- a lane of this floor with nobody inside
@@ -17,7 +17,7 @@ pub record IsJoined (old new other : LaneValue) : Type 0 where
     view = after_look (after_join old.view other.view);
     room = old.room - length other.view.grants;
   }
-  pub moment : HasMoment old.home.start new.view
+  pub in_state : StoodInState old.home.start new.view
 
 -- the same of what a handle has: it took in some lane that had been handed back
 abbrev pub Joins : Option LaneValue → Option LaneValue → Type 0

@@ -11,7 +11,7 @@ ghost use Rattle.cn_spec.specs.declared.limits.TheConstants.{MOST_CARRIED, MOST_
 ghost use Rattle.cn_floor.specs.Carried.{client_count, start_after};
 ghost use Rattle.cn_floor.specs.Lane.{empty_lane, with_room};
 ghost use Rattle.cn_floor.specs.Named.{IsNamed};
-ghost use Rattle.cn_floor.specs.Steps.{HasMoment, IsAnswer};
+ghost use Rattle.cn_floor.specs.Steps.{IsAnswer, StoodInState};
 ghost use Rattle.cn_floor.specs.Views.{after_entered, base};
 ghost use Rattle.renamer_c.specs.Calls.{IsOpened, IsSplit};
 ghost use Rattle.renamer_c.specs.Placing.{IsNearOf, IsPlaceOf};
@@ -201,7 +201,7 @@ impl HeldLane {
         ensures answer { IsAnswer self.old.home.start self.old.view result }
         ensures lane { self.new
             ≡ record self.old { view = after_entered self.old.home.start result self.old.view } }
-        ensures moment { HasMoment self.old.home.start self.new.view }
+        ensures in_state { StoodInState self.old.home.start self.new.view }
     {
         floor_of(&self.floor).entered(&mut self.lane)
     }

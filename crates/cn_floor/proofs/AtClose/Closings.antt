@@ -24,12 +24,12 @@ use Rattle.cn_floor.specs.Ends.{IsClosedFloor, NobodyInside, counts_by_exit}
 use Rattle.cn_floor.specs.Rule.{HoldsAt, ledger_of}
 use Rattle.cn_floor.specs.Views.{base, given_in, granted_in, on_in, standing_in}
 use Rattle.cn_floor.specs.Words.{clients_in, count_in, entered_in}
-use Rattle.cn_floor.proofs.AtMoments.Bounds.{all-came, few-came}
+use Rattle.cn_floor.proofs.InStates.Bounds.{all-came, few-came}
 use Rattle.cn_floor.proofs.AtClose.Ends.{carried-after, tight-after, tight-before}
-use Rattle.cn_floor.proofs.AtMoments.Fresh.{load-bound-few}
-use Rattle.cn_floor.proofs.AtMoments.Sole.{none_given}
-use Rattle.cn_floor.proofs.AtMoments.Raised.{count-word}
-use Rattle.cn_floor.proofs.AtMoments.Totals.{mine-only, part-le}
+use Rattle.cn_floor.proofs.InStates.Fresh.{load-bound-few}
+use Rattle.cn_floor.proofs.InStates.Sole.{none_given}
+use Rattle.cn_floor.proofs.InStates.Raised.{count-word}
+use Rattle.cn_floor.proofs.InStates.Totals.{mine-only, part-le}
 use Rattle.cn_spec.proofs.CallerLemmas.{sum-below-part, times-nil}
 
 -- at a place of a list
@@ -176,7 +176,7 @@ module _ (start : Start) (s : State (Unit {0}) View) (id : ℕ) (v : View) (kept
   pub ending-at : IsEnding start v s.words
   ending-at = record {
     state = s;
-    moment = record { id = id; here = at; kept = kept.rule };
+    in_state = record { id = id; here = at; kept = kept.rule };
     same = refl;
     count = kept.rule.words;
     few = few-came start s kept;

@@ -8,8 +8,8 @@ use Rattle.cn_floor.specs.InsideCounters.{IsCounters}
 use Rattle.cn_floor.specs.Rule.{start_of}
 use Rattle.cn_floor.specs.Spread.{picked, spread}
 use Rattle.cn_floor.proofs.AtClose.Closings.{ending-at}
-use Rattle.cn_floor.proofs.AtMoments.Placed.{Rule}
-use Rattle.cn_floor.proofs.AtMoments.Spreads.{picked-spread}
+use Rattle.cn_floor.proofs.InStates.Placed.{Rule}
+use Rattle.cn_floor.proofs.InStates.Spreads.{picked-spread}
 
 module _ (c : Inside) (is : IsCounters c) {id : ℕ} {v : View} {row : List ℕ} (xs : List (Unit {0})) (end : Final (Seen (Rule c is) id v) row xs) where
   abbrev words : List ℕ

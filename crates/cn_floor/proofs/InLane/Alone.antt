@@ -20,7 +20,7 @@ use Rattle.cn_floor.specs.InsideLane.{lane_of}
 use Rattle.cn_floor.specs.Lane.{LaneValue}
 use Rattle.cn_floor.specs.Views.{after_step}
 use Rattle.cn_floor.proofs.Lists.{made}
-use Rattle.cn_floor.proofs.AtMoments.Sweeps.{lists-after-on}
+use Rattle.cn_floor.proofs.InStates.Sweeps.{lists-after-on}
 use Rattle.cn_floor.proofs.InLane.Swept.{some-inside}
 
 -- on its wire stands only the token

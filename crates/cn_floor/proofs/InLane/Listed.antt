@@ -22,13 +22,13 @@ use Rattle.cn_floor.specs.declared.view.View.{View}
 use Rattle.cn_floor.specs.EntersAll.{after_enter_all, after_enters}
 use Rattle.cn_floor.specs.Listed.{AreTheirs, CameIn, HaveLeft, placed}
 use Rattle.cn_floor.specs.Rule.{IsStart}
-use Rattle.cn_floor.specs.Steps.{HasMoment}
+use Rattle.cn_floor.specs.Steps.{StoodInState}
 use Rattle.cn_floor.specs.Sweeps.{AreLetBy, after_steps, after_sweep, grants_out}
 use Rattle.cn_floor.specs.Views.{after_enter, after_step, base}
 use Rattle.cn_floor.proofs.Lists.{made_at, made-beyond}
 use Rattle.cn_floor.proofs.AtClose.Rises.{all-empty}
-use Rattle.cn_floor.proofs.AtMoments.Sweeps.{MayGo, lists-after-on, rest-may}
-use Rattle.cn_floor.proofs.InLane.Named.{moment-after}
+use Rattle.cn_floor.proofs.InStates.Sweeps.{MayGo, lists-after-on, rest-may}
+use Rattle.cn_floor.proofs.InLane.Named.{state-after}
 use Rattle.cn_floor.proofs.InLane.Yards.{nobody-there}
 use Rattle.cn_floor.proofs.InLane.Swept.{IsKin, grants-kept, grants-left, kin-by}
 
@@ -255,7 +255,7 @@ nobody-left v wire none = record {
   empty = none;
   others = λ u other. refl;
   grants = ([], sym (append-nil v.grants), subst (λ (es : List (ℕ × ℕ)). AreTheirs es []) (sym none) (record { as_many = refl; as_often = λ client. refl }));
-  moment = λ some. absurd (omega (arith, some, ap length none));
+  in_state = λ some. absurd (omega (arith, some, ap length none));
   nobody = λ _. refl;
 }
 
@@ -283,9 +283,9 @@ module _ (start : Start) (wire i : ℕ) (formed : IsWellFormed start.network.tab
             ∙ others-on v.tokens token client wire rest may.once inside may.on_wire u other;
       }
 
-  pub left-out : (n : ℕ) (v : View) → Leaves v (on v.tokens wire) → 0 < length (on v.tokens wire) → HasMoment start (after_sweep wire (Exit i) n v)
+  pub left-out : (n : ℕ) (v : View) → Leaves v (on v.tokens wire) → 0 < length (on v.tokens wire) → StoodInState start (after_sweep wire (Exit i) n v)
       → HaveLeft v (after_sweep wire (Exit i) n v) wire (on v.tokens wire) × ((k : ℕ) → times_in (after_sweep wire (Exit i) n v).tokens k ≤ 1)
-  left-out n v may some moment =
+  left-out n v may some in_state =
       let tokens = on v.tokens wire in
       let all = all-out n tokens v may in
       let like = kin-by (Exit i) n tokens v in (
@@ -299,7 +299,7 @@ module _ (start : Start) (wire i : ℕ) (formed : IsWellFormed start.network.tab
           empty = all.may.on_wire;
           others = all.others;
           grants = (_, grants-left i n tokens v, grants-out _ _ i n tokens);
-          moment = λ _. subst (λ (s : Start). HasMoment s (after_sweep wire (Exit i) n v)) (sym may.of) moment;
+          in_state = λ _. subst (λ (s : Start). StoodInState s (after_sweep wire (Exit i) n v)) (sym may.of) in_state;
           nobody = λ none. absurd (omega (arith, some, none));
         },
         all.may.once,
@@ -322,11 +322,11 @@ theirs-both q es more most low one two = record {
 pub left-both : (start : Start) (wire b : ℕ) (formed : IsWellFormed start.network.table) (low : wire < length start.network.table.ends)
     (ends : end_of start.network.table wire ≡ Balancer b) (stands : Stands start.network.table (Balancer b))
     (n : ℕ) (v mid w : View) → MayGo start wire (Balancer b) formed low ends stands v (on v.tokens wire) → 0 < length (on v.tokens wire)
-    → ((u : ℕ) → wire < u → on v.tokens u ≡ []) → HasMoment start (after_sweep wire (Balancer b) n v)
+    → ((u : ℕ) → wire < u → on v.tokens u ≡ []) → StoodInState start (after_sweep wire (Balancer b) n v)
     → HaveLeft (after_sweep wire (Balancer b) n v) mid (output_wire start.network.table b 1) (on (after_sweep wire (Balancer b) n v).tokens (output_wire start.network.table b 1))
     → HaveLeft mid w (output_wire start.network.table b 0) (on mid.tokens (output_wire start.network.table b 0))
     → HaveLeft v w wire (on v.tokens wire)
-left-both start wire b formed low ends stands n v mid w may some above moment one two =
+left-both start wire b formed low ends stands n v mid w may some above in_state one two =
     let t : Table = start.network.table in
     let tokens = on v.tokens wire in
     let swept : View = after_sweep wire (Balancer b) n v in
@@ -341,13 +341,13 @@ left-both start wire b formed low ends stands n v mid w may some above moment on
     let first : AreTheirs (every_second (1 - n % 2) tokens) more = subst (λ (es : List (ℕ × ℕ)). AreTheirs es more) is.second theirs in
     let second : AreTheirs (every_second (n % 2) tokens) most = subst (λ (es : List (ℕ × ℕ)). AreTheirs es most) upper theirs2 in
     let begun : swept.start ≡ start = like.start ∙ may.of in
-    let mid_moment : HasMoment start mid = elim (cases_lt 0 (length (on swept.tokens out1))) [
-      | inl l ↦ subst (λ (s : Start). HasMoment s mid) begun (one.moment l)
-      | inr l ↦ subst (λ (x : View). HasMoment start x) (sym (one.nobody (omega (arith, l)))) moment
+    let mid_in_state : StoodInState start mid = elim (cases_lt 0 (length (on swept.tokens out1))) [
+      | inl l ↦ subst (λ (s : Start). StoodInState s mid) begun (one.in_state l)
+      | inr l ↦ subst (λ (x : View). StoodInState start x) (sym (one.nobody (omega (arith, l)))) in_state
     ] in
-    let last : HasMoment start w = elim (cases_lt 0 (length (on mid.tokens out0))) [
-      | inl l ↦ subst (λ (s : Start). HasMoment s w) (one.start ∙ begun) (two.moment l)
-      | inr l ↦ subst (λ (x : View). HasMoment start x) (sym (two.nobody (omega (arith, l)))) mid_moment
+    let last : StoodInState start w = elim (cases_lt 0 (length (on mid.tokens out0))) [
+      | inl l ↦ subst (λ (s : Start). StoodInState s w) (one.start ∙ begun) (two.in_state l)
+      | inr l ↦ subst (λ (x : View). StoodInState start x) (sym (two.nobody (omega (arith, l)))) mid_in_state
     ] in
     record {
       start = two.start ∙ one.start ∙ like.start;
@@ -363,7 +363,7 @@ left-both start wire b formed low ends stands n v mid w may some above moment on
         grew2 ∙ ap (λ (gs : List Grant). gs ++ most) (grew ∙ ap (λ (gs : List Grant). gs ++ more) (grants-kept b n tokens v)) ∙ append_assoc v.grants more most,
         theirs-both (n % 2) tokens more most (omega arith) first second,
       );
-      moment = λ _. subst (λ (s : Start). HasMoment s w) (sym may.of) last;
+      in_state = λ _. subst (λ (s : Start). StoodInState s w) (sym may.of) last;
       nobody = λ none. absurd (omega (arith, some, none));
     }
   where
@@ -450,7 +450,7 @@ module _ (start : Start) (wire b n : ℕ) (v w : View) (go : GoTogether start wi
       → HaveLeft v x wire (on v.tokens wire)
   left-so mid x one two =
       left-both start wire b go.formed go.low go.ends go.stands n v mid x go.may go.some go.above
-      (subst (λ (y : View). HasMoment start y) go.went (moment-after _ _ _ _ go.by.step))
+      (subst (λ (y : View). StoodInState start y) go.went (state-after _ _ _ _ go.by.step))
       (subst (λ (y : View). HaveLeft y mid (output_wire start.network.table b 1) (on y.tokens (output_wire start.network.table b 1))) go.went one) two
 
 -- ---- one token by itself
@@ -498,7 +498,7 @@ module _ (start : Start) (wire i n : ℕ) (v w : View) (go : GoTogether start wi
 
   pub left-by : Ends w
   left-by = subst Ends (sym go.went)
-      (left-out start wire i go.formed go.low go.ends go.stands n v go.may go.some (subst (λ (y : View). HasMoment start y) go.went (moment-after _ _ _ _ go.by.step)))
+      (left-out start wire i go.formed go.low go.ends go.stands n v go.may go.some (subst (λ (y : View). StoodInState start y) go.went (state-after _ _ _ _ go.by.step)))
 
   pub grants-by : w.grants ≡ v.grants ++ grants_out start.network.table.width (base start) i n (on v.tokens wire)
   grants-by = ap (λ (x : View). x.grants) go.went ∙ grants-left i n (on v.tokens wire) v

@@ -12,13 +12,13 @@ use Rattle.cn_floor.specs.declared.view.View.{View}
 use Rattle.cn_floor.specs.Alone.{IsAlone, OnlyPassed, PassesOn}
 use Rattle.cn_floor.specs.Named.{WalksThrough}
 use Rattle.cn_floor.specs.Rule.{IsStart}
-use Rattle.cn_floor.specs.Steps.{HasMoment, IsAtomicStep}
+use Rattle.cn_floor.specs.Steps.{IsAtomicStep, StoodInState}
 use Rattle.cn_floor.specs.Views.{after_enter, after_step, base}
 use Rattle.cn_floor.proofs.Lists.{made_at, made-beyond}
 use Rattle.cn_floor.proofs.AtClose.Rises.{all-empty}
-use Rattle.cn_floor.proofs.AtMoments.Bounds.{few-came}
-use Rattle.cn_floor.proofs.AtMoments.Fresh.{load-bound-few}
-use Rattle.cn_floor.proofs.AtMoments.Sweeps.{lists-after-on}
+use Rattle.cn_floor.proofs.InStates.Bounds.{few-came}
+use Rattle.cn_floor.proofs.InStates.Fresh.{load-bound-few}
+use Rattle.cn_floor.proofs.InStates.Sweeps.{lists-after-on}
 use Rattle.cn_floor.proofs.InLane.Alone.{nobody-else, off-own}
 use Rattle.cn_floor.proofs.InLane.Yards.{nobody-there}
 
@@ -43,15 +43,15 @@ gone-alone token client wire exit n v is =
     all-empty lists (nobody-there lists (λ u. ap length (each u)))
     ∙ ap (λ (k : ℕ). replicate k []) (length-map-range_with_len (λ u. without token (on v.tokens u) ++ []) 0 (length v.tokens))
 
--- after a step a lane stands at a moment
-pub moment-after : (start : Start) (v w : View) (event : Ledger → Ledger → Type 0) → IsAtomicStep start v w event → HasMoment start w
-moment-after start v w event step = (step.new, record { id = step.id; here = step.there; kept = step.kept_after })
+-- after a step a lane stands in a state
+pub state-after : (start : Start) (v w : View) (event : Ledger → Ledger → Type 0) → IsAtomicStep start v w event → StoodInState start w
+state-after start v w event step = (step.new, record { id = step.id; here = step.there; kept = step.kept_after })
 
--- at a moment the names of a lane are below what the floor may let in
-pub names-low : (start : Start) (v : View) → IsStart start → HasMoment start v → All (λ g. g.name < start.quota) v.grants
-names-low start v began (s, moment) k d less =
-    let f = moment.kept.fresh moment.id v moment.here in
-    omega (arith, f.names k d less, load-bound-few start.network.table s.words v.loads f.low, few-came start s record { began = began; rule = moment.kept })
+-- in a state the names of a lane are below what the floor may let in
+pub names-low : (start : Start) (v : View) → IsStart start → StoodInState start v → All (λ g. g.name < start.quota) v.grants
+names-low start v began (s, in_state) k d less =
+    let f = in_state.kept.fresh in_state.id v in_state.here in
+    omega (arith, f.names k d less, load-bound-few start.network.table s.words v.loads f.low, few-came start s record { began = began; rule = in_state.kept })
 
 -- who passes balancers changes nothing else of a lane
 passed-only : (start : Start) (token client : ℕ) (numbers : List ℕ) (wire : ℕ) (v : View) (to : ℕ) (w : View) → PassesOn start token client numbers wire v to w → OnlyPassed v w

@@ -6,7 +6,7 @@ ghost use Rattle.cn_spec.specs.declared.limits.TheConstants.{MOST_CARRIED, MOST_
 ghost use Rattle.cn_ledger.specs.Laws.{GrantsOnce, NamesDiffer};
 ghost use Rattle.cn_ledger.specs.Ledger.{IsBounded, IsTight};
 ghost use Rattle.cn_floor.specs.Ends.{NobodyInside};
-ghost use Rattle.cn_floor.specs.Laws.{AtEachMoment, HasFewWords, HasWalked, HoldsLowNames, InEachView, NamesOnce, NumbersDiffer, TakesItsSteps, VisitsGoOn, entered_at, ledger_at};
+ghost use Rattle.cn_floor.specs.Laws.{HasFewWords, HasWalked, HoldsLowNames, InEachState, InEachView, NamesOnce, NumbersDiffer, TakesItsSteps, VisitsGoOn, entered_at, ledger_at};
 ghost use Rattle.cn_floor.specs.Rule.{IsStart};
 ghost use Rattle.cn_floor.specs.Views.{base};
 
@@ -33,9 +33,9 @@ impl<'a> Floor<'a> {
     /// and no grant is made twice. Each name is below the number that came in. If the floor went on from others, each
     /// name is that of the ledger minus the number that came before, and is below the number that came in since.
     pub fn names_differ_and_are_low(&self)
-        ensures differ { AtEachMoment self.now.start (λ start s. NamesDiffer (ledger_at start s)) }
-        ensures once { AtEachMoment self.now.start (λ start s. GrantsOnce (ledger_at start s)) }
-        ensures low { AtEachMoment self.now.start (λ start s. IsBounded start.network.table (ledger_at start s)) }
+        ensures differ { InEachState self.now.start (λ start s. NamesDiffer (ledger_at start s)) }
+        ensures once { InEachState self.now.start (λ start s. GrantsOnce (ledger_at start s)) }
+        ensures low { InEachState self.now.start (λ start s. IsBounded start.network.table (ledger_at start s)) }
         ensures late { InEachView self.now.start HoldsLowNames }
     {
         self.start_laws();
@@ -43,12 +43,12 @@ impl<'a> Floor<'a> {
 
     /// No two passages of any lanes have one balancer and number, and no two grants one exit and visit.
     pub fn numbers_differ(&self)
-        ensures { AtEachMoment self.now.start NumbersDiffer }
+        ensures { InEachState self.now.start NumbersDiffer }
     {}
 
     /// The visits on an exit go on from its share of the clients that came before the floor began.
     pub fn visits_go_on(&self)
-        ensures { AtEachMoment self.now.start VisitsGoOn }
+        ensures { InEachState self.now.start VisitsGoOn }
     {
         self.start_laws();
     }
@@ -56,9 +56,9 @@ impl<'a> Floor<'a> {
     /// No count wraps: each is at most the number that ever came, and that is at most those before and the quota, which
     /// are few.
     pub fn words_are_few(&self)
-        ensures counts { AtEachMoment self.now.start HasFewWords }
-        ensures came { AtEachMoment self.now.start (λ start s. entered_at start s ≤ base start + start.quota) }
-        ensures few { AtEachMoment self.now.start (λ start s. base start + start.quota ≤ MOST_CARRIED + MOST_CLIENTS) }
+        ensures counts { InEachState self.now.start HasFewWords }
+        ensures came { InEachState self.now.start (λ start s. entered_at start s ≤ base start + start.quota) }
+        ensures few { InEachState self.now.start (λ start s. base start + start.quota ≤ MOST_CARRIED + MOST_CLIENTS) }
     {
         self.start_laws();
     }
@@ -81,7 +81,7 @@ impl<'a> Floor<'a> {
     /// If nobody is inside, the ledger of all that ever came is tight: each exit has let out its share, and the names
     /// are those below the number that came in, each granted once.
     pub fn floors_end_tight(&self)
-        ensures { AtEachMoment self.now.start (λ start s. NobodyInside start s.views
+        ensures { InEachState self.now.start (λ start s. NobodyInside start s.views
             → IsTight start.network.table (ledger_at start s)) }
     {
         self.start_laws();

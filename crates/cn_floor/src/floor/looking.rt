@@ -24,7 +24,7 @@ impl<'a> Floor<'a> {
         ensures apart { NamesApart result.0.view result.1.view }
         ensures answer { IsAnswer self.now.start lane.view result.2
             × IsAnswer self.now.start other.view result.2 }
-        ensures moment { StoodAsOne self.now.start result.0.view result.1.view result.2 }
+        ensures in_state { StoodAsOne self.now.start result.0.view result.1.view result.2 }
     {
         lane.lane_laws();
         other.lane_laws();

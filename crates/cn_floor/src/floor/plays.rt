@@ -215,7 +215,7 @@ impl<T: PairOf> Split<View> for CutApart<T> {
     ghost right = { cut_second T.pair };
 }
 
-/// A look at the lanes' word, which shows a moment at which the lane has its view.
+/// A look at the lanes' word, which shows a state in which the lane has its view.
 pub struct LookPlay<T> {
     of: PhantomData<T>,
 }

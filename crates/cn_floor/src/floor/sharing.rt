@@ -3,7 +3,7 @@
 ghost use Rattle.std.specs.Prelude.{◌≡◌, ◌+◌, ◌-◌, ◌<◌, ◌≤◌, ◌↔◌, ◌++◌, [], length, vec_capacity, vec_len, IfErr, IfOk, IsErrOf, OnErr, OnOk};
 ghost use Rattle.cn_yard.specs.Lists.{tokens_in};
 ghost use Rattle.cn_floor.specs.Lane.{empty_lane};
-ghost use Rattle.cn_floor.specs.Steps.{HasMoment};
+ghost use Rattle.cn_floor.specs.Steps.{StoodInState};
 ghost use Rattle.cn_floor.specs.Views.{after_join, after_look, after_split, split_off};
 
 use super::lane::{Lane, make_way};
@@ -37,8 +37,8 @@ impl<'a> Floor<'a> {
         ensures second { IfOk result (λ other. other
             ≡ record (empty_lane lane.old.home quota) { view = after_look (split_off quota lane.old.view) }) }
         ensures own { IfOk result (λ other. (lane.new.home ≡ self.now) × (other.home ≡ self.now)) }
-        ensures moments { IfOk result (λ other. HasMoment self.now.start lane.new.view
-            × HasMoment self.now.start other.view) }
+        ensures in_states { IfOk result (λ other. StoodInState self.now.start lane.new.view
+            × StoodInState self.now.start other.view) }
         ensures enough { OnOk result (quota ≤ lane.old.view.quota) }
         ensures err { OnErr result (lane.new ≡ lane.old) }
         ensures small { IsErrOf result SplitFault.QuotaTooSmall ↔ (lane.old.view.quota < quota) }
@@ -69,7 +69,7 @@ impl<'a> Floor<'a> {
             × (result.table_id ≡ seat.old.table_id) × (result.me.1 ≡ []) }
         ensures first { seat.new.me.0 ≡ after_look (after_split quota seat.old.me.0) }
         ensures second { result.me.0 ≡ after_look (split_off quota seat.old.me.0) }
-        ensures moments { HasMoment self.now.start seat.new.me.0 × HasMoment self.now.start result.me.0 }
+        ensures in_states { StoodInState self.now.start seat.new.me.0 × StoodInState self.now.start result.me.0 }
     {
         let mut other = self.counters.split::<Brand>(seat, quota);
         self.counters.look::<Brand>(seat);
@@ -88,8 +88,8 @@ impl<'a> Floor<'a> {
         ensures second { IfOk result (λ r. r.1
             ≡ record (empty_lane lane.home quota) { view = after_look (split_off quota lane.view) }) }
         ensures own { IfOk result (λ r. (r.0.home ≡ self.now) × (r.1.home ≡ self.now)) }
-        ensures moments { IfOk result (λ r. HasMoment self.now.start r.0.view
-            × HasMoment self.now.start r.1.view) }
+        ensures in_states { IfOk result (λ r. StoodInState self.now.start r.0.view
+            × StoodInState self.now.start r.1.view) }
         ensures enough { IfOk result (λ r. quota ≤ lane.view.quota) }
         ensures err { IfErr result (λ r. r.1 ≡ lane) }
         ensures small { IfErr result (λ r. (r.0 ≡ SplitFault.QuotaTooSmall)
@@ -113,7 +113,7 @@ impl<'a> Floor<'a> {
           view = after_look (after_join lane.view other.view);
           room = lane.room - length other.view.grants;
         }) }
-        ensures moment { IfOk result (λ r. HasMoment self.now.start r.view) }
+        ensures in_state { IfOk result (λ r. StoodInState self.now.start r.view) }
         ensures out { IfOk result (λ r. tokens_in other.yard.lists ≡ 0) }
         ensures err { IfErr result (λ r. (r.1 ≡ lane) × (r.2 ≡ other)) }
         ensures walking { IfErr result (λ r. (r.0 ≡ JoinFault.StillWalking)
@@ -141,7 +141,7 @@ impl<'a> Floor<'a> {
           view = after_look (after_join lane.old.view other.view);
           room = lane.old.room - length other.view.grants;
         }) }
-        ensures moment { OnOk result (HasMoment self.now.start lane.new.view) }
+        ensures in_state { OnOk result (StoodInState self.now.start lane.new.view) }
         ensures err { OnErr result (lane.new ≡ lane.old) }
         ensures back { IfErr result (λ back. back ≡ other) }
         ensures room { OnErr result (lane.old.room < length other.view.grants) }

@@ -3,7 +3,7 @@
 ghost use Rattle.std.specs.Prelude.{◌≡◌, ℕ, ◌+◌, ◌-◌, ◌<◌, ◌≤◌, ◌↔◌, IfOk, IsErrOf, IsSome, OnErr};
 ghost use Rattle.cn_yard.specs.Lists.{standing};
 ghost use Rattle.cn_floor.specs.Lane.{LetsIn, StepsOn};
-ghost use Rattle.cn_floor.specs.Steps.{HasMoment, IsAnswer};
+ghost use Rattle.cn_floor.specs.Steps.{IsAnswer, StoodInState};
 ghost use Rattle.cn_floor.specs.Views.{after_entered};
 
 use super::Floor;
@@ -105,7 +105,7 @@ impl<'a> Floor<'a> {
         ensures answer { IsAnswer self.now.start lane.old.view result }
         ensures lane { lane.new
             ≡ record lane.old { view = after_entered self.now.start result lane.old.view } }
-        ensures moment { HasMoment self.now.start lane.new.view }
+        ensures in_state { StoodInState self.now.start lane.new.view }
     {
         self.counters.load_all(&mut lane.seat, self.base)
     }

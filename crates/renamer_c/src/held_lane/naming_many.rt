@@ -1,9 +1,9 @@
 //! Many clients are named by one call: those who follow one another by one entry together.
 
-ghost use Rattle.std.specs.Prelude.{◌≡◌, ℕ, ◌<◌, ◌≤◌, [], All, Some, false, length, map, take};
+ghost use Rattle.std.specs.Prelude.{All, Some, [], false, length, map, take, ℕ, ◌<◌, ◌≡◌, ◌≤◌};
 ghost use Rattle.std.specs.Prelude.{IfErr, IsTrue, OnErr, OnOk};
 ghost use Rattle.cn_yard.specs.Lists.{tokens_in};
-ghost use Rattle.cn_floor.specs.Steps.{HasMoment};
+ghost use Rattle.cn_floor.specs.Steps.{StoodInState};
 ghost use Rattle.cn_walk.specs.Walks.{WalksAll};
 ghost use Rattle.renamer_c.specs.Many.{AreAllNamed, AreNamedAtOnce, IsLongestRun, by_entry, first_entry};
 ghost use Rattle.renamer_c.specs.Refusals.{NotNamedMany};
@@ -57,7 +57,7 @@ fn name_run(floor: &Floor<'static>, lane: &mut Lane, ids: &[u64], entry: u64)
     requires room { length ids.now ≤ lane.old.room }
     ensures named { AreNamedAtOnce lane.old lane.new ids.now entry }
     ensures walked { WalksAll lane.old lane.new (by_entry entry ids.now) }
-    ensures moment { HasMoment lane.old.home.start lane.new.view }
+    ensures in_state { StoodInState lane.old.home.start lane.new.view }
 {
     if ids.len() == 1 {
         let Ok(_name) = floor.name(lane, ids[0], entry) else {

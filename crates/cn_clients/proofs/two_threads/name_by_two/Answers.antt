@@ -30,5 +30,5 @@ returns-clause-low g c =
     let gave = c.in-Some.ensures in
     let answer = c.look_at_both-lane.ensures.answer in (below _ _ _ _ _ gave.0 answer.0.names, below _ _ _ _ _ gave.1 answer.1.names)
 
-pub returns-clause-moment : goal.returns-clause-moment
-returns-clause-moment g c = c.look_at_both-lane.ensures.moment
+pub returns-clause-in_state : goal.returns-clause-in_state
+returns-clause-in_state g c = c.look_at_both-lane.ensures.in_state

@@ -2,7 +2,7 @@
 
 ghost use Rattle.std.specs.Prelude.{◌≡◌, ◌<◌, [], length};
 ghost use Rattle.cn_floor.specs.Plays.{Loads, Looks};
-ghost use Rattle.cn_floor.specs.Steps.{HasMoment, IsAnswer};
+ghost use Rattle.cn_floor.specs.Steps.{IsAnswer, StoodInState};
 ghost use Rattle.cn_floor.specs.Together.{NamesApart, StoodAsOne, both_of, cut_first, cut_second, first_after, second_after};
 ghost use Rattle.cn_floor.specs.Views.{after_entered, after_look, base};
 
@@ -13,7 +13,7 @@ use atomic_table::Seat;
 use std::marker::Brand;
 
 impl Counters {
-    /// Looks once, in one atomic step: a load of the lanes' word, which nobody changes. It shows a moment at which the
+    /// Looks once, in one atomic step: a load of the lanes' word, which nobody changes. It shows a state in which the
     /// lane has its view.
     pub(in crate::floor) fn look<T: LoadOf>(&self, seat: &mut Seat<(), View>)
         requires own { seat.old.table_id ≡ self.now.table }
@@ -49,7 +49,7 @@ impl Counters {
         ensures seat { (seat.new.table_id ≡ seat.old.table_id) × (seat.new.me.1 ≡ []) }
         ensures view { seat.new.me.0 ≡ after_entered self.now.start result seat.old.me.0 }
         ensures answer { IsAnswer self.now.start seat.old.me.0 result }
-        ensures moment { HasMoment self.now.start seat.new.me.0 }
+        ensures in_state { StoodInState self.now.start seat.new.me.0 }
     {
         let mut total = 0;
         for entry in 0..self.entries {
@@ -80,7 +80,7 @@ impl Counters {
         ensures apart { NamesApart seat.old.me.0 other.me.0 }
         ensures answer { IsAnswer self.now.start seat.old.me.0 result.1
             × IsAnswer self.now.start other.me.0 result.1 }
-        ensures moment { StoodAsOne self.now.start seat.old.me.0 other.me.0 result.1 }
+        ensures in_state { StoodAsOne self.now.start seat.old.me.0 other.me.0 result.1 }
     {
         self.look::<Brand>(seat);
         self.look::<Brand>(&mut other);
@@ -99,8 +99,8 @@ impl Counters {
             ≡ after_entered self.now.start _entered (both_of T.pair.first T.pair.second) }
         requires wires { length T.pair.second.tokens ≡ length T.pair.first.tokens }
         requires idle { (T.pair.first.loads ≡ []) × (T.pair.second.loads ≡ []) }
-        requires first { HasMoment self.now.start T.pair.first }
-        requires second { HasMoment self.now.start T.pair.second }
+        requires first { StoodInState self.now.start T.pair.first }
+        requires second { StoodInState self.now.start T.pair.second }
         ensures first { (seat.new.table_id ≡ seat.old.table_id)
             × (seat.new.me ≡ (cut_first T.pair seat.old.me.0, [])) }
         ensures second { (result.table_id ≡ seat.old.table_id)

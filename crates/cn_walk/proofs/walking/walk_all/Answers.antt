@@ -27,7 +27,7 @@ loop-rest-preserved g c =
           let next : List Client = c.split_at.result.0.now in
           let single : length next ≡ 1 = grind (arith, one, cut.front_len, c.min.ensures) in
           let walk : Walks c.loop-rest.lane c.walk_out.new.lane next = subst (λ (xs : List Client). Walks c.loop-rest.lane c.walk_out.new.lane xs) (append-nil next) (walks-on _ _ _ next [] came.walked out.walked) in
-          let step = next-in-order c.args.floor.now.start c.loop-rest.lane c.walk_out.new.lane next c.start_laws.ensures single (ap (λ (h : FloorValue). h.start) was.home) walk was.nobody out.nobody (out.moment (came.moment (omega (arith, single)))) here in
+          let step = next-in-order c.args.floor.now.start c.loop-rest.lane c.walk_out.new.lane next c.start_laws.ensures single (ap (λ (h : FloorValue). h.start) was.home) walk was.nobody out.nobody (out.in_state (came.in_state (omega (arith, single)))) here in
           (step.0, λ last w. after last (subst (λ (xs : List Client). GrantsInOrder c.loop-rest.lane last xs) (sym cut.by_index.0) (order-on c.loop-rest.lane c.walk_out.new.lane last next c.split_at.result.1.now step.1 w)));
     }
 

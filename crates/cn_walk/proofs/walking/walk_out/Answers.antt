@@ -2,8 +2,8 @@ use Rattle.std.proofs.Common.{rules, ◌≡◌, ℕ, ◌<◌, [], ap, ◌∙◌,
 use Rattle.cn_wiring.specs.Table.{IsWellFormed}
 use Rattle.cn_yard.specs.Lists.{on, tokens_in}
 use Rattle.cn_floor.specs.Lane.{FloorValue}
-use Rattle.cn_floor.specs.Steps.{HasMoment}
-use Rattle.cn_walk.proofs.Ordered.{moment-after}
+use Rattle.cn_floor.specs.Steps.{StoodInState}
+use Rattle.cn_walk.proofs.Ordered.{state-after}
 use Rattle.cn_walk.proofs.SweptWalks.{clear-below, sweeps}
 use Rattle.cn_walk.proofs.Walks.{IsHeld, none_by, walks-on}
 use Rattle.cn_floor.proofs.CallerLemmas.{lowest-inside, nobody-there}
@@ -39,7 +39,7 @@ loop-lowest-preserved g c =
       held = record { start = later.start; tokens = later.tokens; wires = later.wires; once = later.once; there = later.there };
       from = omega (arith, inside, laws.wires, later.wires, ap (λ (h : FloorValue). length h.start.network.table.ends) swept.0.home);
       clear = clear-below _ _ wire n _ formed is held some brought.lowest.below;
-      moment = λ _. subst (λ (h : FloorValue). HasMoment h.start c.sweep.new.lane.view) home (moment-after _ _ _ _ is.by.step);
+      in_state = λ _. subst (λ (h : FloorValue). StoodInState h.start c.sweep.new.lane.view) home (state-after _ _ _ _ is.by.step);
     }
 
 pub returns-clause-out : goal.returns-clause-out

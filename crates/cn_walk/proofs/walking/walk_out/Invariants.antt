@@ -1,6 +1,6 @@
 use Rattle.std.proofs.Common.{◌≡◌, ℕ, ◌<◌, ◌≤◌, [], length}
 use Rattle.cn_yard.specs.Lists.{on}
-use Rattle.cn_floor.specs.Steps.{HasMoment}
+use Rattle.cn_floor.specs.Steps.{StoodInState}
 use Rattle.cn_walk.specs.Walks.{Walks, steps_left}
 use Rattle.cn_walk.proofs.Walks.{IsHeld}
 use Rattle.cn_walk.proofs.walking.walk_out.Given as goal
@@ -12,7 +12,7 @@ invariant-loop-lowest g l = record {
   held : IsHeld l.lane;
   from : l.from ≤ length l.lane.yard.lists;
   clear : (u : ℕ) → u < l.from → on l.lane.yard.lists u ≡ [];
-  moment : HasMoment l.floor.start l.initial.lane.view → HasMoment l.floor.start l.lane.view;
+  in_state : StoodInState l.floor.start l.initial.lane.view → StoodInState l.floor.start l.lane.view;
 }
 
 abbrev pub decreases-loop-lowest : goal.decreases-loop-lowest

@@ -1,5 +1,5 @@
 use Rattle.std.proofs.Common.{arith}
-use Rattle.cn_floor.proofs.AtMoments.Fresh.{load-bound-few}
+use Rattle.cn_floor.proofs.InStates.Fresh.{load-bound-few}
 use Rattle.cn_floor.proofs.floor.Floor.answers_stay_true.Goals as goal
 
 pub returns : goal.returns

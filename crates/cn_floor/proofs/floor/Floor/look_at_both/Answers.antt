@@ -105,11 +105,11 @@ returns-clause-apart c =
     let two = second c in
     subst (λ (z : View × View). NamesApart z.0 z.1) (λ i. ((sym one) i, (sym two) i)) c.look_at_both-other_seat.ensures.apart
 
-pub returns-clause-moment : goal.returns-clause-moment
-returns-clause-moment c =
+pub returns-clause-in_state : goal.returns-clause-in_state
+returns-clause-in_state c =
     let entered = c.look_at_both-other_seat.result.1 in
     let start : c.self.inside.counters.start ≡ c.args.self.now.start = ap (λ (h : FloorValue). h.start) c.self.view_is in
-    subst (λ (z : Start × View × View). StoodAsOne z.0 z.1 z.2 entered) (λ i. (start i, (sym (first c)) i, (sym (second c)) i)) c.look_at_both-other_seat.ensures.moment
+    subst (λ (z : Start × View × View). StoodAsOne z.0 z.1 z.2 entered) (λ i. (start i, (sym (first c)) i, (sym (second c)) i)) c.look_at_both-other_seat.ensures.in_state
 
 pub returns-clause-answer : goal.returns-clause-answer
 returns-clause-answer c =

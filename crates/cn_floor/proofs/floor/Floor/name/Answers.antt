@@ -12,10 +12,10 @@ use Rattle.cn_floor.specs.InsideLane.{lane_of}
 use Rattle.cn_floor.specs.Lane.{FloorValue, LaneValue}
 use Rattle.cn_floor.specs.Named.{WalksThrough}
 use Rattle.cn_floor.specs.Rule.{IsStart}
-use Rattle.cn_floor.specs.Steps.{HasMoment}
+use Rattle.cn_floor.specs.Steps.{StoodInState}
 use Rattle.cn_floor.specs.Views.{base}
 use Rattle.cn_floor.proofs.AtClose.Rises.{all-empty}
-use Rattle.cn_floor.proofs.InLane.Named.{grew, moment-after, names-low}
+use Rattle.cn_floor.proofs.InLane.Named.{grew, names-low, state-after}
 use Rattle.cn_floor.proofs.InLane.Lanes.{lane-with-way}
 use Rattle.cn_floor.proofs.floor.Floor.name.Goals as goal
 
@@ -92,8 +92,8 @@ returns-clause-ok c =
     let grants : w.grants ≡ old.view.grants ++ one given ∷ [] = is.grants ∙ (λ x. (view x).grants ++ one (sym name x) ∷ []) in
     let walked : WalksThrough old.home.start c.args.client c.args.entry exit visit old.view w =
     subst (λ (z : Start × View). WalksThrough z.0 c.args.client c.args.entry exit visit z.1 w) (λ i. (own i, view i)) c.walk_through-exit.ensures.walked in
-    let moment : HasMoment old.home.start w = moment-after _ _ _ _ walked.leaves.step in
-    let low = names-low old.home.start w (subst IsStart own c.start_laws.ensures) moment (length old.view.grants) (one given)
+    let in_state : StoodInState old.home.start w = state-after _ _ _ _ walked.leaves.step in
+    let low = names-low old.home.start w (subst IsStart own c.start_laws.ensures) in_state (length old.view.grants) (one given)
     (omega (arith, ap (λ (gs : List Grant). length gs) grants, length_push old.view.grants (one given))) in
     let last : get_or w.grants (length old.view.grants) (one given) ≡ one given =
     ap (λ (gs : List Grant). get_or gs (length old.view.grants) (one given)) grants ∙ get_or-append_seam old.view.grants (one given) [] (one given) in
@@ -107,7 +107,7 @@ returns-clause-ok c =
       grants = grants;
       seen = is.seen ∙ ap (λ (x : View). x.seen) view;
       low = subst (λ (g : Grant). g.name < old.home.start.quota) last low;
-      moment = moment;
+      in_state = in_state;
       yard = ap (λ (l : LaneValue). l.yard) held;
       room = omega (arith, c.saturating_sub-lane-inside.ensures, ap (λ (l : LaneValue). l.room) held);
     }

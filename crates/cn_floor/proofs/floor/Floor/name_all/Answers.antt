@@ -8,7 +8,7 @@ use Rattle.cn_floor.specs.declared.view.View.{View}
 use Rattle.cn_floor.specs.InsideLane.{lane_of}
 use Rattle.cn_floor.specs.Lane.{FloorValue, LaneValue}
 use Rattle.cn_floor.specs.Listed.{WalkTogether}
-use Rattle.cn_floor.specs.Steps.{HasMoment}
+use Rattle.cn_floor.specs.Steps.{StoodInState}
 use Rattle.cn_floor.proofs.AtClose.Rises.{all-empty}
 use Rattle.cn_floor.proofs.InLane.Listed.{all-clients, came-once, nobody-stands, placed-many}
 use Rattle.cn_floor.proofs.InLane.InTurn.{walk-together}
@@ -105,7 +105,7 @@ returns-clause-ok c =
         theirs.as_many ∙ stood,
         λ client. theirs.as_often client ∙ ap (count_by (λ e. e.1 == client)) came.there ∙ all-clients clients client,
       );
-      moment = λ some. subst (λ (s : Start). HasMoment s x) (came.start ∙ own) (left.moment (omega (arith, some, stood)));
+      in_state = λ some. subst (λ (s : Start). StoodInState s x) (came.start ∙ own) (left.in_state (omega (arith, some, stood)));
       yard = ap (λ (l : LaneValue). l.yard) held;
       room = omega (arith, c.saturating_sub-lane-inside.ensures, ap (λ (l : LaneValue). l.room) held);
     }

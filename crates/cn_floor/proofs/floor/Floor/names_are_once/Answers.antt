@@ -1,6 +1,6 @@
 use Rattle.std.proofs.Common.{arith}
-use Rattle.cn_floor.proofs.AtMoments.Fresh.{load-bound-few}
-use Rattle.cn_floor.proofs.AtMoments.Names.{names-once}
+use Rattle.cn_floor.proofs.InStates.Fresh.{load-bound-few}
+use Rattle.cn_floor.proofs.InStates.Names.{names-once}
 use Rattle.cn_floor.proofs.floor.Floor.names_are_once.Goals as goal
 
 pub returns-clause-once : goal.returns-clause-once

@@ -1,6 +1,6 @@
 use Rattle.cn_ledger.proofs.CallerLemmas.{bounded, granted-once, names-differ}
 use Rattle.cn_floor.specs.Laws.{ledger_at}
-use Rattle.cn_floor.proofs.AtMoments.Fresh.{load-bound-few}
+use Rattle.cn_floor.proofs.InStates.Fresh.{load-bound-few}
 use Rattle.std.proofs.Common.{arith, refl}
 use Rattle.cn_floor.proofs.floor.Floor.names_differ_and_are_low.Goals as goal
 

@@ -78,8 +78,8 @@ returns-clause-own c =
       (λ i. record { table = c.split_seat-seat.ensures.seats.2 i; start = (second i).start }) ∙ home,
     )
 
-pub returns-clause-moments : goal.returns-clause-moments
-returns-clause-moments c = c.split_seat-seat.ensures.moments
+pub returns-clause-in_states : goal.returns-clause-in_states
+returns-clause-in_states c = c.split_seat-seat.ensures.in_states
 
 pub returns-clause-enough : goal.returns-clause-enough
 returns-clause-enough c = omega (arith, c.if-quota-lane.false, c.lane.invariant.quota, ap (λ (l : LaneValue). l.view.quota) c.lane.view_is)

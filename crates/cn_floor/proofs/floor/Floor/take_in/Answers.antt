@@ -5,7 +5,7 @@ use Rattle.cn_floor.specs.declared.view.Grant.{Grant}
 use Rattle.cn_floor.specs.declared.view.View.{View}
 use Rattle.cn_floor.specs.InsideLane.{lane_of}
 use Rattle.cn_floor.specs.Lane.{FloorValue, LaneValue}
-use Rattle.cn_floor.specs.Steps.{HasMoment}
+use Rattle.cn_floor.specs.Steps.{StoodInState}
 use Rattle.cn_floor.specs.Views.{after_join, after_look, on_in}
 use Rattle.cn_floor.proofs.InLane.Lanes.{lane-with-way}
 use Rattle.cn_floor.proofs.floor.Floor.take_in.Goals as goal
@@ -97,5 +97,5 @@ returns-clause-ok c =
       room = room i;
     })
 
-pub returns-clause-moment : goal.returns-clause-moment
-returns-clause-moment c = subst (λ (h : FloorValue). HasMoment h.start c.look.new.seat.me.0) c.self.view_is c.look.ensures.looks.1
+pub returns-clause-in_state : goal.returns-clause-in_state
+returns-clause-in_state c = subst (λ (h : FloorValue). StoodInState h.start c.look.new.seat.me.0) c.self.view_is c.look.ensures.looks.1

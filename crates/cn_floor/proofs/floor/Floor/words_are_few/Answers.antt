@@ -1,5 +1,5 @@
 use Rattle.std.proofs.Common.{arith}
-use Rattle.cn_floor.proofs.AtMoments.Bounds.{count-few, few-came}
+use Rattle.cn_floor.proofs.InStates.Bounds.{count-few, few-came}
 use Rattle.cn_floor.proofs.floor.Floor.words_are_few.Goals as goal
 
 pub returns-clause-counts : goal.returns-clause-counts

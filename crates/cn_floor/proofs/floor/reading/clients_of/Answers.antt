@@ -3,7 +3,7 @@ use Rattle.cn_spec.proofs.CallerLemmas.{sum-below-fewer, sum-below-next, sum-bel
 use Rattle.std.specs.Mem.Slots.{slots_items}
 use Rattle.cn_floor.specs.Spread.{words_in}
 use Rattle.cn_floor.specs.Words.{entered_in}
-use Rattle.cn_floor.proofs.AtMoments.Raised.{entered-word}
+use Rattle.cn_floor.proofs.InStates.Raised.{entered-word}
 use Rattle.cn_floor.proofs.floor.reading.clients_of.Goals as goal
 
 pub loop-entry-init : goal.loop-entry-init

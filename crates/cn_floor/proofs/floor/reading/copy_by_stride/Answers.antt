@@ -1,7 +1,7 @@
 use Rattle.std.proofs.Common.{◌≡◌, ℕ, List, ap, length, sym, ◌∙◌}
 use Rattle.std.specs.Mem.Slots.{slots_items}
 use Rattle.cn_floor.specs.Spread.{IsSpaced, spread, words_in}
-use Rattle.cn_floor.proofs.AtMoments.Laid.{spread-one}
+use Rattle.cn_floor.proofs.InStates.Laid.{spread-one}
 use Rattle.cn_floor.proofs.floor.reading.copy_by_stride.Goals as goal
 
 -- words side by side are all that the table has

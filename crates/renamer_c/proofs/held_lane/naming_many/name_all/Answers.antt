@@ -3,7 +3,7 @@ use Rattle.std.proofs.Math.ListN.{drop_of_length-le}
 use Rattle.std.proofs.lemmas.List.{drop-drop, length-drop, length-map, take_all}
 use Rattle.cn_ledger.specs.declared.client.Client as ledger
 use Rattle.cn_floor.specs.Lane.{FloorValue, LaneValue}
-use Rattle.cn_floor.specs.Steps.{HasMoment}
+use Rattle.cn_floor.specs.Steps.{StoodInState}
 use Rattle.cn_walk.specs.Walks.{WalksAll}
 use Rattle.renamer_c.specs.Many.{AreNamedAtOnce, AreNamedByRuns, IsLongestRun, by_entry, client_from, first_entry}
 use Rattle.renamer_c.specs.declared.client.Client.{Client}
@@ -46,7 +46,7 @@ loop-named-preserved c =
         named,
         subst (λ (cs : List Client). AreNamedByRuns ns c.name_run.new.lane new cs) (sym (drop-drop n i clients)) then,
       );
-      moment = λ _. subst (λ (h : FloorValue). HasMoment h.start c.name_run.new.lane.view) was.walked.home is.moment;
+      in_state = λ _. subst (λ (h : FloorValue). StoodInState h.start c.name_run.new.lane.view) was.walked.home is.in_state;
     }
 
 pub returns : goal.returns
@@ -59,11 +59,11 @@ returns c =
     let end : length clients ≤ c.loop-named.named = c.loop-named-test.false in
     let long : length all ≡ length clients = length-map clients client_from in
     let whole : take c.loop-named.named all ≡ all = take_all c.loop-named.named all (omega (arith, end, long)) in
-    let moment : 0 < length clients → HasMoment old.home.start new.view = λ some. was.moment (omega (arith, some, end)) in
+    let in_state : 0 < length clients → StoodInState old.home.start new.view = λ some. was.in_state (omega (arith, some, end)) in
     let (lengths, runs) = was.runs [] new (drop_of_length-le clients end, refl) in
     record {
       walked = subst (λ (cs : List ledger.Client). WalksAll old new cs) whole was.walked;
-      moment = moment;
+      in_state = in_state;
       runs = (old, lengths, refl, refl, refl, runs);
       once = λ some. search rules;
     }

@@ -1,6 +1,6 @@
 use Rattle.std.proofs.Common.{◌≡◌, ℕ, ◌-◌, ◌<◌, ◌≤◌, List, drop, length, map, take}
 use Rattle.cn_floor.specs.Lane.{LaneValue}
-use Rattle.cn_floor.specs.Steps.{HasMoment}
+use Rattle.cn_floor.specs.Steps.{StoodInState}
 use Rattle.cn_walk.specs.Walks.{WalksAll}
 use Rattle.renamer_c.specs.Many.{AreNamedByRuns, client_from}
 use Rattle.renamer_c.proofs.held_lane.naming_many.name_all.Given as goal
@@ -13,7 +13,7 @@ invariant-loop-named l = record {
   walked : WalksAll l.initial.lane l.lane (take l.named (map client_from l.clients));
   runs : (ns : List ℕ) (new : LaneValue) → AreNamedByRuns ns l.lane new (drop l.named l.clients)
       → (ms : List ℕ) × AreNamedByRuns ms l.initial.lane new l.clients;
-  moment : 0 < l.named → HasMoment l.initial.lane.home.start l.lane.view;
+  in_state : 0 < l.named → StoodInState l.initial.lane.home.start l.lane.view;
 }
 
 abbrev pub decreases-loop-named : goal.decreases-loop-named

@@ -6,9 +6,9 @@ use Rattle.cn_floor.specs.Lane.{FloorValue}
 use Rattle.cn_floor.specs.Rule.{HoldsAt, IsAccounted, start_of}
 use Rattle.cn_floor.specs.Together.{Pair, both_of, cut_first, cut_second}
 use Rattle.cn_floor.specs.Views.{base}
-use Rattle.cn_floor.proofs.AtMoments.Placed.{first as lanes-place, splits-at, there}
-use Rattle.cn_floor.proofs.AtMoments.Sharing.{IsSum}
-use Rattle.cn_floor.proofs.AtMoments.Together.{accounted-answered, accounted-seen, cuts-apart, sum-answered, sum-both}
+use Rattle.cn_floor.proofs.InStates.Placed.{first as lanes-place, splits-at, there}
+use Rattle.cn_floor.proofs.InStates.Sharing.{IsSum}
+use Rattle.cn_floor.proofs.InStates.Together.{accounted-answered, accounted-seen, cuts-apart, sum-answered, sum-both}
 use Rattle.cn_floor.proofs.floor.counters.Counters.cut_apart.Goals as goal
 
 pub split_seat-requires : goal.split_seat-requires

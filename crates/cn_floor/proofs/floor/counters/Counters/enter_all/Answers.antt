@@ -3,8 +3,8 @@ use Rattle.cn_floor.specs.declared.view.Start.{Start}
 use Rattle.cn_floor.specs.Lane.{FloorValue}
 use Rattle.cn_floor.specs.EntersAll.{AllComeIn}
 use Rattle.cn_floor.specs.Rule.{start_of}
-use Rattle.cn_floor.proofs.AtMoments.EntersAll.{enter-all-by}
-use Rattle.cn_floor.proofs.AtMoments.Placed.{at-word, there}
+use Rattle.cn_floor.proofs.InStates.EntersAll.{enter-all-by}
+use Rattle.cn_floor.proofs.InStates.Placed.{at-word, there}
 use Rattle.cn_floor.proofs.floor.counters.Counters.enter_all.Goals as goal
 
 pub fetch_add-requires : goal.fetch_add-requires

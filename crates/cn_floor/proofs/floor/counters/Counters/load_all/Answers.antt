@@ -3,7 +3,7 @@ use Rattle.cn_floor.specs.declared.view.View.{View}
 use Rattle.cn_floor.specs.Lane.{FloorValue}
 use Rattle.cn_floor.specs.Rule.{IsStart}
 use Rattle.cn_floor.specs.Steps.{IsAnswer}
-use Rattle.cn_floor.proofs.AtMoments.Loading.{Loaded, loaded-next, loaded-none}
+use Rattle.cn_floor.proofs.InStates.Loading.{Loaded, loaded-next, loaded-none}
 use Rattle.cn_floor.proofs.floor.counters.Counters.load_all.Goals as goal
 
 pub loop-entry-init : goal.loop-entry-init
@@ -57,5 +57,5 @@ pub returns-clause-answer : goal.returns-clause-answer
 returns-clause-answer c =
     subst (λ (n : ℕ). IsAnswer c.args.self.now.start c.args.seat.now.me.0 (c.loop-entry.total - n)) (sym c.requires.before) (c.loop-entry.invariant.2.at_end (all c)).2
 
-pub returns-clause-moment : goal.returns-clause-moment
-returns-clause-moment c = c.loop-entry.invariant.2.moment (all c)
+pub returns-clause-in_state : goal.returns-clause-in_state
+returns-clause-in_state c = c.loop-entry.invariant.2.in_state (all c)

@@ -1,5 +1,5 @@
 use Rattle.std.proofs.Common.{◌≡◌, []}
-use Rattle.cn_floor.proofs.AtMoments.Loading.{Loaded}
+use Rattle.cn_floor.proofs.InStates.Loading.{Loaded}
 use Rattle.cn_floor.proofs.floor.counters.Counters.load_all.Given as goal
 
 abbrev pub ghosts-load_next : goal.ghosts-load_next

@@ -3,8 +3,8 @@ use Rattle.cn_floor.specs.declared.view.Start.{Start}
 use Rattle.cn_floor.specs.Lane.{FloorValue}
 use Rattle.cn_floor.specs.Plays.{Loads}
 use Rattle.cn_floor.specs.Rule.{start_of}
-use Rattle.cn_floor.proofs.AtMoments.Loading.{loads-by}
-use Rattle.cn_floor.proofs.AtMoments.Placed.{at-word, there}
+use Rattle.cn_floor.proofs.InStates.Loading.{loads-by}
+use Rattle.cn_floor.proofs.InStates.Placed.{at-word, there}
 use Rattle.cn_floor.proofs.floor.counters.Counters.load_next.Goals as goal
 
 pub load-requires : goal.load-requires

@@ -2,8 +2,8 @@ use Rattle.std.proofs.Common.{◌≡◌, ℕ, [], ◌*◌, rules, sym, refl, ap,
 use Rattle.cn_floor.specs.Lane.{FloorValue}
 use Rattle.cn_floor.specs.Plays.{Looks}
 use Rattle.cn_floor.specs.Rule.{start_of}
-use Rattle.cn_floor.proofs.AtMoments.Placed.{at-word, there}
-use Rattle.cn_floor.proofs.AtMoments.Sharing.{looks}
+use Rattle.cn_floor.proofs.InStates.Placed.{at-word, there}
+use Rattle.cn_floor.proofs.InStates.Sharing.{looks}
 use Rattle.cn_floor.proofs.floor.counters.Counters.look.Goals as goal
 
 pub load-requires : goal.load-requires

@@ -2,11 +2,11 @@ use Rattle.std.proofs.Common.{◌≡◌, ℕ, ◌+◌, ◌-◌, ◌++◌, [], le
 use Rattle.cn_floor.specs.declared.view.Start.{Start}
 use Rattle.cn_floor.specs.declared.view.View.{View}
 use Rattle.cn_floor.specs.Rule.{start_of}
-use Rattle.cn_floor.specs.Steps.{HasMoment, IsAnswer}
+use Rattle.cn_floor.specs.Steps.{IsAnswer, StoodInState}
 use Rattle.cn_floor.specs.Together.{Pair, both_of, cut_first, first_after}
 use Rattle.cn_floor.specs.Views.{after_entered, after_look}
-use Rattle.cn_floor.proofs.AtMoments.Placed.{first as lanes-place, joins-at, there}
-use Rattle.cn_floor.proofs.AtMoments.Together.{answers-both, names-apart, takes-together}
+use Rattle.cn_floor.proofs.InStates.Placed.{first as lanes-place, joins-at, there}
+use Rattle.cn_floor.proofs.InStates.Together.{answers-both, names-apart, takes-together}
 use Rattle.cn_floor.proofs.floor.counters.Counters.look_at_both.Goals as goal
 
 pub join_seat-requires : goal.join_seat-requires
@@ -30,13 +30,13 @@ returns-clause-apart g c =
     let grants : c.load_all-entered.new.seat.me.0.grants ≡ c.args.seat.now.me.0.grants ++ c.args.other.me.0.grants =
     ap (λ (x : View). x.grants) c.load_all-entered.ensures.view ∙ joined
     ∙ (λ i. (c.look.ensures.looks.0 i).grants ++ (c.look-2.ensures.looks.0 i).grants) in
-    names-apart c.args.self.now.start c.args.seat.now.me.0 c.args.other.me.0 c.load_all-entered.new.seat.me.0 grants c.load_all-entered.ensures.moment
+    names-apart c.args.self.now.start c.args.seat.now.me.0 c.args.other.me.0 c.load_all-entered.new.seat.me.0 grants c.load_all-entered.ensures.in_state
 
-pub returns-clause-moment : goal.returns-clause-moment
-returns-clause-moment g c =
+pub returns-clause-in_state : goal.returns-clause-in_state
+returns-clause-in_state g c =
     let joined = ap (λ me. me.0) c.join_seat.ensures.2 ∙ (λ i. both_of (c.look.ensures.looks.0 i) (c.look-2.ensures.looks.0 i)) in
     let is = c.load_all-entered.ensures.view ∙ ap (after_entered c.args.self.now.start c.load_all-entered.result) joined in
-    (_, subst (HasMoment c.args.self.now.start) is c.load_all-entered.ensures.moment)
+    (_, subst (StoodInState c.args.self.now.start) is c.load_all-entered.ensures.in_state)
 
 pub returns-clause-answer : goal.returns-clause-answer
 returns-clause-answer g c =
@@ -72,11 +72,11 @@ cut_apart-other-requires-clause-idle g c =
 
 pub cut_apart-other-requires-clause-first : goal.cut_apart-other-requires-clause-first
 cut_apart-other-requires-clause-first g c =
-    subst (λ (x : View). HasMoment c.args.self.now.start x) (c.look.ensures.looks.0 ∙ sym c.requires.pair.0) c.look.ensures.looks.1
+    subst (λ (x : View). StoodInState c.args.self.now.start x) (c.look.ensures.looks.0 ∙ sym c.requires.pair.0) c.look.ensures.looks.1
 
 pub cut_apart-other-requires-clause-second : goal.cut_apart-other-requires-clause-second
 cut_apart-other-requires-clause-second g c =
-    subst (λ (x : View). HasMoment c.args.self.now.start x) (c.look-2.ensures.looks.0 ∙ sym c.requires.pair.1) c.look-2.ensures.looks.1
+    subst (λ (x : View). StoodInState c.args.self.now.start x) (c.look-2.ensures.looks.0 ∙ sym c.requires.pair.1) c.look-2.ensures.looks.1
 
 pub returns-clause-first : goal.returns-clause-first
 returns-clause-first g c =

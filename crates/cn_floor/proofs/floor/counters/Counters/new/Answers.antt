@@ -5,7 +5,7 @@ use Rattle.cn_floor.specs.declared.view.Start.{Start}
 use Rattle.cn_floor.specs.Rule.{HoldsAt, IsStart, start_of}
 use Rattle.cn_floor.specs.Views.{empty_view}
 use Rattle.cn_floor.specs.Words.{word_count}
-use Rattle.cn_floor.proofs.AtMoments.Openings.{begins}
+use Rattle.cn_floor.proofs.InStates.Openings.{begins}
 use Rattle.cn_floor.proofs.floor.counters.Counters.new.Goals as goal
 
 pub table_of-requires-clause-began : goal.table_of-requires-clause-began

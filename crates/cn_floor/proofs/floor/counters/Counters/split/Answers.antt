@@ -1,8 +1,8 @@
 use Rattle.std.proofs.Common.{ℕ, ◌≤◌, rules, sym, ap, ◌∙◌, arith}
 use Rattle.cn_floor.specs.Lane.{FloorValue}
 use Rattle.cn_floor.specs.Rule.{start_of}
-use Rattle.cn_floor.proofs.AtMoments.Placed.{first, splits-at, there}
-use Rattle.cn_floor.proofs.AtMoments.Sharing.{splits}
+use Rattle.cn_floor.proofs.InStates.Placed.{first, splits-at, there}
+use Rattle.cn_floor.proofs.InStates.Sharing.{splits}
 use Rattle.cn_floor.proofs.floor.counters.Counters.split.Goals as goal
 
 pub split_seat-requires : goal.split_seat-requires

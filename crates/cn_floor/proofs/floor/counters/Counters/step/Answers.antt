@@ -5,9 +5,9 @@ use Rattle.cn_floor.specs.Lane.{FloorValue}
 use Rattle.cn_floor.specs.Plays.{GoesOn}
 use Rattle.cn_floor.specs.Rule.{start_of}
 use Rattle.cn_floor.specs.Words.{end_word}
-use Rattle.cn_floor.proofs.AtMoments.Steps.{lets-on-by}
-use Rattle.cn_floor.proofs.AtMoments.Placed.{at-word, there}
-use Rattle.cn_floor.proofs.AtMoments.Raised.{end-there}
+use Rattle.cn_floor.proofs.InStates.Steps.{lets-on-by}
+use Rattle.cn_floor.proofs.InStates.Placed.{at-word, there}
+use Rattle.cn_floor.proofs.InStates.Raised.{end-there}
 use Rattle.cn_floor.proofs.floor.counters.Counters.step.Goals as goal
 
 pub fetch_add-requires : goal.fetch_add-requires

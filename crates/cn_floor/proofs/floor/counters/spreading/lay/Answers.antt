@@ -1,7 +1,7 @@
 use Rattle.std.proofs.Common.{◌≡◌, ◌*◌, ◌+◌, suc, ℕ, List, ap, arith, get_or, length, set, sym, ◌∙◌}
 use Rattle.cn_floor.specs.Spread.{spread}
-use Rattle.cn_floor.proofs.AtMoments.Laid.{laid, laid-all, laid-next, spread-zeros}
-use Rattle.cn_floor.proofs.AtMoments.Spreads.{set-spread}
+use Rattle.cn_floor.proofs.InStates.Laid.{laid, laid-all, laid-next, spread-zeros}
+use Rattle.cn_floor.proofs.InStates.Spreads.{set-spread}
 use Rattle.cn_floor.proofs.floor.counters.spreading.lay.Goals as goal
 
 pub loop-word-init : goal.loop-word-init

@@ -1,6 +1,6 @@
 use Rattle.std.proofs.Common.{◌≡◌}
 use Rattle.cn_floor.specs.Spread.{spread}
-use Rattle.cn_floor.proofs.AtMoments.Laid.{laid}
+use Rattle.cn_floor.proofs.InStates.Laid.{laid}
 use Rattle.cn_floor.proofs.floor.counters.spreading.lay.Given as goal
 
 -- the words so far are laid

@@ -1,4 +1,4 @@
--- At each moment no name stands twice in a lane.
+-- In each state no name stands twice in a lane.
 use Rattle.std.proofs.Common.{◌≡◌, ℕ, ◌+◌, ◌<◌, ◌≤◌, ◌&&◌, inl, inr, Bool, true, false, cond, eqb, List, length, get_or, map, sym, refl, ap, ◌∙◌, arith}
 use mathlib.Core.Option.{some}
 use lib.ListN.{get_elem?}
@@ -15,7 +15,7 @@ use Rattle.cn_floor.specs.declared.view.View.{View}
 use Rattle.cn_floor.specs.Laws.{ledger_at}
 use Rattle.cn_floor.specs.Rule.{FloorState, KeepsRule}
 use Rattle.cn_floor.specs.Views.{base, granted_in}
-use Rattle.cn_floor.proofs.AtMoments.Totals.{part-le}
+use Rattle.cn_floor.proofs.InStates.Totals.{part-le}
 
 no-grant : Grant
 no-grant = record { client = 0; exit = 0; visit = 0; name = 0 }

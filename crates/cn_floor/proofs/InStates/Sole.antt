@@ -16,9 +16,9 @@ use Rattle.cn_floor.specs.declared.view.View.{View}
 use Rattle.cn_floor.specs.Rule.{HoldsAt}
 use Rattle.cn_floor.specs.Views.{given_in, own_count}
 use Rattle.cn_floor.specs.Words.{count_in}
-use Rattle.cn_floor.proofs.AtMoments.Bounds.{count-risen}
-use Rattle.cn_floor.proofs.AtMoments.Walked.{no-levels}
-use Rattle.cn_floor.proofs.AtMoments.Totals.{mine-only, part-le, total_same}
+use Rattle.cn_floor.proofs.InStates.Bounds.{count-risen}
+use Rattle.cn_floor.proofs.InStates.Walked.{no-levels}
+use Rattle.cn_floor.proofs.InStates.Totals.{mine-only, part-le, total_same}
 use Rattle.cn_spec.proofs.CallerLemmas.{once-in, sum-below-one, sum-below-plus, sum-below-same, sum-below-total, sum-below-zero}
 use Rattle.cn_wiring.proofs.CallerLemmas.{levels}
 

@@ -16,7 +16,7 @@ use Rattle.cn_floor.specs.declared.view.Grant.{Grant}
 use Rattle.cn_floor.specs.declared.view.View.{View}
 use Rattle.cn_floor.specs.Rule.{IsAccounted}
 use Rattle.cn_floor.specs.Views.{after_enter, after_step, base, on_in}
-use Rattle.cn_floor.proofs.AtMoments.Ledgers.{on-after-enter, on-after_step, onto, Lands}
+use Rattle.cn_floor.proofs.InStates.Ledgers.{on-after-enter, on-after_step, onto, Lands}
 use Rattle.cn_spec.proofs.CallerLemmas.{sum-below-one, sum-below-same, sum-below-shift, sum-below-zero}
 
 -- ---- sums over wires, each counted g times

@@ -8,7 +8,7 @@ use Rattle.cn_floor.specs.InsideCounters.{IsCounters}
 use Rattle.cn_floor.specs.Rule.{FloorState, HoldsAt, start_of}
 use Rattle.cn_floor.specs.Spread.{HoldsSpread}
 use Rattle.cn_floor.specs.Words.{word_count}
-use Rattle.cn_floor.proofs.AtMoments.Spreads.{allows-at, joins-spread, low-spread, splits-spread}
+use Rattle.cn_floor.proofs.InStates.Spreads.{allows-at, joins-spread, low-spread, splits-spread}
 
 module _ (c : Inside) (is : IsCounters c) where
   abbrev start : Start

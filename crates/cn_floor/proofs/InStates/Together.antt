@@ -16,15 +16,15 @@ use Rattle.cn_floor.specs.declared.view.Passage.{Passage}
 use Rattle.cn_floor.specs.declared.view.Start.{Start}
 use Rattle.cn_floor.specs.declared.view.View.{View}
 use Rattle.cn_floor.specs.Rule.{HoldsAt, IsAccounted, IsFresh, load_bound}
-use Rattle.cn_floor.specs.Steps.{HasMoment, IsAnswer}
+use Rattle.cn_floor.specs.Steps.{IsAnswer, StoodInState}
 use Rattle.cn_floor.specs.Together.{NamesApart, both_of}
 use Rattle.cn_floor.specs.Views.{base, given_in, granted_in, nobody, on_in, standing_in}
 use Rattle.cn_floor.specs.Words.{clients_in}
 use Rattle.cn_floor.proofs.Lists.{made_at, made-beyond, ones}
-use Rattle.cn_floor.proofs.AtMoments.Kept.{AddUpAlike, kept_alike}
-use Rattle.cn_floor.proofs.AtMoments.Names.{names-once}
-use Rattle.cn_floor.proofs.AtMoments.Sharing.{IsSum, granted-both, joins-sum}
-use Rattle.cn_floor.proofs.AtMoments.Totals.{total-set}
+use Rattle.cn_floor.proofs.InStates.Kept.{AddUpAlike, kept_alike}
+use Rattle.cn_floor.proofs.InStates.Names.{names-once}
+use Rattle.cn_floor.proofs.InStates.Sharing.{IsSum, granted-both, joins-sum}
+use Rattle.cn_floor.proofs.InStates.Totals.{total-set}
 use Rattle.cn_spec.proofs.CallerLemmas.{sum-below-plus, sum-below-same, times-append, times-map}
 
 module _ (v w : View) (idle : v.loads ≡ []) (long : length w.tokens ≡ length v.tokens) where
@@ -179,8 +179,8 @@ pub accounted-answered : (network : Network) (v : View) (e k : ℕ) → IsAccoun
 accounted-answered network v e k a = record { all = a.all; entries = a.entries; walked = a.walked }
 
 -- what a lane that looked is by itself
-pub accounted-seen : (start : Start) (v : View) → HasMoment start v → IsAccounted start.network v
-accounted-seen start v (s, moment) = moment.kept.accounted moment.id v moment.here
+pub accounted-seen : (start : Start) (v : View) → StoodInState start v → IsAccounted start.network v
+accounted-seen start v (s, in_state) = in_state.kept.accounted in_state.id v in_state.here
 
 -- an answer to one lane that has what two had is one to each
 pub answers-both : (start : Start) (v w : View) (answer : ℕ) → IsAnswer start (both_of v w) answer → IsAnswer start v answer × IsAnswer start w answer
@@ -200,12 +200,12 @@ answers-both start v w answer is =
       },
     )
 
--- at the moment at which one lane has the grants of two, no name stands in both
-pub names-apart : (start : Start) (v w both : View) → both.grants ≡ v.grants ++ w.grants → HasMoment start both → NamesApart v w
-names-apart start v w both is (s, moment) name =
+-- in the state in which one lane has the grants of two, no name stands in both
+pub names-apart : (start : Start) (v w both : View) → both.grants ≡ v.grants ++ w.grants → StoodInState start both → NamesApart v w
+names-apart start v w both is (s, in_state) name =
     omega (
       arith,
-      names-once start s moment.kept moment.id both moment.here name,
+      names-once start s in_state.kept in_state.id both in_state.here name,
       ap (λ (gs : List Grant). times name (map (λ (g : Grant). g.name) gs)) is,
       times-map (λ (g : Grant). g.name) name (v.grants ++ w.grants),
       sum_by-append (λ (g : Grant). cond (eqb g.name name) 1 0) v.grants w.grants,

@@ -20,13 +20,13 @@ use Rattle.cn_floor.specs.Rule.{HoldsAt, ledger_of}
 use Rattle.cn_floor.specs.Sweeps.{AllGoOn, GoInRow, GoesFrom, Sweeping, after_steps, after_sweep}
 use Rattle.cn_floor.specs.Views.{after_step, base}
 use Rattle.cn_floor.specs.Words.{clients_in, count_in, end_word}
-use Rattle.cn_floor.proofs.AtMoments.Bounds.{count-few, few-came, name-later}
-use Rattle.cn_floor.proofs.AtMoments.Kept.{counted-alike, kept-recounted, ledger-alike, one-step}
+use Rattle.cn_floor.proofs.InStates.Bounds.{count-few, few-came, name-later}
+use Rattle.cn_floor.proofs.InStates.Kept.{counted-alike, kept-recounted, ledger-alike, one-step}
 use Rattle.cn_floor.proofs.Lists.{lists_after, made_at, made-beyond}
-use Rattle.cn_floor.proofs.AtMoments.Places.{get-here, set-here}
-use Rattle.cn_floor.proofs.AtMoments.Raised.{count-raised, count-word, end-there, raised}
-use Rattle.cn_floor.proofs.AtMoments.Sole.{sole}
-use Rattle.cn_floor.proofs.AtMoments.Steps.{end-self, kept-after_step, went}
+use Rattle.cn_floor.proofs.InStates.Places.{get-here, set-here}
+use Rattle.cn_floor.proofs.InStates.Raised.{count-raised, count-word, end-there, raised}
+use Rattle.cn_floor.proofs.InStates.Sole.{sole}
+use Rattle.cn_floor.proofs.InStates.Steps.{end-self, kept-after_step, went}
 
 -- ---- the tokens of a wire, one after the other
 

@@ -16,8 +16,8 @@ use Rattle.cn_floor.specs.Rule.{IsAccounted, IsFresh, HoldsAt, KeepsRule, ledger
 use Rattle.cn_floor.specs.Steps.{IsAtomicStep}
 use Rattle.cn_floor.specs.Views.{base, given_in, granted_in, on_in, standing_in}
 use Rattle.cn_floor.specs.Words.{clients_in, count_in, entered_in}
-use Rattle.cn_floor.proofs.AtMoments.Places.{get-here}
-use Rattle.cn_floor.proofs.AtMoments.Totals.{total-set}
+use Rattle.cn_floor.proofs.InStates.Places.{get-here}
+use Rattle.cn_floor.proofs.InStates.Totals.{total-set}
 
 -- the views add up to the same
 pub record AddUpAlike (m : ℕ) (old new : List View) : Type 0 where

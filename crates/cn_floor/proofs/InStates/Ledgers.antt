@@ -19,8 +19,8 @@ use Rattle.cn_floor.specs.Rule.{ledger_of}
 use Rattle.cn_floor.specs.Views.{after_enter, after_step, base, given_in, granted_in, on_in, standing_in}
 use Rattle.cn_floor.specs.Words.{count_in, end_word, word_count}
 use Rattle.cn_floor.proofs.Lists.{ones, weigh-come, weigh-leave, weigh-pass}
-use Rattle.cn_floor.proofs.AtMoments.Totals.{total-set}
-use Rattle.cn_floor.proofs.AtMoments.Raised.{count-kept, count-raised, entered-kept, entered-raised, raised}
+use Rattle.cn_floor.proofs.InStates.Totals.{total-set}
+use Rattle.cn_floor.proofs.InStates.Raised.{count-kept, count-raised, entered-kept, entered-raised, raised}
 use Rattle.cn_yard.specs.Lists.{IsThere}
 
 -- ---- one view

@@ -13,16 +13,16 @@ use Rattle.cn_wiring.specs.Table.{Table}
 use Rattle.cn_floor.specs.declared.view.Start.{Start}
 use Rattle.cn_floor.specs.declared.view.View.{View}
 use Rattle.cn_floor.specs.Plays.{IsLoad, Loads}
-use Rattle.cn_floor.specs.Steps.{HasMoment, IsAnswer}
+use Rattle.cn_floor.specs.Steps.{IsAnswer, StoodInState}
 use Rattle.cn_floor.specs.Rule.{HoldsAt, IsAccounted, IsFresh, load_bound}
 use Rattle.cn_floor.specs.Views.{after_load, after_load_by, base, given_in, granted_in, on_in, standing_in}
 use Rattle.cn_floor.specs.Words.{clients_in, entered_in}
-use Rattle.cn_floor.proofs.AtMoments.Bounds.{few-came}
-use Rattle.cn_floor.proofs.AtMoments.Fresh.{fresh-load, load-bound-all, load-bound-few, load-bound-more, low-more, sum-few}
-use Rattle.cn_floor.proofs.AtMoments.Kept.{AddUpAlike, kept_alike}
-use Rattle.cn_floor.proofs.AtMoments.Places.{get-here}
-use Rattle.cn_floor.proofs.AtMoments.Totals.{total-set}
-use Rattle.cn_floor.proofs.AtMoments.Raised.{entered-word}
+use Rattle.cn_floor.proofs.InStates.Bounds.{few-came}
+use Rattle.cn_floor.proofs.InStates.Fresh.{fresh-load, load-bound-all, load-bound-few, load-bound-more, low-more, sum-few}
+use Rattle.cn_floor.proofs.InStates.Kept.{AddUpAlike, kept_alike}
+use Rattle.cn_floor.proofs.InStates.Places.{get-here}
+use Rattle.cn_floor.proofs.InStates.Totals.{total-set}
+use Rattle.cn_floor.proofs.InStates.Raised.{entered-word}
 
 module _ (start : Start) (ls : List ℕ) (v : View) where
   on-after-load : (b : Bool) (u : ℕ) → on_in u (after_load_by b start ls v) ≡ on_in u v
@@ -128,7 +128,7 @@ pub record Loaded (start : Start) (was : View) (k total : ℕ) (v : View) : Type
   pub few : total ≤ base start + start.quota
   pub on_way : k < start.network.table.entries → (v ≡ record was { loads = v.loads; steps = was.steps + k }) × (length v.loads ≡ k) × (total ≡ sum v.loads)
   pub at_end : k ≡ start.network.table.entries → (v ≡ record was { seen = total - base start; loads = []; steps = was.steps + k }) × (base start ≤ total) × IsAnswer start was (total - base start)
-  pub moment : k ≡ start.network.table.entries → HasMoment start v
+  pub in_state : k ≡ start.network.table.entries → StoodInState start v
 
 answer-as : (start : Start) (was v : View) (ls : List ℕ) (n k m : ℕ) → v ≡ record was { loads = ls; steps = n } → k ≡ m → IsAnswer start v k → IsAnswer start was m
 answer-as start was v ls n k m is same a =
@@ -136,7 +136,7 @@ answer-as start was v ls n k m is same a =
     record { own = b.own; seen = b.seen; names = b.names; quota = b.quota }
 
 pub loaded-next : (start : Start) (was : View) (k total n : ℕ) (v w : View) → k < start.network.table.entries → Loaded start was k total v → Loads start v n w → Loaded start was (k + 1) (total + n) w
-loaded-next start was k total n v w less mid (is, load, moment) =
+loaded-next start was k total n v w less mid (is, load, in_state) =
     let t : Table = start.network.table in
     let on = mid.on_way less in
     let ls : List ℕ = v.loads ++ n ∷ [] in
@@ -150,7 +150,7 @@ loaded-next start was k total n v w less mid (is, load, moment) =
       few = omega (arith, load.few);
       on_way = λ _. (ap (λ (x : View). record x { loads = ls; steps = x.steps + 1 }) on.0 ∙ ap (λ (n : ℕ). record was { loads = ls; steps = n }) one, omega (arith, on.1), more);
       at_end = λ h. absurd (omega arith);
-      moment = λ h. absurd (omega arith);
+      in_state = λ h. absurd (omega arith);
     })
     (λ high.
     let last : length v.loads + 1 ≡ t.entries = omega (arith, on.1) in
@@ -164,7 +164,7 @@ loaded-next start was k total n v w less mid (is, load, moment) =
         omega (arith, end.0),
         answer-as start was v v.loads (was.steps + k) (sum ls - base start) (total + n - base start) on.0 (λ i. sym more i - base start) end.1,
       );
-      moment = λ _. subst (λ (x : View). HasMoment start x) e moment;
+      in_state = λ _. subst (λ (x : View). StoodInState start x) e in_state;
     })
     (cases_lt (k + 1) t.entries)
 
@@ -176,5 +176,5 @@ loaded-none start was idle more =
       few = omega arith;
       on_way = λ _. (ap (λ (n : ℕ). record was { loads = was.loads; steps = n }) none, ap (λ (ls : List ℕ). length ls) idle, sym (ap (λ (ls : List ℕ). sum ls) idle));
       at_end = λ h. absurd (omega arith);
-      moment = λ h. absurd (omega arith);
+      in_state = λ h. absurd (omega arith);
     }

@@ -21,11 +21,11 @@ use Rattle.cn_floor.specs.Rule.{IsAccounted, IsFresh, HoldsAt, load_bound}
 use Rattle.cn_floor.specs.Plays.{Looks}
 use Rattle.cn_floor.specs.Views.{after_join, after_look, after_split, base, empty_view, given_in, granted_in, levels_in, nobody, on_in, split_off, standing_in}
 use Rattle.cn_floor.specs.Words.{clients_in}
-use Rattle.cn_floor.proofs.AtMoments.Bounds.{all-came}
-use Rattle.cn_floor.proofs.AtMoments.Kept.{AddUpAlike, kept-recounted, kept_alike}
-use Rattle.cn_floor.proofs.AtMoments.Openings.{accounted-new, on-new, standing-new}
-use Rattle.cn_floor.proofs.AtMoments.Places.{get-here}
-use Rattle.cn_floor.proofs.AtMoments.Totals.{part-le, total-set}
+use Rattle.cn_floor.proofs.InStates.Bounds.{all-came}
+use Rattle.cn_floor.proofs.InStates.Kept.{AddUpAlike, kept-recounted, kept_alike}
+use Rattle.cn_floor.proofs.InStates.Openings.{accounted-new, on-new, standing-new}
+use Rattle.cn_floor.proofs.InStates.Places.{get-here}
+use Rattle.cn_floor.proofs.InStates.Totals.{part-le, total-set}
 use Rattle.cn_spec.proofs.CallerLemmas.{sum-below-zero, times-append, times-nil}
 
 -- ---- split
@@ -189,7 +189,7 @@ joins start id other v w idle idle' out = joins-sum start id other v w (after_jo
 
 -- ---- look
 
--- a lane may look: it learns of a moment at which it has its view
+-- a lane may look: it learns of a state in which it has its view
 pub looks : (start : Start) (slots id i word : ℕ) (me : Me (Unit {0}) View) (is : Start) → word ≡ 0 → is ≡ start → me.1 ≡ []
     → Allows (HoldsAt start) slots id me i (λ n. n) (λ n new. (word ≡ 0) × (new.1 ≡ []) × Looks is me.0 new.0)
 looks start slots id i word me is first same no_slot s kept homes at fits =

@@ -24,14 +24,14 @@ use Rattle.cn_floor.specs.Sweeps.{GoesFrom}
 use Rattle.cn_floor.specs.Rule.{IsAccounted, IsFresh, HoldsAt, ledger_of, load_bound}
 use Rattle.cn_floor.specs.Views.{after_enter, after_step, base}
 use Rattle.cn_floor.specs.Words.{clients_in, count_in, end_word, entered_in}
-use Rattle.cn_floor.proofs.AtMoments.Bounds.{count-few, few-came, name-later}
-use Rattle.cn_floor.proofs.AtMoments.Accounts.{accounted-after-enter, accounted-after_step}
-use Rattle.cn_floor.proofs.AtMoments.Fresh.{fresh-grown, names_below}
-use Rattle.cn_floor.proofs.AtMoments.Kept.{one-step}
-use Rattle.cn_floor.proofs.AtMoments.Ledgers.{Lands, enters, leaves, passes}
-use Rattle.cn_floor.proofs.AtMoments.Sole.{sole}
-use Rattle.cn_floor.proofs.AtMoments.Totals.{total-set}
-use Rattle.cn_floor.proofs.AtMoments.Raised.{count-raised, count-word, entered-kept, entered-raised, entered-word, lanes-raised, one-end, raised}
+use Rattle.cn_floor.proofs.InStates.Bounds.{count-few, few-came, name-later}
+use Rattle.cn_floor.proofs.InStates.Accounts.{accounted-after-enter, accounted-after_step}
+use Rattle.cn_floor.proofs.InStates.Fresh.{fresh-grown, names_below}
+use Rattle.cn_floor.proofs.InStates.Kept.{one-step}
+use Rattle.cn_floor.proofs.InStates.Ledgers.{Lands, enters, leaves, passes}
+use Rattle.cn_floor.proofs.InStates.Sole.{sole}
+use Rattle.cn_floor.proofs.InStates.Totals.{total-set}
+use Rattle.cn_floor.proofs.InStates.Raised.{count-raised, count-word, entered-kept, entered-raised, entered-word, lanes-raised, one-end, raised}
 use Rattle.cn_spec.proofs.CallerLemmas.{sum-below-one, sum-below-part, sum-below-plus, sum-below-same, times-append, times-nil}
 use Rattle.cn_ledger.proofs.CallerLemmas.{bounded, sound-enters, sound-leaves, sound-passes}
 use Rattle.cn_yard.specs.Lists.{IsThere}

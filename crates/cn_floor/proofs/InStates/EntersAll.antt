@@ -14,11 +14,11 @@ use Rattle.cn_floor.specs.EntersAll.{AllComeIn, EnterInRow, EnteringAll, after_e
 use Rattle.cn_floor.specs.Rule.{HoldsAt, ledger_of}
 use Rattle.cn_floor.specs.Views.{after_enter, base}
 use Rattle.cn_floor.specs.Words.{clients_in, entered_in}
-use Rattle.cn_floor.proofs.AtMoments.Bounds.{few-came}
-use Rattle.cn_floor.proofs.AtMoments.Kept.{counted-alike, kept-recounted, ledger-alike, one-step}
-use Rattle.cn_floor.proofs.AtMoments.Places.{get-here, set-here}
-use Rattle.cn_floor.proofs.AtMoments.Raised.{entered-word, raised}
-use Rattle.cn_floor.proofs.AtMoments.Steps.{came_in, kept-after-enter}
+use Rattle.cn_floor.proofs.InStates.Bounds.{few-came}
+use Rattle.cn_floor.proofs.InStates.Kept.{counted-alike, kept-recounted, ledger-alike, one-step}
+use Rattle.cn_floor.proofs.InStates.Places.{get-here, set-here}
+use Rattle.cn_floor.proofs.InStates.Raised.{entered-word, raised}
+use Rattle.cn_floor.proofs.InStates.Steps.{came_in, kept-after-enter}
 use Rattle.cn_spec.proofs.CallerLemmas.{sum-below-part}
 
 -- one after the other

@@ -12,7 +12,7 @@ use Rattle.cn_floor.specs.declared.view.View.{View}
 use Rattle.cn_floor.specs.Rule.{HoldsAt, ledger_of}
 use Rattle.cn_floor.specs.Views.{base}
 use Rattle.cn_floor.specs.Words.{clients_in, count_in, entered_in}
-use Rattle.cn_floor.proofs.AtMoments.Totals.{total-le, total_same}
+use Rattle.cn_floor.proofs.InStates.Totals.{total-le, total_same}
 use Rattle.cn_spec.proofs.CallerLemmas.{name-below, sum-below-plus, sum-below-same, sum-below-total, times-below}
 use Rattle.cn_ledger.proofs.CallerLemmas.{counts-few, tight}
 
