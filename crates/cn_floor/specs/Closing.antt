@@ -25,7 +25,7 @@ pub record IsEnding (start : Start) (v : View) (words : List ℕ) : Type 0 where
   pub sole : v.quota + length v.entries ≡ start.quota
       → clients_in start.network.table words ≡ base start + length v.entries
   pub within : v.quota + length v.entries ≤ start.quota
-  pub quiet : tokens_in v.tokens ≡ 0 → clients_in start.network.table words ≡ base start + length v.grants
+  pub closed_floor : tokens_in v.tokens ≡ 0 → clients_in start.network.table words ≡ base start + length v.grants
       → IsClosedFloor start v words
 
 -- more came in than the lane has grants: this number, by the words of a state in which the lane has this view

@@ -20,7 +20,8 @@ pub record KeepsClosedFloor (e : Inside) : Type 0 where
   pub spaced : IsSpaced e.stride (slots_items e.table.words)
   pub full : IsFull e.table.words
   pub none : slots_len e.table.slots ≡ 0
-  pub quiet : IsClosedFloor e.lane.value.home.start e.lane.value.view (words_in e.stride (slots_items e.table.words))
+  pub closed_floor : IsClosedFloor e.lane.value.home.start e.lane.value.view
+      (words_in e.stride (slots_items e.table.words))
   pub network : e.network ≡ e.lane.value.home.start.network
   pub closed : IsClosed (words_after (closed_of e))
   pub clients : e.clients ≡ client_count (words_after (closed_of e))

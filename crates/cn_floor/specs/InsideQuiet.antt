@@ -11,7 +11,7 @@ quiet_of q = record { start = q.lane.value.home.start; did = q.lane.value.view; 
 -- its grants are those of the lane, and its words those of the floor; and it has what the words have risen, or nobody
 -- went before
 pub record KeepsQuiet (q : Inside) : Type 0 where
-  pub quiet : IsClosedFloor q.lane.value.home.start q.lane.value.view q.words.words
+  pub closed_floor : IsClosedFloor q.lane.value.home.start q.lane.value.view q.words.words
   pub network : q.words.network ≡ q.lane.value.home.start.network
   pub grants : q.grants.items ≡ q.lane.value.view.grants
   pub risen : IfSome q.risen (λ list. IsDifference q.lane.value.home.start.words q.words.words list.items)

@@ -95,7 +95,7 @@ next-in-order start a b xs began one home walks before after (s, in_state) sole 
     let entered : length v.entries ≡ length a.view.entries + length xs = ap length walks.entries ∙ length-both a.view.entries (map (λ (k : Client). k.entry) xs) ∙ ap (λ (k : ℕ). length a.view.entries + k) (length-map xs (λ (k : Client). k.entry)) in
     let quota : start.quota ≤ v.quota + length v.entries = omega (arith, sole.quota, ap (λ (z : Start). z.quota) home, walks.quota, entered) in
     let all = (in_state.kept.accounted in_state.id v in_state.here).all in
-    let names : IsEachBelow (length v.grants) (map name v.grants) = (e.quiet out (omega (arith, e.sole (omega (arith, quota, e.within)), all, out))).names in
+    let names : IsEachBelow (length v.grants) (map name v.grants) = (e.closed_floor out (omega (arith, e.sole (omega (arith, quota, e.within)), all, out))).names in
     let single : length more ≡ 1 = omega (arith, even (λ _. 1), before (λ _. 1), after (λ _. 1), ones more, ones xs, one) in
     let client : sum_by (λ (g : Grant). g.client) more ≡ sum_by (λ (k : Client). k.id) xs = omega (arith, even (λ k. k), before (λ k. k), after (λ k. k)) in
     let many : length v.grants ≡ m + 1 = ap length grants ∙ length-both a.view.grants more ∙ ap (λ (k : ℕ). m + k) single in

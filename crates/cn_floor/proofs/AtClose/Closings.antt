@@ -121,8 +121,8 @@ module _ (start : Start) (s : State (Unit {0}) View) (id : ℕ) (v : View) (kept
       let was : get_or start.words (1 + t.entries + t.balancers + i) 0 ≡ share (base start) t.width i = sym (count-word t start.words (Exit i) (omega arith)) ∙ old.counts i (omega arith) in
       λ x. now x - was x)
 
-  pub quiet : tokens_in v.tokens ≡ 0 → clients_in start.network.table s.words ≡ base start + length v.grants → IsClosedFloor start v s.words
-  quiet out all =
+  pub closed_floor : tokens_in v.tokens ≡ 0 → clients_in start.network.table s.words ≡ base start + length v.grants → IsClosedFloor start v s.words
+  closed_floor out all =
       let t = start.network.table in
       let entries : View → ℕ = λ x. length x.entries in
       let account = kept.rule.accounted id v at in
@@ -188,7 +188,7 @@ module _ (start : Start) (s : State (Unit {0}) View) (id : ℕ) (v : View) (kept
           mine-only (λ (x : View). length x.entries) (λ (x : View). x.quota + length x.entries) s.views id v at (λ j x a z. omega arith) (kept.rule.quotas ∙ sym whole),
         );
     within = omega (arith, kept.rule.quotas, part-le (λ (x : View). x.quota + length x.entries) s.views id v at);
-    quiet = quiet;
+    closed_floor = closed_floor;
   }
 
 pub ending : (start : Start) (id : ℕ) (v : View) (ws : List ℕ) (xs : List (Unit {0})) → Final (Seen (HoldsAt start) id v) ws xs → IsEnding start v ws

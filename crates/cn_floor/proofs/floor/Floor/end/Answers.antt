@@ -32,17 +32,17 @@ invariant_of-closed c =
     let clients : c.clients_of-clients.result ≡ clients_in start.network.table ws = c.clients_of-clients.ensures ∙ ap (λ (n : Network). clients_in n.table ws) network in
     let granted : c.len-granted.result ≡ length v.grants = search rules in
     let came : clients_in start.network.table ws ≡ base start + length v.grants = omega (arith, e.granted, c.self.invariant.base, c.if-entered-granted.false) in
-    let quiet : IsClosedFloor start v ws = e.quiet out came in
+    let closed_floor : IsClosedFloor start v ws = e.closed_floor out came in
     let closed : IsClosed (record { network = start.network; words = ws }) = record {
       network = began.network;
-      carried = quiet.closed;
+      carried = closed_floor.closed;
       few = omega (arith, e.few, began.few, began.quota);
     } in
     record {
       spaced = c.close-table.ensures.spaced;
       full = c.close-table.ensures.whole.0;
       none = c.close-table.ensures.whole.1;
-      quiet = subst (λ (z : Start × View). IsClosedFloor z.0 z.1 ws) (λ i. (about i, view i)) quiet;
+      closed_floor = subst (λ (z : Start × View). IsClosedFloor z.0 z.1 ws) (λ i. (about i, view i)) closed_floor;
       network = c.requires.network ∙ ap (λ (h : FloorValue). h.start.network) (sym c.self.view_is) ∙ ap (λ (s : Start). s.network) about;
       closed = subst (λ (s : Start). IsClosed (record { network = s.network; words = ws })) about closed;
       clients = clients ∙ ap (λ (s : Start). clients_in s.network.table ws) about;

@@ -29,7 +29,7 @@ invariant_of-result c =
     let copied = c.copy_words.ensures in
     let words : c.closed.result.words ≡ c.copy_words.new.list.items = ap (λ (w : WordsValue). w.words) c.closed.ensures in
     record {
-      quiet = subst (λ (ws : List ℕ). IsClosedFloor start c.self.inside.lane.value.view ws) (sym (words ∙ copied)) c.self.invariant.quiet;
+      closed_floor = subst (λ (ws : List ℕ). IsClosedFloor start c.self.inside.lane.value.view ws) (sym (words ∙ copied)) c.self.invariant.closed_floor;
       network = ap (λ (w : WordsValue). w.network) c.closed.ensures ∙ c.self.invariant.network;
       grants = c.self.invariant.grants;
       risen = subst (λ (ws : List ℕ). IfSome c.risen_to-risen.result (λ list. IsDifference start.words ws list.items)) (sym words)
