@@ -84,8 +84,8 @@ module _ (start : Start) (s : State (Unit {0}) View) (id : ℕ) (v : View) (kept
       omega (arith, (kept.rule.accounted j x a).all, count_by-le-length (λ (g : Grant). eqb g.client c && (eqb g.exit i && (eqb g.visit k && eqb (g.name + base start) name))) x.grants)
 
   -- a sum over only this lane
-  alone : (f : View → ℕ) → sum_by f (v ∷ []) ≡ f v
-  alone f = omega (arith, sum_by-cons f v [])
+  sum-one : (f : View → ℕ) → sum_by f (v ∷ []) ≡ f v
+  sum-one f = omega (arith, sum_by-cons f v [])
 
   -- each grant has the name of its exit and visit
   named-at : (j : ℕ) (d : Grant) → j < length v.grants → ((get_or v.grants j d).exit < start.network.table.width) × ((get_or v.grants j d).name + base start ≡ name_of start.network.table.width (get_or v.grants j d).exit (get_or v.grants j d).visit)
@@ -104,7 +104,7 @@ module _ (start : Start) (s : State (Unit {0}) View) (id : ℕ) (v : View) (kept
       let t = start.network.table in
       let was : Ledger = ledger_of t start.words start.words [] in
       let now : Ledger = ledger_of t start.words s.words (v ∷ []) in
-      let lists : ListsGrants (base start) was now (map listed v.grants) = λ c i k name. omega (arith, alone (granted_in (base start) c i k name), count-listed (base start) c i k name v.grants) in
+      let lists : ListsGrants (base start) was now (map listed v.grants) = λ c i k name. omega (arith, sum-one (granted_in (base start) c i k name), count-listed (base start) c i k name v.grants) in
       subst (λ (ns : List ℕ). IsEachBelow (length v.grants) ns) (names-listed v.grants)
       (names-each t was now (map listed v.grants) (length v.grants) (tight-before start kept.began) end all lists)
 
@@ -138,18 +138,18 @@ module _ (start : Start) (s : State (Unit {0}) View) (id : ℕ) (v : View) (kept
       let same : ledger_of t start.words s.words s.views ≡ ledger_of t start.words s.words (v ∷ []) = λ x. record {
         entered = entered_in t s.words;
         count = count_in t s.words;
-        on = λ u. (on u ∙ sym (alone (on_in u))) x;
-        standing = λ u c. (standing u c ∙ sym (alone (standing_in u c))) x;
-        given = λ end n. once_below (count_in t start.words end) n + (given end n ∙ sym (alone (given_in end n))) x;
+        on = λ u. (on u ∙ sym (sum-one (on_in u))) x;
+        standing = λ u c. (standing u c ∙ sym (sum-one (standing_in u c))) x;
+        given = λ end n. once_below (count_in t start.words end) n + (given end n ∙ sym (sum-one (given_in end n))) x;
         granted = λ c i k name.
             when (eqb 0 c && (ltb k (count_in t start.words (Exit i)) && eqb (name_of t.width i k) name)) 1
-            + (granted c i k name ∙ sym (alone (granted_in (base start) c i k name))) x;
+            + (granted c i k name ∙ sym (sum-one (granted_in (base start) c i k name))) x;
       } in
       let numbers : (end : End) (n : ℕ) → Stands t end → once_below (count_in t start.words end) n + given_in end n v ≡ once_below (count_in t s.words end) n = λ end n stands.
       omega (arith, given end n, kept.rule.sound.numbered end n stands) in
       let own : (u : ℕ) → u < t.entries → entered_in t s.words u ≡ entered_in t start.words u + times u v.entries = λ u l.
       omega (arith, kept.rule.entered u l, mine-only (λ (x : View). times u x.entries) entries s.views id v at (λ j x a z. no-entry u x.entries z) mine) in
-      let nobody : NobodyInside start (v ∷ []) = λ u l. omega (arith, alone (on_in u), none-on v out u) in
+      let nobody : NobodyInside start (v ∷ []) = λ u l. omega (arith, sum-one (on_in u), none-on v out u) in
       let sound : IsSound t (ledger_of t start.words s.words (v ∷ [])) = subst (IsSound t) same kept.rule.sound in
       let end = tight-after start kept.began s.words (v ∷ []) sound nobody in
       record {

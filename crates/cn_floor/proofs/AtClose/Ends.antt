@@ -44,11 +44,11 @@ not_both c d differ q r s = elim (cases_lt 0 c) [
 
 -- where they balance, they may be carried
 module _ (t : Table) (words : List ℕ) where
-  abbrev alone : Ledger
-  alone = ledger_of t words words []
+  abbrev by-words : Ledger
+  by-words = ledger_of t words words []
 
-  pub alone-sound : ((end : End) → Stands t end → alone.count end + sum_at t end alone.on ≡ sum_at t end (put t alone)) → IsSound t alone
-  alone-sound balanced = record {
+  pub by-words-sound : ((end : End) → Stands t end → by-words.count end + sum_at t end by-words.on ≡ sum_at t end (put t by-words)) → IsSound t by-words
+  by-words-sound balanced = record {
     balanced = balanced;
     clients = λ u. (0, λ k h. sum-below-zero k (λ _. 0) (λ _. refl));
     numbered = λ end n h. omega arith;
@@ -95,7 +95,7 @@ module _ (start : Start) (began : IsStart start) where
     carried-after long none = record {
       words = long;
       lanes = none;
-      sound = alone-sound t words (λ e h.
+      sound = by-words-sound t words (λ e h.
           let now : Ledger = ledger_of t start.words words views in
           let is = sound.balanced e h in
           let none = total-where-agree (is_end e) t.ends (Balancer 0) now.on (λ _. 0) (λ u l x. nobody u l) in

@@ -462,18 +462,18 @@ one-second (e ∷ []) one = (refl, refl)
 one-second (e ∷ d ∷ rest) one = absurd (omega (arith, one))
 
 -- a token by itself goes on to an output, with nobody above: once it has left from there, it has left
-pub record GoesOnAlone (start : Start) (wire b q : ℕ) (v w : View) : Type 0 where
+pub record GoesOnByItself (start : Start) (wire b q : ℕ) (v w : View) : Type 0 where
   pub to : on w.tokens (output_wire start.network.table b q) ≡ on v.tokens wire
   pub above : (u : ℕ) → output_wire start.network.table b q < u → on w.tokens u ≡ []
   pub left : (x : View) → HaveLeft w x (output_wire start.network.table b q) (on w.tokens (output_wire start.network.table b q)) → HaveLeft v x wire (on v.tokens wire)
 
-pub goes-on-alone : (start : Start) (wire b n : ℕ) (v w : View) → GoTogether start wire (Balancer b) n v w → length (on v.tokens wire) ≡ 1 → GoesOnAlone start wire b (n % 2) v w
-goes-on-alone start wire b n v w go one =
+pub goes-on-by-itself : (start : Start) (wire b n : ℕ) (v w : View) → GoTogether start wire (Balancer b) n v w → length (on v.tokens wire) ≡ 1 → GoesOnByItself start wire b (n % 2) v w
+goes-on-by-itself start wire b n v w go one =
     let is = dealt-so start wire b n v w go in
     by (n % 2) (omega arith) is.first is.second
   where
     by : (q : ℕ) → q < 2 → on w.tokens (output_wire start.network.table b 0) ≡ every_second q (on v.tokens wire) → on w.tokens (output_wire start.network.table b 1) ≡ every_second (1 - q) (on v.tokens wire)
-        → GoesOnAlone start wire b q v w
+        → GoesOnByItself start wire b q v w
     by zero low first second =
         let none : on w.tokens (output_wire start.network.table b 1) ≡ [] = second ∙ (one-second (on v.tokens wire) one).1 in
         record {

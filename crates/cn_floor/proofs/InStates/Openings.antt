@@ -113,20 +113,20 @@ module _ (start : Start) (quota : ℕ) where
   }
 
   -- a sum over only this lane
-  alone : (f : View → ℕ) → f v ≡ 0 → sum_by f [] ≡ sum_by f (v ∷ [])
-  alone f none = omega (arith, sum_by-cons f v [])
+  sum-one : (f : View → ℕ) → f v ≡ 0 → sum_by f [] ≡ sum_by f (v ∷ [])
+  sum-one f none = omega (arith, sum_by-cons f v [])
 
   -- its ledger is that of the words
   ledger-new : (words : List ℕ) → ledger_of start.network.table start.words words [] ≡ ledger_of start.network.table start.words words (v ∷ [])
   ledger-new words = λ x. record {
     entered = entered_in start.network.table words;
     count = count_in start.network.table words;
-    on = λ u. alone (on_in u) (on-new u) x;
-    standing = λ u c. alone (standing_in u c) (standing-new u c) x;
-    given = λ end n. once_below (count_in start.network.table start.words end) n + alone (given_in end n) (given-new end n) x;
+    on = λ u. sum-one (on_in u) (on-new u) x;
+    standing = λ u c. sum-one (standing_in u c) (standing-new u c) x;
+    given = λ end n. once_below (count_in start.network.table start.words end) n + sum-one (given_in end n) (given-new end n) x;
     granted = λ c i k name.
         when (eqb 0 c && (ltb k (count_in start.network.table start.words (Exit i)) && eqb (name_of start.network.table.width i k) name)) 1
-        + alone (granted_in (base start) c i k name) refl x;
+        + sum-one (granted_in (base start) c i k name) refl x;
   }
 
 -- a floor may begin with words that it may carry

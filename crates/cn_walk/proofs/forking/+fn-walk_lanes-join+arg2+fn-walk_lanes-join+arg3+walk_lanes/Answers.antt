@@ -29,4 +29,4 @@ returns-in-Ok-clause-walked g t c =
     (subst (λ (xs : List Client). WalksAll (together a b) (together c.join-lane.result.0 c.join-lane.result.1) xs) (sym cut) done))
 
 pub returns-in-Ok-clause-in_order : goal.returns-in-Ok-clause-in_order
-returns-in-Ok-clause-in_order g t c one alone sole = absurd (subst IsOne c.in-Halves.is alone)
+returns-in-Ok-clause-in_order g t c one single sole = absurd (subst IsOne c.in-Halves.is single)

@@ -37,6 +37,6 @@ pub returns-in-Ok-clause-in_order : goal.returns-in-Ok-clause-in_order
 returns-in-Ok-clause-in_order g c worker hand =
     let k : ℕ = length c.args.clients.now in
     let ready = whole-ready c.args.floor k c.in-Some.lanes (subst (λ (n : ℕ). AreReady c.args.floor n c.in-Some.lanes) (all-first k c.args.crew.workers (search rules)) c.in-Some.ensures.ready) in
-    let alone = one-worker k c.args.crew.workers 0 c.args.crew.workers c.in-Some.lanes (omega (arith, worker)) c.in-Some.ensures.workers in
-    let order = c.walk_lanes-lane.ensures.in_order hand alone (new-sole c.args.floor k (whole c.in-Some.lanes) c.requires.quota ready) in
+    let single = one-worker k c.args.crew.workers 0 c.args.crew.workers c.in-Some.lanes (omega (arith, worker)) c.in-Some.ensures.workers in
+    let order = c.walk_lanes-lane.ensures.in_order hand single (new-sole c.args.floor k (whole c.in-Some.lanes) c.requires.quota ready) in
     subst (λ (v : View). AreInOrder 0 c.args.clients.now v.grants) (sym c.in-Ok.ensures.closed.1) (all-in-order (whole c.in-Some.lanes) c.walk_lanes-lane.result c.args.clients.now ready.nothing order)

@@ -12,7 +12,7 @@ use Rattle.cn_floor.specs.Lane.{FloorValue}
 use Rattle.cn_floor.specs.Listed.{HaveLeft, Stand, placed}
 use Rattle.cn_floor.specs.Sweeps.{AreLetBy, grants_out}
 use Rattle.cn_floor.specs.Views.{base}
-use Rattle.cn_floor.proofs.InLane.Listed.{GoTogether, above-first, above-second, dealt-so, first-stand, goes-on-alone, grants-by, grants-so, inside, kin-so, left-by, left-so, nobody-left, placed-many, together}
+use Rattle.cn_floor.proofs.InLane.Listed.{GoTogether, above-first, above-second, dealt-so, first-stand, goes-on-by-itself, grants-by, grants-so, inside, kin-so, left-by, left-so, nobody-left, placed-many, together}
 use Rattle.cn_floor.proofs.InLane.InTurn.{swept-both, swept-first, swept-none}
 use Rattle.cn_floor.proofs.floor.Floor.+pass_all.Goals as goal
 
@@ -44,11 +44,11 @@ pass_all-requires t c =
     c.let_by-end.ensures.end c.let_by-end.ensures.stands c.let_by-end.ensures.went c.let_by-end.ensures.by) in
     let is = dealt-so start wire b n v w go in
     let like = kin-so start wire b n v w go in
-    let alone = goes-on-alone start wire b n v w go (many ∙ c.if-group-eq1.true) in
+    let itself = goes-on-by-itself start wire b n v w go (many ∙ c.if-group-eq1.true) in
     let entries : c.entries.result ≡ start.network.table.entries = c.entries.ensures.value ∙ ap (λ (x : Network). x.table.entries) c.requires.network in
     let to : c.entries.result + 2 * b + c.output_of-output.result ≡ output_wire start.network.table b (n % 2) = omega (arith, entries, c.output_of-output.ensures) in
     let stand : Stand clients g (on w.tokens (c.entries.result + 2 * b + c.output_of-output.result)) =
-    subst (λ (es : List (ℕ × ℕ)). Stand clients g es) (sym alone.to ∙ ap (λ (u : ℕ). on w.tokens u) (sym to)) c.requires.group in (
+    subst (λ (es : List (ℕ × ℕ)). Stand clients g es) (sym itself.to ∙ ap (λ (u : ℕ). on w.tokens u) (sym to)) c.requires.group in (
       search rules,
       (
         (c.let_by-end.ensures.seat.0 ∙ c.requires.own.0, like.start ∙ c.requires.own.1),
@@ -65,7 +65,7 @@ pass_all-requires t c =
                   (
                     stand,
                     (
-                      λ u more. alone.above u (omega (arith, more, to)),
+                      λ u more. itself.above u (omega (arith, more, to)),
                       (c.requires.room, c.requires.grants ∙ sym (grants-so start wire b n v w go)),
                     ),
                   ),
@@ -92,10 +92,10 @@ returns-then-group-eq1-clause-left t c =
     subst (λ (e : End). GoTogether start wire e n v w) c.in-Balancer.is
     (together start wire c.let_by-end.result.0 n v w c.start_laws.ensures c.requires.own.1 c.requires.wires c.requires.wire c.requires.once c.requires.above (omega (arith, many, c.if-group-eq0.false))
     c.let_by-end.ensures.end c.let_by-end.ensures.stands c.let_by-end.ensures.went c.let_by-end.ensures.by) in
-    let alone = goes-on-alone start wire b n v w go (many ∙ c.if-group-eq1.true) in
+    let itself = goes-on-by-itself start wire b n v w go (many ∙ c.if-group-eq1.true) in
     let entries : c.entries.result ≡ start.network.table.entries = c.entries.ensures.value ∙ ap (λ (y : Network). y.table.entries) c.requires.network in
     let to : c.entries.result + 2 * b + c.output_of-output.result ≡ output_wire start.network.table b (n % 2) = omega (arith, entries, c.output_of-output.ensures) in
-    alone.left x (subst (λ (u : ℕ). HaveLeft w x u (on w.tokens u)) to c.pass_all.ensures.left)
+    itself.left x (subst (λ (u : ℕ). HaveLeft w x u (on w.tokens u)) to c.pass_all.ensures.left)
 
 pub pass_all-requires-in-Balancer : goal.pass_all-requires-in-Balancer
 pass_all-requires-in-Balancer t c =
