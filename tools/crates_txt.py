@@ -21,7 +21,7 @@ class Listed:
     @property
     def is_test(self):
         """Whether it has tests and nothing else."""
-        return self.name.startswith("cn_rows")
+        return self.name.startswith("cn_tests")
 
     @property
     def is_library(self):

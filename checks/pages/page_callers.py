@@ -40,7 +40,7 @@ def uses(code):
 
 
 def sources_of_tests():
-    return sorted(ROOT.glob("crates/cn_rows*/src/**/*.rt"))
+    return sorted(ROOT.glob("crates/cn_tests*/src/**/*.rt"))
 
 
 def sections(page):

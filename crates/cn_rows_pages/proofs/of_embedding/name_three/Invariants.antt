@@ -1,5 +1,0 @@
-use Rattle.std.proofs.Common.{◌≡◌}
-use Rattle.cn_rows_pages.proofs.of_embedding.name_three.Given as goal
-
-abbrev pub invariant-loop : goal.invariant-loop
-invariant-loop l = l.lane.home ≡ l.floor
