@@ -58,7 +58,7 @@ void call_enter(void) {
 
 /* ---- lists */
 
-/* A list by one entry, by the same for some in a row, or by any; now and then one of them is no entry. */
+/* A list by one entry, by the same for some one after another, or by any; now and then one of them is no entry. */
 static int draw_list(const struct lane *lane, renamer_client *clients, size_t count) {
     uint64_t entries = lane ? lane->floor->network->entries : 1, form = drawn(3);
     for (size_t at = 0; at < count; at++) {

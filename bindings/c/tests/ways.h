@@ -28,7 +28,7 @@ static uint64_t named[ALL];
 /* How many clients came in at most: it is raised before they do. */
 static _Atomic uint64_t came_in;
 
-/* The next of a row of random numbers (splitmix64). */
+/* The next of a series of random numbers (splitmix64). */
 static uint64_t draw(uint64_t *chance) {
     uint64_t z = (*chance += 0x9e3779b97f4a7c15u);
     z = (z ^ (z >> 30)) * 0xbf58476d1ce4e5b9u;

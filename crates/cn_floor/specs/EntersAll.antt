@@ -19,18 +19,18 @@ after_enters clients entry place (suc n) v =
 abbrev pub after_enter_all : List ℕ → ℕ → View → View
 after_enter_all clients entry v = record (after_enters clients entry 0 (length clients) v) { steps = v.steps + 1 }
 
--- so many clients of a list, from a place on, come in by an entry one after the other: so many events in a row
-unfoldable pub EnterInRow : Table → List ℕ → ℕ → ℕ → ℕ → Ledger → Ledger → Type 0
-EnterInRow t clients entry place zero old new = old ≡ new
-EnterInRow t clients entry place (suc n) old new =
+-- so many clients of a list, from a place on, come in by an entry one after the other: so many events in turn
+unfoldable pub EnterInTurn : Table → List ℕ → ℕ → ℕ → ℕ → Ledger → Ledger → Type 0
+EnterInTurn t clients entry place zero old new = old ≡ new
+EnterInTurn t clients entry place (suc n) old new =
     (between : Ledger) × Enters t old between (slice_index clients place) entry
-    × EnterInRow t clients entry (suc place) n between new
+    × EnterInTurn t clients entry (suc place) n between new
 
--- all clients of a list come in by an entry in one step, which is as many events in a row
+-- all clients of a list come in by an entry in one step, which is as many events in turn
 abbrev pub ComeTogether : Start → List ℕ → ℕ → View → View → Type 0
 ComeTogether start clients entry v w =
     (w ≡ after_enter_all clients entry v)
-    × IsAtomicStep start v w (EnterInRow start.network.table clients entry 0 (length clients))
+    × IsAtomicStep start v w (EnterInTurn start.network.table clients entry 0 (length clients))
 
 -- whose clients come in by which entry, on which floor
 pub record EnteringAll : Type 0 where

@@ -8,7 +8,7 @@ use Rattle.cn_floor.specs.declared.view.Grant.{Grant}
 use Rattle.cn_floor.specs.declared.view.Start.{Start}
 use Rattle.cn_floor.specs.declared.view.View.{View}
 use Rattle.cn_floor.specs.Lane.{LaneValue}
-use Rattle.cn_floor.specs.EntersAll.{EnterInRow, after_enter_all}
+use Rattle.cn_floor.specs.EntersAll.{EnterInTurn, after_enter_all}
 use Rattle.cn_floor.specs.Steps.{IsAtomicStep, StoodInState}
 use Rattle.cn_floor.specs.Sweeps.{SweptBy}
 
@@ -62,9 +62,9 @@ pub record HaveLeft (v w : View) (wire : ℕ) (tokens : List (ℕ × ℕ)) : Typ
 
 -- the clients of a list come in by an entry, in one step, and leave by sweeps of these wires
 pub record WalkTogether (start : Start) (clients : List ℕ) (entry : ℕ) (v w : View) : Type 0 where
-  -- it is as many events in a row as clients
+  -- it is as many events in turn as clients
   pub came : IsAtomicStep start v (after_enter_all clients entry v)
-      (EnterInRow start.network.table clients entry 0 (length clients))
+      (EnterInTurn start.network.table clients entry 0 (length clients))
   pub wires : List ℕ
   pub swept : SweptBy start wires (after_enter_all clients entry v) w
   pub steps : w.steps ≡ v.steps + 1 + length wires

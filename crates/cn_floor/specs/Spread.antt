@@ -27,9 +27,9 @@ HoldsSpread stride holds s =
 
 -- the words of a closed table in which they lie a stride apart
 abbrev pub words_in : ℕ → List ℕ → List ℕ
-words_in stride row = picked stride 0 row
+words_in stride spaced = picked stride 0 spaced
 
 -- this is such a table: there is nothing but the words and the zeros between
-pub record IsSpaced (stride : ℕ) (row : List ℕ) : Type 0 where
+pub record IsSpaced (stride : ℕ) (spaced : List ℕ) : Type 0 where
   pub some : 1 ≤ stride
-  pub apart : row ≡ spread stride (words_in stride row)
+  pub apart : spaced ≡ spread stride (words_in stride spaced)

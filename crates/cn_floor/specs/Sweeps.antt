@@ -1,4 +1,4 @@
--- A sweep: all tokens of a wire go by its end in one atomic step, which is as many events in a row.
+-- A sweep: all tokens of a wire go by its end in one atomic step, which is as many events in turn.
 use Rattle.std.specs.Prelude.{◌≡◌, ℕ, ◌+◌, ◌-◌, ◌%◌, ◌<◌, ◌≤◌, List, [], ◌∷◌, length}
 use Rattle.cn_spec.specs.Step.{name_of}
 use Rattle.cn_wiring.specs.declared.end.End.{End}
@@ -32,12 +32,12 @@ abbrev pub GoesFrom : Table → Ledger → Ledger → ℕ → ℕ → End → Ty
 GoesFrom t old new client wire (Balancer b) = Passes t old new client wire b
 GoesFrom t old new client wire (Exit i) = Leaves t old new client wire i
 
--- clients go from a wire by its end one after the other, with the numbers from n on: so many events in a row
-unfoldable pub GoInRow : Table → ℕ → End → ℕ → List (ℕ × ℕ) → Ledger → Ledger → Type 0
-GoInRow t wire end n [] old new = old ≡ new
-GoInRow t wire end n (e ∷ rest) old new =
+-- clients go from a wire by its end one after the other, with the numbers from n on: so many events in turn
+unfoldable pub GoInTurn : Table → ℕ → End → ℕ → List (ℕ × ℕ) → Ledger → Ledger → Type 0
+GoInTurn t wire end n [] old new = old ≡ new
+GoInTurn t wire end n (e ∷ rest) old new =
     (between : Ledger) × GoesFrom t old between e.1 wire end × (old.count end ≡ n)
-    × GoInRow t wire end (n + 1) rest between new
+    × GoInTurn t wire end (n + 1) rest between new
 
 -- whose sweep of which wire, on which floor
 pub record Sweeping : Type 0 where
@@ -51,8 +51,8 @@ nobody_sweeps = record { start = no_start; wire = 0; end = Exit 0 }
 
 -- the tokens of a wire go by its end, and the first gets the number n
 pub record AreLetBy (start : Start) (v w : View) (wire : ℕ) (end : End) (n : ℕ) : Type 0 where
-  -- it is one step, and as many events in a row as tokens
-  pub step : IsAtomicStep start v w (GoInRow start.network.table wire end n (on v.tokens wire))
+  -- it is one step, and as many events in turn as tokens
+  pub step : IsAtomicStep start v w (GoInTurn start.network.table wire end n (on v.tokens wire))
   pub few : n + length (on v.tokens wire) ≤ base start + start.quota
   -- no name is that of a client that came before the floor began
   pub late : (i : ℕ) → end ≡ Exit i → base start ≤ name_of start.network.table.width i n

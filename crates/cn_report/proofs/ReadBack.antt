@@ -4,5 +4,5 @@ pub mod Epochs
 pub mod Fields
 pub mod Form
 pub mod PrintedAgain
-pub mod Rows
+pub mod Records
 pub mod TightAgain

@@ -13,9 +13,9 @@ plain_tight epoch = (epoch.number, epoch.clients, epoch.counts.items)
 
 -- these are the epochs of the records
 abbrev pub IsPrinted : ℕ → List Record → List TightEpoch → Type 0
-IsPrinted width rows epochs = map plain_tight epochs ≡ printed_epochs width rows
+IsPrinted width records epochs = map plain_tight epochs ≡ printed_epochs width records
 
 -- what a check of these records answers: their epochs if they are a tight list, or their flaw
 abbrev pub AnswersTight : ℕ → List Record → Result Tight Flaw → Type 0
-AnswersTight width rows result =
-    MatchResult result (λ tight. IsTightList rows × IsPrinted width rows tight.epochs.items) (IsFlaw rows)
+AnswersTight width records result =
+    MatchResult result (λ tight. IsTightList records × IsPrinted width records tight.epochs.items) (IsFlaw records)

@@ -12,8 +12,8 @@ ghost use Rattle.cn_report.specs.Grants.ListText.{AreTightRecords, checked_epoch
 
 /// The records of a text determine its batch: two batches that they are have the same epochs.
 pub fn batch_is_one()
-    ensures { (entries : ℕ) (rows : List Record) (one other : List BatchEpoch)
-        → IsBatch entries rows one → IsBatch entries rows other
+    ensures { (entries : ℕ) (records : List Record) (one other : List BatchEpoch)
+        → IsBatch entries records one → IsBatch entries records other
         → map plain_epoch one ≡ map plain_epoch other }
 {}
 

@@ -4,7 +4,7 @@ mod batch;
 mod batch_fault;
 mod command;
 pub(crate) mod number;
-pub(crate) mod rows;
+pub(crate) mod records;
 mod scatter;
 mod schedule;
 mod schedule_fault;

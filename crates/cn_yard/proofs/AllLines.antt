@@ -54,7 +54,7 @@ but-one records lines records' lines' order t is h kept l =
     record {
       linked = l;
       off = λ u k. let m = times-but t t (order u) in grind (arith, nat_tests);
-      within = λ n k o. rw (kept.wire n, kept.rows) (is.within n (rw kept.len at k));
+      within = λ n k o. rw (kept.wire n, kept.as_many) (is.within n (rw kept.len at k));
       there = λ n k o. rw (kept.wire n) (let m = times-but n t (order (wire_of records n)) in let one = is.there n (rw kept.len at k) in grind (arith, nat_tests));
       all =
           let more = sum-more (length lines) w (λ u. length (but t (order u))) (λ u. length (order u))
@@ -62,8 +62,8 @@ but-one records lines records' lines' order t is h kept l =
             | inl e ↦ let many : times t (order u) ≡ 1 = rw e here in grind (arith, nat_tests)
             | inr o ↦ grind (arith, nat_tests)
           ]) (is.within t h) in
-          let a = is.all in let len = kept.len in let rows = kept.rows in
-          rw rows (omega arith);
+          let a = is.all in let len = kept.len in let as_many = kept.as_many in
+          rw as_many (omega arith);
     }
 
 -- a record that is added is on no line
@@ -101,7 +101,7 @@ pub but-none : (records : List Record) (lines : List Line) (records' : List Reco
 but-none records lines records' lines' order t to is h kept l =
     record {
       linked = l;
-      within = λ n k. rw (kept.wire n, kept.rows) (elim (cases_eq n t) [
+      within = λ n k. rw (kept.wire n, kept.as_many) (elim (cases_eq n t) [
         | inl e ↦ let f : eqb n t ≡ true = grind (arith, nat_tests) in rw f h
         | inr o ↦ let f : eqb n t ≡ false = grind (arith, nat_tests) in rw f (is.within n (rw kept.len at k) o)
       ]);
@@ -114,8 +114,8 @@ but-none records lines records' lines' order t to is h kept l =
       all =
           let more = sum-more (length lines) to (λ u. length (order u)) (λ u. length (put_last order t to u))
           (λ u k. let a = length-append (order u) (last_of t to u) in let b = length-last t to u in grind (arith, nat_tests)) h in
-          let a = is.all in let len = kept.len in let rows = kept.rows in
-          rw rows (omega arith);
+          let a = is.all in let len = kept.len in let as_many = kept.as_many in
+          rw as_many (omega arith);
     }
   where
     length-last : (t to u : ℕ) → length (last_of t to u) ≡ cond (eqb to u) 1 0
@@ -132,10 +132,10 @@ pub marks-one : (lines lines' : List Line) (words words' : List ℕ) (t : ℕ) (
     → ((u : ℕ) → marked words' u ≡ cond (eqb u t) (when b 1) (marked words u))
     → length lines' ≡ length lines → ((u : ℕ) → u ≢ t → count_of lines' u ≡ count_of lines u) → b ≡ ltb 0 (count_of lines' t)
     → HasMarks lines' words'
-marks-one lines lines' words words' t b has each rows same e u h =
+marks-one lines lines' words words' t b has each as_many same e u h =
     elim (cases_eq u t) [
       | inl k ↦ let f : eqb u t ≡ true = grind (arith, nat_tests) in each u ∙ rw f (rw (e, k) refl)
-      | inr o ↦ let f : eqb u t ≡ false = grind (arith, nat_tests) in each u ∙ rw (f, same u o) (has u (rw rows at h))
+      | inr o ↦ let f : eqb u t ≡ false = grind (arith, nat_tests) in each u ∙ rw (f, same u o) (has u (rw as_many at h))
     ]
 
 -- ---- a record is added, and put last on a line
@@ -154,7 +154,7 @@ pub added-kept : (records : List Record) (lines : List Line) (mid records' : Lis
     → mid ≡ records ++ x ∷ [] → IsOn mid lines records' lines' t to → IsAdded records lines records' lines' to
 added-kept records lines mid records' lines' x t to m kept = record {
   len = kept.len ∙ ap length m ∙ length_push records x;
-  rows = kept.rows;
+  as_many = kept.as_many;
   client = λ n h. kept.client n ∙ rw m (ap (λ (r : Record). r.client) (get_or_append_left records (x ∷ []) no_record n h));
   count = kept.count;
 }
@@ -169,7 +169,7 @@ more-add a l b m c n to is added =
     record {
       more = omega arith;
       len = omega arith;
-      rows = added.rows ∙ is.rows;
+      as_many = added.as_many ∙ is.as_many;
       client = λ k h. added.client k (omega arith) ∙ is.client k h;
     }
 

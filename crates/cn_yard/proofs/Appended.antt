@@ -72,7 +72,7 @@ on-kept records lines mid records' lines' t to h ap' =
     let put = ap'.records_are in
     record {
       len = put.len ∙ elim which [ inl e ↦ ap length (ap'.first e) | inr e ↦ (ap'.later e).len ];
-      rows = rw ap'.lines_are (length-set lines to new);
+      as_many = rw ap'.lines_are (length-set lines to new);
       wire = λ z. put.wire z ∙ ap (λ (w : ℕ). cond (eqb z t) to w) (elim which [ inl e ↦ ap (λ r. wire_of r z) (ap'.first e) | inr e ↦ (ap'.later e).wire z ]);
       client = λ z. put.client z ∙ elim which [ inl e ↦ rw (ap'.first e) refl | inr e ↦ (ap'.later e).client z ];
       count = λ u. elim (cases_eq to u) [
@@ -96,7 +96,7 @@ on-linked records lines mid records' lines' order t to l off ht h ap' kept =
     let put = ap'.records_are in
     record {
       chain = λ u within.
-          let hu : u < length lines = rw kept.rows at within in
+          let hu : u < length lines = rw kept.as_many at within in
           elim (cases_eq to u) [
             | inl e ↦ let f : eqb to u ≡ true = grind (arith, nat_tests) in
                 rw f (chain-on (next_of records) (prev_of records) (next_of records') (prev_of records') (line_of lines u) t (order u) (l.ends u hu) (l.chain u hu) (off u hu) (one-line records lines order l u hu)
@@ -117,7 +117,7 @@ on-linked records lines mid records' lines' order t to l off ht h ap' kept =
                 ]))
           ];
       ends = λ u within.
-          let hu : u < length lines = rw kept.rows at within in
+          let hu : u < length lines = rw kept.as_many at within in
           rw ap'.lines_are (elim (cases_eq to u) [
             | inl e ↦ let f : eqb to u ≡ true = grind (arith, nat_tests) in
                 rw f (subst (λ (v : ℕ). Ends (line_of (set lines to new) v) (order v ++ t ∷ [])) e (rw (get_or-set_same lines to new no_line h) (ends-push (line_of lines to) t (order to) (l.ends to h))))
@@ -125,7 +125,7 @@ on-linked records lines mid records' lines' order t to l off ht h ap' kept =
                 rw (f, get_or-set_other lines to u new no_line (λ k. o (sym k)), append-nil (order u)) (l.ends u hu)
           ]);
       once = λ z u within.
-          let hu : u < length lines = rw kept.rows at within in
+          let hu : u < length lines = rw kept.as_many at within in
           let k = l.once z u hu in
           let none = off u hu in
           let many = times-append z (order u) (last_of t to u) in
@@ -135,7 +135,7 @@ on-linked records lines mid records' lines' order t to l off ht h ap' kept =
             | inr o ↦ grind (arith, nat_tests)
           ]);
       below = λ z u within some.
-          let hu : u < length lines = rw kept.rows at within in
+          let hu : u < length lines = rw kept.as_many at within in
           let many = times-append z (order u) (last_of t to u) in
           let more = times-last z t to u in
           rw kept.len (elim (cases_eq z t) [

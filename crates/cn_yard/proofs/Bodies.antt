@@ -31,7 +31,7 @@ pub record Relinked (y z : Inside) (t to : ℕ) : Type 0 where
 pub keeps-relinked : (y z : Inside) (order : ℕ → List ℕ) (t to : ℕ) → Keeps y order → Relinked y z t to
     → Keeps z (moved order t to)
 keeps-relinked y z order t to k re =
-    let rows = re.move.rows in let wires = re.wires in let old = k.wires in
+    let as_many = re.move.as_many in let wires = re.wires in let old = k.wires in
     record { lined = re.lined order k.lined; wires = omega arith }
 
 pub moves-relinked : (y z : Inside) (order : ℕ → List ℕ) (t to from client : ℕ) → Keeps y order → Relinked y z t to → to < y.wires
@@ -66,7 +66,7 @@ pub filled : (y z : Inside) (order : ℕ → List ℕ) → Keeps y order → Fil
     → (order' : ℕ → List ℕ) × Keeps z order' × SameBut y.wires order order'
 filled y z order k fi =
     let (order', lined, same) = fi.lined order k.lined in
-    let rows = fi.more.rows in let wires = fi.wires in let old = k.wires in
+    let as_many = fi.more.as_many in let wires = fi.wires in let old = k.wires in
     (order', record { lined = lined; wires = omega arith }, same)
 
 -- the wires have the tokens that they had
@@ -107,7 +107,7 @@ keeps-renamed y z order t client k re =
 pub last-free : (y : Inside) (order : ℕ → List ℕ) → Keeps y order → 1 ≤ count_of y.lines.items y.wires
     → ((line_of y.lines.items y.wires).last < length y.records.items) × (wire_of y.records.items (line_of y.lines.items y.wires).last ≡ y.wires)
 last-free y order k some =
-    let rows = k.wires in
+    let as_many = k.wires in
     let within : y.wires < length y.lines.items = omega arith in
     let there = last-there (line_of y.lines.items y.wires) (order y.wires) (k.lined.links.linked.ends y.wires within) some in
     let once = k.lined.links.linked.once (line_of y.lines.items y.wires).last y.wires within in
@@ -117,7 +117,7 @@ last-free y order k some =
 pub free-read : (y : Inside) (order : ℕ → List ℕ) (line : Line) → Keeps y order → 1 ≤ count_of y.lines.items y.wires
     → line ≡ get_or y.lines.items y.wires line → (line.last < length y.records.items) × (wire_of y.records.items line.last ≡ y.wires)
 free-read y order line k some at =
-    let rows = k.wires in
+    let as_many = k.wires in
     let e : line.last ≡ (line_of y.lines.items y.wires).last = ap (λ (l : Line). l.last) (get_or_read y.lines.items y.wires line (omega arith) at no_line) in
     rw e (last-free y order k some)
 
@@ -157,7 +157,7 @@ pub relinked-by : (y : Inside) (records : List Record) (lines : List Line) (mark
     → Relinked y (after y records' lines' marks') t to
 relinked-by y records lines marks records' lines' marks' n t to e r l m rl ll ml move lined words =
     let a : (with_items y.records records').items ≡ records' = with_items_is y.records records' (move.len ∙ rl) in
-    let b : (with_items y.lines lines').items ≡ lines' = with_items_is y.lines lines' (move.rows ∙ ll) in
+    let b : (with_items y.lines lines').items ≡ lines' = with_items_is y.lines lines' (move.as_many ∙ ll) in
     let d : (with_items y.marks marks').items ≡ marks' = with_items_is y.marks marks' (words ∙ ml) in
     let move' : IsMove y.records.items y.lines.items records' lines' t to = rw (← r, ← l, ← e) move in
     record {
@@ -181,7 +181,7 @@ pub filled-by : (y : Inside) (lines : List Line) (marks : List ℕ) (records' : 
     → Fills y.records.items lines marks records'.items lines' marks' y.wires → length marks' ≡ length marks
     → Filled y (after-fill y records' lines' marks')
 filled-by y lines marks records' lines' marks' l m ll ml more lined words =
-    let b : (with_items y.lines lines').items ≡ lines' = with_items_is y.lines lines' (more.rows ∙ ll) in
+    let b : (with_items y.lines lines').items ≡ lines' = with_items_is y.lines lines' (more.as_many ∙ ll) in
     let d : (with_items y.marks marks').items ≡ marks' = with_items_is y.marks marks' (words ∙ ml) in
     let more' : IsMore y.records.items y.lines.items records'.items lines' y.wires = rw (← l) more in
     record {

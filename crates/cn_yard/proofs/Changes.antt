@@ -52,14 +52,14 @@ pub moves-of : (y z : Inside) (order : ℕ → List ℕ) (t to : ℕ) → Keeps 
 moves-of y z order t to k k' wires same h len count =
     let old = lists_of y in
     let new = lists_of z in
-    let rows = wires-are y in
-    let rows' = wires-are z in
-    let there : length new ≡ length old = rows' ∙ wires ∙ sym rows in
+    let as_many = wires-are y in
+    let as_many' = wires-are z in
+    let there : length new ≡ length old = as_many' ∙ wires ∙ sym as_many in
     record {
       wires = there;
       lists = lists;
       spare = rw wires count;
-      standing_now = standing-added old new t (client_of y.records.items t) to there (omega (arith, rows))
+      standing_now = standing-added old new t (client_of y.records.items t) to there (omega (arith, as_many))
           (λ u l. rw (lists u) (lookup-added t (client_of y.records.items t) to u (without t (on old u)) (lookup-gone t (on old u))))
           (λ other u n. rw (lists u) (lookup-last other t (client_of y.records.items t) to u (without t (on old u)) n ∙ lookup-without other t (on old u) n));
       tokens = let a = tokens-are y order k in let b = tokens-at z (moved order t to) k' y.wires wires in omega arith;
@@ -80,9 +80,9 @@ pub releases-of : (y z : Inside) (order : ℕ → List ℕ) (t : ℕ) → Keeps 
 releases-of y z order t k k' wires same free len count =
     let old = lists_of y in
     let new = lists_of z in
-    let rows = wires-are y in
-    let rows' = wires-are z in
-    let there : length new ≡ length old = rows' ∙ wires ∙ sym rows in
+    let as_many = wires-are y in
+    let as_many' = wires-are z in
+    let there : length new ≡ length old = as_many' ∙ wires ∙ sym as_many in
     record {
       wires = there;
       lists = lists;
@@ -108,11 +108,11 @@ pub lists-same : (y z : Inside) (order order' : ℕ → List ℕ) → Keeps y or
     → ((n : ℕ) → n < length y.records.items → client_of z.records.items n ≡ client_of y.records.items n)
     → lists_of z ≡ lists_of y
 lists-same y z order order' k k' wires same clients =
-    let rows = wires-are y in
-    let rows' = wires-are z in
+    let as_many = wires-are y in
+    let as_many' = wires-are z in
     let w = k.wires in
-    ext_get_or [] (lists_of z) (lists_of y) (rows' ∙ wires ∙ sym rows)
-    (λ u h. let l : u < y.wires = omega (arith, rows', wires) in
+    ext_get_or [] (lists_of z) (lists_of y) (as_many' ∙ wires ∙ sym as_many)
+    (λ u h. let l : u < y.wires = omega (arith, as_many', wires) in
     on-wire z order' k' u (omega (arith, wires))
     ∙ ap (λ xs. with_clients (client_of z.records.items) xs) (same u (λ e. absurd (omega arith)))
     ∙ clients-same (client_of y.records.items) (client_of z.records.items) (order u) (λ n i. clients n (k.lined.links.linked.below n u (omega arith) i))
@@ -132,8 +132,8 @@ pub admits-of : (old : Yard) (y z : Inside) (order : ℕ → List ℕ) (t to : �
     → count_of z.lines.items y.wires + 1 ≡ count_of y.lines.items y.wires
     → Admits old (yard_of z) t (client_of z.records.items t) to
 admits-of old y z order t to k k' wires same spare clients h free len count =
-    let rows = wires-are y in
-    let there : length (lists_of z) ≡ length (lists_of y) = wires-are z ∙ wires ∙ sym rows in
+    let as_many = wires-are y in
+    let there : length (lists_of z) ≡ length (lists_of y) = wires-are z ∙ wires ∙ sym as_many in
     let fresh : standing (lists_of y) t ≡ None = standing-free y order k t (rw free (omega arith)) in
     let client = client_of z.records.items t in
     let left : count_of z.lines.items z.wires ≡ old.spare - 1 = rw wires (grind arith) in
@@ -142,7 +142,7 @@ admits-of old y z order t to k k' wires same spare clients h free len count =
       wires = there;
       lists = lists;
       spare = left;
-      standing_now = standing-added (lists_of y) (lists_of z) t client to there (omega (arith, rows))
+      standing_now = standing-added (lists_of y) (lists_of z) t client to there (omega (arith, as_many))
           (λ u l. rw (lists u) (lookup-added t client to u (on (lists_of y) u) (lookup-absent (length (lists_of y)) (lists_of y) t fresh u l)))
           (λ other u n. rw (lists u) (lookup-last other t client to u (on (lists_of y) u) n));
       tokens = let a = tokens-are y order k in let b = tokens-at z (moved order t to) k' y.wires wires in omega arith;
@@ -151,7 +151,7 @@ admits-of old y z order t to k k' wires same spare clients h free len count =
     lists : (u : ℕ) → on (lists_of z) u ≡ on (lists_of y) u ++ last_on t (client_of z.records.items t) to u
     lists u = elim (cases_lt u y.wires) [
       | inl l ↦
-          let rows = k.wires in
+          let as_many = k.wires in
           let once = k.lined.links.linked.once t u (omega arith) in
           let none : times t (order u) ≡ 0 = grind (arith, nat_tests) in
           let at = on-wire y order k u l in

@@ -27,7 +27,7 @@ no-ends = record { count = refl; first = refl; last = refl }
 pub new-keeps : (y : Inside) → y.records.items ≡ [] → y.lines.items ≡ replicate (y.wires + 1) no_line
     → y.marks.items ≡ replicate (y.wires / 64 + 1) 0 → y.wires < 2 ^ 32 → Keeps y (λ u. [])
 new-keeps y r l m fits =
-    let rows : length y.lines.items ≡ y.wires + 1 = ap length l ∙ length-replicate (y.wires + 1) no_line in
+    let as_many : length y.lines.items ≡ y.wires + 1 = ap length l ∙ length-replicate (y.wires + 1) no_line in
     let words : length y.marks.items ≡ y.wires / 64 + 1 = ap length m ∙ length-replicate (y.wires / 64 + 1) 0 in
     let none : length y.records.items ≡ 0 = ap length r in
     let line : (u : ℕ) → u < length y.lines.items → line_of y.lines.items u ≡ no_line = λ u h. ap (λ ls. line_of ls u) l ∙ get_or-replicate (y.wires + 1) u no_line no_line (omega arith) in
@@ -52,7 +52,7 @@ new-keeps y r l m fits =
             let b : count_of y.lines.items u ≡ 0 = ap (λ (x : Line). x.count) (line u h) in
             a ∙ rw b refl;
       };
-      wires = rows;
+      wires = as_many;
     }
 
 -- a caller sees an empty yard

@@ -82,7 +82,7 @@ module _ (y : Inside) (order : ℕ → List ℕ) (k : Keeps y order) where
       → r ≡ get_or y.records.items t r → line ≡ get_or y.lines.items r.wire line
       → standing (lists_of y) t ≡ Some (wire, client) → next_after t (on (lists_of y) wire) ≡ cond (eqb line.last t) None (Some r.next)
   next-read t r line wire client stands at line_at is =
-      let rows = k.wires in
+      let as_many = k.wires in
       let (h, on') = live y order k t stands in
       let e = record-read t r h at in
       let w = wire_of y.records.items t in
@@ -105,7 +105,7 @@ module _ (y : Inside) (order : ℕ → List ℕ) (k : Keeps y order) where
   -- a wire with no mark has nobody
   nobody : (u : ℕ) → (u < y.wires → marked y.marks.items u ≡ 0) → on (lists_of y) u ≡ []
   nobody u none = elim (cases_lt u y.wires) [
-    | inl l ↦ let rows = k.wires in let m = k.lined.marks u (omega arith) in let z = none l in
+    | inl l ↦ let as_many = k.wires in let m = k.lined.marks u (omega arith) in let z = none l in
         nil_from_length (on (lists_of y) u) (length-on y order k u l ∙ (grind (arith, nat_tests)))
     | inr l ↦ on-beyond y u l
   ]
@@ -122,7 +122,7 @@ module _ (y : Inside) (order : ℕ → List ℕ) (k : Keeps y order) where
     pub lowest-read : (wire : ℕ) → wire < y.wires → (marked y.marks.items wire ≡ 1)
         → ((n : ℕ) → 64 * word ≤ n → n < wire → marked y.marks.items n ≡ 0) → IsLowest (lists_of y) wire
     lowest-read wire h one lower = record {
-      some = let rows = k.wires in let m = k.lined.marks wire (omega arith) in rw (length-on y order k wire h) (grind (arith, nat_tests));
+      some = let as_many = k.wires in let m = k.lined.marks wire (omega arith) in rw (length-on y order k wire h) (grind (arith, nat_tests));
       below = λ u l. nobody-at u (λ _ w. lower u w l);
     }
 

@@ -137,7 +137,7 @@ off-kept records lines records' lines' t h some un =
     let which = cases-bool (eqb (line_of lines w).first t || eqb (line_of lines w).last t) in
     record {
       len = elim which [ inl e ↦ ap length (un.at_end e) | inr e ↦ (un.between e).len ];
-      rows = rw un.lines_are (length-set lines w new);
+      as_many = rw un.lines_are (length-set lines w new);
       wire = λ z. elim which [ inl e ↦ rw (un.at_end e) refl | inr e ↦ (un.between e).wire z ];
       client = λ z. elim which [ inl e ↦ rw (un.at_end e) refl | inr e ↦ (un.between e).client z ];
       count = λ u. elim (cases_eq w u) [
@@ -163,7 +163,7 @@ off-linked records lines records' lines' order t l h one un kept =
     let which = cases-bool (eqb (line_of lines w).first t || eqb (line_of lines w).last t) in
     record {
       chain = λ u within.
-          let hu : u < length lines = rw kept.rows at within in
+          let hu : u < length lines = rw kept.as_many at within in
           elim (cases_eq u w) [
             | inl e ↦ rw e (elim which [
               | inl end ↦ rw (un.at_end end) (chain-end n p (line_of lines w) t (order w) (l.ends w h) (l.chain w h) one end)
@@ -182,7 +182,7 @@ off-linked records lines records' lines' order t l h one un kept =
                 ])
           ];
       ends = λ u within.
-          let hu : u < length lines = rw kept.rows at within in
+          let hu : u < length lines = rw kept.as_many at within in
           rw un.lines_are (elim (cases_eq u w) [
             | inl e ↦ rw e (rw (get_or-set_same lines w new no_line h) (ends-but n p (line_of lines w) t (order w) (l.ends w h) (l.chain w h) one))
             | inr o ↦
@@ -191,11 +191,11 @@ off-linked records lines records' lines' order t l h one un kept =
                 rw (get_or-set_other lines w u new no_line o, but-out t (order u) none) (l.ends u hu)
           ]);
       once = λ z u within.
-          let hu : u < length lines = rw kept.rows at within in
+          let hu : u < length lines = rw kept.as_many at within in
           let k = l.once z u hu in
           rw (kept.wire z) (let m = times-but z t (order u) in grind (arith, nat_tests));
       below = λ z u within some.
-          let hu : u < length lines = rw kept.rows at within in
+          let hu : u < length lines = rw kept.as_many at within in
           rw kept.len (l.below z u hu (let m = times-but z t (order u) in grind (arith, nat_tests)));
     }
 

@@ -161,19 +161,19 @@ module _ (y : Inside) (order : ℕ → List ℕ) (k : Keeps y order) where
   standing-live t h on_wire =
       let w = wire_of y.records.items t in
       let one = k.lined.links.there t h in
-      let rows = k.wires in
+      let as_many = k.wires in
       standing-only (length (lists_of y)) (lists_of y) t w (client_of y.records.items t) (omega (arith, wires-are y))
       (rw (on-wire w on_wire) (lookup-in (client_of y.records.items) t (order w) (omega arith)))
       (λ u o. lookup-none t u (λ l. let once = k.lined.links.linked.once t u (omega arith) in grind (arith, nat_tests)))
 
   pub standing-free : (t : ℕ) → y.wires ≤ wire_of y.records.items t → standing (lists_of y) t ≡ None
   standing-free t free =
-      let rows = k.wires in
+      let as_many = k.wires in
       standing-none (length (lists_of y)) (lists_of y) t (λ u h. lookup-none t u (λ l. let once = k.lined.links.linked.once t u (omega arith) in grind (arith, nat_tests)))
 
   pub standing-past : (t : ℕ) → length y.records.items ≤ t → standing (lists_of y) t ≡ None
   standing-past t past =
-      let rows = k.wires in
+      let as_many = k.wires in
       standing-none (length (lists_of y)) (lists_of y) t (λ u h. lookup-none t u (λ l. elim (cases_lt 0 (times t (order u))) [
         | inl s ↦ absurd (let b = k.lined.links.linked.below t u (omega arith) (omega arith) in omega arith)
         | inr s ↦ omega arith
@@ -203,7 +203,7 @@ pub on-moved : (y z : Inside) (order : ℕ → List ℕ) (t to : ℕ) → Keeps 
     → ((n : ℕ) → n < length y.records.items → n ≢ t → client_of z.records.items n ≡ client_of y.records.items n)
     → (u : ℕ) → u < y.wires → on (lists_of z) u ≡ without t (on (lists_of y) u) ++ last_on t (client_of z.records.items t) to u
 on-moved y z order t to k k' wires same u h =
-    let rows = k.wires in
+    let as_many = k.wires in
     let client = client_of y.records.items in
     let client' = client_of z.records.items in
     let here = on-wire z (moved order t to) k' u (omega (arith, wires)) in
@@ -218,7 +218,7 @@ on-moved y z order t to k k' wires same u h =
     -- those that stay on the line have their clients
     still : (n : ℕ) → 1 ≤ times n (but t (order u)) → client_of z.records.items n ≡ client_of y.records.items n
     still n inside =
-        let rows = k.wires in
+        let as_many = k.wires in
         let left = times-but n t (order u) in
         let other : n ≢ t = λ e. absurd (grind (arith, nat_tests)) in
         same n (k.lined.links.linked.below n u (omega arith) (grind (arith, nat_tests))) other

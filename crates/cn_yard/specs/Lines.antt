@@ -55,7 +55,7 @@ line_with line number = record {
 pub record IsOff (records : List Record) (lines : List Line)
     (records' : List Record) (lines' : List Line) (number : ℕ) : Type 0 where
   pub len : length records' ≡ length records
-  pub rows : length lines' ≡ length lines
+  pub as_many : length lines' ≡ length lines
   pub wire : (n : ℕ) → wire_of records' n ≡ wire_of records n
   pub client : (n : ℕ) → client_of records' n ≡ client_of records n
   pub count : (u : ℕ) → count_of lines' u + when (wire_of records number == u) 1 ≡ count_of lines u
@@ -64,7 +64,7 @@ pub record IsOff (records : List Record) (lines : List Line)
 pub record IsOn (records : List Record) (lines : List Line)
     (records' : List Record) (lines' : List Line) (number to : ℕ) : Type 0 where
   pub len : length records' ≡ length records
-  pub rows : length lines' ≡ length lines
+  pub as_many : length lines' ≡ length lines
   pub wire : (n : ℕ) → wire_of records' n ≡ (if n == number then to else wire_of records n)
   pub client : (n : ℕ) → client_of records' n ≡ client_of records n
   pub count : (u : ℕ) → count_of lines' u ≡ count_of lines u + when (to == u) 1

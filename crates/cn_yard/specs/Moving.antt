@@ -33,7 +33,7 @@ pub record IsLined (records : List Record) (lines : List Line) (words : List ℕ
 pub record IsMove (records : List Record) (lines : List Line)
     (records' : List Record) (lines' : List Line) (number to : ℕ) : Type 0 where
   pub len : length records' ≡ length records
-  pub rows : length lines' ≡ length lines
+  pub as_many : length lines' ≡ length lines
   pub wire : (n : ℕ) → wire_of records' n ≡ (if n == number then to else wire_of records n)
   pub client : (n : ℕ) → client_of records' n ≡ client_of records n
   pub count : (u : ℕ) → count_of lines' u + when (wire_of records number == u) 1
@@ -43,7 +43,7 @@ pub record IsMove (records : List Record) (lines : List Line)
 pub record IsAdded (records : List Record) (lines : List Line)
     (records' : List Record) (lines' : List Line) (wire : ℕ) : Type 0 where
   pub len : length records' ≡ length records + 1
-  pub rows : length lines' ≡ length lines
+  pub as_many : length lines' ≡ length lines
   pub client : (n : ℕ) → n < length records → client_of records' n ≡ client_of records n
   pub count : (u : ℕ) → count_of lines' u ≡ count_of lines u + when (wire == u) 1
 
@@ -52,7 +52,7 @@ pub record IsMore (records : List Record) (lines : List Line)
     (records' : List Record) (lines' : List Line) (to : ℕ) : Type 0 where
   pub more : length records ≤ length records'
   pub len : length records' + count_of lines to ≡ length records + count_of lines' to
-  pub rows : length lines' ≡ length lines
+  pub as_many : length lines' ≡ length lines
   pub client : (n : ℕ) → n < length records → client_of records' n ≡ client_of records n
 
 -- lists that differ at one line only

@@ -5,7 +5,7 @@ use Rattle.cn_wiring.specs.Table.{end_of}
 use Rattle.cn_yard.specs.Lists.{on}
 use Rattle.cn_floor.specs.declared.view.Start.{Start}
 use Rattle.cn_floor.specs.declared.view.View.{View}
-use Rattle.cn_floor.specs.EntersAll.{ComeTogether, EnterInRow, after_enter_all}
+use Rattle.cn_floor.specs.EntersAll.{ComeTogether, EnterInTurn, after_enter_all}
 use Rattle.cn_floor.specs.Listed.{WalkTogether}
 use Rattle.cn_floor.specs.Steps.{IsAtomicStep}
 use Rattle.cn_floor.specs.Sweeps.{AreLetBy, SweptBy, after_sweep}
@@ -54,7 +54,7 @@ pub walk-together : (start : Start) (clients : List ℕ) (entry : ℕ) (v w x : 
 walk-together start clients entry v w x (is, step) (wires, swept) =
     let out : SweptBy start wires (after_enter_all clients entry v) x = subst (λ (y : View). SweptBy start wires y x) is swept in
     record {
-      came = subst (λ (y : View). IsAtomicStep start v y (EnterInRow start.network.table clients entry 0 (length clients))) is step;
+      came = subst (λ (y : View). IsAtomicStep start v y (EnterInTurn start.network.table clients entry 0 (length clients))) is step;
       wires = wires;
       swept = out;
       steps = omega (arith, swept-steps start wires (after_enter_all clients entry v) x out);

@@ -10,7 +10,7 @@ use Rattle.cn_wiring.specs.Table.{Table}
 use Rattle.cn_yard.specs.Lists.{last_on, on}
 use Rattle.cn_floor.specs.declared.view.Start.{Start}
 use Rattle.cn_floor.specs.declared.view.View.{View}
-use Rattle.cn_floor.specs.EntersAll.{AllComeIn, EnterInRow, EnteringAll, after_enter_all, after_enters}
+use Rattle.cn_floor.specs.EntersAll.{AllComeIn, EnterInTurn, EnteringAll, after_enter_all, after_enters}
 use Rattle.cn_floor.specs.Rule.{HoldsAt, ledger_of}
 use Rattle.cn_floor.specs.Views.{after_enter, base}
 use Rattle.cn_floor.specs.Words.{clients_in, entered_in}
@@ -34,18 +34,18 @@ module _ (start : Start) (id entry : ℕ) (clients : List ℕ) (low : entry < st
     pub words : List ℕ
     pub words_are : words ≡ set s.words word (get_or s.words word 0 + n)
     pub kept : HoldsAt start (record { words = words; homes = s.homes; views = set s.views id (after_enters clients entry place n v) })
-    pub row : EnterInRow t clients entry place n (ledger_of t start.words s.words s.views) (ledger_of t start.words words (set s.views id (after_enters clients entry place n v)))
+    pub in_turn : EnterInTurn t clients entry place n (ledger_of t start.words s.words s.views) (ledger_of t start.words words (set s.views id (after_enters clients entry place n v)))
 
   pub all-enter : (n place : ℕ) (s : State (Unit {0}) View) (v : View) → HoldsAt start s → get_elem? s.views id ≡ some v → v.start ≡ start
       → entry < length v.tokens → n ≤ v.quota → v.loads ≡ [] → HaveCome s v place n
-  unfolding after_enters EnterInRow
+  unfolding after_enters EnterInTurn
   all-enter zero place s v kept here of inside enough idle =
       let same : set s.views id v ≡ s.views = set-here s.views id v here in
       record {
         words = s.words;
         words_are = sym (ap (set s.words word) (plus-zero (get_or s.words word 0)) ∙ set-get_or s.words word 0);
         kept = subst (λ (vs : List View). HoldsAt start (record { words = s.words; homes = s.homes; views = vs })) (sym same) kept;
-        row = ap (ledger_of t start.words s.words) (sym same);
+        in_turn = ap (ledger_of t start.words s.words) (sym same);
       }
     where
       plus-zero : (k : ℕ) → k + 0 ≡ k
@@ -67,10 +67,10 @@ module _ (start : Start) (id entry : ℕ) (clients : List ℕ) (low : entry < st
         words_are = later.words_are ∙ set-set s.words word (get_or s.words word 0 + 1) (get_or raise word 0 + n)
             ∙ ap (set s.words word) (one-more (get_or raise word 0) (get_or s.words word 0) n raise-at);
         kept = subst (λ (vs : List View). HoldsAt start (record { words = later.words; homes = s.homes; views = vs })) views later.kept;
-        row = (
+        in_turn = (
           ledger_of t start.words raise (set s.views id then),
           came_in start id place client entry v s kept here of low inside (omega (arith, enough)),
-          subst (λ (vs : List View). EnterInRow t clients entry (suc place) n (ledger_of t start.words raise (set s.views id then)) (ledger_of t start.words later.words vs)) views later.row,
+          subst (λ (vs : List View). EnterInTurn t clients entry (suc place) n (ledger_of t start.words raise (set s.views id then)) (ledger_of t start.words later.words vs)) views later.in_turn,
         );
       }
     where
@@ -112,8 +112,8 @@ may-enter-all start slots id me clients entry no_slot idle of low inside enough 
         no_slot,
         (
           refl,
-          one-step start s words id v w (EnterInRow t clients entry 0 (length clients)) here kept.rule kept-w.rule
-              (subst (EnterInRow t clients entry 0 (length clients) (ledger_of t start.words s.words s.views)) same all.row),
+          one-step start s words id v w (EnterInTurn t clients entry 0 (length clients)) here kept.rule kept-w.rule
+              (subst (EnterInTurn t clients entry 0 (length clients) (ledger_of t start.words s.words s.views)) same all.in_turn),
         ),
       ),
     )

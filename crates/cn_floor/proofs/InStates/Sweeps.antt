@@ -1,4 +1,4 @@
--- The rule is kept by a sweep: by as many events in a row as tokens go.
+-- The rule is kept by a sweep: by as many events in turn as tokens go.
 use Rattle.std.proofs.Common.{◌≡◌, ℕ, suc, ◌+◌, ◌*◌, ◌%◌, ◌^◌, ◌<◌, ◌≤◌, inl, inr, cond, List, [], ◌∷◌, ◌++◌, length, get_or, set, sym, refl, ap, ◌∙◌, arith, subst, append-nil}
 use mathlib.Core.Option.{some}
 use lib.ListN.{get_elem?}
@@ -17,7 +17,7 @@ use Rattle.cn_yard.proofs.CallerLemmas.{first-there, once-gone, once-moved, rest
 use Rattle.cn_floor.specs.declared.view.Start.{Start}
 use Rattle.cn_floor.specs.declared.view.View.{View}
 use Rattle.cn_floor.specs.Rule.{HoldsAt, ledger_of}
-use Rattle.cn_floor.specs.Sweeps.{AllGoOn, GoInRow, GoesFrom, Sweeping, after_steps, after_sweep}
+use Rattle.cn_floor.specs.Sweeps.{AllGoOn, GoInTurn, GoesFrom, Sweeping, after_steps, after_sweep}
 use Rattle.cn_floor.specs.Views.{after_step, base}
 use Rattle.cn_floor.specs.Words.{clients_in, count_in, end_word}
 use Rattle.cn_floor.proofs.InStates.Bounds.{count-few, few-came, name-later}
@@ -115,21 +115,21 @@ module _ (start : Start) (wire : ℕ) (end : End) (formed : IsWellFormed start.n
       pub words : List ℕ
       pub words_are : words ≡ set s.words word (get_or s.words word 0 + length tokens)
       pub kept : HoldsAt start (record { words = words; homes = s.homes; views = set s.views id (after_steps end n tokens v) })
-      pub row : GoInRow t wire end n tokens (ledger s) (ledger_of t start.words words (set s.views id (after_steps end n tokens v)))
+      pub in_turn : GoInTurn t wire end n tokens (ledger s) (ledger_of t start.words words (set s.views id (after_steps end n tokens v)))
 
     abbrev with_view : State (Unit {0}) View → View → State (Unit {0}) View
     with_view s v = record { words = s.words; homes = s.homes; views = set s.views id v }
 
     all-after-steps : (tokens : List (ℕ × ℕ)) (s : State (Unit {0}) View) (v : View) (n : ℕ) → HoldsAt start s → get_elem? s.views id ≡ some v → MayGo v tokens → v.loads ≡ [] → count_in t s.words end ≡ n
         → Gone s v n tokens
-    unfolding after_steps GoInRow
+    unfolding after_steps GoInTurn
     all-after-steps [] s v n kept here may idle count =
         let same : set s.views id v ≡ s.views = set-here s.views id v here in
         record {
           words = s.words;
           words_are = sym (ap (set s.words word) (plus-zero (get_or s.words word 0)) ∙ set-get_or s.words word 0);
           kept = subst (λ (vs : List View). HoldsAt start (record { words = s.words; homes = s.homes; views = vs })) (sym same) kept;
-          row = ap (ledger_of t start.words s.words) (sym same);
+          in_turn = ap (ledger_of t start.words s.words) (sym same);
         }
       where
         plus-zero : (k : ℕ) → k + 0 ≡ k
@@ -156,11 +156,11 @@ module _ (start : Start) (wire : ℕ) (end : End) (formed : IsWellFormed start.n
           words_are = later.words_are ∙ set-set s.words word (get_or s.words word 0 + 1) (get_or raise word 0 + length rest)
               ∙ ap (set s.words word) (one-more (get_or raise word 0) (get_or s.words word 0) (length rest) raise_at);
           kept = subst (λ (vs : List View). HoldsAt start (record { words = later.words; homes = s.homes; views = vs })) views later.kept;
-          row = (
+          in_turn = (
             ledger_of t start.words raise (set s.views id then),
             went_n,
             count,
-            subst (λ (vs : List View). GoInRow t wire end (n + 1) rest (ledger_of t start.words raise (set s.views id then)) (ledger_of t start.words later.words vs)) views later.row,
+            subst (λ (vs : List View). GoInTurn t wire end (n + 1) rest (ledger_of t start.words raise (set s.views id then)) (ledger_of t start.words later.words vs)) views later.in_turn,
           );
         }
       where
@@ -210,8 +210,8 @@ all-may start slots id me wire end no_slot idle of once wires low ends stands s 
         (
           refl,
           record {
-            step = one-step start s words id v w (GoInRow t wire end n tokens) here kept.rule kept_w.rule
-                (subst (GoInRow t wire end n tokens (ledger_of t start.words s.words s.views)) same gone_all.row);
+            step = one-step start s words id v w (GoInTurn t wire end n tokens) here kept.rule kept_w.rule
+                (subst (GoInTurn t wire end n tokens (ledger_of t start.words s.words s.views)) same gone_all.in_turn);
             few = few;
             late = λ i is.
                 let low_exit : i < t.width = subst (Stands t) is stands in

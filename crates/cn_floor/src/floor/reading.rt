@@ -21,7 +21,7 @@ fn word_in(table: &Closed<(), Global>, stride: usize, word: usize) -> u64
 
 /// Copies the words of a closed table in which they lie side by side.
 #[inline]
-fn copy_row(table: &Closed<(), Global>, words: &mut [u64])
+fn copy_adjacent(table: &Closed<(), Global>, words: &mut [u64])
     requires full { IsFull table.now.words }
     requires places { length words.old ≡ length (slots_items table.now.words) }
     ensures { words.new ≡ slots_items table.now.words }
@@ -52,7 +52,7 @@ fn copy_by_stride(table: &Closed<(), Global>, stride: usize, words: &mut [u64])
     ensures { words.new ≡ words_in stride (slots_items table.now.words) }
 {
     if stride == 1 {
-        copy_row(table, words);
+        copy_adjacent(table, words);
     } else {
         copy_apart(table, stride, words);
     }

@@ -57,7 +57,7 @@ impl<'a> Floor<'a> {
     /// they are, of which there is at least one. They stand last on the balancer's outputs by turns, or leave with
     /// their names. It takes no memory, and refuses nothing.
     ///
-    /// A sweep of c tokens is c events in a row: each has the number or visit after that of the token before it.
+    /// A sweep of c tokens is c events in turn: each has the number or visit after that of the token before it.
     pub fn sweep(&self, lane: &mut Lane, wire: u32) -> Sweep
         requires own { lane.old.home ≡ self.now }
         requires some { 0 < length (on lane.old.yard.lists wire) }

@@ -81,16 +81,16 @@ once-next before g once none e n = each (eqb_tells g.epoch e)
 
 -- a cause that another implies
 module _ (header : Record → Option GrantCause) (one other : List Record → Record → Option GrantCause) where
-  weaker : ((before : List Record) (fields : Record) → one before fields ≡ None → other before fields ≡ None) → (rows : List Record) (at : ℕ) → cause_by header one rows at ≡ None
-      → cause_by header other rows at ≡ None
+  weaker : ((before : List Record) (fields : Record) → one before fields ≡ None → other before fields ≡ None) → (records : List Record) (at : ℕ) → cause_by header one records at ≡ None
+      → cause_by header other records at ≡ None
   unfolding cause_by
-  weaker less rows at = each (at == 0) (nat_lt at (length rows))
+  weaker less records at = each (at == 0) (nat_lt at (length records))
     where
       each : (b d : Bool)
-          → (if b then header (get_or rows 0 []) else if d then one (take at rows) (get_or rows at []) else None) ≡ None
-          → (if b then header (get_or rows 0 []) else if d then other (take at rows) (get_or rows at []) else None) ≡ None
+          → (if b then header (get_or records 0 []) else if d then one (take at records) (get_or records at []) else None) ≡ None
+          → (if b then header (get_or records 0 []) else if d then other (take at records) (get_or records at []) else None) ≡ None
       each true d e = e
-      each false true e = less (take at rows) (get_or rows at []) e
+      each false true e = less (take at records) (get_or records at []) e
       each false false e = e
 
 form_of : (before : List Granted) (spelled : Option Granted) → spelled_cause before spelled ≡ None → spelled_form before spelled ≡ None
@@ -109,9 +109,9 @@ not_false true h = refl
 not_false false h = absurd (h refl)
 
 -- the list is tight where no record has a cause, no client stands twice in an epoch, and no epoch lacks a name
-pub list-tight : (rows : List Record) (grants : List Granted) → IsClean grants_cause rows → grants_spelled (drop 1 rows) ≡ grants → AreOnce grants → ((e n : ℕ) → Lacks grants e n → ⊥) → IsTightList rows
-list-tight rows grants clean spells once full = record {
-  form = λ at. weaker header_cause record_cause record_form (λ before fields. form_of (grants_spelled (drop 1 before)) (grant_spelled fields)) rows at (clean at);
+pub list-tight : (records : List Record) (grants : List Granted) → IsClean grants_cause records → grants_spelled (drop 1 records) ≡ grants → AreOnce grants → ((e n : ℕ) → Lacks grants e n → ⊥) → IsTightList records
+list-tight records grants clean spells once full = record {
+  form = λ at. weaker header_cause record_cause record_form (λ before fields. form_of (grants_spelled (drop 1 before)) (grant_spelled fields)) records at (clean at);
   tight = λ e. rw spells (epoch-tight (of_epoch e grants) (once e) (λ n h. not_false (has_name n (of_epoch e grants)) (λ f. full e n (h, f))));
 }
 
@@ -151,56 +151,56 @@ module _ (gb gm : List Granted) (g : Granted) (tight : AreTightGrants (of_epoch 
       rw (first_time (λ x. x.client) (tight.clients g.client), first_time (λ x. x.name) names) refl
 
 -- the grants round a record
-grants-round : (rows : List Record) (m : ℕ) (g : Granted) → m < length rows → grant_spelled (get_or rows m []) ≡ Some g → grants_spelled rows ≡ grants_spelled (take m rows) ++ g ∷ grants_spelled (drop (suc m) rows)
+grants-round : (records : List Record) (m : ℕ) (g : Granted) → m < length records → grant_spelled (get_or records m []) ≡ Some g → grants_spelled records ≡ grants_spelled (take m records) ++ g ∷ grants_spelled (drop (suc m) records)
 grants-round [] m g h is = absurd (omega (arith, h))
-grants-round (r ∷ rows) zero g h is = rw is refl
-grants-round (r ∷ rows) (suc m) g h is = each (grant_spelled r) (grants-round rows m g (omega (arith, h)) is)
+grants-round (r ∷ records) zero g h is = rw is refl
+grants-round (r ∷ records) (suc m) g h is = each (grant_spelled r) (grants-round records m g (omega (arith, h)) is)
   where
-    each : (spelled : Option Granted) → grants_spelled rows ≡ grants_spelled (take m rows) ++ g ∷ grants_spelled (drop (suc m) rows)
-        → cons_option spelled (grants_spelled rows) ≡ cons_option spelled (grants_spelled (take m rows)) ++ g ∷ grants_spelled (drop (suc m) rows)
+    each : (spelled : Option Granted) → grants_spelled records ≡ grants_spelled (take m records) ++ g ∷ grants_spelled (drop (suc m) records)
+        → cons_option spelled (grants_spelled records) ≡ cons_option spelled (grants_spelled (take m records)) ++ g ∷ grants_spelled (drop (suc m) records)
     each (Some x) more = ap (λ (l : List Granted). x ∷ l) more
     each None more = more
 
-at-record : (r : Record) (rows : List Record) (m : ℕ) → m < length rows → ((epoch : ℕ) → AreTightGrants (of_epoch epoch (grants_spelled rows)))
-    → spelled_form (grants_spelled (take m rows)) (grant_spelled (get_or rows m [])) ≡ None → spelled_cause (grants_spelled (take m rows)) (grant_spelled (get_or rows m [])) ≡ None
-at-record r rows m h tight = each (grant_spelled (get_or rows m [])) refl
+at-record : (r : Record) (records : List Record) (m : ℕ) → m < length records → ((epoch : ℕ) → AreTightGrants (of_epoch epoch (grants_spelled records)))
+    → spelled_form (grants_spelled (take m records)) (grant_spelled (get_or records m [])) ≡ None → spelled_cause (grants_spelled (take m records)) (grant_spelled (get_or records m [])) ≡ None
+at-record r records m h tight = each (grant_spelled (get_or records m [])) refl
   where
-    each : (spelled : Option Granted) → grant_spelled (get_or rows m []) ≡ spelled → spelled_form (grants_spelled (take m rows)) spelled ≡ None → spelled_cause (grants_spelled (take m rows)) spelled ≡ None
+    each : (spelled : Option Granted) → grant_spelled (get_or records m []) ≡ spelled → spelled_form (grants_spelled (take m records)) spelled ≡ None → spelled_cause (grants_spelled (take m records)) spelled ≡ None
     each None is e = e
     each (Some g) is e =
-        rw e (no-twice (grants_spelled (take m rows)) (grants_spelled (drop (suc m) rows)) g
-        (subst (λ (l : List Granted). AreTightGrants (of_epoch g.epoch l)) (grants-round rows m g h is) (tight g.epoch)))
+        rw e (no-twice (grants_spelled (take m records)) (grants_spelled (drop (suc m) records)) g
+        (subst (λ (l : List Granted). AreTightGrants (of_epoch g.epoch l)) (grants-round records m g h is) (tight g.epoch)))
 
-tight_at : (rows : List Record) (at : ℕ) → ((epoch : ℕ) → AreTightGrants (of_epoch epoch (grants_spelled (drop 1 rows)))) → grants_form rows at ≡ None → grants_cause rows at ≡ None
+tight_at : (records : List Record) (at : ℕ) → ((epoch : ℕ) → AreTightGrants (of_epoch epoch (grants_spelled (drop 1 records)))) → grants_form records at ≡ None → grants_cause records at ≡ None
 unfolding cause_by
-tight_at rows zero tight e = e
+tight_at records zero tight e = e
 tight_at [] (suc m) tight e =
     let past : nat_lt (suc m) 0 ≡ false = le-ltb (suc m) 0 (omega arith) in
     let nonzero : (suc m == 0) ≡ false = ne_eqb (suc m) 0 (λ x. omega (arith, x)) in
     rw (nonzero, past) refl
-tight_at (r ∷ rows) (suc m) tight e = each (leb_tells (suc m) (length rows)) e
+tight_at (r ∷ records) (suc m) tight e = each (leb_tells (suc m) (length records)) e
   where
-    each : ((leb (suc m) (length rows) ≡ true) × (suc m ≤ length rows)) ⊎ ((leb (suc m) (length rows) ≡ false) × (length rows < suc m)) → grants_form (r ∷ rows) (suc m) ≡ None → grants_cause (r ∷ rows) (suc m) ≡ None
+    each : ((leb (suc m) (length records) ≡ true) × (suc m ≤ length records)) ⊎ ((leb (suc m) (length records) ≡ false) × (length records < suc m)) → grants_form (r ∷ records) (suc m) ≡ None → grants_cause (r ∷ records) (suc m) ≡ None
     each (inl w) e =
-        let far : nat_lt (suc m) (length (r ∷ rows)) ≡ true = lt-ltb (suc m) (length (r ∷ rows)) (omega (arith, w.1)) in
+        let far : nat_lt (suc m) (length (r ∷ records)) ≡ true = lt-ltb (suc m) (length (r ∷ records)) (omega (arith, w.1)) in
         let nonzero : (suc m == 0) ≡ false = ne_eqb (suc m) 0 (λ x. omega (arith, x)) in
-        rw (nonzero, far) (at-record r rows m (omega (arith, w.1)) tight (rw (nonzero, far) at e))
+        rw (nonzero, far) (at-record r records m (omega (arith, w.1)) tight (rw (nonzero, far) at e))
     each (inr w) e =
-        let past : nat_lt (suc m) (length (r ∷ rows)) ≡ false = le-ltb (suc m) (length (r ∷ rows)) (omega (arith, w.1)) in
+        let past : nat_lt (suc m) (length (r ∷ records)) ≡ false = le-ltb (suc m) (length (r ∷ records)) (omega (arith, w.1)) in
         let nonzero : (suc m == 0) ≡ false = ne_eqb (suc m) 0 (λ x. omega (arith, x)) in
         rw (nonzero, past) refl
 
-tight-clean : (rows : List Record) → IsTightList rows → IsClean grants_cause rows
-tight-clean rows t at = tight_at rows at t.tight (t.form at)
+tight-clean : (records : List Record) → IsTightList records → IsClean grants_cause records
+tight-clean records t at = tight_at records at t.tight (t.form at)
 
 tight-full : (grants : List Granted) → AreTightGrants grants → (n : ℕ) → n < length grants → has_name n grants ≡ false → ⊥
 tight-full grants t n h e =
     omega (arith, none-times (λ g. g.name) n grants e, once_each (length grants) (map (λ (g : Granted). g.name) grants) t.names n, once-there (length grants) n h)
 
-no_first : (rows : List Record) (at : ℕ) (why : GrantCause) → (IsOfReading why → ⊥) → IsFirstWithCause rows at why → IsTightList rows → ⊥
-no_first rows at why inside fault t =
+no_first : (records : List Record) (at : ℕ) (why : GrantCause) → (IsOfReading why → ⊥) → IsFirstWithCause records at why → IsTightList records → ⊥
+no_first records at why inside fault t =
     elim fault.reported [
-      | inl e ↦ none-some why (sym (tight-clean rows t at) ∙ e)
+      | inl e ↦ none-some why (sym (tight-clean records t at) ∙ e)
       | inr other ↦ inside other
     ]
 
@@ -217,14 +217,14 @@ is_name (inl e) = cc e
 is_name (inr e) = cc e
 
 -- a tight list has no flaw but a failed read and want of memory
-pub tight-flaw : (rows : List Record) (flaw : Flaw) → IsFlaw rows flaw → IsTightList rows → IsOutside flaw
-tight-flaw rows (Read at) h t = tt
-tight-flaw rows Memory h t = tt
-tight-flaw rows (Form at) h t = no_first rows at cause.Form is-form h t
-tight-flaw rows (DuplicateClient at) h t = no_first rows at cause.DuplicateClient is-client h t
-tight-flaw rows (DuplicateName at) h t = no_first rows at cause.DuplicateName is_name h t
-tight-flaw rows (Gap epoch name) h t = tight-full (of_epoch epoch (grants_spelled (drop 1 rows))) (t.tight epoch) name h.1.lacks.0 h.1.lacks.1
+pub tight-flaw : (records : List Record) (flaw : Flaw) → IsFlaw records flaw → IsTightList records → IsOutside flaw
+tight-flaw records (Read at) h t = tt
+tight-flaw records Memory h t = tt
+tight-flaw records (Form at) h t = no_first records at cause.Form is-form h t
+tight-flaw records (DuplicateClient at) h t = no_first records at cause.DuplicateClient is-client h t
+tight-flaw records (DuplicateName at) h t = no_first records at cause.DuplicateName is_name h t
+tight-flaw records (Gap epoch name) h t = tight-full (of_epoch epoch (grants_spelled (drop 1 records))) (t.tight epoch) name h.1.lacks.0 h.1.lacks.1
 
-pub exact : {T : Type 0} (P : T → Type 0) (rows : List Record) (result : Result T Flaw) → MatchResult result P (IsFlaw rows) → IfErr result (λ flaw. IsTightList rows → IsOutside flaw)
-exact P rows (Ok x) h = tt
-exact P rows (Err flaw) h = λ t. tight-flaw rows flaw h t
+pub exact : {T : Type 0} (P : T → Type 0) (records : List Record) (result : Result T Flaw) → MatchResult result P (IsFlaw records) → IfErr result (λ flaw. IsTightList records → IsOutside flaw)
+exact P records (Ok x) h = tt
+exact P records (Err flaw) h = λ t. tight-flaw records flaw h t

@@ -35,31 +35,31 @@ arriving-small (Some x) (Some y) (Some z) a e c is =
     let same : record { epoch = x; client = y; entry = z } ≡ a = cc is in
     subst IsSmall same (e x refl, c y refl)
 
-with-entry-small : (row : Record) (a : Arrival) → result_ok (arrival_with_entry row) ≡ Some a → IsSmall a
+with-entry-small : (fields : Record) (a : Arrival) → result_ok (arrival_with_entry fields) ≡ Some a → IsSmall a
 unfolding arrival_with_entry
 with-entry-small [] a is = absurd (none-some a is)
 with-entry-small (e ∷ []) a is = absurd (none-some a is)
 with-entry-small (e ∷ c ∷ []) a is = absurd (none-some a is)
 with-entry-small (e ∷ c ∷ n ∷ []) a is = arriving-small (number_in e) (number_in c) (number_in n) a (number-small e) (number-small c) is
-with-entry-small (e ∷ c ∷ n ∷ d ∷ row) a is = absurd (none-some a is)
+with-entry-small (e ∷ c ∷ n ∷ d ∷ rest) a is = absurd (none-some a is)
 
-ruled-small : (entries : ℕ) (row : Record) (a : Arrival) → result_ok (ruled_arrival entries row) ≡ Some a → IsSmall a
+ruled-small : (entries : ℕ) (fields : Record) (a : Arrival) → result_ok (ruled_arrival entries fields) ≡ Some a → IsSmall a
 unfolding ruled_arrival
 ruled-small entries [] a is = absurd (none-some a is)
 ruled-small entries (e ∷ []) a is = absurd (none-some a is)
 ruled-small entries (e ∷ c ∷ []) a is = arriving-small (number_in e) (number_in c) (entry_by_rule entries (number_in c)) a (number-small e) (number-small c) is
-ruled-small entries (e ∷ c ∷ n ∷ row) a is = absurd (none-some a is)
+ruled-small entries (e ∷ c ∷ n ∷ rest) a is = absurd (none-some a is)
 
-arrival-small : (heading : Heading) (entries : ℕ) (row : Record) (a : Arrival) → result_ok (arrival_in heading entries row) ≡ Some a → IsSmall a
-arrival-small WithEntry entries row a is = with-entry-small row a is
-arrival-small ByRule entries row a is = ruled-small entries row a is
+arrival-small : (heading : Heading) (entries : ℕ) (fields : Record) (a : Arrival) → result_ok (arrival_in heading entries fields) ≡ Some a → IsSmall a
+arrival-small WithEntry entries fields a is = with-entry-small fields a is
+arrival-small ByRule entries fields a is = ruled-small entries fields a is
 
-arrivals-small : (heading : Heading) (entries : ℕ) (rows : List Record) → AllByRecursion IsSmall (arrivals_in heading entries rows)
+arrivals-small : (heading : Heading) (entries : ℕ) (records : List Record) → AllByRecursion IsSmall (arrivals_in heading entries records)
 arrivals-small heading entries [] = tt
-arrivals-small heading entries (row ∷ rows) = by (result_ok (arrival_in heading entries row)) (arrival-small heading entries row) (arrivals-small heading entries rows)
+arrivals-small heading entries (fields ∷ records) = by (result_ok (arrival_in heading entries fields)) (arrival-small heading entries fields) (arrivals-small heading entries records)
   where
-    by : (spelled : Option Arrival) → ((a : Arrival) → spelled ≡ Some a → IsSmall a) → AllByRecursion IsSmall (arrivals_in heading entries rows)
-        → AllByRecursion IsSmall (cons_option spelled (arrivals_in heading entries rows))
+    by : (spelled : Option Arrival) → ((a : Arrival) → spelled ≡ Some a → IsSmall a) → AllByRecursion IsSmall (arrivals_in heading entries records)
+        → AllByRecursion IsSmall (cons_option spelled (arrivals_in heading entries records))
     by None small more = more
     by (Some a) small more = (small a refl, more)
 
@@ -99,12 +99,12 @@ at_most_one : (spelled : Option Arrival) → length (cons_option spelled []) ≤
 at_most_one None = omega arith
 at_most_one (Some a) = omega arith
 
-few-arrivals : (entries : ℕ) (header : Record) (rows : List Record) → IsClean (batch_cause entries) (header ∷ rows)
-    → length (arrivals_in (heading_in (header ∷ rows)) entries rows) ≤ MOST_RECORDS
+few-arrivals : (entries : ℕ) (header : Record) (records : List Record) → IsClean (batch_cause entries) (header ∷ records)
+    → length (arrivals_in (heading_in (header ∷ records)) entries records) ≤ MOST_RECORDS
 few-arrivals entries header [] clean = omega arith
-few-arrivals entries header (row ∷ rows) clean =
-    let all = row ∷ rows in
-    let n = length rows in
+few-arrivals entries header (fields ∷ records) clean =
+    let all = fields ∷ records in
+    let n = length records in
     let last = get_or all n [] in
     let heading = heading_in (header ∷ all) in
     let parted : all ≡ take n all ++ last ∷ [] = sym (take_all (n + 1) all (omega arith)) ∙ take_more all n [] (omega arith) in
@@ -121,9 +121,9 @@ few-arrivals entries header (row ∷ rows) clean =
       at_most_one (result_ok (arrival_in heading entries last)),
     )
 
-few-in : (entries : ℕ) (rows : List Record) → IsClean (batch_cause entries) rows → length (arrivals_in (heading_in rows) entries (drop 1 rows)) ≤ MOST_RECORDS
+few-in : (entries : ℕ) (records : List Record) → IsClean (batch_cause entries) records → length (arrivals_in (heading_in records) entries (drop 1 records)) ≤ MOST_RECORDS
 few-in entries [] clean = omega arith
-few-in entries (header ∷ rows) clean = few-arrivals entries header rows clean
+few-in entries (header ∷ records) clean = few-arrivals entries header records clean
 
 abbrev clients_in : BatchEpoch → ℕ
 clients_in e = length e.clients.items
@@ -136,10 +136,10 @@ arrivals-many (e ∷ epochs) =
     ∙ sym (sum_by-cons clients_in e epochs)
 
 -- a batch's numbers are of 64 bits, and its clients are no more than the limit of records
-pub batch-numbers : (entries : ℕ) (rows : List Record) (epochs : List BatchEpoch) → IsBatch entries rows epochs
+pub batch-numbers : (entries : ℕ) (records : List Record) (epochs : List BatchEpoch) → IsBatch entries records epochs
     → AllByRecursion IsSmallEpoch epochs × (sum_by (λ e. length e.clients.items) epochs ≤ MOST_RECORDS)
-batch-numbers entries rows epochs batch =
+batch-numbers entries records epochs batch =
     let spells = batch.holds.spells in (
-      epochs-small epochs batch.holds.some (subst (AllByRecursion IsSmall) (sym spells) (arrivals-small (heading_in rows) entries (drop 1 rows))),
-      omega (arith, ap length spells, arrivals-many epochs, few-in entries rows batch.clean),
+      epochs-small epochs batch.holds.some (subst (AllByRecursion IsSmall) (sym spells) (arrivals-small (heading_in records) entries (drop 1 records))),
+      omega (arith, ap length spells, arrivals-many epochs, few-in entries records batch.clean),
     )

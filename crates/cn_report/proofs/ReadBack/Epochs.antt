@@ -8,7 +8,7 @@ use Rattle.cn_report.specs.Grants.Granted.{of_epoch}
 use Rattle.cn_report.specs.declared.grants.record.Granted.{Granted}
 use Rattle.cn_report.specs.Grants.ListText.{grant_lines}
 use Rattle.cn_report.specs.Writing.Report.{clients_of_records}
-use Rattle.cn_report.proofs.ReadBack.Rows.{line_of}
+use Rattle.cn_report.proofs.ReadBack.Records.{line_of}
 
 -- who holds a name of an epoch
 abbrev pub grant_at : EpochRecord → ℕ → Granted

@@ -5,15 +5,15 @@ use Rattle.cn_report.specs.Grants.Granted.{form_cause, grant_spelled, grants_spe
 use Rattle.cn_report.specs.Grants.TightList.{grants_form, header_cause, record_form}
 use Rattle.cn_report.specs.declared.grants.record.Granted.{Granted}
 use Rattle.cn_report.proofs.ReadBack.Fields.{decimal-back}
-use Rattle.cn_report.proofs.ReadBack.Rows.{AllSmall, IsSmall, header_row, row_of}
+use Rattle.cn_report.proofs.ReadBack.Records.{AllSmall, IsSmall, header_record, record_of}
 use Rattle.cn_report.proofs.ReadingLemmas.FirstFaults.{AreClean, clean-all, clean-header, clean-more}
 
 -- a grant that is written is read
-granted-back : (g : Granted) → IsSmall g → grant_spelled (row_of g) ≡ Some g
+granted-back : (g : Granted) → IsSmall g → grant_spelled (record_of g) ≡ Some g
 unfolding grant_spelled
 granted-back g small = rw (decimal-back g.epoch small.epoch, decimal-back g.client small.client, decimal-back g.name small.name) refl
 
-pub grants-read : (gs : List Granted) → AllSmall gs → grants_spelled (map row_of gs) ≡ gs
+pub grants-read : (gs : List Granted) → AllSmall gs → grants_spelled (map record_of gs) ≡ gs
 unfolding AllSmall
 grants-read [] small = refl
 grants-read (g ∷ gs) small = rw (granted-back g small.0) (ap (λ (l : List Granted). g ∷ l) (grants-read gs small.1))
@@ -44,22 +44,22 @@ small-next (x ∷ before) g all small = (all.0, small-next before g all.1 small)
 
 -- the records of a written list, one after the other
 clean-from : (before gs : List Granted) → AllSmall before → AllSmall gs → NeverFall (last_epoch before) gs → length before + length gs ≤ MOST_RECORDS
-    → AreClean header_cause record_form (header_row ∷ map row_of before) → AreClean header_cause record_form (header_row ∷ map row_of (before ++ gs))
+    → AreClean header_cause record_form (header_record ∷ map record_of before) → AreClean header_cause record_form (header_record ∷ map record_of (before ++ gs))
 unfolding AllSmall NeverFall
 clean-from before [] had small rises few clean = rw (append-nil before) clean
 clean-from before (g ∷ gs) had small rises few clean =
-    let none : record_form (header_row ∷ map row_of before) (row_of g) ≡ None =
+    let none : record_form (header_record ∷ map record_of before) (record_of g) ≡ None =
     rw (grants-read before had, granted-back g small.0) (no-form-cause before g rises.0 (omega (arith, few))) in
-    let next = clean-more header_cause record_form (header_row ∷ map row_of before) (row_of g) clean none in
-    let more : AreClean header_cause record_form (header_row ∷ map row_of (before ++ g ∷ [])) = rw (map-append row_of before (g ∷ [])) next in
+    let next = clean-more header_cause record_form (header_record ∷ map record_of before) (record_of g) clean none in
+    let more : AreClean header_cause record_form (header_record ∷ map record_of (before ++ g ∷ [])) = rw (map-append record_of before (g ∷ [])) next in
     let rest = clean-from (before ++ g ∷ []) gs (small-next before g had small.0) small.1 (rw (last-next before g) rises.1)
     (omega (arith, few, length-append before (g ∷ []))) more in
     rw (sym (append_assoc before (g ∷ []) gs)) rest
 
-header-clean : AreClean header_cause record_form (header_row ∷ map row_of [])
-header-clean = clean-header header_cause record_form header_row refl
+header-clean : AreClean header_cause record_form (header_record ∷ map record_of [])
+header-clean = clean-header header_cause record_form header_record refl
 
-pub form-clean : (gs : List Granted) → AllSmall gs → NeverFall 0 gs → length gs ≤ MOST_RECORDS → IsClean grants_form (header_row ∷ map row_of gs)
+pub form-clean : (gs : List Granted) → AllSmall gs → NeverFall 0 gs → length gs ≤ MOST_RECORDS → IsClean grants_form (header_record ∷ map record_of gs)
 unfolding AllSmall
 form-clean gs small rises few =
-    clean-all header_cause record_form (header_row ∷ map row_of gs) (clean-from [] gs tt small rises (omega (arith, few)) header-clean)
+    clean-all header_cause record_form (header_record ∷ map record_of gs) (clean-from [] gs tt small rises (omega (arith, few)) header-clean)

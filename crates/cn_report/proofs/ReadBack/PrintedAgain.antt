@@ -117,7 +117,7 @@ pub printed-back : (width : ℕ) (records : List EpochRecord) → AreTightRecord
 printed-back width records tight some =
     let all = all_grants records in
     let spells : grants_spelled (drop 1 (records_of (grants_text records))) ≡ all =
-    ap (λ (rows : List Record). grants_spelled (drop 1 rows)) (records-back records tight) ∙ grants-read all (small-grants records tight) in
+    ap (λ (l : List Record). grants_spelled (drop 1 l)) (records-back records tight) ∙ grants-read all (small-grants records tight) in
     (λ i. map (printed_epoch width (spells i)) (epoch_numbers (spells i)))
     ∙ ap (map (printed_epoch width all)) (all-numbers [] records tight.rising some (none_below records))
     ∙ printed-each width all records (own-grants records tight.rising)
@@ -125,9 +125,9 @@ printed-back width records tight some =
 -- ---- any tight list
 
 -- each epoch's names are those below their number, so they are shared out, after any number of clients
-pub tight-after : (rows : List Record) → IsTightList rows → (w m epoch : ℕ) → counts_after m w (names_in epoch rows) ≡ shares_after m (length (names_in epoch rows)) w
-tight-after rows tight w m epoch =
-    let grants = of_epoch epoch (grants_spelled (drop 1 rows)) in
-    let many : length (names_in epoch rows) ≡ length grants = length-map grants (λ (g : Granted). g.name) in
-    counts-shares-after w m (length grants) (names_in epoch rows) (tight.tight epoch).names
+pub tight-after : (records : List Record) → IsTightList records → (w m epoch : ℕ) → counts_after m w (names_in epoch records) ≡ shares_after m (length (names_in epoch records)) w
+tight-after records tight w m epoch =
+    let grants = of_epoch epoch (grants_spelled (drop 1 records)) in
+    let many : length (names_in epoch records) ≡ length grants = length-map grants (λ (g : Granted). g.name) in
+    counts-shares-after w m (length grants) (names_in epoch records) (tight.tight epoch).names
     ∙ ap (λ (k : ℕ). shares_after m k w) (sym many)

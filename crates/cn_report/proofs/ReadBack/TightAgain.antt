@@ -11,7 +11,7 @@ use Rattle.cn_report.specs.declared.grants.record.Granted.{Granted}
 use Rattle.cn_report.specs.Grants.ListText.{AreRisingRecords, AreTightRecords, HasOwnNames, grants_header, grants_text}
 use Rattle.cn_report.proofs.ReadBack.Epochs.{all_grants, clients-held, first-epoch, grant_at, grants-many, grants_of, later-epoch, lines-of-all, names-given}
 use Rattle.cn_report.proofs.ReadBack.Form.{NeverFall, form-clean, grants-read}
-use Rattle.cn_report.proofs.ReadBack.Rows.{AllSmall, grants-back, header_row, row_of}
+use Rattle.cn_report.proofs.ReadBack.Records.{AllSmall, grants-back, header_record, record_of}
 
 -- an epoch with no grants has no record
 none-tight : AreTightGrants []
@@ -97,7 +97,7 @@ pub small-grants : (records : List EpochRecord) → AreTightRecords records → 
 small-grants records tight = all_small records tight.names (omega (arith, tight.few, grants-many records))
 
 -- the records of the written list, and the grants that they spell
-pub records-back : (records : List EpochRecord) → AreTightRecords records → records_of (grants_text records) ≡ header_row ∷ map row_of (all_grants records)
+pub records-back : (records : List EpochRecord) → AreTightRecords records → records_of (grants_text records) ≡ header_record ∷ map record_of (all_grants records)
 records-back records tight =
     ap (λ (more : List ℕ). records_of (grants_header ++ more)) (lines-of-all records)
     ∙ grants-back (all_grants records) (small-grants records tight)

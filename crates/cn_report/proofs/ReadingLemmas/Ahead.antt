@@ -16,10 +16,10 @@ use Rattle.cn_report.proofs.ReadingLemmas.FirstFaults.{stop-other, stop_at}
 use Rattle.cn_report.proofs.ReadingLemmas.RecordLists.{read-first}
 
 -- a stretch that ends so after records that were read
-pub stretch-read : {R : Type 0} (remaining : R → Option (List ℕ)) (old new : Reader R) (heading : Heading) (entries : ℕ) (text : List ℕ) (before rows : List Record) (arrivals : List Arrival) (end : Result Bool BatchCause)
-    → AreSpelled heading entries rows arrivals → HasRead remaining old text (before ++ rows) → EndsAfter remaining new heading entries text (before ++ rows) end → HasStretch remaining new heading entries text before arrivals end
-stretch-read remaining old new heading entries text before rows arrivals end spelled read ends =
-    record { rows = rows; spelled = spelled; first = read-first remaining old text (before ++ rows) read; ends = ends }
+pub stretch-read : {R : Type 0} (remaining : R → Option (List ℕ)) (old new : Reader R) (heading : Heading) (entries : ℕ) (text : List ℕ) (before records : List Record) (arrivals : List Arrival) (end : Result Bool BatchCause)
+    → AreSpelled heading entries records arrivals → HasRead remaining old text (before ++ records) → EndsAfter remaining new heading entries text (before ++ records) end → HasStretch remaining new heading entries text before arrivals end
+stretch-read remaining old new heading entries text before records arrivals end spelled read ends =
+    record { records = records; spelled = spelled; first = read-first remaining old text (before ++ records) read; ends = ends }
 
 -- a stretch after which a reader does not go on, and which has no cause, is the last
 pub at-an-end : (end : Result Bool BatchCause) (others goes : Bool) → end ≡ Ok others → goes ≡ false → (end ≡ Ok true → goes ≡ true) → end ≡ Ok false
@@ -33,56 +33,56 @@ same-header old mid new first second = record { heading = second.heading ∙ fir
 module _ {R : Type 0} (remaining : R → Option (List ℕ)) (heading : Heading) (entries : ℕ) (text : List ℕ) where
   -- the records that were read have no cause, and their arrivals were gathered
   pub record HasTaken (reader : Reader R) (g : Gathering) : Type 0 where
-    pub rows : List Record
+    pub records : List Record
     pub came : List Arrival
-    pub read : HasRead remaining reader text rows
-    pub taken : AreTaken heading entries rows came
+    pub read : HasRead remaining reader text records
+    pub taken : AreTaken heading entries records came
     pub gathered : IsGathered g came
 
   -- so are the first of them, and after these a stretch was read
   pub record IsAhead (reader : Reader R) (g : Gathering) (arrivals : List Arrival) (end : Result Bool BatchCause) : Type 0 where
-    pub rows : List Record
+    pub records : List Record
     pub came : List Arrival
-    pub taken : AreTaken heading entries rows came
+    pub taken : AreTaken heading entries records came
     pub gathered : IsGathered g came
-    pub stretch : HasStretch remaining reader heading entries text rows arrivals end
+    pub stretch : HasStretch remaining reader heading entries text records arrivals end
 
   -- at first only the header was read
   pub after-header : (reader : Reader R) (g : Gathering) (fields : Record) → HasRead remaining reader text (fields ∷ []) → heading_of fields ≡ Some heading → IsGathered g [] → HasTaken reader g
   after-header reader g fields read heads none = record {
-    rows = fields ∷ [];
+    records = fields ∷ [];
     came = [];
     read = read;
     taken = taken-header heading entries fields heads;
     gathered = none;
   }
 
-  pub next-ahead : (old new : ArrivalReader R) → old.heading ≡ heading → old.entries ≡ entries → (g : Gathering) (arrivals : List Arrival) (end : Result Bool BatchCause) → HasTaken old.rows.value g
-      → ReadsStretch remaining old new arrivals end → IsAhead new.rows.value g arrivals end
+  pub next-ahead : (old new : ArrivalReader R) → old.heading ≡ heading → old.entries ≡ entries → (g : Gathering) (arrivals : List Arrival) (end : Result Bool BatchCause) → HasTaken old.records.value g
+      → ReadsStretch remaining old new arrivals end → IsAhead new.records.value g arrivals end
   next-ahead old new same-heading same-entries g arrivals end t reads = record {
-    rows = t.rows;
+    records = t.records;
     came = t.came;
     taken = t.taken;
     gathered = t.gathered;
-    stretch = rw (same-heading, same-entries) at (reads.reads text t.rows t.read);
+    stretch = rw (same-heading, same-entries) at (reads.reads text t.records t.read);
   }
 
   module _ (reader : Reader R) (g h : Gathering) (arrivals : List Arrival) (end : Result Bool BatchCause) (ahead : IsAhead reader g arrivals end) where
     module _ (gathers : Gathers entries arrivals g h (Ok tt)) where
       -- the records then
-      abbrev pub rows-now : List Record
-      rows-now = ahead.rows ++ ahead.stretch.rows
+      abbrev pub records-now : List Record
+      records-now = ahead.records ++ ahead.stretch.records
 
-      both : AreTaken heading entries rows-now (ahead.came ++ arrivals) × IsGathered h (ahead.came ++ arrivals)
-      both = gathers.answer heading ahead.rows ahead.stretch.rows [] ahead.came ahead.taken ahead.gathered ahead.stretch.spelled
+      both : AreTaken heading entries records-now (ahead.came ++ arrivals) × IsGathered h (ahead.came ++ arrivals)
+      both = gathers.answer heading ahead.records ahead.stretch.records [] ahead.came ahead.taken ahead.gathered ahead.stretch.spelled
 
-      many-now : length rows-now ≡ h.next
+      many-now : length records-now ≡ h.next
       many-now = omega (arith, both.0.counted, both.1.next)
 
       -- the stretch was gathered, and the reader goes on
       pub goes-on : end ≡ Ok true → HasTaken reader h
       goes-on e = record {
-        rows = rows-now;
+        records = records-now;
         came = ahead.came ++ arrivals;
         read = rw e at ahead.stretch.ends;
         taken = both.0;
@@ -90,24 +90,24 @@ module _ {R : Type 0} (remaining : R → Option (List ℕ)) (heading : Heading) 
       }
 
       -- or there are no other records
-      pub at-end : end ≡ Ok false → (records_of text ≡ rows-now) × AreTaken heading entries rows-now (ahead.came ++ arrivals) × IsGathered h (ahead.came ++ arrivals)
+      pub at-end : end ≡ Ok false → (records_of text ≡ records-now) × AreTaken heading entries records-now (ahead.came ++ arrivals) × IsGathered h (ahead.came ++ arrivals)
       at-end e = (rw e at ahead.stretch.ends, both.0, both.1)
 
       -- or the next has a cause
       pub next-fault : (cause : BatchCause) → end ≡ Err cause → IsBatchFault entries (records_of text) (record { at = h.next; cause = cause })
       next-fault cause e =
-          let clean = clean-of heading entries rows-now (ahead.came ++ arrivals) both.0 in
+          let clean = clean-of heading entries records-now (ahead.came ++ arrivals) both.0 in
           let (later, first) = ahead.stretch.first in
           rw (← many-now) (elim (rw e at ahead.stretch.ends) [
             | inl w ↦
                 let (fields, read, is) = w in
-                stop_at header_cause (record_cause entries) IsOfReading remaining reader text rows-now fields cause clean read
-                (at-arrivals heading entries rows-now (ahead.came ++ arrivals) fields both.0 cause (rw is refl))
-            | inr w ↦ stop-other header_cause (record_cause entries) IsOfReading (records_of text) rows-now later cause clean first w
+                stop_at header_cause (record_cause entries) IsOfReading remaining reader text records-now fields cause clean read
+                (at-arrivals heading entries records-now (ahead.came ++ arrivals) fields both.0 cause (rw is refl))
+            | inr w ↦ stop-other header_cause (record_cause entries) IsOfReading (records_of text) records-now later cause clean first w
           ])
 
     -- a record of the stretch has a cause
     pub stretch-fault : (fault : BatchFault) → Gathers entries arrivals g h (Err fault) → IsBatchFault entries (records_of text) fault
     stretch-fault fault gathers =
         let (later, first) = ahead.stretch.first in
-        rw first (gathers.answer heading ahead.rows ahead.stretch.rows later ahead.came ahead.taken ahead.gathered ahead.stretch.spelled)
+        rw first (gathers.answer heading ahead.records ahead.stretch.records later ahead.came ahead.taken ahead.gathered ahead.stretch.spelled)

@@ -11,41 +11,41 @@ use Rattle.cn_report.proofs.ReadingLemmas.RecordLists.{read-first}
 
 module _ {C : Type 0} (header : Record → Option C) (later : List Record → Record → Option C) where
   -- the cause of a record after the header
-  pub cause_later : (rows : List Record) (n : ℕ) → 0 < n → n < length rows → cause_by header later rows n ≡ later (take n rows) (get_or rows n [])
+  pub cause_later : (records : List Record) (n : ℕ) → 0 < n → n < length records → cause_by header later records n ≡ later (take n records) (get_or records n [])
   unfolding cause_by
-  cause_later rows n some h =
+  cause_later records n some h =
       let nonzero : (n == 0) ≡ false = ne_eqb n 0 (λ e. omega (arith, e)) in
-      rw (nonzero, lt-ltb n (length rows) h) refl
+      rw (nonzero, lt-ltb n (length records) h) refl
 
   -- the records after it are nothing to a record's cause
-  cause-same : (rows more : List Record) (n : ℕ) → n < length rows → cause_by header later (rows ++ more) n ≡ cause_by header later rows n
+  cause-same : (records more : List Record) (n : ℕ) → n < length records → cause_by header later (records ++ more) n ≡ cause_by header later records n
   unfolding cause_by
   cause-same [] more n h = absurd (omega arith)
-  cause-same (r ∷ rows) more zero h = refl
-  cause-same (r ∷ rows) more (suc n) h =
-      let far : suc n < length ((r ∷ rows) ++ more) = omega (arith, length-append (r ∷ rows) more) in
-      cause_later ((r ∷ rows) ++ more) (suc n) (omega arith) far
-      ∙ (λ i. later (take-append-le (suc n) (r ∷ rows) more (omega (arith, h)) i) (get_or-append (r ∷ rows) more [] (suc n) h i))
-      ∙ sym (cause_later (r ∷ rows) (suc n) (omega arith) h)
+  cause-same (r ∷ records) more zero h = refl
+  cause-same (r ∷ records) more (suc n) h =
+      let far : suc n < length ((r ∷ records) ++ more) = omega (arith, length-append (r ∷ records) more) in
+      cause_later ((r ∷ records) ++ more) (suc n) (omega arith) far
+      ∙ (λ i. later (take-append-le (suc n) (r ∷ records) more (omega (arith, h)) i) (get_or-append (r ∷ records) more [] (suc n) h i))
+      ∙ sym (cause_later (r ∷ records) (suc n) (omega arith) h)
 
   -- a record after the header is judged after those before it
-  cause-new : (rows : List Record) (fields : Record) → 0 < length rows → cause_by header later (rows ++ fields ∷ []) (length rows) ≡ later rows fields
-  cause-new rows fields some =
-      let within : length rows < length (rows ++ fields ∷ []) = omega (arith, length-append rows (fields ∷ [])) in
-      cause_later (rows ++ fields ∷ []) (length rows) some within
-      ∙ (λ i. later (take-append_seam rows (fields ∷ []) i) (get_or-append_seam rows fields [] [] i))
+  cause-new : (records : List Record) (fields : Record) → 0 < length records → cause_by header later (records ++ fields ∷ []) (length records) ≡ later records fields
+  cause-new records fields some =
+      let within : length records < length (records ++ fields ∷ []) = omega (arith, length-append records (fields ∷ [])) in
+      cause_later (records ++ fields ∷ []) (length records) some within
+      ∙ (λ i. later (take-append_seam records (fields ∷ []) i) (get_or-append_seam records fields [] [] i))
 
   -- what is no record has no cause, where there is a header
-  cause-past : (rows : List Record) (n : ℕ) → 0 < length rows → length rows ≤ n → cause_by header later rows n ≡ None
+  cause-past : (records : List Record) (n : ℕ) → 0 < length records → length records ≤ n → cause_by header later records n ≡ None
   unfolding cause_by
-  cause-past rows n some h =
+  cause-past records n some h =
       let nonzero : (n == 0) ≡ false = ne_eqb n 0 (λ e. omega (arith, e)) in
-      rw (nonzero, le-ltb n (length rows) h) refl
+      rw (nonzero, le-ltb n (length records) h) refl
 
   -- the records so far: a header, and none has a cause
-  pub record AreClean (rows : List Record) : Type 0 where
-    pub some : 0 < length rows
-    pub clean : IsCleanBefore (cause_by header later) rows (length rows)
+  pub record AreClean (records : List Record) : Type 0 where
+    pub some : 0 < length records
+    pub clean : IsCleanBefore (cause_by header later) records (length records)
 
   only-header : (fields : Record) (at : ℕ) → header fields ≡ None → at < 1 → cause_by header later (fields ∷ []) at ≡ None
   unfolding cause_by
@@ -57,42 +57,42 @@ module _ {C : Type 0} (header : Record → Option C) (later : List Record → Re
   clean-header fields e = record { some = omega arith; clean = λ at h. only-header fields at e h }
 
   -- and a record after it
-  pub clean-more : (rows : List Record) (fields : Record) → AreClean rows → later rows fields ≡ None → AreClean (rows ++ fields ∷ [])
-  clean-more rows fields t e = record {
-    some = omega (arith, length-append rows (fields ∷ []));
-    clean = λ at h. below_more (λ (n : ℕ). cause_by header later (rows ++ fields ∷ []) n ≡ None) (length rows)
-        (λ n k. cause-same rows (fields ∷ []) n k ∙ t.clean n k) (cause-new rows fields t.some ∙ e) at (omega (arith, h, length-append rows (fields ∷ [])));
+  pub clean-more : (records : List Record) (fields : Record) → AreClean records → later records fields ≡ None → AreClean (records ++ fields ∷ [])
+  clean-more records fields t e = record {
+    some = omega (arith, length-append records (fields ∷ []));
+    clean = λ at h. below_more (λ (n : ℕ). cause_by header later (records ++ fields ∷ []) n ≡ None) (length records)
+        (λ n k. cause-same records (fields ∷ []) n k ∙ t.clean n k) (cause-new records fields t.some ∙ e) at (omega (arith, h, length-append records (fields ∷ [])));
   }
 
   -- all of them
-  pub clean-all : (rows : List Record) → AreClean rows → IsClean (cause_by header later) rows
-  clean-all rows t at = each (leb_tells (suc at) (length rows))
+  pub clean-all : (records : List Record) → AreClean records → IsClean (cause_by header later) records
+  clean-all records t at = each (leb_tells (suc at) (length records))
     where
-      each : ((leb (suc at) (length rows) ≡ true) × (suc at ≤ length rows)) ⊎ ((leb (suc at) (length rows) ≡ false) × (length rows < suc at)) → cause_by header later rows at ≡ None
+      each : ((leb (suc at) (length records) ≡ true) × (suc at ≤ length records)) ⊎ ((leb (suc at) (length records) ≡ false) × (length records < suc at)) → cause_by header later records at ≡ None
       each (inl w) = t.clean at (omega (arith, w.1))
-      each (inr w) = cause-past rows at t.some (omega (arith, w.1))
+      each (inr w) = cause-past records at t.some (omega (arith, w.1))
 
   module _ (IsOther : C → Type 0) where
     -- there is no record
-    pub nothing : (rows : List Record) (why : C) → header [] ≡ Some why → rows ≡ [] → IsFirstFault (cause_by header later) IsOther rows 0 why
+    pub nothing : (records : List Record) (why : C) → header [] ≡ Some why → records ≡ [] → IsFirstFault (cause_by header later) IsOther records 0 why
     unfolding cause_by
-    nothing rows why none e = rw e (record { within = omega arith; clean = λ at h. absurd (omega arith); reported = inl none })
+    nothing records why none e = rw e (record { within = omega arith; clean = λ at h. absurd (omega arith); reported = inl none })
 
     -- after records without one a record has a cause, whatever comes after it
-    pub stop-in : (all rows more : List Record) (fields : Record) (why : C) → AreClean rows → all ≡ (rows ++ fields ∷ []) ++ more → later rows fields ≡ Some why
-        → IsFirstFault (cause_by header later) IsOther all (length rows) why
-    stop-in all rows more fields why t is e =
-        let size = length-append rows (fields ∷ []) in
+    pub stop-in : (all records more : List Record) (fields : Record) (why : C) → AreClean records → all ≡ (records ++ fields ∷ []) ++ more → later records fields ≡ Some why
+        → IsFirstFault (cause_by header later) IsOther all (length records) why
+    stop-in all records more fields why t is e =
+        let size = length-append records (fields ∷ []) in
         rw is (record {
-          within = omega (arith, size, length-append (rows ++ fields ∷ []) more);
-          clean = λ n h. cause-same (rows ++ fields ∷ []) more n (omega (arith, h, size)) ∙ cause-same rows (fields ∷ []) n h ∙ t.clean n h;
-          reported = inl (cause-same (rows ++ fields ∷ []) more (length rows) (omega (arith, size)) ∙ cause-new rows fields t.some ∙ e);
+          within = omega (arith, size, length-append (records ++ fields ∷ []) more);
+          clean = λ n h. cause-same (records ++ fields ∷ []) more n (omega (arith, h, size)) ∙ cause-same records (fields ∷ []) n h ∙ t.clean n h;
+          reported = inl (cause-same (records ++ fields ∷ []) more (length records) (omega (arith, size)) ∙ cause-new records fields t.some ∙ e);
         })
 
     -- after records without one there is what is no record's fault
-    pub stop-other : (all rows more : List Record) (why : C) → AreClean rows → all ≡ rows ++ more → IsOther why → IsFirstFault (cause_by header later) IsOther all (length rows) why
-    stop-other all rows more why t is other =
-        rw is (record { within = omega (arith, length-append rows more); clean = λ n h. cause-same rows more n h ∙ t.clean n h; reported = inr other })
+    pub stop-other : (all records more : List Record) (why : C) → AreClean records → all ≡ records ++ more → IsOther why → IsFirstFault (cause_by header later) IsOther all (length records) why
+    stop-other all records more why t is other =
+        rw is (record { within = omega (arith, length-append records more); clean = λ n h. cause-same records more n h ∙ t.clean n h; reported = inr other })
 
     module _ {R : Type 0} (rem : R → Option (List ℕ)) (reader : Reader R) (text : List ℕ) where
       -- the first record is no header
@@ -104,18 +104,18 @@ module _ {C : Type 0} (header : Record → Option C) (later : List Record → Re
           rw is (record { within = omega arith; clean = λ at h. absurd (omega arith); reported = inl e })
 
       -- the next record has a cause
-      pub stop_at : (rows : List Record) (fields : Record) (why : C) → AreClean rows → HasRead rem reader text (rows ++ fields ∷ []) → later rows fields ≡ Some why
-          → IsFirstFault (cause_by header later) IsOther (records_of text) (length rows) why
-      stop_at rows fields why t read e =
-          let (more, is) = read-first rem reader text (rows ++ fields ∷ []) read in
-          stop-in (records_of text) rows more fields why t is e
+      pub stop_at : (records : List Record) (fields : Record) (why : C) → AreClean records → HasRead rem reader text (records ++ fields ∷ []) → later records fields ≡ Some why
+          → IsFirstFault (cause_by header later) IsOther (records_of text) (length records) why
+      stop_at records fields why t read e =
+          let (more, is) = read-first rem reader text (records ++ fields ∷ []) read in
+          stop-in (records_of text) records more fields why t is e
 
       -- the next record did not come
-      pub stop-before : (rows : List Record) (why : C) → AreClean rows → HasRead rem reader text rows → IsOther why
-          → IsFirstFault (cause_by header later) IsOther (records_of text) (length rows) why
-      stop-before rows why t read other =
-          let (more, is) = read-first rem reader text rows read in
-          stop-other (records_of text) rows more why t is other
+      pub stop-before : (records : List Record) (why : C) → AreClean records → HasRead rem reader text records → IsOther why
+          → IsFirstFault (cause_by header later) IsOther (records_of text) (length records) why
+      stop-before records why t read other =
+          let (more, is) = read-first rem reader text records read in
+          stop-other (records_of text) records more why t is other
 
 -- what follows of bytes that are known
 pub known-map : (known : Option (List ℕ)) (P Q : List ℕ → Type 0) → IfSome known P → ((text : List ℕ) → P text → Q text) → IfSome known Q

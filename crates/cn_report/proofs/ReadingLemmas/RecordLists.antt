@@ -93,52 +93,52 @@ record-takes s [] p idle e = cc (rw idle at e)
 record-takes s (c ∷ rest) p idle e = omega (arith, (after-record s [] [] (c ∷ rest) p e).1)
 
 -- the records that were read are the first of all
-pub first-records : (rows : List (List (List ℕ))) (n : ℕ) (s s2 : State) (xs ys : List ℕ) → ends_at_end s ≡ false → length xs < n → Reached default_config s xs rows s2 ys
-    → (m : ℕ) × (length ys < m) × (records_from default_config n s xs ≡ rows ++ records_from default_config m s2 ys)
+pub first-records : (records : List (List (List ℕ))) (n : ℕ) (s s2 : State) (xs ys : List ℕ) → ends_at_end s ≡ false → length xs < n → Reached default_config s xs records s2 ys
+    → (m : ℕ) × (length ys < m) × (records_from default_config n s xs ≡ records ++ records_from default_config m s2 ys)
 unfolding Reached records_from
 first-records [] n s s2 xs ys idle h reached = (n, rw (← reached.1) h, rw (reached.0, reached.1) refl)
-first-records (r ∷ rows) zero s s2 xs ys idle h reached = absurd (omega arith)
-first-records (r ∷ rows) (suc n) s s2 xs ys idle h reached =
+first-records (r ∷ records) zero s s2 xs ys idle h reached = absurd (omega arith)
+first-records (r ∷ records) (suc n) s s2 xs ys idle h reached =
     let (p, read, is, rest) = reached in
     let after = after-record s [] [] xs p read in
     let taken = record-takes s xs p idle read in
-    let more = first-records rows n p.1 s2 p.2 ys after.0 (omega (arith, taken)) rest in
+    let more = first-records records n p.1 s2 p.2 ys after.0 (omega (arith, taken)) rest in
     (more.0, more.1, rw (read, is) (ap (λ (t : List (List (List ℕ))). p.0 ∷ t) more.2))
 
 -- where no record is left they are all
-pub all-records : (rows : List (List (List ℕ))) (n : ℕ) (s s2 : State) (xs ys : List ℕ) → ends_at_end s ≡ false → length xs < n → Reached default_config s xs rows s2 ys
-    → next_record default_config s2 [] [] ys ≡ None → records_from default_config n s xs ≡ rows
+pub all-records : (records : List (List (List ℕ))) (n : ℕ) (s s2 : State) (xs ys : List ℕ) → ends_at_end s ≡ false → length xs < n → Reached default_config s xs records s2 ys
+    → next_record default_config s2 [] [] ys ≡ None → records_from default_config n s xs ≡ records
 unfolding records_from
-all-records rows n s s2 xs ys idle h reached none =
-    let first = first-records rows n s s2 xs ys idle h reached in
+all-records records n s s2 xs ys idle h reached none =
+    let first = first-records records n s s2 xs ys idle h reached in
     first.2 ∙ over first.0 first.1
   where
-    over : (m : ℕ) → length ys < m → rows ++ records_from default_config m s2 ys ≡ rows
+    over : (m : ℕ) → length ys < m → records ++ records_from default_config m s2 ys ≡ records
     over zero k = absurd (omega arith)
-    over (suc m) k = rw none (append-nil rows)
+    over (suc m) k = rw none (append-nil records)
 
 -- the records that a reader has read are the first of the text
-pub read-first : {R : Type 0} (rem : R → Option (List ℕ)) (reader : Reader R) (text : List ℕ) (rows : List Record) → HasRead rem reader text rows
-    → (more : List Record) × (records_of text ≡ rows ++ more)
-read-first rem reader text rows read =
+pub read-first : {R : Type 0} (rem : R → Option (List ℕ)) (reader : Reader R) (text : List ℕ) (records : List Record) → HasRead rem reader text records
+    → (more : List Record) × (records_of text ≡ records ++ more)
+read-first rem reader text records read =
     let (bytes, source, reached) = read.left in
-    let first = first-records rows (length (strip_bom text) + 1) st.StartRecord (reader_state reader) (strip_bom text) bytes refl (omega arith) reached in
+    let first = first-records records (length (strip_bom text) + 1) st.StartRecord (reader_state reader) (strip_bom text) bytes refl (omega arith) reached in
     (records_from default_config first.0 (reader_state reader) bytes, first.2)
 
 -- a read after those gives one more
-pub read_more : {R : Type 0} (rem : R → Option (List ℕ)) (a b : Reader R) (text : List ℕ) (rows : List Record) (fields : Record) → HasRead rem a text rows
-    → ReadRecord rem a b true fields → HasRead rem b text (rows ++ fields ∷ [])
-read_more rem a b text rows fields read next =
+pub read_more : {R : Type 0} (rem : R → Option (List ℕ)) (a b : Reader R) (text : List ℕ) (records : List Record) (fields : Record) → HasRead rem a text records
+    → ReadRecord rem a b true fields → HasRead rem b text (records ++ fields ∷ [])
+read_more rem a b text records fields read next =
     let (bytes, source, reached) = read.left in
-    let more = rows-more rem a b fields default_config st.StartRecord (strip_bom text) bytes rows read.config source reached next in
+    let more = rows-more rem a b fields default_config st.StartRecord (strip_bom text) bytes records read.config source reached next in
     record { config = next.2 ∙ read.config; left = more }
 
 -- a read that finds none has come to the end
-pub read_all : {R : Type 0} (rem : R → Option (List ℕ)) (a b : Reader R) (text : List ℕ) (rows : List Record) (fields : Record) → HasRead rem a text rows
-    → ReadRecord rem a b false fields → records_of text ≡ rows
-read_all rem a b text rows fields read next =
+pub read_all : {R : Type 0} (rem : R → Option (List ℕ)) (a b : Reader R) (text : List ℕ) (records : List Record) (fields : Record) → HasRead rem a text records
+    → ReadRecord rem a b false fields → records_of text ≡ records
+read_all rem a b text records fields read next =
     let (bytes, source, reached) = read.left in
-    all-records rows (length (strip_bom text) + 1) st.StartRecord (reader_state a) (strip_bom text) bytes refl (omega arith) reached
+    all-records records (length (strip_bom text) + 1) st.StartRecord (reader_state a) (strip_bom text) bytes refl (omega arith) reached
     (rows-end rem a b fields default_config bytes read.config source next)
 
 -- a new reader has read nothing
@@ -149,10 +149,10 @@ opened rem reader None config state source = tt
 opened rem reader (Some text) config state source = record { config = config; left = (strip_bom text, source, (sym state, refl)) }
 
 -- what a read that found a record, or none, says
-pub read-either : {R : Type 0} (rem : R → Option (List ℕ)) (a b : Reader R) (text : List ℕ) (rows : List Record) (fields : Record) (found : Bool) → HasRead rem a text rows
-    → ReadRecord rem a b found fields → MatchBool found (HasRead rem b text (rows ++ fields ∷ [])) (records_of text ≡ rows)
-read-either rem a b text rows fields true read next = read_more rem a b text rows fields read next
-read-either rem a b text rows fields false read next = read_all rem a b text rows fields read next
+pub read-either : {R : Type 0} (rem : R → Option (List ℕ)) (a b : Reader R) (text : List ℕ) (records : List Record) (fields : Record) (found : Bool) → HasRead rem a text records
+    → ReadRecord rem a b found fields → MatchBool found (HasRead rem b text (records ++ fields ∷ [])) (records_of text ≡ records)
+read-either rem a b text records fields true read next = read_more rem a b text records fields read next
+read-either rem a b text records fields false read next = read_all rem a b text records fields read next
 
 -- a reader that gives records of any length as they are fails only where the one underneath does, or a growth is refused
 pub plain-fails : {R : Type 0} (rem : R → Option (List ℕ)) (a b : Reader R) (why : ErrorKind) → is_flexible a ≡ true → ExplainsRead rem a b false why → IsOfReader why

@@ -7,23 +7,23 @@ use Rattle.cn_report.specs.declared.reading.schedule_fault.ScheduleCause.{Schedu
 use Rattle.cn_report.proofs.ReadingLemmas.FirstFaults.{AreClean, clean-all, clean-header, clean-more}
 
 -- the records so far: a header, and a record for each command
-pub record AreTaken (rows : List Record) (commands : List Command) : Type 0 where
-  pub clean : AreClean header_cause record_cause rows
-  pub spells : map command_in (drop 1 rows) ≡ map Ok commands
+pub record AreTaken (records : List Record) (commands : List Command) : Type 0 where
+  pub clean : AreClean header_cause record_cause records
+  pub spells : map command_in (drop 1 records) ≡ map Ok commands
 
 pub taken-header : (fields : Record) → header_cause fields ≡ None → AreTaken (fields ∷ []) []
 taken-header fields e = record { clean = clean-header header_cause record_cause fields e; spells = refl }
 
-pub taken-next : (rows : List Record) (commands : List Command) (fields : Record) (command : Command) (at : ℕ) → length rows ≡ at → AreTaken rows commands
-    → command_cause at (command_in fields) ≡ None → command_in fields ≡ Ok command → AreTaken (rows ++ fields ∷ []) (commands ++ command ∷ [])
+pub taken-next : (records : List Record) (commands : List Command) (fields : Record) (command : Command) (at : ℕ) → length records ≡ at → AreTaken records commands
+    → command_cause at (command_in fields) ≡ None → command_in fields ≡ Ok command → AreTaken (records ++ fields ∷ []) (commands ++ command ∷ [])
 taken-next [] commands fields command at size t e is = absurd (omega (arith, t.clean.some))
-taken-next (r ∷ rows) commands fields command at size t e is = record {
-  clean = clean-more header_cause record_cause (r ∷ rows) fields t.clean (rw size e);
-  spells = map-append command_in rows (fields ∷ []) ∙ (λ i. t.spells i ++ is i ∷ []) ∙ sym (map-append Ok commands (command ∷ []));
+taken-next (r ∷ records) commands fields command at size t e is = record {
+  clean = clean-more header_cause record_cause (r ∷ records) fields t.clean (rw size e);
+  spells = map-append command_in records (fields ∷ []) ∙ (λ i. t.spells i ++ is i ∷ []) ∙ sym (map-append Ok commands (command ∷ []));
 }
 
-pub taken_all : (all rows : List Record) (commands : List Command) → AreTaken rows commands → all ≡ rows → IsSchedule all commands
-taken_all all rows commands t e = rw e (record { clean = clean-all header_cause record_cause rows t.clean; spells = t.spells })
+pub taken_all : (all records : List Record) (commands : List Command) → AreTaken records commands → all ≡ records → IsSchedule all commands
+taken_all all records commands t e = rw e (record { clean = clean-all header_cause record_cause records t.clean; spells = t.spells })
 
 spelled : List Command → List (Result Command ScheduleCause)
 spelled commands = map Ok commands
@@ -44,6 +44,6 @@ same [] (other ∷ others) e = cc
 same (command ∷ commands) [] e = cc
 same (command ∷ commands) (other ∷ others) e = ap₂ (λ c cs. c ∷ cs) (ap (head_of command) e) (same commands others (ap tail_of e))
 
-pub one-schedule : {rows : List Record} (commands others : List Command) → IsSchedule rows commands → IsSchedule rows others → commands ≡ others
+pub one-schedule : {records : List Record} (commands others : List Command) → IsSchedule records commands → IsSchedule records others → commands ≡ others
 unfolding spelled
 one-schedule commands others one another = same commands others (sym one.spells ∙ another.spells)

@@ -13,39 +13,39 @@ use Rattle.cn_report.proofs.ReadingLemmas.BatchRecords.{at-arrivals, clean-of, t
 use Rattle.cn_report.proofs.ReadingLemmas.FirstFaults.{stop-other, stop-in}
 
 -- a record more spells an arrival more
-pub spelled-more : (heading : Heading) (entries : ℕ) (rows : List Record) (arrivals : List Arrival) (fields : Record) (arrival : Arrival) → AreSpelled heading entries rows arrivals
-    → arrival_in heading entries fields ≡ Ok arrival → AreSpelled heading entries (rows ++ fields ∷ []) (arrivals ++ arrival ∷ [])
-spelled-more heading entries rows arrivals fields arrival spelled is =
-    map-append (arrival_in heading entries) rows (fields ∷ []) ∙ (λ i. spelled i ++ is i ∷ []) ∙ sym (map-append Ok arrivals (arrival ∷ []))
+pub spelled-more : (heading : Heading) (entries : ℕ) (records : List Record) (arrivals : List Arrival) (fields : Record) (arrival : Arrival) → AreSpelled heading entries records arrivals
+    → arrival_in heading entries fields ≡ Ok arrival → AreSpelled heading entries (records ++ fields ∷ []) (arrivals ++ arrival ∷ [])
+spelled-more heading entries records arrivals fields arrival spelled is =
+    map-append (arrival_in heading entries) records (fields ∷ []) ∙ (λ i. spelled i ++ is i ∷ []) ∙ sym (map-append Ok arrivals (arrival ∷ []))
 
-module _ (heading : Heading) (entries : ℕ) (rows : List Record) (arrivals : List Arrival) (spelled : AreSpelled heading entries rows arrivals) where
-  pub same-length : length rows ≡ length arrivals
-  same-length = sym (length-map rows (arrival_in heading entries)) ∙ ap length spelled ∙ length-map arrivals Ok
+module _ (heading : Heading) (entries : ℕ) (records : List Record) (arrivals : List Arrival) (spelled : AreSpelled heading entries records arrivals) where
+  pub same-length : length records ≡ length arrivals
+  same-length = sym (length-map records (arrival_in heading entries)) ∙ ap length spelled ∙ length-map arrivals Ok
 
   -- the record at a place spells the arrival there
-  pub spelled-at : (i : ℕ) (arrival : Arrival) → i < length arrivals → arrival_in heading entries (get_or rows i []) ≡ Ok (get_or arrivals i arrival)
+  pub spelled-at : (i : ℕ) (arrival : Arrival) → i < length arrivals → arrival_in heading entries (get_or records i []) ≡ Ok (get_or arrivals i arrival)
   spelled-at i arrival h =
-      sym (get_or-map (arrival_in heading entries) rows i [] (Ok arrival) (omega (arith, h, same-length)))
+      sym (get_or-map (arrival_in heading entries) records i [] (Ok arrival) (omega (arith, h, same-length)))
       ∙ ap (λ (l : List (Result Arrival BatchCause)). get_or l i (Ok arrival)) spelled
       ∙ get_or-map Ok arrivals i arrival (Ok arrival) h
 
 -- so many of the arrivals were gathered after those that came before
-pub record GatheredTo (heading : Heading) (entries : ℕ) (before rows : List Record) (came arrivals : List Arrival) (g : Gathering) (i : ℕ) : Type 0 where
-  pub taken : AreTaken heading entries (before ++ take i rows) (came ++ take i arrivals)
+pub record GatheredTo (heading : Heading) (entries : ℕ) (before records : List Record) (came arrivals : List Arrival) (g : Gathering) (i : ℕ) : Type 0 where
+  pub taken : AreTaken heading entries (before ++ take i records) (came ++ take i arrivals)
   pub gathered : IsGathered g (came ++ take i arrivals)
 
 -- where nothing is gathered yet
-pub none-gathered-of : (heading : Heading) (entries : ℕ) (before rows : List Record) (came arrivals : List Arrival) (g : Gathering) → AreTaken heading entries before came
-    → IsGathered g came → GatheredTo heading entries before rows came arrivals g 0
-none-gathered-of heading entries before rows came arrivals g taken gathered =
+pub none-gathered-of : (heading : Heading) (entries : ℕ) (before records : List Record) (came arrivals : List Arrival) (g : Gathering) → AreTaken heading entries before came
+    → IsGathered g came → GatheredTo heading entries before records came arrivals g 0
+none-gathered-of heading entries before records came arrivals g taken gathered =
     record { taken = rw (append-nil before, append-nil came) taken; gathered = rw (append-nil came) gathered }
 
-module _ (heading : Heading) (entries : ℕ) (before rows : List Record) (came arrivals : List Arrival) (spelled : AreSpelled heading entries rows arrivals) where
+module _ (heading : Heading) (entries : ℕ) (before records : List Record) (came arrivals : List Arrival) (spelled : AreSpelled heading entries records arrivals) where
   -- all were gathered
-  pub all-gathered : (g : Gathering) (i : ℕ) → length arrivals ≤ i → GatheredTo heading entries before rows came arrivals g i
-      → AreTaken heading entries (before ++ rows) (came ++ arrivals) × IsGathered g (came ++ arrivals)
+  pub all-gathered : (g : Gathering) (i : ℕ) → length arrivals ≤ i → GatheredTo heading entries before records came arrivals g i
+      → AreTaken heading entries (before ++ records) (came ++ arrivals) × IsGathered g (came ++ arrivals)
   all-gathered g i all to =
-      let r : take i rows ≡ rows = take_all i rows (omega (arith, all, same-length heading entries rows arrivals spelled)) in
+      let r : take i records ≡ records = take_all i records (omega (arith, all, same-length heading entries records arrivals spelled)) in
       let a : take i arrivals ≡ arrivals = take_all i arrivals all in
       (rw (r, a) at to.taken, rw a at to.gathered)
 
@@ -54,51 +54,51 @@ module _ (heading : Heading) (entries : ℕ) (before rows : List Record) (came a
       abbrev pub arrival : Arrival
       arrival = get_or arrivals i d
 
-      rows-next : (before ++ take i rows) ++ get_or rows i [] ∷ [] ≡ before ++ take (i + 1) rows
-      rows-next =
-          append_assoc before (take i rows) (get_or rows i [] ∷ [])
-          ∙ ap (λ (l : List Record). before ++ l) (sym (take_more rows i [] (omega (arith, within, same-length heading entries rows arrivals spelled))))
+      records-next : (before ++ take i records) ++ get_or records i [] ∷ [] ≡ before ++ take (i + 1) records
+      records-next =
+          append_assoc before (take i records) (get_or records i [] ∷ [])
+          ∙ ap (λ (l : List Record). before ++ l) (sym (take_more records i [] (omega (arith, within, same-length heading entries records arrivals spelled))))
 
       came-next : (came ++ take i arrivals) ++ arrival ∷ [] ≡ came ++ take (i + 1) arrivals
       came-next =
           append_assoc came (take i arrivals) (arrival ∷ [])
           ∙ ap (λ (l : List Arrival). came ++ l) (sym (take_more arrivals i d within))
 
-      spells-it : arrival_in heading entries (get_or rows i []) ≡ Ok arrival
-      spells-it = spelled-at heading entries rows arrivals spelled i d within
+      spells-it : arrival_in heading entries (get_or records i []) ≡ Ok arrival
+      spells-it = spelled-at heading entries records arrivals spelled i d within
 
       -- one more was
-      pub gathered-next : (g h : Gathering) → GatheredTo heading entries before rows came arrivals g i → arrival_cause entries (came ++ take i arrivals) arrival ≡ None
-          → IsGathered h ((came ++ take i arrivals) ++ arrival ∷ []) → GatheredTo heading entries before rows came arrivals h (i + 1)
+      pub gathered-next : (g h : Gathering) → GatheredTo heading entries before records came arrivals g i → arrival_cause entries (came ++ take i arrivals) arrival ≡ None
+          → IsGathered h ((came ++ take i arrivals) ++ arrival ∷ []) → GatheredTo heading entries before records came arrivals h (i + 1)
       gathered-next g h to none more = record {
-        taken = rw (rows-next, came-next) at (taken-next heading entries (before ++ take i rows) (came ++ take i arrivals) (get_or rows i []) arrival to.taken spells-it none);
+        taken = rw (records-next, came-next) at (taken-next heading entries (before ++ take i records) (came ++ take i arrivals) (get_or records i []) arrival to.taken spells-it none);
         gathered = rw came-next at more;
       }
 
       -- the record after those that were has a cause, or there was no memory for it
-      pub gathering-fault : (g : Gathering) (later : List Record) (cause : BatchCause) → GatheredTo heading entries before rows came arrivals g i
+      pub gathering-fault : (g : Gathering) (later : List Record) (cause : BatchCause) → GatheredTo heading entries before records came arrivals g i
           → (arrival_cause entries (came ++ take i arrivals) arrival ≡ Some cause) ⊎ (cause ≡ Memory)
-          → IsBatchFault entries ((before ++ rows) ++ later) (record { at = g.next; cause = cause })
+          → IsBatchFault entries ((before ++ records) ++ later) (record { at = g.next; cause = cause })
       gathering-fault g later cause to reported =
-          let clean = clean-of heading entries (before ++ take i rows) (came ++ take i arrivals) to.taken in
-          let many : length (before ++ take i rows) ≡ g.next = omega (arith, to.taken.counted, to.gathered.next) in
+          let clean = clean-of heading entries (before ++ take i records) (came ++ take i arrivals) to.taken in
+          let many : length (before ++ take i records) ≡ g.next = omega (arith, to.taken.counted, to.gathered.next) in
           rw (← many) (elim reported [
             | inl e ↦
-                stop-in header_cause (record_cause entries) IsOfReading ((before ++ rows) ++ later) (before ++ take i rows) (drop (i + 1) rows ++ later) (get_or rows i []) cause clean split
-                (at-arrivals heading entries (before ++ take i rows) (came ++ take i arrivals) (get_or rows i []) to.taken cause (ap (spelled_cause entries (came ++ take i arrivals)) spells-it ∙ e))
+                stop-in header_cause (record_cause entries) IsOfReading ((before ++ records) ++ later) (before ++ take i records) (drop (i + 1) records ++ later) (get_or records i []) cause clean split
+                (at-arrivals heading entries (before ++ take i records) (came ++ take i arrivals) (get_or records i []) to.taken cause (ap (spelled_cause entries (came ++ take i arrivals)) spells-it ∙ e))
             | inr e ↦
-                stop-other header_cause (record_cause entries) IsOfReading ((before ++ rows) ++ later) (before ++ take i rows) (drop i rows ++ later) cause clean cut (inr e)
+                stop-other header_cause (record_cause entries) IsOfReading ((before ++ records) ++ later) (before ++ take i records) (drop i records ++ later) cause clean cut (inr e)
           ])
         where
-          cut : (before ++ rows) ++ later ≡ (before ++ take i rows) ++ (drop i rows ++ later)
+          cut : (before ++ records) ++ later ≡ (before ++ take i records) ++ (drop i records ++ later)
           cut =
-              ap (λ (l : List Record). (before ++ l) ++ later) (sym (take-append-drop i rows))
-              ∙ ap (λ (l : List Record). l ++ later) (sym (append_assoc before (take i rows) (drop i rows)))
-              ∙ append_assoc (before ++ take i rows) (drop i rows) later
+              ap (λ (l : List Record). (before ++ l) ++ later) (sym (take-append-drop i records))
+              ∙ ap (λ (l : List Record). l ++ later) (sym (append_assoc before (take i records) (drop i records)))
+              ∙ append_assoc (before ++ take i records) (drop i records) later
 
-          split : (before ++ rows) ++ later ≡ ((before ++ take i rows) ++ get_or rows i [] ∷ []) ++ (drop (i + 1) rows ++ later)
+          split : (before ++ records) ++ later ≡ ((before ++ take i records) ++ get_or records i [] ∷ []) ++ (drop (i + 1) records ++ later)
           split =
-              ap (λ (l : List Record). (before ++ l) ++ later) (sym (take-append-drop (i + 1) rows))
-              ∙ ap (λ (l : List Record). l ++ later) (sym (append_assoc before (take (i + 1) rows) (drop (i + 1) rows)))
-              ∙ append_assoc (before ++ take (i + 1) rows) (drop (i + 1) rows) later
-              ∙ ap (λ (l : List Record). l ++ (drop (i + 1) rows ++ later)) (sym rows-next)
+              ap (λ (l : List Record). (before ++ l) ++ later) (sym (take-append-drop (i + 1) records))
+              ∙ ap (λ (l : List Record). l ++ later) (sym (append_assoc before (take (i + 1) records) (drop (i + 1) records)))
+              ∙ append_assoc (before ++ take (i + 1) records) (drop (i + 1) records) later
+              ∙ ap (λ (l : List Record). l ++ (drop (i + 1) records ++ later)) (sym records-next)

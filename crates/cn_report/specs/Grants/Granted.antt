@@ -22,7 +22,7 @@ grant_spelled fields = None
 
 -- the grants of these records
 abbrev pub grants_spelled : List Record → List Granted
-grants_spelled rows = filter_map grant_spelled rows
+grants_spelled records = filter_map grant_spelled records
 
 -- those of them that are of this epoch
 abbrev pub of_epoch : ℕ → List Granted → List Granted

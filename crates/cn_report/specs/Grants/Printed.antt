@@ -34,14 +34,14 @@ with_shares width epoch = (epoch.number, epoch.clients, shares epoch.clients wid
 
 -- the names that the records give in an epoch
 abbrev pub names_in : ℕ → List Record → List ℕ
-names_in epoch rows = map (λ g. g.name) (of_epoch epoch (grants_spelled (drop 1 rows)))
+names_in epoch records = map (λ g. g.name) (of_epoch epoch (grants_spelled (drop 1 records)))
 
 -- what the records say of their epochs, in order
 abbrev pub printed_epochs : ℕ → List Record → List (ℕ × ℕ × List ℕ)
-printed_epochs width rows =
-    map (printed_epoch width (grants_spelled (drop 1 rows))) (epoch_numbers (grants_spelled (drop 1 rows)))
+printed_epochs width records =
+    map (printed_epoch width (grants_spelled (drop 1 records))) (epoch_numbers (grants_spelled (drop 1 records)))
 
 -- the records are a tight list, and these are its epochs: by any width the counts of each are shares
-pub record IsNamedList (rows : List Record) (epochs : List NamedEpoch) : Type 0 where
-  pub tight : IsTightList rows
-  pub printed : (width : ℕ) → map (with_shares width) epochs ≡ printed_epochs width rows
+pub record IsNamedList (records : List Record) (epochs : List NamedEpoch) : Type 0 where
+  pub tight : IsTightList records
+  pub printed : (width : ℕ) → map (with_shares width) epochs ≡ printed_epochs width records

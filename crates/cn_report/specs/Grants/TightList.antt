@@ -12,13 +12,13 @@ use Rattle.cn_report.specs.declared.grants.record.GrantCause.{GrantCause}
 use Rattle.cn_report.specs.declared.grants.record.GrantCause.TheVariants as cause
 use Rattle.cn_report.specs.declared.grants.record.Flaw.{Flaw}
 use Rattle.cn_report.specs.declared.grants.record.Flaw.TheVariants.{Read, Form, DuplicateClient, DuplicateName, Gap, Memory}
-use Rattle.cn_report.specs.declared.reading.rows.RowFault.{RowFault}
-use Rattle.cn_report.specs.declared.reading.rows.RowFault.TheVariants as row
+use Rattle.cn_report.specs.declared.reading.records.RecordFault.{RecordFault}
+use Rattle.cn_report.specs.declared.reading.records.RecordFault.TheVariants as no_record
 
 -- the cause for which no record came
-abbrev pub grant_cause_of_row : RowFault → GrantCause
-grant_cause_of_row row.Read = cause.Read
-grant_cause_of_row row.Memory = cause.Memory
+abbrev pub grant_cause_of_fault : RecordFault → GrantCause
+grant_cause_of_fault no_record.Read = cause.Read
+grant_cause_of_fault no_record.Memory = cause.Memory
 
 -- the name that a flaw prints
 abbrev pub flaw_name : Flaw → List ℕ
@@ -86,16 +86,16 @@ IsEndFlaw grants (DuplicateName at) = ⊥
 
 -- the record has this cause, and it is the first with one
 abbrev pub IsFirstWithCause : List Record → ℕ → GrantCause → Type 0
-IsFirstWithCause rows at why = IsFirstFault grants_cause IsOfReading rows at why
+IsFirstWithCause records at why = IsFirstFault grants_cause IsOfReading records at why
 
 -- the first record with a cause, and its first cause; or the first gap if no record has one
 abbrev pub IsFlaw : List Record → Flaw → Type 0
-IsFlaw rows (Read at) = IsFirstWithCause rows at cause.Read
-IsFlaw rows (Form at) = IsFirstWithCause rows at cause.Form
-IsFlaw rows (DuplicateClient at) = IsFirstWithCause rows at cause.DuplicateClient
-IsFlaw rows (DuplicateName at) = IsFirstWithCause rows at cause.DuplicateName
-IsFlaw rows (Gap epoch name) = IsClean grants_cause rows × IsGap (grants_spelled (drop 1 rows)) epoch name
-IsFlaw rows Memory = ⊤
+IsFlaw records (Read at) = IsFirstWithCause records at cause.Read
+IsFlaw records (Form at) = IsFirstWithCause records at cause.Form
+IsFlaw records (DuplicateClient at) = IsFirstWithCause records at cause.DuplicateClient
+IsFlaw records (DuplicateName at) = IsFirstWithCause records at cause.DuplicateName
+IsFlaw records (Gap epoch name) = IsClean grants_cause records × IsGap (grants_spelled (drop 1 records)) epoch name
+IsFlaw records Memory = ⊤
 
 -- the flaw is no fault of the records
 abbrev pub IsOutside : Flaw → Type 0
@@ -112,9 +112,9 @@ pub record AreTightGrants (grants : List Granted) : Type 0 where
   pub names : IsEachBelow (length grants) (map (λ g. g.name) grants)
 
 -- the form holds, and each epoch is tight
-pub record IsTightList (rows : List Record) : Type 0 where
-  pub form : IsClean grants_form rows
-  pub tight : (epoch : ℕ) → AreTightGrants (of_epoch epoch (grants_spelled (drop 1 rows)))
+pub record IsTightList (records : List Record) : Type 0 where
+  pub form : IsClean grants_form records
+  pub tight : (epoch : ℕ) → AreTightGrants (of_epoch epoch (grants_spelled (drop 1 records)))
 
 -- the least number below the count that is not among these
 abbrev pub IsLeastMissing : (ℕ → Bool) → ℕ → Option ℕ → Type 0

@@ -41,7 +41,7 @@ arrival_in ByRule entries fields = ruled_arrival entries fields
 
 -- the arrivals of these records
 abbrev pub arrivals_in : Heading → ℕ → List Record → List Arrival
-arrivals_in heading entries rows = filter_map (λ row. result_ok (arrival_in heading entries row)) rows
+arrivals_in heading entries records = filter_map (λ fields. result_ok (arrival_in heading entries fields)) records
 
 -- those of them that come in this epoch
 abbrev pub of_epoch : ℕ → List Arrival → List Arrival

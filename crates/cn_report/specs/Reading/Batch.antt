@@ -10,8 +10,8 @@ use Rattle.cn_report.specs.Reading.Heading.{heading_in, heading_of}
 use Rattle.cn_report.specs.Reading.Records.{Record}
 use Rattle.cn_report.specs.declared.reading.batch.arrival.Arrival.{Arrival}
 use Rattle.cn_report.specs.declared.reading.batch.arrival.Heading.{Heading}
-use Rattle.cn_report.specs.declared.reading.rows.RowFault.{RowFault}
-use Rattle.cn_report.specs.declared.reading.rows.RowFault.TheVariants as row
+use Rattle.cn_report.specs.declared.reading.records.RecordFault.{RecordFault}
+use Rattle.cn_report.specs.declared.reading.records.RecordFault.TheVariants as no_record
 use Rattle.cn_report.specs.declared.reading.batch_fault.BatchCause.{BatchCause}
 use Rattle.cn_report.specs.declared.reading.batch_fault.BatchCause.TheVariants.{Read, Header, FieldCount, EpochNumber, ClientNumber, EntryNumber, EpochBackwards, EntryRange, Duplicate, EpochFull, BatchFull, Memory}
 use Rattle.cn_report.specs.declared.reading.batch_fault.BatchFault.{BatchFault}
@@ -34,9 +34,9 @@ batch_cause_name BatchFull = codes "BatchFull"
 batch_cause_name Memory = codes "Memory"
 
 -- the cause for which no record came
-abbrev pub batch_cause_of_row : RowFault → BatchCause
-batch_cause_of_row row.Read = Read
-batch_cause_of_row row.Memory = Memory
+abbrev pub batch_cause_of_fault : RecordFault → BatchCause
+batch_cause_of_fault no_record.Read = Read
+batch_cause_of_fault no_record.Memory = Memory
 
 -- the cause of record 0, which is to head a batch
 abbrev pub cause_of_heading : Option Heading → Option BatchCause
@@ -95,18 +95,18 @@ abbrev pub clients_of_epochs : List BatchEpoch → ℕ
 clients_of_epochs epochs = sum_by (λ e. length e.clients.items) epochs
 
 -- the records are a batch of these epochs: none has a cause, and the epochs spell those after the header
-pub record IsBatch (entries : ℕ) (rows : List Record) (epochs : List BatchEpoch) : Type 0 where
-  pub clean : IsClean (batch_cause entries) rows
-  pub holds : AreEpochsOf epochs (arrivals_in (heading_in rows) entries (drop 1 rows))
+pub record IsBatch (entries : ℕ) (records : List Record) (epochs : List BatchEpoch) : Type 0 where
+  pub clean : IsClean (batch_cause entries) records
+  pub holds : AreEpochsOf epochs (arrivals_in (heading_in records) entries (drop 1 records))
 
 -- the fault gives the first record with a cause, and its first cause
 abbrev pub IsBatchFault : ℕ → List Record → BatchFault → Type 0
-IsBatchFault entries rows fault = IsFirstFault (batch_cause entries) IsOfReading rows fault.at fault.cause
+IsBatchFault entries records fault = IsFirstFault (batch_cause entries) IsOfReading records fault.at fault.cause
 
 -- what these records answer: the epochs that they are a batch of, or their fault
 abbrev pub AnswersBatch : ℕ → List Record → Result Batch BatchFault → Type 0
-AnswersBatch entries rows result =
-    MatchResult result (λ batch. IsBatch entries rows batch.epochs.items) (IsBatchFault entries rows)
+AnswersBatch entries records result =
+    MatchResult result (λ batch. IsBatch entries records batch.epochs.items) (IsBatchFault entries records)
 
 -- what an epoch is: its number and its clients
 abbrev pub plain_epoch : BatchEpoch → ℕ × List Client

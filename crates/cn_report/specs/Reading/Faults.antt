@@ -6,23 +6,23 @@ use Rattle.cn_report.specs.Reading.Records.{Record}
 -- missing, and each later record is judged after those before it
 unfoldable pub cause_by : {C : Type 0} → (Record → Option C) → (List Record → Record → Option C) → List Record → ℕ
     → Option C
-cause_by header later rows at =
-    if at == 0 then header (slice_index_or rows 0 [])
-    else if nat_lt at (length rows) then later (take at rows) (slice_index_or rows at [])
+cause_by header later records at =
+    if at == 0 then header (slice_index_or records 0 [])
+    else if nat_lt at (length records) then later (take at records) (slice_index_or records at [])
     else None
 
 -- no record before this one has a cause
 abbrev pub IsCleanBefore : {C : Type 0} → (List Record → ℕ → Option C) → List Record → ℕ → Type 0
-IsCleanBefore cause rows end = (at : ℕ) → at < end → cause rows at ≡ None
+IsCleanBefore cause records end = (at : ℕ) → at < end → cause records at ≡ None
 
 -- no record has a cause
 abbrev pub IsClean : {C : Type 0} → (List Record → ℕ → Option C) → List Record → Type 0
-IsClean cause rows = (at : ℕ) → cause rows at ≡ None
+IsClean cause records = (at : ℕ) → cause records at ≡ None
 
 -- the first record with a cause, and its first cause; or what is no record's fault, at a record before which none has a
 -- cause: that it is the record that was being read, or of a batch gathered, is tested
-pub record IsFirstFault {C : Type 0} (cause : List Record → ℕ → Option C) (IsOther : C → Type 0) (rows : List Record)
+pub record IsFirstFault {C : Type 0} (cause : List Record → ℕ → Option C) (IsOther : C → Type 0) (records : List Record)
     (at : ℕ) (why : C) : Type 0 where
-  pub within : at ≤ length rows
-  pub clean : IsCleanBefore cause rows at
-  pub reported : (cause rows at ≡ Some why) ⊎ IsOther why
+  pub within : at ≤ length records
+  pub clean : IsCleanBefore cause records at
+  pub reported : (cause records at ≡ Some why) ⊎ IsOther why

@@ -28,4 +28,4 @@ heading_or None = WithEntry
 
 -- the heading of these records, which is that of the first
 abbrev pub heading_in : List Record → Heading
-heading_in rows = heading_or (heading_of (slice_index_or rows 0 []))
+heading_in records = heading_or (heading_of (slice_index_or records 0 []))

@@ -7,8 +7,8 @@ use Rattle.cn_spec.specs.declared.limits.TheConstants.{MOST_RECORDS}
 use Rattle.cn_report.specs.Reading.Command.{command_in}
 use Rattle.cn_report.specs.Reading.Faults.{IsClean, IsFirstFault, cause_by}
 use Rattle.cn_report.specs.Reading.Records.{Record}
-use Rattle.cn_report.specs.declared.reading.rows.RowFault.{RowFault}
-use Rattle.cn_report.specs.declared.reading.rows.RowFault.TheVariants as row
+use Rattle.cn_report.specs.declared.reading.records.RecordFault.{RecordFault}
+use Rattle.cn_report.specs.declared.reading.records.RecordFault.TheVariants as no_record
 use Rattle.cn_report.specs.declared.reading.schedule_fault.ScheduleCause.{ScheduleCause}
 use Rattle.cn_report.specs.declared.reading.schedule_fault.ScheduleCause.TheVariants.{Read, Header, FieldCount, Op, ClientNumber, WireNumber, ScheduleFull, Memory}
 use Rattle.cn_report.specs.declared.reading.schedule_fault.ScheduleFault.{ScheduleFault}
@@ -25,9 +25,9 @@ cause_name ScheduleFull = codes "ScheduleFull"
 cause_name Memory = codes "Memory"
 
 -- the cause for which no record came
-abbrev pub cause_of_row : RowFault → ScheduleCause
-cause_of_row row.Read = Read
-cause_of_row row.Memory = Memory
+abbrev pub cause_of_fault : RecordFault → ScheduleCause
+cause_of_fault no_record.Read = Read
+cause_of_fault no_record.Memory = Memory
 
 -- the fields of the header of a schedule
 abbrev pub is_schedule_header : Record → Bool
@@ -55,10 +55,10 @@ abbrev pub IsOfReading : ScheduleCause → Type 0
 IsOfReading cause = (cause ≡ Read) ⊎ (cause ≡ Memory)
 
 -- the records are a schedule of these commands: none has a cause, and those after the header spell the commands
-pub record IsSchedule (rows : List Record) (commands : List Command) : Type 0 where
-  pub clean : IsClean schedule_cause rows
-  pub spells : map command_in (drop 1 rows) ≡ map Ok commands
+pub record IsSchedule (records : List Record) (commands : List Command) : Type 0 where
+  pub clean : IsClean schedule_cause records
+  pub spells : map command_in (drop 1 records) ≡ map Ok commands
 
 -- the fault gives the first record with a cause, and its first cause
 abbrev pub IsScheduleFault : List Record → ScheduleFault → Type 0
-IsScheduleFault rows fault = IsFirstFault schedule_cause IsOfReading rows fault.at fault.cause
+IsScheduleFault records fault = IsFirstFault schedule_cause IsOfReading records fault.at fault.cause

@@ -17,14 +17,14 @@ use Rattle.csv.specs.declared.reader.Reader.{Reader}
 
 -- arrivals can be read
 pub record IsOpen {R : Type 0} (source : ArrivalReader R) : Type 0 where
-  pub plain : IsPlain source.rows.value
+  pub plain : IsPlain source.records.value
   pub entries : 0 < source.entries
 
 -- of the text the header was read, and nothing after it
 pub record HasHeader {R : Type 0} (remaining : R → Option (List ℕ)) (source : ArrivalReader R)
     (text : List ℕ) : Type 0 where
   pub fields : Record
-  pub read : HasRead remaining source.rows.value text (fields ∷ [])
+  pub read : HasRead remaining source.records.value text (fields ∷ [])
   pub heads : heading_of fields ≡ Some source.heading
 
 -- what is read later is spelled under the same header
@@ -33,42 +33,42 @@ pub record HasSameHeader {R : Type 0} (old new : ArrivalReader R) : Type 0 where
   pub entries : new.entries ≡ old.entries
 
 -- the records so far: a header, and a record for each arrival; none has a cause
-pub record AreTaken (heading : Heading) (entries : ℕ) (rows : List Record) (arrivals : List Arrival) : Type 0 where
-  pub headed : heading_in rows ≡ heading
-  pub some : 0 < length rows
-  pub clean : IsCleanBefore (batch_cause entries) rows (length rows)
-  pub spells : arrivals_in heading entries (drop 1 rows) ≡ arrivals
-  pub counted : length arrivals + 1 ≡ length rows
+pub record AreTaken (heading : Heading) (entries : ℕ) (records : List Record) (arrivals : List Arrival) : Type 0 where
+  pub headed : heading_in records ≡ heading
+  pub some : 0 < length records
+  pub clean : IsCleanBefore (batch_cause entries) records (length records)
+  pub spells : arrivals_in heading entries (drop 1 records) ≡ arrivals
+  pub counted : length arrivals + 1 ≡ length records
 
 -- these records spell these arrivals, one each
 abbrev pub AreSpelled : Heading → ℕ → List Record → List Arrival → Type 0
-AreSpelled heading entries rows arrivals = map (arrival_in heading entries) rows ≡ map Ok arrivals
+AreSpelled heading entries records arrivals = map (arrival_in heading entries) records ≡ map Ok arrivals
 
 -- why a stretch ends after these records: others may come, or none does, or the next spells no arrival or could not be
 -- read
 abbrev pub EndsAfter : {R : Type 0} → (R → Option (List ℕ)) → Reader R → Heading → ℕ → List ℕ → List Record
     → Result Bool BatchCause → Type 0
-EndsAfter remaining reader heading entries text rows end =
-    MatchResult end (λ others. MatchBool others (HasRead remaining reader text rows) (records_of text ≡ rows))
-    (λ cause. ((fields : Record) × HasRead remaining reader text (rows ++ fields ∷ [])
+EndsAfter remaining reader heading entries text records end =
+    MatchResult end (λ others. MatchBool others (HasRead remaining reader text records) (records_of text ≡ records))
+    (λ cause. ((fields : Record) × HasRead remaining reader text (records ++ fields ∷ [])
     × (arrival_in heading entries fields ≡ Err cause)) ⊎ IsOfReading cause)
 
 -- after these records of the text come those that spell these arrivals
 pub record HasStretch {R : Type 0} (remaining : R → Option (List ℕ)) (reader : Reader R) (heading : Heading)
     (entries : ℕ) (text : List ℕ) (before : List Record) (arrivals : List Arrival)
     (end : Result Bool BatchCause) : Type 0 where
-  pub rows : List Record
-  pub spelled : AreSpelled heading entries rows arrivals
-  pub first : (later : List Record) × (records_of text ≡ (before ++ rows) ++ later)
-  pub ends : EndsAfter remaining reader heading entries text (before ++ rows) end
+  pub records : List Record
+  pub spelled : AreSpelled heading entries records arrivals
+  pub first : (later : List Record) × (records_of text ≡ (before ++ records) ++ later)
+  pub ends : EndsAfter remaining reader heading entries text (before ++ records) end
 
 -- what the reading of a stretch does
 pub record ReadsStretch {R : Type 0} (remaining : R → Option (List ℕ)) (old new : ArrivalReader R)
     (arrivals : List Arrival) (end : Result Bool BatchCause) : Type 0 where
-  pub plain : OnOk end (IsPlain new.rows.value)
+  pub plain : OnOk end (IsPlain new.records.value)
   pub same : HasSameHeader old new
-  pub reads : (text : List ℕ) (before : List Record) → HasRead remaining old.rows.value text before
-      → HasStretch remaining new.rows.value old.heading old.entries text before arrivals end
+  pub reads : (text : List ℕ) (before : List Record) → HasRead remaining old.records.value text before
+      → HasStretch remaining new.records.value old.heading old.entries text before arrivals end
 
 -- a stretch after which others may come is full: it has as many arrivals as were asked for
 abbrev pub IsFull : ℕ → List Arrival → Result Bool BatchCause → Type 0
@@ -82,8 +82,8 @@ pub record Gathers (entries : ℕ) (arrivals : List Arrival) (old new : Gatherin
   pub next : OnOk result (new.next ≡ old.next + length arrivals)
   -- a fault is reported at the record that was being gathered
   pub at : IfErr result (λ fault. fault.at ≡ new.next)
-  pub answer : (heading : Heading) (before rows later : List Record) (came : List Arrival)
-      → AreTaken heading entries before came → IsGathered old came → AreSpelled heading entries rows arrivals
+  pub answer : (heading : Heading) (before records later : List Record) (came : List Arrival)
+      → AreTaken heading entries before came → IsGathered old came → AreSpelled heading entries records arrivals
       → MatchResult result
-      (λ done. AreTaken heading entries (before ++ rows) (came ++ arrivals) × IsGathered new (came ++ arrivals))
-      (IsBatchFault entries ((before ++ rows) ++ later))
+      (λ done. AreTaken heading entries (before ++ records) (came ++ arrivals) × IsGathered new (came ++ arrivals))
+      (IsBatchFault entries ((before ++ records) ++ later))

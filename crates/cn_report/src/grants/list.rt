@@ -12,23 +12,23 @@ ghost use Rattle.cn_report.specs.Reading.Records.{HasRead, IsPlain, Record, reco
 
 use crate::grants::epochs::{Granting, NamedEpoch};
 use crate::grants::record::{Flaw, GrantCause, flaw_at, granted_of};
-use crate::reading::rows::{is_header, next_row, open_rows};
+use crate::reading::records::{is_header, next_record, open_records};
 use cn_spec::limits::MOST_RECORDS;
 use csv::{ByteRecord, Reader};
 use std::alloc::Global;
 use std::io::Read;
 
 /// Takes the header.
-fn take_header<R: Read>(rows: &mut Reader<R>, row: &mut ByteRecord) -> Result<(), GrantCause>
-    requires { IsPlain rows.old }
-    ensures plain { OnOk result (IsPlain rows.new) }
-    ensures ok { IfOk result (λ _. (text : List ℕ) → HasRead R.remaining rows.old text []
-        → (fields : Record) × HasRead R.remaining rows.new text (fields ∷ [])
+fn take_header<R: Read>(records: &mut Reader<R>, fields: &mut ByteRecord) -> Result<(), GrantCause>
+    requires { IsPlain records.old }
+    ensures plain { OnOk result (IsPlain records.new) }
+    ensures ok { IfOk result (λ _. (text : List ℕ) → HasRead R.remaining records.old text []
+        → (fields : Record) × HasRead R.remaining records.new text (fields ∷ [])
         × (header_cause fields ≡ None)) }
-    ensures err { IfErr result (λ cause. (text : List ℕ) → HasRead R.remaining rows.old text []
+    ensures err { IfErr result (λ cause. (text : List ℕ) → HasRead R.remaining records.old text []
         → IsFirstWithCause (records_of text) 0 cause) }
 {
-    if next_row(rows, row)? && is_header(row, b"epoch", b"client", b"name") {
+    if next_record(records, fields)? && is_header(fields, b"epoch", b"client", b"name") {
         Ok(())
     } else {
         Err(GrantCause::Form)
@@ -37,38 +37,38 @@ fn take_header<R: Read>(rows: &mut Reader<R>, row: &mut ByteRecord) -> Result<()
 
 /// Takes the grant of record `at`, and returns whether there was one.
 fn take_grant<R: Read>(
-    rows: &mut Reader<R>,
-    row: &mut ByteRecord,
+    records: &mut Reader<R>,
+    fields: &mut ByteRecord,
     at: u64,
     granting: &mut Granting,
 ) -> Result<bool, GrantCause>
-    requires plain { IsPlain rows.old }
+    requires plain { IsPlain records.old }
     requires count { granting.old.count < at }
-    ensures plain { OnOk result (IsPlain rows.new) }
+    ensures plain { OnOk result (IsPlain records.new) }
     ensures found { IfOk result (λ found.
         (text : List ℕ) (before : List Record) (grants : List Granted)
-        → HasRead R.remaining rows.old text before
+        → HasRead R.remaining records.old text before
         → IsChecked granting.old grants → length grants + 1 ≡ at
         → MatchBool found ((fields : Record) × (grant : Granted)
-        × HasRead R.remaining rows.new text (before ++ fields ∷ [])
+        × HasRead R.remaining records.new text (before ++ fields ∷ [])
         × (grant_spelled fields ≡ Some grant) × (spelled_cause grants (Some grant) ≡ None)
         × IsChecked granting.new (grants ++ grant ∷ []))
         ((records_of text ≡ before) × IsChecked granting.new grants)) }
     ensures refused { IfErr result (λ cause.
         (text : List ℕ) (before : List Record) (grants : List Granted)
-        → HasRead R.remaining rows.old text before
+        → HasRead R.remaining records.old text before
         → IsChecked granting.old grants → length grants + 1 ≡ at
-        → ((fields : Record) × HasRead R.remaining rows.new text (before ++ fields ∷ [])
+        → ((fields : Record) × HasRead R.remaining records.new text (before ++ fields ∷ [])
         × (spelled_cause grants (grant_spelled fields) ≡ Some cause))
         ⊎ (cause ≡ GrantCause.Read) ⊎ (cause ≡ GrantCause.Memory)) }
     ensures few { IfOk result (λ found. found ≡ true → at ≤ MOST_RECORDS) }
     ensures count { IfOk result (λ found.
         MatchBool found (granting.new.count ≤ at) (granting.new.count < at)) }
 {
-    if !next_row(rows, row)? {
+    if !next_record(records, fields)? {
         return Ok(false);
     }
-    let Some(grant) = granted_of(row) else {
+    let Some(grant) = granted_of(fields) else {
         return Err(GrantCause::Form);
     };
     granting.add(at, grant)?;
@@ -78,20 +78,20 @@ fn take_grant<R: Read>(
 /// Takes the header and the grants.
 fn take_grants<R: Read>(
     alloc: Global,
-    rows: &mut Reader<R>,
-    row: &mut ByteRecord,
+    records: &mut Reader<R>,
+    fields: &mut ByteRecord,
 ) -> Result<Vec<NamedEpoch>, Flaw>
-    requires plain { IsPlain rows.old }
-    ensures answer { (text : List ℕ) → HasRead R.remaining rows.old text []
-        → let rows = records_of text in
-        MatchResult result (λ epochs. IsNamedList rows epochs.items) (IsFlaw rows) }
+    requires plain { IsPlain records.old }
+    ensures answer { (text : List ℕ) → HasRead R.remaining records.old text []
+        → let records = records_of text in
+        MatchResult result (λ epochs. IsNamedList records epochs.items) (IsFlaw records) }
 {
     let mut granting = Granting::new(alloc);
-    if let Err(cause) = take_header(rows, row) {
+    if let Err(cause) = take_header(records, fields) {
         return Err(flaw_at(0, cause));
     }
     for at in 1..MOST_RECORDS + 2 {
-        match take_grant(rows, row, at, &mut granting) {
+        match take_grant(records, fields, at, &mut granting) {
             Ok(true) => {}
             Ok(false) => return granting.finish(),
             Err(cause) => return Err(flaw_at(at, cause)),
@@ -111,12 +111,12 @@ fn take_grants<R: Read>(
 /// The first record that has a cause, with its first cause; if no record has one, the first name that is missing. A
 /// failed read is reported at the record that was being read. `Memory` if a growth was refused.
 pub fn named_grants<R: Read + Drop>(alloc: Global, reader: R) -> Result<Vec<NamedEpoch>, Flaw>
-    ensures answer { IfSome (R.remaining reader) (λ text. let rows = records_of text in
-        MatchResult result (λ epochs. IsNamedList rows epochs.items) (IsFlaw rows)) }
+    ensures answer { IfSome (R.remaining reader) (λ text. let records = records_of text in
+        MatchResult result (λ epochs. IsNamedList records epochs.items) (IsFlaw records)) }
     ensures exact { IfSome (R.remaining reader) (λ text.
         IfErr result (λ flaw. IsTightList (records_of text) → IsOutside flaw)) }
 {
-    let mut rows = open_rows(alloc, reader)?;
-    let mut row = ByteRecord::new(alloc);
-    take_grants(alloc, &mut rows, &mut row)
+    let mut records = open_records(alloc, reader)?;
+    let mut fields = ByteRecord::new(alloc);
+    take_grants(alloc, &mut records, &mut fields)
 }

@@ -4,12 +4,12 @@ ghost use Rattle.std.specs.Prelude.{◌≡◌, Some};
 ghost use Rattle.csv.specs.Records.{fields_of};
 ghost use Rattle.cn_report.specs.Reading.Number.{number_in};
 ghost use Rattle.cn_report.specs.Grants.Granted.{grant_spelled, granted_from};
-ghost use Rattle.cn_report.specs.Grants.TightList.{flaw_name, flaw_of, grant_cause_of_row};
+ghost use Rattle.cn_report.specs.Grants.TightList.{flaw_name, flaw_of, grant_cause_of_fault};
 ghost use Rattle.cn_report.specs.declared.grants.record.Flaw.TheVariants as flaws;
 ghost use Rattle.cn_report.specs.declared.grants.record.GrantCause.TheVariants as causes;
 
 use crate::reading::number::number_of;
-use crate::reading::rows::{RowFault, field};
+use crate::reading::records::{RecordFault, field};
 use csv::ByteRecord;
 use std::alloc::AllocError;
 use std::fmt;
@@ -88,13 +88,13 @@ impl From<AllocError> for Flaw {
     }
 }
 
-impl From<RowFault> for GrantCause {
-    ghost from_gives = { λ fault cause. cause ≡ grant_cause_of_row fault };
+impl From<RecordFault> for GrantCause {
+    ghost from_gives = { λ fault cause. cause ≡ grant_cause_of_fault fault };
 
-    fn from(fault: RowFault) -> Self {
+    fn from(fault: RecordFault) -> Self {
         match fault {
-            RowFault::Read => GrantCause::Read,
-            RowFault::Memory => GrantCause::Memory,
+            RecordFault::Read => GrantCause::Read,
+            RecordFault::Memory => GrantCause::Memory,
         }
     }
 }
@@ -127,11 +127,11 @@ fn granted_from(epoch: &[u8], client: &[u8], name: &[u8]) -> Option<Granted>
 
 /// The grant of a record, if it is one.
 #[tactic(auto, using(crate::proofs::ReadingLemmas::RecordFields::granted_of_three, crate::proofs::ReadingLemmas::RecordFields::granted_of_others))]
-pub(crate) fn granted_of(row: &ByteRecord) -> Option<Granted>
-    ensures { result ≡ grant_spelled (fields_of row.now) }
+pub(crate) fn granted_of(fields: &ByteRecord) -> Option<Granted>
+    ensures { result ≡ grant_spelled (fields_of fields.now) }
 {
-    if row.len() != 3 {
+    if fields.len() != 3 {
         return None;
     }
-    granted_from(field(row, 0), field(row, 1), field(row, 2))
+    granted_from(field(fields, 0), field(fields, 1), field(fields, 2))
 }

@@ -2,9 +2,9 @@
 
 ghost use Rattle.std.specs.Prelude.{◌≡◌, Some};
 ghost use Rattle.cn_report.specs.declared.reading.batch_fault.BatchCause.TheVariants as causes;
-ghost use Rattle.cn_report.specs.Reading.Batch.{batch_cause_name, batch_cause_of_row};
+ghost use Rattle.cn_report.specs.Reading.Batch.{batch_cause_name, batch_cause_of_fault};
 
-use crate::reading::rows::RowFault;
+use crate::reading::records::RecordFault;
 use std::alloc::AllocError;
 use std::fmt;
 
@@ -60,13 +60,13 @@ impl fmt::Display for BatchCause {
     }
 }
 
-impl From<RowFault> for BatchCause {
-    ghost from_gives = { λ fault cause. cause ≡ batch_cause_of_row fault };
+impl From<RecordFault> for BatchCause {
+    ghost from_gives = { λ fault cause. cause ≡ batch_cause_of_fault fault };
 
-    fn from(fault: RowFault) -> Self {
+    fn from(fault: RecordFault) -> Self {
         match fault {
-            RowFault::Read => BatchCause::Read,
-            RowFault::Memory => BatchCause::Memory,
+            RecordFault::Read => BatchCause::Read,
+            RecordFault::Memory => BatchCause::Memory,
         }
     }
 }

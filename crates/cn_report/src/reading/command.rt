@@ -6,7 +6,7 @@ ghost use Rattle.cn_report.specs.Reading.Command.{command_in, entering, spelled,
 ghost use Rattle.cn_report.specs.Reading.Number.{number_in};
 
 use crate::reading::number::number_of;
-use crate::reading::rows::field;
+use crate::reading::records::field;
 use crate::reading::schedule_fault::ScheduleCause;
 use cn_record::Command;
 use csv::ByteRecord;
@@ -59,11 +59,11 @@ fn command_from(op: &[u8], client: &[u8], wire: &[u8]) -> Result<Command, Schedu
 
 /// The command of a record.
 #[tactic(auto, using(crate::proofs::ReadingLemmas::RecordFields::command_of_three, crate::proofs::ReadingLemmas::RecordFields::command_of_others))]
-pub(crate) fn command_of(row: &ByteRecord) -> Result<Command, ScheduleCause>
-    ensures { result ≡ command_in (fields_of row.now) }
+pub(crate) fn command_of(fields: &ByteRecord) -> Result<Command, ScheduleCause>
+    ensures { result ≡ command_in (fields_of fields.now) }
 {
-    if row.len() != 3 {
+    if fields.len() != 3 {
         return Err(ScheduleCause::FieldCount);
     }
-    command_from(field(row, 0), field(row, 1), field(row, 2))
+    command_from(field(fields, 0), field(fields, 1), field(fields, 2))
 }

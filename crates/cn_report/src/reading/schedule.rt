@@ -7,7 +7,7 @@ ghost use Rattle.cn_report.specs.Reading.Records.{HasRead, IsPlain, Record, reco
 ghost use Rattle.cn_report.specs.Reading.Schedule.{IsSchedule, IsScheduleFault, command_cause, header_cause};
 
 use crate::reading::command::command_of;
-use crate::reading::rows::{is_header, next_row, open_rows};
+use crate::reading::records::{is_header, next_record, open_records};
 use crate::reading::schedule_fault::{ScheduleCause, ScheduleFault};
 use cn_record::Command;
 use cn_spec::limits::MOST_RECORDS;
@@ -16,16 +16,19 @@ use std::alloc::Global;
 use std::io::Read;
 
 /// Takes the header.
-fn take_header<R: Read>(rows: &mut Reader<R>, row: &mut ByteRecord) -> Result<(), ScheduleCause>
-    requires { IsPlain rows.old }
-    ensures plain { OnOk result (IsPlain rows.new) }
-    ensures ok { IfOk result (λ _. (text : List ℕ) → HasRead R.remaining rows.old text []
-        → (fields : Record) × HasRead R.remaining rows.new text (fields ∷ [])
+fn take_header<R: Read>(
+    records: &mut Reader<R>,
+    fields: &mut ByteRecord,
+) -> Result<(), ScheduleCause>
+    requires { IsPlain records.old }
+    ensures plain { OnOk result (IsPlain records.new) }
+    ensures ok { IfOk result (λ _. (text : List ℕ) → HasRead R.remaining records.old text []
+        → (fields : Record) × HasRead R.remaining records.new text (fields ∷ [])
         × (header_cause fields ≡ None)) }
-    ensures err { IfErr result (λ cause. (text : List ℕ) → HasRead R.remaining rows.old text []
+    ensures err { IfErr result (λ cause. (text : List ℕ) → HasRead R.remaining records.old text []
         → IsScheduleFault (records_of text) (record { at = 0; cause = cause })) }
 {
-    if next_row(rows, row)? && is_header(row, b"op", b"client", b"wire") {
+    if next_record(records, fields)? && is_header(fields, b"op", b"client", b"wire") {
         Ok(())
     } else {
         Err(ScheduleCause::Header)
@@ -34,28 +37,28 @@ fn take_header<R: Read>(rows: &mut Reader<R>, row: &mut ByteRecord) -> Result<()
 
 /// Takes the command of record `at`, if there is one.
 fn take_command<R: Read>(
-    rows: &mut Reader<R>,
-    row: &mut ByteRecord,
+    records: &mut Reader<R>,
+    fields: &mut ByteRecord,
     at: u64,
 ) -> Result<Option<Command>, ScheduleCause>
-    requires { IsPlain rows.old }
-    ensures plain { OnOk result (IsPlain rows.new) }
+    requires { IsPlain records.old }
+    ensures plain { OnOk result (IsPlain records.new) }
     ensures found { IfOk result (λ found. (text : List ℕ) (before : List Record)
-        → HasRead R.remaining rows.old text before
+        → HasRead R.remaining records.old text before
         → MatchOption found (records_of text ≡ before) (λ command. (fields : Record)
-        × HasRead R.remaining rows.new text (before ++ fields ∷ [])
+        × HasRead R.remaining records.new text (before ++ fields ∷ [])
         × (command_cause at (command_in fields) ≡ None) × (command_in fields ≡ Ok command))) }
     ensures refused { IfErr result (λ cause. (text : List ℕ) (before : List Record)
-        → HasRead R.remaining rows.old text before
-        → ((fields : Record) × HasRead R.remaining rows.new text (before ++ fields ∷ [])
+        → HasRead R.remaining records.old text before
+        → ((fields : Record) × HasRead R.remaining records.new text (before ++ fields ∷ [])
         × (command_cause at (command_in fields) ≡ Some cause))
         ⊎ (cause ≡ ScheduleCause.Read) ⊎ (cause ≡ ScheduleCause.Memory)) }
     ensures few { IfOk result (λ found. IfSome found (λ _. at ≤ MOST_RECORDS)) }
 {
-    if !next_row(rows, row)? {
+    if !next_record(records, fields)? {
         return Ok(None);
     }
-    let command = command_of(row)?;
+    let command = command_of(fields)?;
     if at > MOST_RECORDS {
         return Err(ScheduleCause::ScheduleFull);
     }
@@ -65,20 +68,20 @@ fn take_command<R: Read>(
 /// Takes the header and the commands.
 fn take_commands<R: Read>(
     alloc: Global,
-    rows: &mut Reader<R>,
-    row: &mut ByteRecord,
+    records: &mut Reader<R>,
+    fields: &mut ByteRecord,
 ) -> Result<Vec<Command>, ScheduleFault>
-    requires { IsPlain rows.old }
-    ensures { (text : List ℕ) → HasRead R.remaining rows.old text []
+    requires { IsPlain records.old }
+    ensures { (text : List ℕ) → HasRead R.remaining records.old text []
         → MatchResult result (λ commands.
         IsSchedule (records_of text) commands.items) (IsScheduleFault (records_of text)) }
 {
     let mut commands = Vec::new(alloc);
-    if let Err(cause) = take_header(rows, row) {
+    if let Err(cause) = take_header(records, fields) {
         return Err(ScheduleFault { at: 0, cause });
     }
     for at in 1..MOST_RECORDS + 2 {
-        let taken = match take_command(rows, row, at) {
+        let taken = match take_command(records, fields, at) {
             Ok(taken) => taken,
             Err(cause) => return Err(ScheduleFault { at, cause }),
         };
@@ -109,7 +112,7 @@ pub fn read_schedule<R: Read + Drop>(
         MatchResult result (λ commands.
         IsSchedule (records_of text) commands.items) (IsScheduleFault (records_of text))) }
 {
-    let mut rows = open_rows(alloc, reader)?;
-    let mut row = ByteRecord::new(alloc);
-    take_commands(alloc, &mut rows, &mut row)
+    let mut records = open_records(alloc, reader)?;
+    let mut fields = ByteRecord::new(alloc);
+    take_commands(alloc, &mut records, &mut fields)
 }

@@ -2,9 +2,9 @@
 
 ghost use Rattle.std.specs.Prelude.{◌≡◌, Some};
 ghost use Rattle.cn_report.specs.declared.reading.schedule_fault.ScheduleCause.TheVariants as causes;
-ghost use Rattle.cn_report.specs.Reading.Schedule.{cause_name, cause_of_row};
+ghost use Rattle.cn_report.specs.Reading.Schedule.{cause_name, cause_of_fault};
 
-use crate::reading::rows::RowFault;
+use crate::reading::records::RecordFault;
 use std::alloc::AllocError;
 use std::fmt;
 
@@ -48,13 +48,13 @@ impl fmt::Display for ScheduleCause {
     }
 }
 
-impl From<RowFault> for ScheduleCause {
-    ghost from_gives = { λ fault cause. cause ≡ cause_of_row fault };
+impl From<RecordFault> for ScheduleCause {
+    ghost from_gives = { λ fault cause. cause ≡ cause_of_fault fault };
 
-    fn from(fault: RowFault) -> Self {
+    fn from(fault: RecordFault) -> Self {
         match fault {
-            RowFault::Read => ScheduleCause::Read,
-            RowFault::Memory => ScheduleCause::Memory,
+            RecordFault::Read => ScheduleCause::Read,
+            RecordFault::Memory => ScheduleCause::Memory,
         }
     }
 }

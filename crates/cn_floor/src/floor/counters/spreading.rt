@@ -33,8 +33,8 @@ pub(super) fn table_of(
     if about.stride == 1 {
         return Table::of_words(alloc, words, about);
     }
-    let row = spread_out(alloc, words, about.stride)?;
-    Table::of_words(alloc, row.as_slice(), about)
+    let spaced = spread_out(alloc, words, about.stride)?;
+    Table::of_words(alloc, spaced.as_slice(), about)
 }
 
 /// The words a stride apart, with zeros between.
@@ -43,23 +43,23 @@ pub(super) fn table_of(
 /// `AllocError` if they get no memory.
 fn spread_out(alloc: Global, words: &[u64], stride: usize) -> Result<Vec<u64>, AllocError>
     requires { 1 ≤ stride }
-    ensures { IfOk result (λ row. row.items ≡ spread stride words.now) }
+    ensures { IfOk result (λ spaced. spaced.items ≡ spread stride words.now) }
 {
     let Some(places) = stride.checked_mul(words.len()) else {
         return Err(AllocError);
     };
-    let mut row = Vec::from_elem(alloc, 0u64, places)?;
-    lay(words, stride, &mut row);
-    Ok(row)
+    let mut spaced = Vec::from_elem(alloc, 0u64, places)?;
+    lay(words, stride, &mut spaced);
+    Ok(spaced)
 }
 
 /// Writes each word to its place.
-fn lay(words: &[u64], stride: usize, row: &mut [u64])
+fn lay(words: &[u64], stride: usize, spaced: &mut [u64])
     requires stride { 1 ≤ stride }
-    requires zeros { row.old ≡ replicate (stride * length words.now) 0 }
-    ensures { row.new ≡ spread stride words.now }
+    requires zeros { spaced.old ≡ replicate (stride * length words.now) 0 }
+    ensures { spaced.new ≡ spread stride words.now }
 {
     for word in 0..words.len() {
-        row[stride * word] = words[word];
+        spaced[stride * word] = words[word];
     }
 }

@@ -8,7 +8,7 @@ ghost use Rattle.cn_report.specs.Reading.Number.{number_in};
 
 use crate::reading::batch_fault::BatchCause;
 use crate::reading::number::number_of;
-use crate::reading::rows::{field, is_header, is_short_header};
+use crate::reading::records::{field, is_header, is_short_header};
 use csv::ByteRecord;
 
 /// How the records of a batch give the entry by which a client comes.
@@ -21,12 +21,12 @@ pub(crate) enum Heading {
 }
 
 /// What a record heads, if it is a header of a batch.
-pub(crate) fn heading_of(row: &ByteRecord) -> Option<Heading>
-    ensures { result ≡ heading_of (fields_of row.now) }
+pub(crate) fn heading_of(fields: &ByteRecord) -> Option<Heading>
+    ensures { result ≡ heading_of (fields_of fields.now) }
 {
-    if is_header(row, b"epoch", b"client", b"entry") {
+    if is_header(fields, b"epoch", b"client", b"entry") {
         Some(Heading::WithEntry)
-    } else if is_short_header(row, b"epoch", b"client") {
+    } else if is_short_header(fields, b"epoch", b"client") {
         Some(Heading::ByRule)
     } else {
         None
@@ -56,13 +56,13 @@ fn arrival_from(epoch: &[u8], client: &[u8], entry: &[u8]) -> Result<Arrival, Ba
 
 /// The arrival of a record that gives its entry.
 #[tactic(auto, using(crate::proofs::ReadingLemmas::RecordFields::arrival_of_three, crate::proofs::ReadingLemmas::RecordFields::arrival_of_others))]
-fn arrival_with_entry(row: &ByteRecord) -> Result<Arrival, BatchCause>
-    ensures { result ≡ arrival_with_entry (fields_of row.now) }
+fn arrival_with_entry(fields: &ByteRecord) -> Result<Arrival, BatchCause>
+    ensures { result ≡ arrival_with_entry (fields_of fields.now) }
 {
-    if row.len() != 3 {
+    if fields.len() != 3 {
         return Err(BatchCause::FieldCount);
     }
-    arrival_from(field(row, 0), field(row, 1), field(row, 2))
+    arrival_from(field(fields, 0), field(fields, 1), field(fields, 2))
 }
 
 fn arrival_by_rule(epoch: &[u8], client: &[u8], entries: u32) -> Result<Arrival, BatchCause>
@@ -81,27 +81,27 @@ fn arrival_by_rule(epoch: &[u8], client: &[u8], entries: u32) -> Result<Arrival,
 
 /// The arrival of a record whose entry follows by rule.
 #[tactic(auto, using(crate::proofs::ReadingLemmas::RecordFields::arrival_of_two, crate::proofs::ReadingLemmas::RecordFields::ruled_of_others))]
-fn ruled_arrival(row: &ByteRecord, entries: u32) -> Result<Arrival, BatchCause>
+fn ruled_arrival(fields: &ByteRecord, entries: u32) -> Result<Arrival, BatchCause>
     requires { 0 < entries }
-    ensures { result ≡ ruled_arrival entries (fields_of row.now) }
+    ensures { result ≡ ruled_arrival entries (fields_of fields.now) }
 {
-    if row.len() != 2 {
+    if fields.len() != 2 {
         return Err(BatchCause::FieldCount);
     }
-    arrival_by_rule(field(row, 0), field(row, 1), entries)
+    arrival_by_rule(field(fields, 0), field(fields, 1), entries)
 }
 
 /// The arrival of a record, of a batch with this heading for a network with so many entries.
 pub(crate) fn arrival_of(
-    row: &ByteRecord,
+    fields: &ByteRecord,
     heading: Heading,
     entries: u32,
 ) -> Result<Arrival, BatchCause>
     requires { 0 < entries }
-    ensures { result ≡ arrival_in heading entries (fields_of row.now) }
+    ensures { result ≡ arrival_in heading entries (fields_of fields.now) }
 {
     match heading {
-        Heading::WithEntry => arrival_with_entry(row),
-        Heading::ByRule => ruled_arrival(row, entries),
+        Heading::WithEntry => arrival_with_entry(fields),
+        Heading::ByRule => ruled_arrival(fields, entries),
     }
 }

@@ -9,7 +9,7 @@ ghost use Rattle.cn_report.specs.Reading.Stretch.{HasHeader, HasSameHeader, IsFu
 
 use crate::reading::batch::arrival::{Arrival, Heading, arrival_of, heading_of};
 use crate::reading::batch_fault::{BatchCause, BatchFault};
-use crate::reading::rows::{next_row, open_rows};
+use crate::reading::records::{next_record, open_records};
 use csv::{ByteRecord, Reader};
 use std::alloc::Global;
 use std::io::Read;
@@ -17,28 +17,31 @@ use std::io::Read;
 /// A batch that is read, record by record.
 #[derive(Drop)]
 pub(crate) struct ArrivalReader<R: Read + Drop> {
-    rows: Box<Reader<R>>,
-    row: ByteRecord,
+    records: Box<Reader<R>>,
+    fields: ByteRecord,
     heading: Heading,
     /// How many entries the network has.
     entries: u32,
 }
 
 /// Reads the header.
-fn read_header<R: Read>(rows: &mut Reader<R>, row: &mut ByteRecord) -> Result<Heading, BatchCause>
-    requires { IsPlain rows.old }
-    ensures plain { OnOk result (IsPlain rows.new) }
-    ensures ok { IfOk result (λ heading. (text : List ℕ) → HasRead R.remaining rows.old text []
-        → (fields : Record) × HasRead R.remaining rows.new text (fields ∷ [])
+fn read_header<R: Read>(
+    records: &mut Reader<R>,
+    fields: &mut ByteRecord,
+) -> Result<Heading, BatchCause>
+    requires { IsPlain records.old }
+    ensures plain { OnOk result (IsPlain records.new) }
+    ensures ok { IfOk result (λ heading. (text : List ℕ) → HasRead R.remaining records.old text []
+        → (fields : Record) × HasRead R.remaining records.new text (fields ∷ [])
         × (heading_of fields ≡ Some heading)) }
     ensures err { IfErr result (λ cause. (entries : ℕ) (text : List ℕ)
-        → HasRead R.remaining rows.old text []
+        → HasRead R.remaining records.old text []
         → IsBatchFault entries (records_of text) (record { at = 0; cause = cause })) }
 {
-    if !next_row(rows, row)? {
+    if !next_record(records, fields)? {
         return Err(BatchCause::Header);
     }
-    match heading_of(row) {
+    match heading_of(fields) {
         Some(heading) => Ok(heading),
         None => Err(BatchCause::Header),
     }
@@ -56,12 +59,12 @@ impl<R: Read + Drop> ArrivalReader<R> {
             (λ source. HasHeader R.remaining source text) (IsBatchFault entries (records_of text))) }
         ensures entries { IfOk result (λ source. source.entries ≡ entries) }
     {
-        let mut rows = open_rows(alloc, reader)?;
-        let mut row = ByteRecord::new(alloc);
-        match read_header(&mut rows, &mut row) {
+        let mut records = open_records(alloc, reader)?;
+        let mut fields = ByteRecord::new(alloc);
+        match read_header(&mut records, &mut fields) {
             Ok(heading) => Ok(ArrivalReader {
-                rows,
-                row,
+                records,
+                fields,
                 heading,
                 entries,
             }),
@@ -79,22 +82,22 @@ impl<R: Read + Drop> ArrivalReader<R> {
     /// The arrival of the next record, if there is one.
     fn next_arrival(&mut self) -> Result<Option<Arrival>, BatchCause>
         requires { IsOpen self.old }
-        ensures plain { OnOk result (IsPlain self.new.rows.value) }
+        ensures plain { OnOk result (IsPlain self.new.records.value) }
         ensures same { HasSameHeader self.old self.new }
         ensures next { IfOk result (λ next. (text : List ℕ) (before : List Record)
-            → HasRead R.remaining self.old.rows.value text before
+            → HasRead R.remaining self.old.records.value text before
             → MatchOption next (records_of text ≡ before) (λ arrival.
-            (fields : Record) × HasRead R.remaining self.new.rows.value text (before ++ fields ∷ [])
+            (fields : Record) × HasRead R.remaining self.new.records.value text (before ++ fields ∷ [])
             × (arrival_in self.old.heading self.old.entries fields ≡ Ok arrival))) }
         ensures refused { IfErr result (λ cause. (text : List ℕ) (before : List Record)
-            → HasRead R.remaining self.old.rows.value text before
-            → ((fields : Record) × HasRead R.remaining self.new.rows.value text (before ++ fields ∷ [])
+            → HasRead R.remaining self.old.records.value text before
+            → ((fields : Record) × HasRead R.remaining self.new.records.value text (before ++ fields ∷ [])
             × (arrival_in self.old.heading self.old.entries fields ≡ Err cause)) ⊎ IsOfReading cause) }
     {
-        if !next_row(&mut self.rows, &mut self.row)? {
+        if !next_record(&mut self.records, &mut self.fields)? {
             return Ok(None);
         }
-        Ok(Some(arrival_of(&self.row, self.heading, self.entries)?))
+        Ok(Some(arrival_of(&self.fields, self.heading, self.entries)?))
     }
 
     /// Reads a stretch in place of the arrivals that were there: `most` arrivals, or fewer if the text ends or a record

@@ -176,9 +176,9 @@ impl Gathering {
     /// # Errors
     /// Want of memory, at the record that is not there.
     pub(crate) fn finish(self, alloc: Global) -> Result<Vec<BatchEpoch>, BatchFault>
-        ensures answer { (heading : Heading) (entries : ℕ) (rows : List Record) (arrivals : List Arrival)
-            → AreTaken heading entries rows arrivals → IsGathered self arrivals
-            → MatchResult result (λ epochs. IsBatch entries rows epochs.items) (IsBatchFault entries rows) }
+        ensures answer { (heading : Heading) (entries : ℕ) (records : List Record) (arrivals : List Arrival)
+            → AreTaken heading entries records arrivals → IsGathered self arrivals
+            → MatchResult result (λ epochs. IsBatch entries records epochs.items) (IsBatchFault entries records) }
         ensures fits { IfOk result (λ epochs. (entries : ℕ) → StaysServable entries self
             → AreServable entries epochs.items) }
         ensures few { IfOk result (λ epochs. (entries : ℕ) → StaysServable entries self

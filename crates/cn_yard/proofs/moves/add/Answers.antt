@@ -36,7 +36,7 @@ returns-clause-lined c order lined =
     let number : c.len-number.result ≡ length c.args.records.now.items = c.len-number.ensures ∙ search rules in
     let len = (returns-clause-kept c).len in
     let few = c.requires.few in let room = lined.room in let short = lined.short in
-    let rows = c.append.ensures.kept.rows in let words = c.mark.ensures.length in
+    let as_many = c.append.ensures.kept.as_many in let words = c.mark.ensures.length in
     record {
       links =
           rw (take_at c.append.new.records _ c.push_reserved.new.self.len (c.append.ensures.kept.len ∙ c.deref_mut.ensures.len))
@@ -45,7 +45,7 @@ returns-clause-lined c order lined =
       few = omega arith;
       marks =
           marks-one c.args.lines.now c.append.new.lines c.args.marks.now c.mark.new.words c.args.wire true
-          lined.marks c.mark.ensures.marks c.append.ensures.kept.rows (λ u o. let k = c.append.ensures.kept.count u in grind (arith, nat_tests)) (let k = c.append.ensures.kept.count c.args.wire in grind (arith, nat_tests));
+          lined.marks c.mark.ensures.marks c.append.ensures.kept.as_many (λ u o. let k = c.append.ensures.kept.count u in grind (arith, nat_tests)) (let k = c.append.ensures.kept.count c.args.wire in grind (arith, nat_tests));
       room = omega arith;
       short = omega arith;
     }

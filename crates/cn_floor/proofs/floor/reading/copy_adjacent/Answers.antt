@@ -2,7 +2,7 @@ use Rattle.std.proofs.Common.{rules, arith}
 use Rattle.std.specs.Mem.Slots.{slots_items}
 use Rattle.cn_floor.proofs.AtClose.Closings.{at-get}
 use Rattle.cn_floor.proofs.Lists.{copied-all, copied-next}
-use Rattle.cn_floor.proofs.floor.reading.copy_row.Goals as goal
+use Rattle.cn_floor.proofs.floor.reading.copy_adjacent.Goals as goal
 
 pub loop-word-init : goal.loop-word-init
 loop-word-init c = search rules

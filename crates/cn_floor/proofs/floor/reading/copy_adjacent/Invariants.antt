@@ -1,6 +1,6 @@
 use Rattle.std.proofs.Common.{◌≡◌, length, take}
 use Rattle.std.specs.Mem.Slots.{slots_items}
-use Rattle.cn_floor.proofs.floor.reading.copy_row.Given as goal
+use Rattle.cn_floor.proofs.floor.reading.copy_adjacent.Given as goal
 
 -- the places so far have the words of the table
 abbrev pub invariant-loop-word : goal.invariant-loop-word

@@ -5,13 +5,13 @@ use Rattle.cn_floor.proofs.InStates.Laid.{spread-one}
 use Rattle.cn_floor.proofs.floor.reading.copy_by_stride.Goals as goal
 
 -- words side by side are all that the table has
-in-a-row : (stride : ℕ) (row : List ℕ) → IsSpaced stride row → stride ≡ 1 → words_in stride row ≡ row
-in-a-row stride row is one = sym (is.apart ∙ ap (λ (n : ℕ). spread n (words_in stride row)) one ∙ spread-one (words_in stride row))
+side-by-side : (stride : ℕ) (spaced : List ℕ) → IsSpaced stride spaced → stride ≡ 1 → words_in stride spaced ≡ spaced
+side-by-side stride spaced is one = sym (is.apart ∙ ap (λ (n : ℕ). spread n (words_in stride spaced)) one ∙ spread-one (words_in stride spaced))
 
-pub copy_row-requires-clause-places : goal.copy_row-requires-clause-places
-copy_row-requires-clause-places c =
-    c.requires.places ∙ ap length (in-a-row c.args.stride (slots_items c.args.table.now.words) c.requires.spaced c.if-stride-eq1.true)
+pub copy_adjacent-requires-clause-places : goal.copy_adjacent-requires-clause-places
+copy_adjacent-requires-clause-places c =
+    c.requires.places ∙ ap length (side-by-side c.args.stride (slots_items c.args.table.now.words) c.requires.spaced c.if-stride-eq1.true)
 
 pub returns-then-stride-eq1 : goal.returns-then-stride-eq1
 returns-then-stride-eq1 c =
-    c.copy_row.ensures ∙ sym (in-a-row c.args.stride (slots_items c.args.table.now.words) c.requires.spaced c.if-stride-eq1.true)
+    c.copy_adjacent.ensures ∙ sym (side-by-side c.args.stride (slots_items c.args.table.now.words) c.requires.spaced c.if-stride-eq1.true)

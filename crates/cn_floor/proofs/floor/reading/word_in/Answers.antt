@@ -6,12 +6,12 @@ use Rattle.cn_floor.specs.Spread.{words_in}
 use Rattle.cn_floor.proofs.floor.reading.word_in.Goals as goal
 
 module _ (c : goal.Start) where
-  abbrev row : List ℕ
-  row = slots_items c.args.table.now.words
+  abbrev spaced : List ℕ
+  spaced = slots_items c.args.table.now.words
 
   low : c.args.stride * c.args.word < slots_len c.args.table.now.words
   low =
-      let words : List ℕ = words_in c.args.stride row in
+      let words : List ℕ = words_in c.args.stride spaced in
       omega (
         arith,
         (slots_counts c.args.table.now.words).0,

@@ -37,9 +37,9 @@ returns-in-Err-take_grant g c = record {
       (elim (c.in-Err-take_grant.ensures.refused text before grants now checked (omega (arith, t.counted, size))) [
         | inl w ↦
             let (fields, next, e) = w in
-            rw (← size) (stop_at header_cause record_cause IsOfReading g.R.Read.remaining c.take_grant.new.rows text before fields c.in-Err-take_grant.cause t.clean next
+            rw (← size) (stop_at header_cause record_cause IsOfReading g.R.Read.remaining c.take_grant.new.records text before fields c.in-Err-take_grant.cause t.clean next
             (at-grants before grants fields t c.in-Err-take_grant.cause e))
-        | inr w ↦ rw (← size) (stop-before header_cause record_cause IsOfReading g.R.Read.remaining c.loop-at.rows text before c.in-Err-take_grant.cause t.clean now w)
+        | inr w ↦ rw (← size) (stop-before header_cause record_cause IsOfReading g.R.Read.remaining c.loop-at.records text before c.in-Err-take_grant.cause t.clean now w)
       ]));
 }
 

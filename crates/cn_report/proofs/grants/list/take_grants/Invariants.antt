@@ -8,8 +8,8 @@ abbrev pub invariant-loop-at : goal.invariant-loop-at
 invariant-loop-at g l = record {
   few : l.at ≤ MOST_RECORDS + 1;
   count : l.granting.count < l.at;
-  plain : IsPlain l.rows;
-  taken : (text : List ℕ) → HasRead g.R.Read.remaining l.fn.rows text []
-      → (before : List Record) × (grants : List Granted) × HasRead g.R.Read.remaining l.rows text before × (length before ≡ l.at)
+  plain : IsPlain l.records;
+  taken : (text : List ℕ) → HasRead g.R.Read.remaining l.fn.records text []
+      → (before : List Record) × (grants : List Granted) × HasRead g.R.Read.remaining l.records text before × (length before ≡ l.at)
       × AreTaken before grants × IsChecked l.granting grants;
 }

@@ -8,12 +8,12 @@ use Rattle.cn_report.proofs.grants.list.take_header.Goals.{else-branch-via-then-
 
 pub returns-then-is_header-clause-ok : goal.returns-then-is_header-clause-ok
 returns-then-is_header-clause-ok g c = λ text read.
-    (fields_of c.next_row.new.row, rw c.if-branch.true at (c.in_ok-next_row.ensures.reads text [] read), rw (← c.if-is_header.ensures) refl)
+    (fields_of c.next_record.new.fields, rw c.if-branch.true at (c.in_ok-next_record.ensures.reads text [] read), rw (← c.if-is_header.ensures) refl)
 
 pub returns-else-branch-clause-err : goal.returns-else-branch-clause-err
 returns-else-branch-clause-err g c = λ text read.
     elim c.else-branch.branch [
       | else-branch-via-then-branch+else-is_header w ↦
-          no_header header_cause record_cause IsOfReading g.R.Read.remaining c.next_row.new.rows text (fields_of c.next_row.new.row) Form (rw w.if-branch.true at (c.in_ok-next_row.ensures.reads text [] read)) (rw (← w.if-is_header.ensures) refl)
-      | else-branch-via-else-branch w ↦ nothing header_cause record_cause IsOfReading _ Form refl (rw w.if-branch.false at (c.in_ok-next_row.ensures.reads text [] read))
+          no_header header_cause record_cause IsOfReading g.R.Read.remaining c.next_record.new.records text (fields_of c.next_record.new.fields) Form (rw w.if-branch.true at (c.in_ok-next_record.ensures.reads text [] read)) (rw (← w.if-is_header.ensures) refl)
+      | else-branch-via-else-branch w ↦ nothing header_cause record_cause IsOfReading _ Form refl (rw w.if-branch.false at (c.in_ok-next_record.ensures.reads text [] read))
     ]

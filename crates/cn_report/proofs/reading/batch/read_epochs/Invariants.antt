@@ -7,12 +7,12 @@ use Rattle.cn_report.proofs.reading.batch.read_epochs.Given as goal
 
 abbrev pub invariant-loop-end : goal.invariant-loop-end
 invariant-loop-end g l = record {
-  plain : OnOk l.end (IsPlain l.source.rows.value);
+  plain : OnOk l.end (IsPlain l.source.records.value);
   same : HasSameHeader l.fn.source l.source;
   full : IsFull STRETCH l.stretch.items l.end;
   keeps : StaysServable l.fn.source.entries l.gathering;
   ahead : (text : List ℕ) → HasHeader g.I.Read.remaining l.fn.source text
-      → IsAhead g.I.Read.remaining l.fn.source.heading l.fn.source.entries text l.source.rows.value l.gathering l.stretch.items l.end;
+      → IsAhead g.I.Read.remaining l.fn.source.heading l.fn.source.entries text l.source.records.value l.gathering l.stretch.items l.end;
 }
 
 abbrev pub decreases-loop-end : goal.decreases-loop-end

@@ -5,6 +5,6 @@ use Rattle.cn_report.proofs.reading.schedule.read_schedule.Goals as goal
 
 pub returns : goal.returns
 returns g c =
-    known-map (g.R.Read.remaining c.args.reader) (λ text. HasRead g.R.Read.remaining c.in_ok-rows.rows.value text [])
+    known-map (g.R.Read.remaining c.args.reader) (λ text. HasRead g.R.Read.remaining c.in_ok-records.records.value text [])
     (λ text. MatchResult c.take_commands.result (λ v. IsSchedule (records_of text) v.items) (IsScheduleFault (records_of text)))
-    c.in_ok-rows.ensures.opened (rw c.deref_mut.ensures.value at c.take_commands.ensures)
+    c.in_ok-records.ensures.opened (rw c.deref_mut.ensures.value at c.take_commands.ensures)

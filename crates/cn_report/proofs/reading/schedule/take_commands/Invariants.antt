@@ -6,7 +6,7 @@ abbrev pub invariant-loop-at : goal.invariant-loop-at
 invariant-loop-at g l = record {
   counted : vec_len l.commands + 1 ≡ l.at;
   few : vec_len l.commands ≤ MOST_RECORDS;
-  plain : IsPlain l.rows;
-  taken : (text : List ℕ) → HasRead g.R.Read.remaining l.fn.rows text []
-      → (before : List Record) × HasRead g.R.Read.remaining l.rows text before × (length before ≡ l.at) × AreTaken before l.commands.items;
+  plain : IsPlain l.records;
+  taken : (text : List ℕ) → HasRead g.R.Read.remaining l.fn.records text []
+      → (before : List Record) × HasRead g.R.Read.remaining l.records text before × (length before ≡ l.at) × AreTaken before l.commands.items;
 }

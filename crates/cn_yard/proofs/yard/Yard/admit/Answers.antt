@@ -40,7 +40,7 @@ pub relink-requires-clause-wire : goal.relink-requires-clause-wire
 relink-requires-clause-wire c =
     let (order, k) = kept (goal.at.relink-requires-clause-wire c).After-index in
     let h = within (goal.at.relink-requires-clause-wire c).After-index in
-    let rows = k.wires in
+    let as_many = k.wires in
     rw c.deref_mut-2.ensures.value (omega arith)
 
 pub relink-requires-clause-lined : goal.relink-requires-clause-lined

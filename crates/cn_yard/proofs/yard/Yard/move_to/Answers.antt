@@ -15,7 +15,7 @@ relink-requires-clause-number c =
 pub relink-requires-clause-wire : goal.relink-requires-clause-wire
 relink-requires-clause-wire c =
     let (order, k) = kept-live c.self.inside c.args.token c.self.invariant (rw (← c.self.view_is) at c.requires.live) in
-    let rows = k.wires in
+    let as_many = k.wires in
     let h = rw (← c.self.view_is, wires-are c.self.inside) at c.requires.wire in
     rw c.deref_mut-2.ensures.value (omega arith)
 

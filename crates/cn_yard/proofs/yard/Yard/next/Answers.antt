@@ -17,7 +17,7 @@ index-requires c =
     let (order, k) = kept-live c.self.inside c.args.token c.self.invariant (rw (← c.self.view_is) at c.requires) in
     let y = c.self.inside in
     let counted : vec_len y.lines ≡ length y.lines.items = search rules in
-    let rows = k.wires in
+    let as_many = k.wires in
     let h = wire-read y order k c.args.token c.index-record.result.now (rw (← c.self.view_is) at c.requires) (rw c.number.ensures at c.index-record.ensures) in
     omega arith
 

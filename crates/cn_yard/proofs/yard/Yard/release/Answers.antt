@@ -18,7 +18,7 @@ relink-requires-clause-number c =
 pub relink-requires-clause-wire : goal.relink-requires-clause-wire
 relink-requires-clause-wire c =
     let (order, k) = kept-live c.self.inside c.args.token c.self.invariant (rw (← c.self.view_is) at c.requires) in
-    let rows = k.wires in rw c.deref_mut-2.ensures.value (omega arith)
+    let as_many = k.wires in rw c.deref_mut-2.ensures.value (omega arith)
 
 pub relink-requires-clause-lined : goal.relink-requires-clause-lined
 relink-requires-clause-lined c =

@@ -48,7 +48,7 @@ free c =
 pub fill-requires-clause-wire : goal.fill-requires-clause-wire
 fill-requires-clause-wire c =
     let ((order, k), view) = made (goal.at.fill-requires-clause-wire c).After-deref_mut-2 in
-    let rows = k.wires in
+    let as_many = k.wires in
     rw c.deref_mut.ensures.value (omega arith)
 
 pub fill-requires-clause-less : goal.fill-requires-clause-less
@@ -109,6 +109,6 @@ returns-clause-err c =
     on_err_weaker c.fill.result
     (λ same.
     unfilled (before here.After-fill) c.fill.new.records c.fill.new.lines c.fill.new.marks
-    (c.fill.ensures.kept.rows ∙ c.deref_mut.ensures.len) (same.0, same.1 ∙ c.deref_mut.ensures.value)
+    (c.fill.ensures.kept.as_many ∙ c.deref_mut.ensures.len) (same.0, same.1 ∙ c.deref_mut.ensures.value)
     ∙ view ∙ c.self.view_is)
     c.fill.ensures.err

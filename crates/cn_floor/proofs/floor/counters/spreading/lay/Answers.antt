@@ -13,7 +13,7 @@ loop-word-preserved c =
     let n : ℕ = c.loop-word.word in
     let k : ℕ = c.args.stride in
     let next : suc n ≡ n + 1 = omega arith in
-    ap (λ (row : List ℕ). set row (k * n) (get_or ws n 0)) c.loop-word.invariant
+    ap (λ (spaced : List ℕ). set spaced (k * n) (get_or ws n 0)) c.loop-word.invariant
     ∙ set-spread k c.requires.stride (laid n ws) n (get_or ws n 0)
     ∙ ap (spread k) (laid-next ws n (omega (arith, c.loop-word-test.true)) ∙ ap (λ (m : ℕ). laid m ws) next)
 

@@ -15,5 +15,5 @@ returns-clause-words c =
     let ws : List ℕ = c.args.words.now in
     let stride : ℕ = c.args.about.now.stride in
     let long : length c.as_slice.result.now ≡ stride * length ws =
-    ap length (c.as_slice.ensures.value ∙ c.in_ok-row.ensures) ∙ length-spread stride c.requires.stride ws in
+    ap length (c.as_slice.ensures.value ∙ c.in_ok-spaced.ensures) ∙ length-spread stride c.requires.stride ws in
     IfOk-weaker c.of_words-2.result _ (λ t. t.0.shared.table_id.words ≡ stride * length ws) (λ t is. is.0 ∙ long) c.of_words-2.ensures

@@ -24,11 +24,11 @@ loop-taken-preserved g c =
       same = same-header _ _ _ c.loop-taken.invariant.same c.next_arrival.ensures.same;
       many = rw items (omega (arith, length-append xs (c.in-Some.arrival ∷ []), c.loop-taken.invariant.many));
       reads = λ text before read.
-          let (rows, spelled, now) = c.loop-taken.invariant.reads text before read in
-          let (fields, next, is) = rw (c.in-Some.is, c.loop-taken.invariant.same.heading, c.loop-taken.invariant.same.entries) at (c.in_ok-arrival.ensures.next text (before ++ rows) now) in (
-            rows ++ fields ∷ [],
-            rw items (spelled-more c.args.self.now.heading c.args.self.now.entries rows xs fields c.in-Some.arrival spelled is),
-            rw (append_assoc before rows (fields ∷ [])) at next,
+          let (records, spelled, now) = c.loop-taken.invariant.reads text before read in
+          let (fields, next, is) = rw (c.in-Some.is, c.loop-taken.invariant.same.heading, c.loop-taken.invariant.same.entries) at (c.in_ok-arrival.ensures.next text (before ++ records) now) in (
+            records ++ fields ∷ [],
+            rw items (spelled-more c.args.self.now.heading c.args.self.now.entries records xs fields c.in-Some.arrival spelled is),
+            rw (append_assoc before records (fields ∷ [])) at next,
           );
     }
 
@@ -39,8 +39,8 @@ returns-in_err-arrival-clause-reads g c =
       plain = tt;
       same = same-header _ _ _ c.loop-taken.invariant.same c.next_arrival.ensures.same;
       reads = λ text before read.
-          let (rows, spelled, now) = c.loop-taken.invariant.reads text before read in
-          stretch-read g.R.Read.remaining c.loop-taken.self.rows.value c.next_arrival.new.self.rows.value c.args.self.now.heading c.args.self.now.entries text before rows c.loop-taken.arrivals.items _ spelled now (rw (c.loop-taken.invariant.same.heading, c.loop-taken.invariant.same.entries) at (c.in_err-arrival.ensures.refused text (before ++ rows) now));
+          let (records, spelled, now) = c.loop-taken.invariant.reads text before read in
+          stretch-read g.R.Read.remaining c.loop-taken.self.records.value c.next_arrival.new.self.records.value c.args.self.now.heading c.args.self.now.entries text before records c.loop-taken.arrivals.items _ spelled now (rw (c.loop-taken.invariant.same.heading, c.loop-taken.invariant.same.entries) at (c.in_err-arrival.ensures.refused text (before ++ records) now));
     })
 
 pub returns-in_default-clause-reads : goal.returns-in_default-clause-reads
@@ -48,8 +48,8 @@ returns-in_default-clause-reads g c = record {
   plain = c.in_ok-arrival.ensures.plain;
   same = same-header _ _ _ c.loop-taken.invariant.same c.next_arrival.ensures.same;
   reads = λ text before read.
-      let (rows, spelled, now) = c.loop-taken.invariant.reads text before read in
-      stretch-read g.R.Read.remaining c.loop-taken.self.rows.value c.next_arrival.new.self.rows.value c.args.self.now.heading c.args.self.now.entries text before rows c.loop-taken.arrivals.items (Ok false) spelled now (rw c.in_default.is at (c.in_ok-arrival.ensures.next text (before ++ rows) now));
+      let (records, spelled, now) = c.loop-taken.invariant.reads text before read in
+      stretch-read g.R.Read.remaining c.loop-taken.self.records.value c.next_arrival.new.self.records.value c.args.self.now.heading c.args.self.now.entries text before records c.loop-taken.arrivals.items (Ok false) spelled now (rw c.in_default.is at (c.in_ok-arrival.ensures.next text (before ++ records) now));
 }
 
 pub returns-then-is_err-clause-reads : goal.returns-then-is_err-clause-reads
@@ -60,8 +60,8 @@ returns-then-is_err-clause-reads g c =
       plain = tt;
       same = same-header _ _ _ c.loop-taken.invariant.same c.next_arrival.ensures.same;
       reads = λ text before read.
-          let (rows, spelled, now) = c.loop-taken.invariant.reads text before read in
-          stretch-read g.R.Read.remaining c.loop-taken.self.rows.value c.next_arrival.new.self.rows.value c.args.self.now.heading c.args.self.now.entries text before rows c.push.new.self.items (Err Memory) (rw items spelled) now (inr (inr refl));
+          let (records, spelled, now) = c.loop-taken.invariant.reads text before read in
+          stretch-read g.R.Read.remaining c.loop-taken.self.records.value c.next_arrival.new.self.records.value c.args.self.now.heading c.args.self.now.entries text before records c.push.new.self.items (Err Memory) (rw items spelled) now (inr (inr refl));
     }
 
 pub returns-clause-reads : goal.returns-clause-reads
@@ -69,6 +69,6 @@ returns-clause-reads g c = record {
   plain = c.loop-taken.invariant.plain;
   same = c.loop-taken.invariant.same;
   reads = λ text before read.
-      let (rows, spelled, now) = c.loop-taken.invariant.reads text before read in
-      stretch-read g.R.Read.remaining c.loop-taken.self.rows.value c.loop-taken.self.rows.value c.args.self.now.heading c.args.self.now.entries text before rows c.loop-taken.arrivals.items (Ok true) spelled now now;
+      let (records, spelled, now) = c.loop-taken.invariant.reads text before read in
+      stretch-read g.R.Read.remaining c.loop-taken.self.records.value c.loop-taken.self.records.value c.args.self.now.heading c.args.self.now.entries text before records c.loop-taken.arrivals.items (Ok true) spelled now now;
 }

@@ -4,9 +4,9 @@ use Rattle.cn_report.proofs.reading.batch.arrivals.ArrivalReader.read_stretch.Gi
 
 abbrev pub invariant-loop-taken : goal.invariant-loop-taken
 invariant-loop-taken g l = record {
-  plain : IsPlain l.self.rows.value;
+  plain : IsPlain l.self.records.value;
   same : HasSameHeader l.initial.self l.self;
   many : length l.arrivals.items ≡ l._taken;
-  reads : (text : List ℕ) (before : List Record) → HasRead g.R.Read.remaining l.initial.self.rows.value text before
-      → (rows : List Record) × AreSpelled l.initial.self.heading l.initial.self.entries rows l.arrivals.items × HasRead g.R.Read.remaining l.self.rows.value text (before ++ rows);
+  reads : (text : List ℕ) (before : List Record) → HasRead g.R.Read.remaining l.initial.self.records.value text before
+      → (records : List Record) × AreSpelled l.initial.self.heading l.initial.self.entries records l.arrivals.items × HasRead g.R.Read.remaining l.self.records.value text (before ++ records);
 }

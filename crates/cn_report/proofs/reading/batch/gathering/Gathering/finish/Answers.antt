@@ -5,8 +5,8 @@ use Rattle.cn_report.proofs.ReadingLemmas.ServableEpochs.{all-ended, ended-serva
 use Rattle.cn_report.proofs.reading.batch.gathering.Gathering.finish.Goals as goal
 
 pub returns-in-Ok-clause-answer : goal.returns-in-Ok-clause-answer
-returns-in-Ok-clause-answer c = λ heading entries rows arrivals taken gathered.
-    taken_all heading entries rows rows arrivals _ taken refl (rw c.in-Ok.ensures.turned.0 (ended-epochs c.args.self arrivals gathered.holds))
+returns-in-Ok-clause-answer c = λ heading entries records arrivals taken gathered.
+    taken_all heading entries records records arrivals _ taken refl (rw c.in-Ok.ensures.turned.0 (ended-epochs c.args.self arrivals gathered.holds))
 
 pub returns-in-Ok-clause-fits : goal.returns-in-Ok-clause-fits
 returns-in-Ok-clause-fits c = λ entries keeps. rw c.in-Ok.ensures.turned.0 (ended-servable c.args.self entries keeps)

@@ -10,6 +10,6 @@ abbrev pub invariant-loop-arrival : goal.invariant-loop-arrival
 invariant-loop-arrival l = record {
   keeps : StaysServable l.entries l.self;
   next : l.self.next ≡ l.initial.self.next + l.arrival-index;
-  taken : (heading : Heading) (before rows : List Record) (came : List Arrival) → AreTaken heading l.entries before came → IsGathered l.initial.self came
-      → AreSpelled heading l.entries rows l.arrivals → GatheredTo heading l.entries before rows came l.arrivals l.self l.arrival-index;
+  taken : (heading : Heading) (before records : List Record) (came : List Arrival) → AreTaken heading l.entries before came → IsGathered l.initial.self came
+      → AreSpelled heading l.entries records l.arrivals → GatheredTo heading l.entries before records came l.arrivals l.self l.arrival-index;
 }

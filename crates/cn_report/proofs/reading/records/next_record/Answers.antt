@@ -1,7 +1,7 @@
 use Rattle.cn_report.proofs.Common.{◌∙◌, inl}
 use Rattle.csv.specs.Records.{fields_of}
 use Rattle.cn_report.proofs.ReadingLemmas.RecordLists.{plain-fails, read-either}
-use Rattle.cn_report.proofs.reading.rows.next_row.Goals as goal
+use Rattle.cn_report.proofs.reading.records.next_record.Goals as goal
 
 pub returns-in-Ok-clause-plain : goal.returns-in-Ok-clause-plain
 returns-in-Ok-clause-plain g c =
@@ -10,8 +10,8 @@ returns-in-Ok-clause-plain g c =
 
 pub returns-in-Ok-clause-reads : goal.returns-in-Ok-clause-reads
 returns-in-Ok-clause-reads g c = λ text before read.
-    read-either g.R.Read.remaining c.args.rows.now c.read_byte_record.new.self text before (fields_of c.read_byte_record.new.row) c.in-Ok.found read
+    read-either g.R.Read.remaining c.args.records.now c.read_byte_record.new.self text before (fields_of c.read_byte_record.new.row) c.in-Ok.found read
     (c.in-Ok.ensures.reads c.requires.untrimmed c.requires.ready)
 
 pub fault_of-requires : goal.fault_of-requires
-fault_of-requires g c = plain-fails g.R.Read.remaining c.args.rows.now c.read_byte_record.new.self _ c.requires.flexible (c.in-Err.ensures.why c.requires.ready)
+fault_of-requires g c = plain-fails g.R.Read.remaining c.args.records.now c.read_byte_record.new.self _ c.requires.flexible (c.in-Err.ensures.why c.requires.ready)

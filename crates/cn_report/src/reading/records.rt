@@ -1,0 +1,98 @@
+//! The records of a text, one after the other.
+
+ghost use Rattle.std.specs.Prelude.{◌≡◌, ◌↔◌, ◌<◌, ◌∷◌, ◌++◌, [], ℕ, List, IfSome, IfOk, OnOk, length, slice_index_or};
+ghost use Rattle.std.specs.Bool.{MatchBool};
+ghost use Rattle.std.specs.Cmp.Lexicographic.{pointwise};
+ghost use Rattle.std.specs.Str.{bytes_eq};
+ghost use Rattle.csv.specs.Reading.{error_kind};
+ghost use Rattle.csv.specs.Records.{fields_of};
+ghost use Rattle.cn_report.specs.Reading.Records.{HasRead, IsOfReader, IsPlain, Record, records_of};
+
+use csv::{ByteRecord, Error, ErrorKind, Reader, ReaderBuilder};
+use std::alloc::{AllocError, Global};
+use std::io::Read;
+
+/// Why no record came.
+#[derive(Clone, Copy, Debug, PartialEq, Eq)]
+pub(crate) enum RecordFault {
+    /// The reader failed.
+    Read,
+    /// A growth was refused.
+    Memory,
+}
+
+fn fault_of(error: Error) -> RecordFault
+    requires { IsOfReader (error_kind error) }
+    ensures { (result ≡ RecordFault.Memory) ↔ (error_kind error ≡ ErrorKind.OutOfMemory) }
+{
+    match error.into_kind() {
+        ErrorKind::Io(_) => RecordFault::Read,
+        ErrorKind::OutOfMemory => RecordFault::Memory,
+        _ => unreachable!(),
+    }
+}
+
+/// A reader of records of any length, with no header taken apart. It is boxed, for it holds a buffer of 8 KB, of which
+/// the frame of each caller would have a copy.
+///
+/// # Errors
+/// `AllocError` if there is no memory for it.
+pub(crate) fn open_records<R: Read + Drop>(
+    alloc: Global,
+    reader: R,
+) -> Result<Box<Reader<R>>, AllocError>
+    ensures plain { IfOk result (λ records. IsPlain records.value) }
+    ensures opened { IfOk result (λ records.
+        IfSome (R.remaining reader) (λ text. HasRead R.remaining records.value text [])) }
+{
+    let records = ReaderBuilder::new()
+        .has_headers(false)
+        .flexible(true)
+        .from_reader(alloc, reader);
+    Ok(Box::new(alloc, records)?)
+}
+
+/// Reads the next record into `fields`, and returns whether there was one.
+pub(crate) fn next_record<R: Read>(
+    records: &mut Reader<R>,
+    fields: &mut ByteRecord,
+) -> Result<bool, RecordFault>
+    requires { IsPlain records.old }
+    ensures plain { OnOk result (IsPlain records.new) }
+    ensures reads { IfOk result (λ found. (text : List ℕ) (before : List Record)
+        → HasRead R.remaining records.old text before
+        → MatchBool found (HasRead R.remaining records.new text (before
+        ++ fields_of fields.new ∷ [])) (records_of text ≡ before)) }
+{
+    match records.read_byte_record(fields) {
+        Ok(found) => Ok(found),
+        Err(error) => Err(fault_of(error)),
+    }
+}
+
+/// The field at this place of a record.
+#[tactic(auto, using(crate::proofs::ReadingLemmas::RecordFields::field_within))]
+pub(crate) fn field(fields: &ByteRecord, place: usize) -> &[u8]
+    requires { place < length (fields_of fields.now) }
+    ensures { result.now ≡ slice_index_or (fields_of fields.now) place [] }
+{
+    fields.get(place).unwrap()
+}
+
+/// Whether the record has these three fields.
+pub(crate) fn is_header(fields: &ByteRecord, first: &[u8], second: &[u8], third: &[u8]) -> bool
+    ensures { result
+        ≡ pointwise bytes_eq (fields_of fields.now) (first.now ∷ second.now ∷ third.now ∷ []) }
+{
+    fields.len() == 3
+        && field(fields, 0) == first
+        && field(fields, 1) == second
+        && field(fields, 2) == third
+}
+
+/// Whether the record has these two fields.
+pub(crate) fn is_short_header(fields: &ByteRecord, first: &[u8], second: &[u8]) -> bool
+    ensures { result ≡ pointwise bytes_eq (fields_of fields.now) (first.now ∷ second.now ∷ []) }
+{
+    fields.len() == 2 && field(fields, 0) == first && field(fields, 1) == second
+}
