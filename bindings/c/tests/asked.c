@@ -8,14 +8,14 @@
 #include <string.h>
 #include <sys/mman.h>
 
-enum { ROOM = 1 << 22, HEAD = 16, NAMED = 60, INSIDE = 4, WIDTH = 4, THREADS = 4, ROUNDS = 1000 };
+enum { BYTES = 1 << 22, HEAD = 16, NAMED = 60, INSIDE = 4, WIDTH = 4, THREADS = 4, ROUNDS = 1000 };
 
 /* The memory that the library takes, one block after another, each behind its size. None is used again. */
 static struct {
     renamer_lane lane;
     renamer_quiet quiet;
     size_t used;
-    char room[ROOM];
+    char bytes[BYTES];
 } *there;
 
 void *__wrap_malloc(size_t size);
@@ -25,9 +25,9 @@ void __wrap_free(void *block);
 
 void *__wrap_malloc(size_t size) {
     size_t whole = HEAD + (size + HEAD - 1) / HEAD * HEAD;
-    if (there->used + whole > ROOM)
+    if (there->used + whole > BYTES)
         return NULL;
-    char *block = there->room + there->used;
+    char *block = there->bytes + there->used;
     there->used += whole;
     memcpy(block, &size, sizeof size);
     return block + HEAD;

@@ -111,8 +111,8 @@ void call_grants(void) {
     uint64_t granted = lane ? lane->granted : 0, first = drawn(4) ? drawn(granted + 2) : odd_number();
     uint64_t left = first < granted ? granted - first : 0, size = drawn(4) ? drawn(left + 2) : left;
     int are_there = first <= granted && size <= left;
-    size_t room = are_there ? size : left;
-    renamer_grant *grants = unset_array(room, sizeof *grants);
+    size_t space = are_there ? size : left;
+    renamer_grant *grants = unset_array(space, sizeof *grants);
     uint32_t status, wanted = are_there ? RENAMER_DONE : RENAMER_SIZE;
     if (!are_there && drawn(4) == 0)
         size = UINT64_MAX - drawn(3);
@@ -121,9 +121,9 @@ void call_grants(void) {
     CHECK(run.asked == 0);
     if (is_done(status, lane ? wanted : RENAMER_NONE, 0)) {
         CHECK(size == 0 || memcmp(grants, lane->grants + first, size * sizeof *grants) == 0);
-        CHECK(is_unset(grants, size, room, sizeof *grants));
+        CHECK(is_unset(grants, size, space, sizeof *grants));
     } else {
-        CHECK(is_unset(grants, 0, room, sizeof *grants));
+        CHECK(is_unset(grants, 0, space, sizeof *grants));
     }
     free(grants);
 }

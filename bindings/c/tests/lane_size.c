@@ -1,6 +1,6 @@
 /*
  * What a lane takes of memory: under 1 kB on each network, until the first client comes in by renamer_enter or by a list
- * that walks together. A single name takes only the room for its grant. And what a floor takes whose words lie apart: 128
+ * that walks together. A single name takes only the memory of its grant. And what a floor takes whose words lie apart: 128
  * bytes for each word in place of 8, and so does a floor that goes on from it. And that room for clients is no larger.
  */
 #include "judge.h"

@@ -151,7 +151,7 @@ static void join_all(uint32_t kind, uint32_t width) {
     renamer_free_quiet(&quiet);
 }
 
-/* All lists of a network have their whole room from the start, but that of its wires, which grows once, and the lists of
+/* All lists of a network have their whole space from the start, but that of its wires, which grows once, and the lists of
    places for lanes have one size: so lists grow as often by each width as by 2. The list of a lane's grants doubles, so
    each name but some needs no memory: at most 1 + log2 of their number. */
 static void few_growths(uint32_t kind, uint32_t width) {

@@ -9,7 +9,7 @@ void *new_block(size_t size) {
     return block;
 }
 
-/* A list with room for one element more: its room is a power of two. */
+/* A list with space for one element more: its space is a power of two. */
 static void *grown(void *list, size_t count, size_t size) {
     if (count & (count - 1))
         return list;

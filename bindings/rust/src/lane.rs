@@ -338,7 +338,7 @@ impl Lane {
         grants
     }
 
-    /// Copies the lane's grants from one with an index on, as many as the slice has room for.
+    /// Copies the lane's grants from one with an index on, as many as the slice has space for.
     ///
     /// # Errors
     /// [`Error::Size`] if there are fewer.

@@ -56,7 +56,7 @@ NotNamed lane entry Memory = WithLane lane (λ l. (tokens_in l.yard.lists ≡ 0)
     × (0 < l.view.quota) × (l.room ≡ 0))
 NotNamed lane entry r = ⊥
 
--- why clients are not named by one call, with room for so many grants
+-- why clients are not named by one call, with space for so many grants
 abbrev pub NotNamedMany : Option LaneValue → List Client → ℕ → Refusal → Type 0
 NotNamedMany lane clients size Nothing = lane ≡ None
 NotNamedMany lane clients size Size = WithLane lane (λ l. size ≢ length clients)

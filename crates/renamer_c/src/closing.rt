@@ -22,18 +22,18 @@ pub extern "C" fn renamer_close(alloc: Global, lane: &mut Handle, quiet: &mut Ha
     ensures kept { 0 < result → (lane.new.held ≡ lane.old.held) × (quiet.new.held ≡ quiet.old.held) }
     ensures refused { 0 < result → IsRefusal (NotClosed (lane_in lane.old.held)) result }
 {
-    let (held, mut room) = match lane.take_lane(alloc) {
+    let (held, mut boxed) = match lane.take_lane(alloc) {
         Ok(taken) => taken,
         Err(refusal) => return refusal.status(),
     };
     match held.close(alloc) {
         Ok(closed) => {
-            *room = Held::Closed(closed);
-            quiet.put(room);
+            *boxed = Held::Closed(closed);
+            quiet.put(boxed);
             DONE
         }
         Err((refusal, held)) => {
-            lane.put_lane(held, room);
+            lane.put_lane(held, boxed);
             refusal.status()
         }
     }

@@ -37,7 +37,7 @@ impl Model for FloorWithPlaces {
 }
 
 impl FloorWithPlaces {
-    /// A floor with room for rows of places.
+    /// A floor with space for rows of places.
     ///
     /// # Errors
     /// `AllocError` if they get no memory.
@@ -65,14 +65,14 @@ impl FloorWithPlaces {
         ensures place { IfOk result (IsPlaceOf self.now) }
         ensures near { IfSome near.new (IsNearOf self.now) }
     {
-        let mut room = Box::new(alloc, None)?;
+        let mut boxed = Box::new(alloc, None)?;
         if let Some(near) = near {
-            match near.own(&self.floor, room) {
+            match near.own(&self.floor, boxed) {
                 Ok(place) => return Ok(place),
-                Err(same) => room = same,
+                Err(same) => boxed = same,
             }
         }
-        let place = first_free(alloc, &self.rows, &self.floor, room)?;
+        let place = first_free(alloc, &self.rows, &self.floor, boxed)?;
         *near = place.near();
         Ok(place)
     }

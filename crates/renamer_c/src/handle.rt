@@ -115,9 +115,9 @@ impl Handle {
             Some(held) => held.lane()?,
             None => return Err(Refusal::Nothing),
         };
-        let mut room = self.take(alloc)?;
-        match replace(room.as_mut(), Held::Nothing) {
-            Held::Lane(lane) => Ok((lane, room)),
+        let mut boxed = self.take(alloc)?;
+        match replace(boxed.as_mut(), Held::Nothing) {
+            Held::Lane(lane) => Ok((lane, boxed)),
             _ => unreachable!(),
         }
     }
@@ -139,11 +139,11 @@ impl Handle {
     }
 
     /// Puts a lane there, in this box.
-    pub(crate) fn put_lane(&mut self, lane: HeldLane, mut room: Box<Held>)
+    pub(crate) fn put_lane(&mut self, lane: HeldLane, mut boxed: Box<Held>)
         ensures { self.new.held ≡ Some (Lane lane) }
     {
-        *room = Held::Lane(lane);
-        self.put(room);
+        *boxed = Held::Lane(lane);
+        self.put(boxed);
     }
 
     /// Puts something there.

@@ -18,14 +18,14 @@ pub extern "C" fn renamer_hand_back(alloc: Global, lane: &mut Handle) -> u32
     ensures kept { 0 < result → lane.new.held ≡ lane.old.held }
     ensures refused { 0 < result → IsRefusal (NotHandedBack (lane_in lane.old.held)) result }
 {
-    let (held, room) = match lane.take_lane(alloc) {
+    let (held, boxed) = match lane.take_lane(alloc) {
         Ok(taken) => taken,
         Err(refusal) => return refusal.status(),
     };
     match held.hand_back() {
         Ok(_) => DONE,
         Err((refusal, held)) => {
-            lane.put_lane(held, room);
+            lane.put_lane(held, boxed);
             refusal.status()
         }
     }
@@ -41,16 +41,16 @@ fn join_one(alloc: Global, lane: &mut Handle) -> Result<(), Refusal>
     ensures refused { IfErr result (NotJoined (lane_in lane.old.held)) }
 {
     let (other, other_place) = lane.take_back()?;
-    let Ok((held, room)) = lane.take_lane(alloc) else {
+    let Ok((held, boxed)) = lane.take_lane(alloc) else {
         unreachable!()
     };
     match held.join(other, other_place) {
         Ok(held) => {
-            lane.put_lane(held, room);
+            lane.put_lane(held, boxed);
             Ok(())
         }
         Err((refusal, held)) => {
-            lane.put_lane(held, room);
+            lane.put_lane(held, boxed);
             Err(refusal)
         }
     }

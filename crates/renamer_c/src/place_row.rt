@@ -13,36 +13,36 @@ use std::mem::replace;
 /// A lane that was handed back, in a box that was made for it. It stands there as a pointer, of which a `&` shows
 /// nothing, since places are shared by threads, and a lane is not.
 pub(crate) struct Returned {
-    room: Loose<Option<Lane>, Global>,
+    boxed: Loose<Option<Lane>, Global>,
 }
 
 impl Returned {
-    fn of(room: Box<Option<Lane>>) -> Returned
-        ensures { result.room.value ≡ room.value }
+    fn of(boxed: Box<Option<Lane>>) -> Returned
+        ensures { result.boxed.value ≡ boxed.value }
     {
         Returned {
-            room: Loose::of(room),
+            boxed: Loose::of(boxed),
         }
     }
 
-    fn into_room(self) -> Box<Option<Lane>>
-        ensures { result.value ≡ self.room.value }
+    fn into_boxed(self) -> Box<Option<Lane>>
+        ensures { result.value ≡ self.boxed.value }
     {
-        let Returned { room } = self;
-        room.into_box()
+        let Returned { boxed } = self;
+        boxed.into_box()
     }
 }
 
 impl Drop for Returned {
     fn drop(self) {
-        drop(self.into_room());
+        drop(self.into_boxed());
     }
 }
 
 impl Fits for Returned {
     type Tag = Floor<'static>;
 
-    ghost fits = { λ floor r. IfSome r.room.value (IsBack floor) };
+    ghost fits = { λ floor r. IfSome r.boxed.value (IsBack floor) };
 }
 
 /// A place is free, a lane's own (`MARKED`), or has a lane that was handed back (`PRESENT`); the high half of its word
@@ -125,16 +125,16 @@ pub(crate) fn own_from(row: &[OnePlace], from: usize) -> Option<usize>
 
 /// The lane that was in a place, with its box.
 fn lane_of(floor: &Floor<'static>, there: Option<Returned>) -> Option<(Lane, Box<Option<Lane>>)>
-    requires { IfSome there (λ r. IfSome r.room.value (IsBack floor.now)) }
+    requires { IfSome there (λ r. IfSome r.boxed.value (IsBack floor.now)) }
     ensures { IfSome result (λ r. IsBack floor.now r.0) }
 {
     let _ = floor;
     let Some(returned) = there else {
         return None;
     };
-    let mut room = returned.into_room();
-    match replace(&mut *room, None) {
-        Some(lane) => Some((lane, room)),
+    let mut boxed = returned.into_boxed();
+    match replace(&mut *boxed, None) {
+        Some(lane) => Some((lane, boxed)),
         None => None,
     }
 }
@@ -214,7 +214,7 @@ fn take_between(
         let word = row[at].load();
         let miss = if word % STATES == PRESENT {
             match take_at(&row[at], word, floor) {
-                Ok((lane, room)) => return Ok((at, lane, room)),
+                Ok((lane, boxed)) => return Ok((at, lane, boxed)),
                 Err(miss) => miss,
             }
         } else {
@@ -258,7 +258,7 @@ pub(crate) fn put_at(
     place: &OnePlace,
     floor: &Floor<'static>,
     lane: Lane,
-    mut room: Box<Option<Lane>>,
+    mut boxed: Box<Option<Lane>>,
 ) -> Result<u64, Miss>
     requires place { place.now ≡ floor.now }
     requires lane { IsBack floor.now lane }
@@ -266,7 +266,7 @@ pub(crate) fn put_at(
     ensures err { IfErr result (IsNotIn MARKED) }
 {
     let _ = floor;
-    *room = Some(lane);
+    *boxed = Some(lane);
     let seen = place.load();
     if seen % STATES != MARKED {
         return Err(Miss { seen, found: seen });
@@ -277,7 +277,7 @@ pub(crate) fn put_at(
         return Err(Miss { seen, found });
     }
     let word = after_return(seen);
-    let _ = claim.put(Some(Returned::of(room)), word);
+    let _ = claim.put(Some(Returned::of(boxed)), word);
     Ok(word)
 }
 

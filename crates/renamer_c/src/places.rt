@@ -27,7 +27,7 @@ impl Fits for Places {
 pub(crate) struct Place {
     places: Places,
     at: usize,
-    room: Box<Option<Lane>>,
+    boxed: Box<Option<Lane>>,
 }
 
 /// Where a lane found a place last, its own or another's, and looks first the next time.
@@ -75,7 +75,7 @@ impl Places {
         self,
         from: usize,
         floor: &Floor<'static>,
-        room: Box<Option<Lane>>,
+        boxed: Box<Option<Lane>>,
     ) -> Result<Place, Box<Option<Lane>>>
         requires { IsRowOf floor.now self }
         ensures { IfOk result (IsPlaceOf floor.now) }
@@ -85,9 +85,9 @@ impl Places {
             Some(at) => Ok(Place {
                 places: self,
                 at,
-                room,
+                boxed,
             }),
-            None => Err(room),
+            None => Err(boxed),
         }
     }
 
@@ -100,11 +100,11 @@ impl Places {
         ensures ok { IfOk result (λ r. IsBack floor.now r.0 × IsPlaceOf floor.now r.1) }
         ensures err { IfErr result (λ all. all.places ≡ length (arc_value self.row).items) }
     {
-        let (at, lane, room) = take_round(&self.row, from, floor)?;
+        let (at, lane, boxed) = take_round(&self.row, from, floor)?;
         let place = Place {
             places: self,
             at,
-            room,
+            boxed,
         };
         Ok((lane, place))
     }
@@ -118,16 +118,16 @@ impl Near {
     pub(crate) fn own(
         &mut self,
         floor: &Floor<'static>,
-        room: Box<Option<Lane>>,
+        boxed: Box<Option<Lane>>,
     ) -> Result<Place, Box<Option<Lane>>>
         requires { IsNearOf floor.now self.old }
         ensures place { IfOk result (IsPlaceOf floor.now) }
         ensures near { IsNearOf floor.now self.new }
     {
         let Ok(places) = self.places.again() else {
-            return Err(room);
+            return Err(boxed);
         };
-        let place = places.own(self.at, floor, room)?;
+        let place = places.own(self.at, floor, boxed)?;
         self.at = place.at;
         Ok(place)
     }
@@ -173,8 +173,8 @@ impl Place {
         ensures ok { IfOk result HasPut }
         ensures err { IfErr result (IsNotIn MARKED) }
     {
-        let Place { places, at, room } = self;
-        put_at(&places.row[at], floor, lane, room)
+        let Place { places, at, boxed } = self;
+        put_at(&places.row[at], floor, lane, boxed)
     }
 
     /// Lets the place go, for the lane of another split.
@@ -182,7 +182,7 @@ impl Place {
         let Place {
             places,
             at,
-            room: _room,
+            boxed: _boxed,
         } = self;
         if let Some(place) = places.row.get(at) {
             free_at(place);

@@ -19,7 +19,7 @@ const FIRST_ROW: usize = 16;
 /// How often is looked again because another thread went on meanwhile: for centuries.
 const MOST_LOOKS: u64 = u64::MAX;
 
-/// Room for rows of places for lanes of a floor.
+/// Space for rows of places for lanes of a floor.
 ///
 /// # Errors
 /// `AllocError` if they get no memory.
@@ -95,7 +95,7 @@ pub(crate) fn first_free(
     alloc: Global,
     rows: &[Counted<Option<Places>>],
     floor: &Floor<'static>,
-    mut room: Box<Option<Lane>>,
+    mut boxed: Box<Option<Lane>>,
 ) -> Result<Place, AllocError>
     requires { AreTagsOf floor.now rows.now }
     ensures { IfOk result (IsPlaceOf floor.now) }
@@ -104,9 +104,9 @@ pub(crate) fn first_free(
     for row in rows {
         make_row(alloc, row, floor, many)?;
         if let Some(places) = places_of(row, floor) {
-            match places.own(0, floor, room) {
+            match places.own(0, floor, boxed) {
                 Ok(place) => return Ok(place),
-                Err(same) => room = same,
+                Err(same) => boxed = same,
             }
             many = many.saturating_mul(2);
         }

@@ -31,7 +31,7 @@ fn all_enter(clients: &[Client], entries: u64) -> bool
 const TOGETHER: usize = 64;
 
 /// Copies the identities of the first clients of a list: of the longest run of those who come in by one entry, as far
-/// as there is room. Returns how many.
+/// as there is space. Returns how many.
 fn copy_run(clients: &[Client], ids: &mut [u64]) -> usize
     requires some { (0 < length clients.now) × (0 < length ids.old) }
     ensures run { IsLongestRun clients.now (first_entry clients.now) (length ids.old) result }

@@ -6,7 +6,7 @@ use Rattle.renamer_c.proofs.held_lane.naming_many.copy_run.Given as goal
 abbrev pub invariant-loop-count : goal.invariant-loop-count
 invariant-loop-count l = record {
   few : l.count ≤ length l.clients;
-  room : l.count ≤ length l.ids;
+  space : l.count ≤ length l.ids;
   same : length l.ids ≡ length l.initial.ids;
   run : (i : ℕ) (d : Client) → i < l.count → (get_or l.clients i d).entry ≡ first_entry l.clients;
   are : take l.count l.ids ≡ map (λ c. c.client) (take l.count l.clients);
