@@ -26,7 +26,7 @@ sys.dont_write_bytecode = True
 BENCH = pathlib.Path(__file__).resolve().parent
 ROOT = BENCH.parent
 sys.path.append(str(ROOT / "tools"))
-import apart
+import outside
 
 DEBIAN = "/usr/share/cargo/registry"
 # A build that proves everything anew takes this long at most.
@@ -123,11 +123,11 @@ class Bench:
         """Whether the folder of crates has each of these."""
         return all(any(pathlib.Path(self.crates).glob(f"{name}-[0-9]*")) for name in names)
 
-    def apart(self, folder, name):
+    def outside(self, folder, name):
         """A program in Rattle of a folder of bench/, proved in a copy of the crates."""
         built = BENCH / folder / "out" / name
         with self.building():
-            apart.build(built, BENCH / folder, name)
+            outside.build(built, BENCH / folder, name)
         return str(built)
 
     def compiled(self, words, source, name):

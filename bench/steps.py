@@ -19,7 +19,7 @@ CORE_WORDS = ("opens", "names", "enter", "one", "all", "look-one", "look-all")
 
 
 def rows(bench):
-    core = bench.apart("core", "core_steps")
+    core = bench.outside("core", "core_steps")
     epochs, clients, rounds = 16, bench.size(62_500, 2_000), bench.size(10, 3)
     batch = bench.batch("batch", epochs, clients, 2)
     full = bench.full(1)

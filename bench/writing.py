@@ -9,7 +9,7 @@ import measure
 
 
 def rows(bench):
-    pair = bench.apart("writing", "report_writes"), bench.plain
+    pair = bench.outside("writing", "report_writes"), bench.plain
     ours, peer = [pair[0]], [pair[1], "report"]
     bench.agree([[*words, "1"] for words in (ours, peer)])
     times = str(bench.size(20, 2))

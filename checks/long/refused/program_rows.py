@@ -3,7 +3,7 @@ n-th client of an epoch, counted from 0, has name n where one worker with one to
 a network of width w lets (c + w - 1 - i) div w out by exit i. But for help: that is as the program prints it with memory."""
 import subprocess
 
-from apart import ROOT
+from outside import ROOT
 
 STORED = ROOT / "crates" / "renamer"
 PROGRAM = STORED / "out" / "renamer"

@@ -23,5 +23,5 @@ pub record GaveNames (old new : LaneValue) (clients names : List ℕ) : Type 0 w
   pub grants : (more : List Grant) × (new.view.grants ≡ old.view.grants ++ more) × AreGrantsOf clients names more
 
 -- no name stands twice in two lists, or in both
-abbrev pub AreApart : List ℕ → List ℕ → Type 0
-AreApart first second = (name : ℕ) → times name first + times name second ≤ 1
+abbrev pub AreDistinct : List ℕ → List ℕ → Type 0
+AreDistinct first second = (name : ℕ) → times name first + times name second ≤ 1

@@ -4,7 +4,7 @@
 ghost use Rattle.std.specs.Prelude.{◌≡◌, ◌<◌, ◌≤◌, All, IfSome, length};
 ghost use Rattle.cn_yard.specs.Lists.{tokens_in};
 ghost use Rattle.cn_floor.specs.Together.{StoodAsOne};
-ghost use Rattle.cn_clients.specs.Naming.{AreApart, GaveNames};
+ghost use Rattle.cn_clients.specs.Naming.{AreDistinct, GaveNames};
 ghost use denote.Param.Send.{IsSync};
 
 use cn_floor::{Floor, Lane, SharedFloor};
@@ -97,7 +97,7 @@ pub fn name_by_two<R: Threads>(
         × (length r.2.second.items ≡ length second.now)) }
     ensures all { IfSome result (λ r. GaveNames lane r.0 first.now r.2.first.items
         × GaveNames other r.1 second.now r.2.second.items) }
-    ensures differ { IfSome result (λ r. AreApart r.2.first.items r.2.second.items) }
+    ensures differ { IfSome result (λ r. AreDistinct r.2.first.items r.2.second.items) }
     ensures low { IfSome result (λ r. All (λ name. name < r.2.entered) r.2.first.items
         × All (λ name. name < r.2.entered) r.2.second.items) }
     ensures few { IfSome result (λ r. r.2.entered ≤ floor.now.start.quota) }

@@ -85,7 +85,7 @@ module _ (s : State) (h : List Event) (earlier : List (List Event)) (is : IsCore
         let (p, q) = both-there (nat_lt i w) (name_of w i v == name) (when (0 == c) (given_before (after_carry s) i v) + 0) g in
         (ltb-true i w p, sym (eqb-true (name_of w i v) name q));
     once = λ c i v name. no-more (nat_lt i w) (name_of w i v == name) (0 == c) (given_before (after_carry s) i v);
-    apart = λ c d i v differ. not-both c d differ (nat_lt i w) (name_of w i v == name_of w i v) (given_before (after_carry s) i v);
+    distinct = λ c d i v differ. not-both c d differ (nat_lt i w) (name_of w i v == name_of w i v) (given_before (after_carry s) i v);
     owned = λ i v within g. (0, rw (lt-ltb i w within, eq-eqb (name_of w i v) (name_of w i v) refl) (rw (lt-ltb i w within) at g));
   }
 

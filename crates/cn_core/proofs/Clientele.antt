@@ -43,21 +43,21 @@ abbrev StaysFor : Lists → Lists → ℕ × Standing → Type 0
 StaysFor y z e = (position_by z e.1 ≡ position_by y e.1) × StandsFor z e.0 e.1
 
 stays : (y z : Lists) (client token : ℕ) (s : Standing) → ((other : ℕ) → other ≢ token → standing z other ≡ standing y other) → (s ≡ Walking token → ⊥) → StandsFor y client s → StaysFor y z (client, s)
-stays y z client token (Walking other) same apart (wire, stands) =
-    let e = same other (λ t. apart (ap Walking t)) in
+stays y z client token (Walking other) same differ (wire, stands) =
+    let e = same other (λ t. differ (ap Walking t)) in
     (rw e refl, (wire, e ∙ stands))
-stays y z client token (Named name) same apart stands = (refl, tt)
+stays y z client token (Named name) same differ stands = (refl, tt)
 
 -- the token of one client is not another's
-apart-by : (y : Lists) (client other token wire : ℕ) (s : Standing) → standing y token ≡ Some (wire, client) → StandsFor y other s → client ≢ other → s ≡ Walking token → ⊥
-apart-by y client other token wire (Walking t) stands (w, its) differ e =
+distinct-by : (y : Lists) (client other token wire : ℕ) (s : Standing) → standing y token ≡ Some (wire, client) → StandsFor y other s → client ≢ other → s ≡ Walking token → ⊥
+distinct-by y client other token wire (Walking t) stands (w, its) differ e =
     let same : t ≡ token = cc in
     let both : ◌≡◌ {A = Option (ℕ × ℕ)} (Some (wire, client)) (Some (w, other)) = sym stands ∙ (rw same at its) in
     differ (second both)
   where
     second : {a b : ℕ × ℕ} → ◌≡◌ {A = Option (ℕ × ℕ)} (Some a) (Some b) → a.1 ≡ b.1
     second h = cc
-apart-by y client other token wire (Named name) stands its differ e = cc
+distinct-by y client other token wire (Named name) stands its differ e = cc
 
 -- ---- all clients but one
 
@@ -164,7 +164,7 @@ with-same client s (e ∷ names) found = by (nat_eq client e.0) found (with-same
 
 -- whoever is not the client of a token is spared where only that token changes
 spared : (y z : Lists) (client token wire : ℕ) → standing y token ≡ Some (wire, client) → ((other : ℕ) → other ≢ token → standing z other ≡ standing y other) → Spares y z client
-spared y z client token wire stands same e its differ = stays y z e.0 token e.1 same (apart-by y client e.0 token wire e.1 stands its differ) its
+spared y z client token wire stands same e its differ = stays y z e.0 token e.1 same (distinct-by y client e.0 token wire e.1 stands its differ) its
 
 -- the token of a walking client stands for it
 pub stands-for : (y : Lists) (names : List (ℕ × Standing)) (client token : ℕ) → AllStand y names → standing_of_client names client ≡ Some (Walking token)

@@ -254,7 +254,7 @@ sound-like s h g k m b sound = record {
   numbered = numbered;
   named = sound.named;
   once = sound.once;
-  apart = sound.apart;
+  distinct = sound.distinct;
   owned = sound.owned;
 }
   where

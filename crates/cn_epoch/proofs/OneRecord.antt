@@ -1,4 +1,4 @@
--- Commands have one list of answers, want of memory apart, also if the counts are carried.
+-- Commands have one list of answers, want of memory aside, also if the counts are carried.
 use Rattle.std.proofs.Common.{◌≡◌, ℕ, ◌<◌, ◌≤◌, Bool, true, false, inl, inr, Option, Some, None, List, [], ◌∷◌, refl, sym, ap, ◌∙◌, arith, slice_index}
 use Rattle.std.specs.Prelude.{if◌then◌else◌}
 use Rattle.std.specs.List.{AllZip}

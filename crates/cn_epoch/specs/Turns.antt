@@ -28,7 +28,7 @@ HasOneRecord table turns history carried =
     (r s : EpochRecord) → IsRecordOf table turns history carried r → IsRecordOf table turns history carried s
     → IsSameRecord r s
 
--- apart from want of memory, the answers that these commands may have are the same: the epochs that end by them, and
+-- want of memory aside, the answers that these commands may have are the same: the epochs that end by them, and
 -- the earlier ones, have no more clients than may be carried
 abbrev pub HaveOneAnswer : Table → ℕ → List Event → Option (List (List Event)) → List Command → Type 0
 HaveOneAnswer table turns history kept commands =

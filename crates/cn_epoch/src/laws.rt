@@ -18,7 +18,7 @@ pub fn a_history_has_one_record()
         → HasOneRecord network.table turns history (carried_by network.table earlier) }
 {}
 
-/// Apart from want of memory, commands have one list of answers, if turns clear and if they carry. The history and the
+/// Want of memory aside, commands have one list of answers, if turns clear and if they carry. The history and the
 /// earlier epochs were accepted.
 pub fn commands_have_one_list_of_answers()
     ensures { (network : Network) (turns : ℕ) (history : List Event)

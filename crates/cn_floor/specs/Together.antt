@@ -39,8 +39,8 @@ abbrev pub cut_second : Pair → View → View
 cut_second pair both = record pair.second { seen = both.seen }
 
 -- no name stands in both lanes, or twice in one
-abbrev pub NamesApart : View → View → Type 0
-NamesApart v w =
+abbrev pub HaveDistinctNames : View → View → Type 0
+HaveDistinctNames v w =
     (name : ℕ) → times name (map (λ g. g.name) v.grants) + times name (map (λ g. g.name) w.grants) ≤ 1
 
 -- in some state of the floor a lane has both views as one, with this answer of how many came in

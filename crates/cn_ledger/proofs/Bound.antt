@@ -184,7 +184,7 @@ tight t w counts l sound quiet =
                 omega (arith, sound.once d (name % t.width) (name / t.width) name)
             | inr n ↦
                 let no : ◌≡◌ {A = ℕ} (cond (eqb c d) 1 0) 0 = ap {B = ℕ} (λ b. cond b 1 0) (ne_eqb c d n) in
-                let two = rw is at (sound.apart c d (name % t.width) (name / t.width) n) in
+                let two = rw is at (sound.distinct c d (name % t.width) (name / t.width) n) in
                 let first : 1 ≤ l.granted c (name % t.width) (name / t.width) name = rw is at g in
                 omega arith
           ],
@@ -210,7 +210,7 @@ names-differ t l sound c d i j u v a b g h e =
     let g2 : 1 ≤ l.granted c i u (name_of t.width i u) = subst (λ n. 1 ≤ l.granted c i u n) na g in
     let h2 : 1 ≤ l.granted d i u (name_of t.width i u) = rw (ij, uv) (subst (λ n. 1 ≤ l.granted d j v n) nb h) in
     let few = given-most t l sound i u li in
-    (elim (cases_eq c d) [ inl q ↦ q | inr n ↦ absurd (let k = sound.apart c d i u n in omega arith) ], ij, uv)
+    (elim (cases_eq c d) [ inl q ↦ q | inr n ↦ absurd (let k = sound.distinct c d i u n in omega arith) ], ij, uv)
 
 -- each grant was made once
 pub granted-once : (t : Table) (l : Ledger) → IsSound t l → (c i v name : ℕ) → 1 ≤ l.granted c i v name → l.granted c i v name ≡ 1

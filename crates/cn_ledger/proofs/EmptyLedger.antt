@@ -37,7 +37,7 @@ sound-nothing t l none = record {
   numbered = λ end n h. rw (none.given end n, none.count end) (sym (ap {B = ℕ} (λ q. cond q 1 0) (le-ltb n 0 (omega arith))));
   named = λ c i v name g. absurd (omega (arith, none.granted c i v name));
   once = λ c i v name. omega (arith, none.granted c i v name);
-  apart = λ c d i v differ. omega (arith, none.granted c i v (name_of t.width i v), none.granted d i v (name_of t.width i v));
+  distinct = λ c d i v differ. omega (arith, none.granted c i v (name_of t.width i v), none.granted d i v (name_of t.width i v));
   owned = λ i v h g. absurd (omega (arith, none.given (Exit i) v));
 }
 

@@ -156,8 +156,8 @@ once-leave c d i j n v a b = rw (eqb-sym j i) (ands (eqb c d) (eqb i j) (eqb n v
     ands true true true false = omega arith
     ands true true true true = omega arith
 
-apart-leave : (c d e i j n v a b : ℕ) → d ≢ e → cond (eqb c d && (eqb i j && (eqb n v && eqb a b))) 1 0 + cond (eqb c e && (eqb i j && (eqb n v && eqb a b))) 1 0 ≤ cond (eqb j i && eqb n v) 1 0
-apart-leave c d e i j n v a b differ =
+distinct-leave : (c d e i j n v a b : ℕ) → d ≢ e → cond (eqb c d && (eqb i j && (eqb n v && eqb a b))) 1 0 + cond (eqb c e && (eqb i j && (eqb n v && eqb a b))) 1 0 ≤ cond (eqb j i && eqb n v) 1 0
+distinct-leave c d e i j n v a b differ =
     elim (cases_eq c d) [
       | inl q ↦
           let none : ◌≡◌ {A = ℕ} (cond (eqb c e && (eqb i j && (eqb n v && eqb a b))) 1 0) 0 = ap {B = ℕ} (λ z. cond (z && (eqb i j && (eqb n v && eqb a b))) 1 0) (ne_eqb c e (λ r. differ (sym q ∙ r))) in
@@ -215,7 +215,7 @@ sound-enters t old new c u ev sound = record {
   numbered = λ end n h. ev.given end n ∙ sound.numbered end n h ∙ ap (λ m. once_below m n) (sym (ev.count end));
   named = λ d i v name g. sound.named d i v name (rw (ev.granted d i v name) at g);
   once = λ d i v name. omega (arith, sound.once d i v name, ev.granted d i v name, ev.given (Exit i) v);
-  apart = λ d e i v differ. omega (arith, sound.apart d e i v differ, ev.granted d i v (name_of t.width i v), ev.granted e i v (name_of t.width i v), ev.given (Exit i) v);
+  distinct = λ d e i v differ. omega (arith, sound.distinct d e i v differ, ev.granted d i v (name_of t.width i v), ev.granted e i v (name_of t.width i v), ev.given (Exit i) v);
   owned = λ i v h g.
       let (d, k) = sound.owned i v h (omega (arith, ev.given (Exit i) v)) in
       (d, omega (arith, ev.granted d i v (name_of t.width i v)));
@@ -232,7 +232,7 @@ sound-passes t old new c u b ev sound =
       numbered = λ end n h. numbered-after t old new c u (Balancer b) to ev.goes end n (sound.numbered end n h);
       named = λ d i v name g. sound.named d i v name (rw (ev.granted d i v name) at g);
       once = λ d i v name. omega (arith, sound.once d i v name, ev.granted d i v name, ev.goes.given (Exit i) v);
-      apart = λ d e i v differ. omega (arith, sound.apart d e i v differ, ev.granted d i v (name_of t.width i v), ev.granted e i v (name_of t.width i v), ev.goes.given (Exit i) v);
+      distinct = λ d e i v differ. omega (arith, sound.distinct d e i v differ, ev.granted d i v (name_of t.width i v), ev.granted e i v (name_of t.width i v), ev.goes.given (Exit i) v);
       owned = λ i v h g.
           let (d, k) = sound.owned i v h (omega (arith, ev.goes.given (Exit i) v)) in
           (d, omega (arith, ev.granted d i v (name_of t.width i v)));
@@ -262,14 +262,14 @@ sound-leaves t w old new c u i ev sound =
                 (subst (λ x. x < t.width) ij there, sym nm ∙ ap (λ x. name_of t.width x n) ij ∙ ap (λ x. name_of t.width j x) nv)
           ];
       once = λ d j v name. omega (arith, sound.once d j v name, ev.granted d j v name, ev.goes.given (Exit j) v, once-leave c d i j n v (name_of t.width i n) name);
-      apart = λ d e j v differ.
+      distinct = λ d e j v differ.
           omega (
             arith,
-            sound.apart d e j v differ,
+            sound.distinct d e j v differ,
             ev.granted d j v (name_of t.width j v),
             ev.granted e j v (name_of t.width j v),
             ev.goes.given (Exit j) v,
-            apart-leave c d e i j n v (name_of t.width i n) (name_of t.width j v) differ,
+            distinct-leave c d e i j n v (name_of t.width i n) (name_of t.width j v) differ,
           );
       owned = λ j v h g.
           elim (cases_lt 0 (old.given (Exit j) v)) [

@@ -43,7 +43,7 @@ pub record IsSound (t : Table) (l : Ledger) : Type 0 where
   -- a client is granted a visit no more often than the exit gives it
   pub once : (c i v name : ℕ) → l.granted c i v name ≤ l.given (Exit i) v
   -- and so are two clients together
-  pub apart : (c d i v : ℕ) → c ≢ d
+  pub distinct : (c d i v : ℕ) → c ≢ d
       → l.granted c i v (name_of t.width i v) + l.granted d i v (name_of t.width i v) ≤ l.given (Exit i) v
   -- each visit that is given is granted to a client
   pub owned : (i v : ℕ) → i < t.width → 1 ≤ l.given (Exit i) v

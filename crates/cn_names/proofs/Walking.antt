@@ -19,7 +19,7 @@ behind : (other client : ℕ) (s : Standing) (names : List (ℕ × Standing)) (t
 behind other client s names token differ found =
     elim (cases_eq other client) [
       | inl same ↦ let none = stranger client names differ in let here : standing_of_client names client ≡ Some (Walking token) = subst (λ c. standing_of_client names c ≡ Some (Walking token)) same found in absurd (cc)
-      | inr apart ↦ rw (ne_eqb other client apart) found
+      | inr unlike ↦ rw (ne_eqb other client unlike) found
     ]
 
 pub walking-from-any : (names : List (ℕ × Standing)) → IsDistinct nat_eq (keys_of names) → list_any is_walking (values_of names) ≡ true → (client : ℕ) × IsWalking names client

@@ -116,7 +116,7 @@ steps-a x h = (subst IsStep (sym (firsts-a x)) (firsts-is_step (firsts x) h.0), 
 steps-b : (x : List ℕ) → StepChains 1 x → StepChains 1 (b_cochain x)
 steps-b x h = (subst IsStep (sym (firsts-b x)) (firsts-is_step (seconds x) h.1), subst IsStep (sym (seconds-b x)) (seconds-is_step (firsts x) h.0))
 
--- then their sums are at most one apart
+-- then their sums differ by at most one
 sum-firsts : (level : ℕ) (x : List ℕ) → IsRow (suc level) x → IsStep x → sum (firsts x) ≡ half (sum x) 0
 sum-firsts level x e s = ap (λ r. sum (firsts r)) (step-tree (suc level) x e s) ∙ ap sum (firsts-tree level (sum x)) ∙ sum-tree level (half (sum x) 0)
 
@@ -147,7 +147,7 @@ sum-b level x e h =
 
 -- ---- the law
 
--- a layer over two rows whose sums are at most one apart
+-- a layer over two rows whose sums differ by at most one
 near-layer : (level : ℕ) (x y : List ℕ) → IsRow level x → IsRow level y → IsStep x → IsStep y → sum x ≤ sum y + 1 → sum y ≤ sum x + 1 → IsStep (layer x y)
 near-layer level x y e f s t p q =
     subst IsStep (sym (ap₂ layer (step-tree level x e s) (step-tree level y f t) ∙ layer-tree level (sum x) (sum y) p q)) (tree_is-step (suc level) (sum x + sum y))

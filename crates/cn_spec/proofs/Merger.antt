@@ -8,7 +8,7 @@ use Rattle.cn_spec.proofs.Layers.{sum-layer}
 use Rattle.cn_spec.proofs.Rows.{evens-row, odds-row, layer_row, sum-evens-odds}
 use Rattle.cn_spec.proofs.Tree.{tree-shares, tree-lengths, tree_is-step, step-tree}
 
--- ---- the tree's rows taken apart
+-- ---- the parts of the tree's rows
 
 pub firsts-tree : (level m : ℕ) → firsts (tree (suc level) m) ≡ tree level (half m 0)
 unfolding tree
@@ -24,7 +24,7 @@ evens-tree level m = evens-firsts (tree (suc level) m) ∙ firsts-tree level m
 odds-tree : (level m : ℕ) → odds (tree (suc level) m) ≡ tree level (half m 1)
 odds-tree level m = odds-seconds (tree (suc level) m) ∙ seconds-tree level m
 
--- ---- a layer over two of the tree's rows whose sums are at most one apart
+-- ---- a layer over two of the tree's rows whose sums differ by at most one
 
 -- entry by entry x has what y has, or one more
 IsAbove : List ℕ → List ℕ → Type 0

@@ -15,7 +15,7 @@ pub const MOST_CLIENTS: u64 = 262_144;
 /// The most clients that may have come before an epoch that goes on from the counts of earlier ones.
 pub const MOST_CARRIED: u64 = 2_147_483_648;
 
-/// The most records of a batch, a schedule or a grant list, its header apart.
+/// The most records of a batch, a schedule or a grant list, its header aside.
 pub const MOST_RECORDS: u64 = 1_048_576;
 
 /// The most arrivals at one balancer, and the most visits of one exit.

@@ -116,7 +116,7 @@ fn have_names(clients: &[u64]) -> bool {
     are_five && are_three
 }
 
-/// Whether this many workers write of the batch what one writes, apart from the clients' numbers, and whether these are
+/// Whether this many workers write of the batch what one writes, but for the clients' numbers, and whether these are
 /// those of the batch.
 fn is_alike<R: Threads + Wait + Sync>(
     rt: &R,

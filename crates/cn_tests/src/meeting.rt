@@ -194,8 +194,8 @@ fn meeting_gate_of_a_batch(rt: HostRuntime) -> Result<(), Fail> {
     let (alloc, state) = (rt.alloc(), RandomState::new(&rt)?);
     let two = meet_in_a_batch(&rt, alloc, state, &TWO);
     let eight = meet_in_a_batch(&rt, alloc, state, &EIGHT);
-    let apart = meet_in_a_batch(&rt, alloc, state, &TWO_EPOCHS);
+    let by_epochs = meet_in_a_batch(&rt, alloc, state, &TWO_EPOCHS);
     let wanted = Some(([true, true], true));
-    assert_eq!(rt; [two, eight, apart], [wanted, wanted, wanted]);
+    assert_eq!(rt; [two, eight, by_epochs], [wanted, wanted, wanted]);
     Ok(())
 }

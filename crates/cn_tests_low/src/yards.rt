@@ -40,8 +40,8 @@ impl Guarded {
         let [out0, out1] = outs;
         let wires = self.yard.wires();
         let are_wires = wire < wires && out0 < wires && out1 < wires;
-        let are_apart = wire != out0 && wire != out1 && out0 != out1;
-        if are_wires && are_apart && output < 2 {
+        let are_distinct = wire != out0 && wire != out1 && out0 != out1;
+        if are_wires && are_distinct && output < 2 {
             self.yard.deal(wire, output, out0, out1);
             Some(())
         } else {
@@ -145,12 +145,12 @@ fn stands(alloc: Global) -> Option<[Stand; 6]> {
     yard.move_to(t, 0)?;
     let turned = yard.stand();
     yard.move_to(u, 2)?;
-    let apart = yard.stand();
+    let moved = yard.stand();
     yard.release(t);
     let left = yard.stand();
     yard.admit(9, 1)?;
     yard.admit(10, 1)?;
-    Some([empty, both, turned, apart, left, yard.stand()])
+    Some([empty, both, turned, moved, left, yard.stand()])
 }
 
 const NOBODY: Row = [None, None, None];

@@ -17,13 +17,13 @@ at_most_one : (es : List (Option ℕ)) (w : ℕ) → loose_in es w ≤ 1
 at_most_one es w = elim (is_none (get_or es w (Some 0))) as (λ t. when t 1 ≤ 1) [ true ↦ omega arith | false ↦ omega arith ]
 
 -- where the exits are loose wires, all different
-abbrev pub Apart : List (Option ℕ) → List ℕ → Type 0
-Apart es ws = (w : ℕ) → times w ws ≤ when (is_none (get_or es w (Some 0))) 1
+abbrev pub AreLooseOnce : List (Option ℕ) → List ℕ → Type 0
+AreLooseOnce es ws = (w : ℕ) → times w ws ≤ when (is_none (get_or es w (Some 0))) 1
 
-pub exit-below : (es : List (Option ℕ)) (ws : List ℕ) (i : ℕ) → Apart es ws → i < length ws → get_or ws i 0 < length es
+pub exit-below : (es : List (Option ℕ)) (ws : List ℕ) (i : ℕ) → AreLooseOnce es ws → i < length ws → get_or ws i 0 < length es
 exit-below es ws i h k = below_from-loose es (get_or ws i 0) (let a = h (get_or ws i 0) in let b = times-member ws i k in omega arith)
 
-none_there : (es : List (Option ℕ)) (ws : List ℕ) (i : ℕ) → Apart es ws → i < length ws → get_or es (get_or ws i 0) (Some 0) ≡ None
+none_there : (es : List (Option ℕ)) (ws : List ℕ) (i : ℕ) → AreLooseOnce es ws → i < length ws → get_or es (get_or ws i 0) (Some 0) ≡ None
 none_there es ws i h k =
     elim (get_or es (get_or ws i 0) (Some 0)) as (λ o. 1 ≤ when (is_none o) 1 → o ≡ None) [ None ↦ λ _. refl | Some x ↦ λ l. absurd (omega arith) ]
     (let a = h (get_or ws i 0) in let b = times-member ws i k in omega arith)
@@ -36,7 +36,7 @@ pub record Closed (ends : List (Option ℕ)) (exits : List ℕ) (closed : List E
 pub Closed-none : (ends : List (Option ℕ)) (exits : List ℕ) (closed : List End) → map balancer_of closed ≡ ends → Closed ends exits closed 0
 Closed-none ends exits closed e = record { plan = e; at_exits = λ j l. absurd (omega arith) }
 
-pub Closed-more : (ends : List (Option ℕ)) (exits : List ℕ) (closed : List End) (i : ℕ) → Apart ends exits → i < length exits → Closed ends exits closed i
+pub Closed-more : (ends : List (Option ℕ)) (exits : List ℕ) (closed : List End) (i : ℕ) → AreLooseOnce ends exits → i < length exits → Closed ends exits closed i
     → Closed ends exits (set closed (get_or exits i 0) (Exit i)) (i + 1)
 Closed-more ends exits closed i h k c =
     let w : ℕ = get_or exits i 0 in

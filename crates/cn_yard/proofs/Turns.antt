@@ -59,9 +59,9 @@ module _ (outs : ℕ → ℕ) (output wire : ℕ) (old y : Yard) (turn token : �
   -- once it is moved
   pub goes-on : (z : Yard) (to : ℕ) → to ≡ outs turn → to < length old.lists → wire ≢ to → Moves y z token next.client to
       → IsDealing outs output wire old z (1 - turn)
-  goes-on z to at lands apart moves =
+  goes-on z to at lands differ moves =
       let left : without token (on y.lists wire) ≡ next.after = rest-on y.lists token next.client wire next.after is.once within next.begins in
-      let none : last_on token next.client to wire ≡ [] = rw (ne_eqb to wire (λ e. apart (sym e))) refl in
+      let none : last_on token next.client to wire ≡ [] = rw (ne_eqb to wire (λ e. differ (sym e))) refl in
       record {
         done = is.done ++ (token, next.client) ∷ [];
         rest = next.after;
@@ -75,9 +75,9 @@ module _ (outs : ℕ → ℕ) (output wire : ℕ) (old y : Yard) (turn token : �
 
   -- one is left less
   pub fewer : (z : Yard) (to : ℕ) → wire ≢ to → Moves y z token next.client to → length (on z.lists wire) < length (on y.lists wire)
-  fewer z to apart moves =
+  fewer z to differ moves =
       let left : without token (on y.lists wire) ≡ next.after = rest-on y.lists token next.client wire next.after is.once within next.begins in
-      let none : last_on token next.client to wire ≡ [] = rw (ne_eqb to wire (λ e. apart (sym e))) refl in
+      let none : last_on token next.client to wire ≡ [] = rw (ne_eqb to wire (λ e. differ (sym e))) refl in
       let now : on z.lists wire ≡ next.after = moves.lists wire ∙ (λ i. left i ++ none i) ∙ append-nil next.after in
       omega (arith, ap length now, ap length next.begins)
 
@@ -176,21 +176,21 @@ module _ (out0 out1 : ℕ) (differ : out0 ≢ out1) where
   dealt-lists : (wire output : ℕ) (tokens : List (ℕ × ℕ)) (old new : Yard) → wire ≢ out0 → wire ≢ out1 → wire < length old.lists → out0 < length old.lists → out1 < length old.lists
       → ((k : ℕ) → times_in old.lists k ≤ 1) → on old.lists wire ≡ tokens → Deals (out_of out0 out1) output tokens old new → AreDealt wire (output % 2) tokens old new
   unfolding Deals
-  dealt-lists wire output [] old new apart0 apart1 inside in0 in1 once is same = record {
+  dealt-lists wire output [] old new differ0 differ1 inside in0 in1 once is same = record {
     wires = ap (λ (y : Yard). length y.lists) same;
     empty = ap (λ (y : Yard). on y.lists wire) same ∙ is;
     others = λ u other. ap (λ (y : Yard). on y.lists u) same ∙ sym (append-nil (on old.lists u)) ∙ ap (λ (es : List (ℕ × ℕ)). on old.lists u ++ es) (sym (nothing-comes (output % 2) u));
     spare = ap (λ (y : Yard). y.spare) same;
     count = ap (λ (y : Yard). tokens_in y.lists) same;
   }
-  dealt-lists wire output ((token, client) ∷ rest) old new apart0 apart1 inside in0 in1 once is (between, moves, later) =
+  dealt-lists wire output ((token, client) ∷ rest) old new differ0 differ1 inside in0 in1 once is (between, moves, later) =
       let to : ℕ = out_of out0 out1 (output % 2) in
       let lands : to < length old.lists = either-out (λ u. u < length old.lists) out0 out1 (output % 2) in0 in1 in
-      let away : wire ≢ to = either-out (λ u. wire ≢ u) out0 out1 (output % 2) apart0 apart1 in
+      let away : wire ≢ to = either-out (λ u. wire ≢ u) out0 out1 (output % 2) differ0 differ1 in
       let left : on between.lists wire ≡ rest =
       moves.lists wire ∙ (λ i. rest-on old.lists token client wire rest once inside is i ++ not-here token client to wire (λ e. away (sym e)) i) ∙ append-nil rest in
       let once_more : (k : ℕ) → times_in between.lists k ≤ 1 = λ k. once-moved old.lists token client wire rest once inside is between.lists moves.wires k to lands moves.lists in
-      let after = dealt-lists wire (output + 1) rest between new apart0 apart1 (omega (arith, inside, moves.wires)) (omega (arith, in0, moves.wires)) (omega (arith, in1, moves.wires)) once_more left later in
+      let after = dealt-lists wire (output + 1) rest between new differ0 differ1 (omega (arith, inside, moves.wires)) (omega (arith, in0, moves.wires)) (omega (arith, in1, moves.wires)) once_more left later in
       record {
         wires = after.wires ∙ moves.wires;
         empty = after.empty;
@@ -205,15 +205,15 @@ module _ (out0 out1 : ℕ) (differ : out0 ≢ out1) where
 
   pub dealt : (wire output : ℕ) (old new : Yard) → wire ≢ out0 → wire ≢ out1 → wire < length old.lists → out0 < length old.lists → out1 < length old.lists → output < 2
       → ((k : ℕ) → times_in old.lists k ≤ 1) → Deals (out_of out0 out1) output (on old.lists wire) old new → IsDealt wire output out0 out1 old new
-  dealt wire output old new apart0 apart1 inside in0 in1 low once deals =
-      let all = dealt-lists wire output (on old.lists wire) old new apart0 apart1 inside in0 in1 once refl deals in
+  dealt wire output old new differ0 differ1 inside in0 in1 low once deals =
+      let all = dealt-lists wire output (on old.lists wire) old new differ0 differ1 inside in0 in1 once refl deals in
       let same : output % 2 ≡ output = omega (arith, low) in
       let tokens = on old.lists wire in
       record {
         wires = all.wires;
         empty = all.empty;
-        first = all.others out0 (λ e. apart0 (sym e)) ∙ ap (λ (es : List (ℕ × ℕ)). on old.lists out0 ++ es) (at-first (output % 2) tokens ∙ ap (λ (p : ℕ). every_second p tokens) same);
-        second = all.others out1 (λ e. apart1 (sym e)) ∙ ap (λ (es : List (ℕ × ℕ)). on old.lists out1 ++ es) (at-second (output % 2) tokens ∙ ap (λ (p : ℕ). every_second (1 - p) tokens) same);
+        first = all.others out0 (λ e. differ0 (sym e)) ∙ ap (λ (es : List (ℕ × ℕ)). on old.lists out0 ++ es) (at-first (output % 2) tokens ∙ ap (λ (p : ℕ). every_second p tokens) same);
+        second = all.others out1 (λ e. differ1 (sym e)) ∙ ap (λ (es : List (ℕ × ℕ)). on old.lists out1 ++ es) (at-second (output % 2) tokens ∙ ap (λ (p : ℕ). every_second (1 - p) tokens) same);
         others = λ u other first second. all.others u other ∙ ap (λ (es : List (ℕ × ℕ)). on old.lists u ++ es) (at-other (output % 2) tokens u first second) ∙ append-nil (on old.lists u);
         spare = all.spare;
         tokens = all.count;

@@ -20,7 +20,7 @@ impl Yard {
     pub fn deal(&mut self, wire: u32, output: u32, out0: u32, out1: u32)
         requires wires { (wire < length self.old.lists) × (out0 < length self.old.lists)
             × (out1 < length self.old.lists) }
-        requires apart { (wire ≢ out0) × (wire ≢ out1) × (out0 ≢ out1) }
+        requires distinct { (wire ≢ out0) × (wire ≢ out1) × (out0 ≢ out1) }
         requires output { output < 2 }
         ensures dealt { IsDealt wire output out0 out1 self.old self.new }
         ensures moves { Deals (out_of out0 out1) output (on self.old.lists wire) self.old self.new }

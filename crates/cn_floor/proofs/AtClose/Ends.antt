@@ -56,7 +56,7 @@ module _ (t : Table) (words : List ℕ) where
         let has = both-there (eqb 0 c) (ltb v (count_in t words (Exit i))) (eqb (name_of t.width i v) name) (omega (arith, g)) in
         (exit-there i (omega (arith, ltb-true v (count_in t words (Exit i)) has.1)), sym (eqb-true (name_of t.width i v) name has.2));
     once = λ c i v name. omega (arith, no_more (eqb 0 c) (ltb v (count_in t words (Exit i))) (eqb (name_of t.width i v) name));
-    apart = λ c d i v differ. omega (arith, not_both c d differ (ltb v (count_in t words (Exit i))) (eqb (name_of t.width i v) (name_of t.width i v)) (eqb (name_of t.width i v) (name_of t.width i v)));
+    distinct = λ c d i v differ. omega (arith, not_both c d differ (ltb v (count_in t words (Exit i))) (eqb (name_of t.width i v) (name_of t.width i v)) (eqb (name_of t.width i v) (name_of t.width i v)));
     owned = λ i v h g.
         let below : v < count_in t words (Exit i) = once-in (count_in t words (Exit i)) v (omega (arith, g)) in (
           0,

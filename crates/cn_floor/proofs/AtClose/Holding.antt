@@ -36,8 +36,8 @@ module _ (grants : List Grant) (names : IsEachBelow (length grants) (map (λ (g 
       ]
 
   -- and no two grants have one
-  names-apart : (i j : ℕ) (d : Grant) → i < j → j < length grants → (get_or grants i d).name ≢ (get_or grants j d).name
-  names-apart i j d l h same =
+  names-distinct : (i j : ℕ) (d : Grant) → i < j → j < length grants → (get_or grants i d).name ≢ (get_or grants j d).name
+  names-distinct i j d l h same =
       let twice = times-two all i j l (omega (arith, long)) (name-at i d (omega arith) ∙ same ∙ sym (name-at j d h)) in
       omega (arith, once_each (length grants) all names (get_or all j 0), at_most_once (length grants) (get_or all j 0))
 
@@ -54,8 +54,8 @@ module _ (grants : List Grant) (names : IsEachBelow (length grants) (map (λ (g 
               let its : get_or grants j d ≡ g = ap (λ (i : ℕ). get_or grants i d) same ∙ default k d e l in
               ap (λ (x : Grant). get_or (set holders g.name g.client) x.name 0) its ∙ get_or-set_same holders g.name g.client 0 (omega (arith, name-low k e l)) ∙ sym (ap (λ (x : Grant). x.client) its)
           | inr other ↦
-              let apart : (get_or grants j d).name ≢ g.name = λ same. names-apart j k d (omega arith) l (same ∙ ap (λ (x : Grant). x.name) (default k e d l)) in
-              get_or-set_other holders g.name (get_or grants j d).name g.client 0 apart ∙ each j d (omega arith)
+              let differ : (get_or grants j d).name ≢ g.name = λ same. names-distinct j k d (omega arith) l (same ∙ ap (λ (x : Grant). x.name) (default k e d l)) in
+              get_or-set_other holders g.name (get_or grants j d).name g.client 0 differ ∙ each j d (omega arith)
         ],
       )
     where

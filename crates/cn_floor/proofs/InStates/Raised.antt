@@ -32,21 +32,21 @@ module _ (t : Table) (words : List ℕ) (long : length words ≡ word_count t) w
   -- a guarded word
   guarded : (i j : ℕ) (n x y : ℕ) → i < length words → (x < n → j ≡ i → x ≡ y) → (x ≡ y → j ≡ i) → y < n
       → when (ltb x n) (get_or (raised words i) j 0) ≡ when (ltb x n) (get_or words j 0) + when (eqb x y) 1
-  guarded i j n x y inside apart same low =
+  guarded i j n x y inside distinct same low =
       elim (cases_lt x n) [
         | inl l ↦
             elim (cases_eq x y) [
               | inl e ↦ rw (lt-ltb x n l, eq-eqb x y e) (one_more-at words i j inside ∙ ap (λ b. get_or words j 0 + cond b 1 0) (eq-eqb j i (same e)))
-              | inr d ↦ rw (lt-ltb x n l, ne_eqb x y d) (one_more-at words i j inside ∙ ap (λ b. get_or words j 0 + cond b 1 0) (ne_eqb j i (λ e. d (apart l e))))
+              | inr d ↦ rw (lt-ltb x n l, ne_eqb x y d) (one_more-at words i j inside ∙ ap (λ b. get_or words j 0 + cond b 1 0) (ne_eqb j i (λ e. d (distinct l e))))
             ]
         | inr l ↦ rw (le-ltb x n l, ne_eqb x y (λ e. omega arith)) refl
       ]
 
   -- a word of others
   unguarded : (i j n x : ℕ) → i < length words → (x < n → j ≢ i) → when (ltb x n) (get_or (raised words i) j 0) ≡ when (ltb x n) (get_or words j 0)
-  unguarded i j n x inside apart =
+  unguarded i j n x inside distinct =
       elim (cases_lt x n) [
-        | inl l ↦ rw (lt-ltb x n l) (one_more-at words i j inside ∙ ap (λ b. get_or words j 0 + cond b 1 0) (ne_eqb j i (apart l)) ∙ omega arith)
+        | inl l ↦ rw (lt-ltb x n l) (one_more-at words i j inside ∙ ap (λ b. get_or words j 0 + cond b 1 0) (ne_eqb j i (distinct l)) ∙ omega arith)
         | inr l ↦ rw (le-ltb x n l) refl
       ]
 

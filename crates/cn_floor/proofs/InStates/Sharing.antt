@@ -97,10 +97,10 @@ given-nobody (Exit i) n = refl
 
 -- two views may become what they are together
 pub joins-sum : (start : Start) (id other : ℕ) (v w both : View) → IsSum (base start) start.network v w both → v.loads ≡ [] → w.loads ≡ [] → Joins (HoldsAt start) id v other w both nobody
-joins-sum start id other v w both is idle idle' s kept at apart at_other =
+joins-sum start id other v w both is idle idle' s kept at distinct at_other =
     let once : List View = set s.views id both in
     let vs : List View = set once other nobody in
-    let here : get_elem? s.views other ≡ some w = ⊎_elim (λ y. absurd (apart y.0)) (λ y. y.1) (at_set s.views id other both w at_other) in
+    let here : get_elem? s.views other ≡ some w = ⊎_elim (λ y. absurd (distinct y.0)) (λ y. y.1) (at_set s.views id other both w at_other) in
     let two : (f : View → ℕ) → sum_by f vs + f v + f w ≡ sum_by f s.views + f both + f nobody = λ f. omega (arith, total-set f s.views id v both at, total-set f once other w nobody at_other) in
     let sums : (f : View → ℕ) → f both ≡ f v + f w → f nobody ≡ 0 → sum_by f s.views ≡ sum_by f vs = λ f e z. omega (arith, two f) in
     let many : length both.entries ≡ length v.entries + length w.entries = ap (λ (es : List ℕ). length es) is.entries ∙ length-append v.entries w.entries in
@@ -119,7 +119,7 @@ joins-sum start id other v w both is idle idle' s kept at apart at_other =
     let all' : load_bound t s.words w.loads ≡ clients_in t s.words = ap (λ (ls : List ℕ). load_bound t s.words ls) idle' in
     let all-both : load_bound t s.words both.loads ≡ clients_in t s.words = ap (λ (ls : List ℕ). load_bound t s.words ls) is.loads in
     let entries : length v.entries + length w.entries ≤ sum_by (λ (x : View). length x.entries) s.views =
-    let part = part-le (λ (x : View). length x.entries) (set s.views id nobody) other w (set_else s.views id other nobody apart ∙ here) in
+    let part = part-le (λ (x : View). length x.entries) (set s.views id nobody) other w (set_else s.views id other nobody distinct ∙ here) in
     omega (arith, total-set (λ (x : View). length x.entries) s.views id v nobody at) in
     let came = all-came start s kept in
     let names : All (λ (x : Grant). base start + x.name < clients_in t s.words) (v.grants ++ w.grants) =

@@ -84,8 +84,8 @@ module _ (stride : ℕ) (some-stride : 1 ≤ stride) where
 
     pub joins-spread : (id : ℕ) (v : V) (other : ℕ) (w both spent : V) → Joins holds id v other w both spent
         → Joins (HoldsSpread stride holds) id v other w both spent
-    joins-spread id v other w both spent join s kept at apart there =
-        (kept.0, kept.1, join (record { words = kept.0; homes = s.homes; views = s.views }) kept.2 at apart there)
+    joins-spread id v other w both spent join s kept at differ there =
+        (kept.0, kept.1, join (record { words = kept.0; homes = s.homes; views = s.views }) kept.2 at differ there)
 
     -- the same, by the place of the word
     pub allows-at : {slots id : ℕ} {me : Me S V} {i place : ℕ} (f : ℕ → ℕ) (then : ℕ → Me S V → Type 0) → place ≡ stride * i

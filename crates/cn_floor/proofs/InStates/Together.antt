@@ -1,4 +1,4 @@
--- Two views are taken together for a moment, and cut apart again.
+-- Two views are taken together for a moment, and cut in two again.
 use Rattle.std.proofs.Common.{◌≡◌, ℕ, ◌+◌, ◌*◌, ◌<◌, ◌≤◌, ◌&&◌, inl, inr, All, List, [], ◌∷◌, ◌++◌, length, get_or, map, set, sum_by, cond, eqb, sym, refl, ap, ◌∙◌, subst, ⊎_elim, arith}
 use Rattle.std.proofs.lemmas.Bool.{cases_lt}
 use Rattle.std.proofs.lemmas.List.{get_or-append-add, get_or_append_left, get_or_past, length-append}
@@ -17,7 +17,7 @@ use Rattle.cn_floor.specs.declared.view.Start.{Start}
 use Rattle.cn_floor.specs.declared.view.View.{View}
 use Rattle.cn_floor.specs.Rule.{HoldsAt, IsAccounted, IsFresh, load_bound}
 use Rattle.cn_floor.specs.Steps.{IsAnswer, StoodInState}
-use Rattle.cn_floor.specs.Together.{NamesApart, both_of}
+use Rattle.cn_floor.specs.Together.{HaveDistinctNames, both_of}
 use Rattle.cn_floor.specs.Views.{base, given_in, granted_in, nobody, on_in, standing_in}
 use Rattle.cn_floor.specs.Words.{clients_in}
 use Rattle.cn_floor.proofs.Lists.{made_at, made-beyond, ones}
@@ -114,9 +114,9 @@ All-right : {X : Type 0} (P : X → Type 0) (xs ys : List X) → All P (xs ++ ys
 All-right P xs ys all k d less = subst P (get_or-append-add xs ys k d) (all (length xs + k) d (omega (arith, less, length-append xs ys)))
 
 -- what two views are together may be cut in them
-pub cuts-apart : (start : Start) (id : ℕ) (v w both : View) → IsSum (base start) start.network v w both → v.loads ≡ [] → w.loads ≡ [] → IsAccounted start.network v → IsAccounted start.network w
+pub cuts-in-two : (start : Start) (id : ℕ) (v w both : View) → IsSum (base start) start.network v w both → v.loads ≡ [] → w.loads ≡ [] → IsAccounted start.network v → IsAccounted start.network w
     → Splits (HoldsAt start) id both v w
-cuts-apart start id v w both is idle idle' accounted accounted' s kept at =
+cuts-in-two start id v w both is idle idle' accounted accounted' s kept at =
     let t = start.network.table in
     let vs : List View = set s.views id v ++ w ∷ [] in
     let sums : (f : View → ℕ) → f both ≡ f v + f w → sum_by f s.views ≡ sum_by f vs = λ f e. omega (arith, total-set f s.views id both v at, sum_by_push f (set s.views id v) w) in
@@ -201,8 +201,8 @@ answers-both start v w answer is =
     )
 
 -- in the state in which one lane has the grants of two, no name stands in both
-pub names-apart : (start : Start) (v w both : View) → both.grants ≡ v.grants ++ w.grants → StoodInState start both → NamesApart v w
-names-apart start v w both is (s, in_state) name =
+pub names-distinct : (start : Start) (v w both : View) → both.grants ≡ v.grants ++ w.grants → StoodInState start both → HaveDistinctNames v w
+names-distinct start v w both is (s, in_state) name =
     omega (
       arith,
       names-once start s in_state.kept in_state.id both in_state.here name,

@@ -2,7 +2,7 @@
 
 ghost use Rattle.std.specs.Prelude.{◌≡◌};
 ghost use Rattle.cn_floor.specs.Steps.{IsAnswer};
-ghost use Rattle.cn_floor.specs.Together.{NamesApart, StoodAsOne, first_after, second_after};
+ghost use Rattle.cn_floor.specs.Together.{HaveDistinctNames, StoodAsOne, first_after, second_after};
 
 use super::Floor;
 use super::lane::Lane;
@@ -21,7 +21,7 @@ impl<'a> Floor<'a> {
         ensures first { result.0
             ≡ record lane { view = first_after self.now.start result.2 lane.view } }
         ensures second { result.1 ≡ record other { view = second_after result.2 other.view } }
-        ensures apart { NamesApart result.0.view result.1.view }
+        ensures distinct { HaveDistinctNames result.0.view result.1.view }
         ensures answer { IsAnswer self.now.start lane.view result.2
             × IsAnswer self.now.start other.view result.2 }
         ensures in_state { StoodAsOne self.now.start result.0.view result.1.view result.2 }

@@ -203,11 +203,11 @@ impl PairOf for Brand {
 }
 
 /// One view becomes the two of which it was made.
-pub struct CutApart<T> {
+pub struct CutInTwo<T> {
     of: PhantomData<T>,
 }
 
-impl<T: PairOf> Split<View> for CutApart<T> {
+impl<T: PairOf> Split<View> for CutInTwo<T> {
     ghost use Rattle.cn_floor.specs.Together.{cut_first, cut_second};
 
     ghost left = { cut_first T.pair };

@@ -32,7 +32,7 @@ fn fault_of(error: Error) -> RecordFault
     }
 }
 
-/// A reader of records of any length, with no header taken apart. It is boxed, for it holds a buffer of 8 KB, of which
+/// A reader of records of any length, with no header set aside. It is boxed, for it holds a buffer of 8 KB, of which
 /// the frame of each caller would have a copy.
 ///
 /// # Errors

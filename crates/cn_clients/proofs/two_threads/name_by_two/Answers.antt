@@ -23,7 +23,7 @@ returns-clause-differ g c name =
     let gave = c.in-Some.ensures in
     let one = ap (λ (l : LaneValue). times name (names_granted l.view.grants)) c.look_at_both-lane.ensures.first in
     let two = ap (λ (l : LaneValue). times name (names_granted l.view.grants)) c.look_at_both-lane.ensures.second in
-    omega (arith, c.look_at_both-lane.ensures.apart name, one, two, among _ _ _ _ gave.0 name, among _ _ _ _ gave.1 name)
+    omega (arith, c.look_at_both-lane.ensures.distinct name, one, two, among _ _ _ _ gave.0 name, among _ _ _ _ gave.1 name)
 
 pub returns-clause-low : goal.returns-clause-low
 returns-clause-low g c =

@@ -3,10 +3,10 @@
 ghost use Rattle.std.specs.Prelude.{◌≡◌, ◌<◌, [], length};
 ghost use Rattle.cn_floor.specs.Plays.{Loads, Looks};
 ghost use Rattle.cn_floor.specs.Steps.{IsAnswer, StoodInState};
-ghost use Rattle.cn_floor.specs.Together.{NamesApart, StoodAsOne, both_of, cut_first, cut_second, first_after, second_after};
+ghost use Rattle.cn_floor.specs.Together.{HaveDistinctNames, StoodAsOne, both_of, cut_first, cut_second, first_after, second_after};
 ghost use Rattle.cn_floor.specs.Views.{after_entered, after_look, base};
 
-use super::super::plays::{CutApart, LoadOf, LoadPlay, LookPlay, PairOf, TakeTogether};
+use super::super::plays::{CutInTwo, LoadOf, LoadPlay, LookPlay, PairOf, TakeTogether};
 use super::{Counters, place_of};
 use crate::view::View;
 use atomic_table::Seat;
@@ -77,7 +77,7 @@ impl Counters {
             × (seat.new.me ≡ (first_after self.now.start result.1 seat.old.me.0, [])) }
         ensures second { (result.0.table_id ≡ seat.old.table_id)
             × (result.0.me ≡ (second_after result.1 other.me.0, [])) }
-        ensures apart { NamesApart seat.old.me.0 other.me.0 }
+        ensures distinct { HaveDistinctNames seat.old.me.0 other.me.0 }
         ensures answer { IsAnswer self.now.start seat.old.me.0 result.1
             × IsAnswer self.now.start other.me.0 result.1 }
         ensures in_state { StoodAsOne self.now.start seat.old.me.0 other.me.0 result.1 }
@@ -86,13 +86,13 @@ impl Counters {
         self.look::<Brand>(&mut other);
         self.table.shared.join_seat::<TakeTogether>(seat, other);
         let entered = self.load_all(seat, came_before);
-        let other = self.cut_apart::<T>(seat, entered);
+        let other = self.cut_in_two::<T>(seat, entered);
         (other, entered)
     }
 
     /// Cuts a view in the two of which it was made, once it has an answer of how many came in. The answer is only for
     /// the proof.
-    fn cut_apart<T: PairOf>(&self, seat: &mut Seat<(), View>, _entered: u64) -> Seat<(), View>
+    fn cut_in_two<T: PairOf>(&self, seat: &mut Seat<(), View>, _entered: u64) -> Seat<(), View>
         requires own { seat.old.table_id ≡ self.now.table }
         requires slots { seat.old.me.1 ≡ [] }
         requires pair { seat.old.me.0
@@ -106,6 +106,6 @@ impl Counters {
         ensures second { (result.table_id ≡ seat.old.table_id)
             × (result.me ≡ (cut_second T.pair seat.old.me.0, [])) }
     {
-        self.table.shared.split_seat::<CutApart<T>>(seat)
+        self.table.shared.split_seat::<CutInTwo<T>>(seat)
     }
 }

@@ -4,7 +4,7 @@ use Rattle.cn_floor.specs.declared.view.View.{View}
 use Rattle.cn_floor.specs.InsideLane.{lane_of}
 use Rattle.cn_floor.specs.Lane.{FloorValue, LaneValue}
 use Rattle.cn_floor.specs.Steps.{IsAnswer}
-use Rattle.cn_floor.specs.Together.{NamesApart, StoodAsOne, first_after, second_after}
+use Rattle.cn_floor.specs.Together.{HaveDistinctNames, StoodAsOne, first_after, second_after}
 use Rattle.cn_floor.proofs.floor.Floor.look_at_both.Goals as goal
 
 pub look_at_both-other_seat-requires-clause-own : goal.look_at_both-other_seat-requires-clause-own
@@ -99,11 +99,11 @@ returns-clause-second c =
       room = c.other.inside.room;
     })
 
-pub returns-clause-apart : goal.returns-clause-apart
-returns-clause-apart c =
+pub returns-clause-distinct : goal.returns-clause-distinct
+returns-clause-distinct c =
     let one = first c in
     let two = second c in
-    subst (λ (z : View × View). NamesApart z.0 z.1) (λ i. ((sym one) i, (sym two) i)) c.look_at_both-other_seat.ensures.apart
+    subst (λ (z : View × View). HaveDistinctNames z.0 z.1) (λ i. ((sym one) i, (sym two) i)) c.look_at_both-other_seat.ensures.distinct
 
 pub returns-clause-in_state : goal.returns-clause-in_state
 returns-clause-in_state c =

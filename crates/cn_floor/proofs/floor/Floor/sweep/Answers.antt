@@ -30,8 +30,8 @@ deal-requires-clause-wires c =
     omega (arith, ends, stands, c.entries.ensures.value, c.entries.ensures.network.formed.wires) in
     (inside, omega (arith, out), out)
 
-pub deal-requires-clause-apart : goal.deal-requires-clause-apart
-deal-requires-clause-apart c =
+pub deal-requires-clause-distinct : goal.deal-requires-clause-distinct
+deal-requires-clause-distinct c =
     let lists = c.lane.inside.yard.lists in
     let network : Network = c.network-network.result.now in
     let inside : c.args.wire < length lists = some-inside lists c.args.wire (rw (← c.lane.view_is) at c.requires.some) in

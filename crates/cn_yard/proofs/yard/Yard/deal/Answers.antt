@@ -44,14 +44,14 @@ pub loop-token-smaller : goal.loop-token-smaller
 loop-token-smaller c =
     fewer (out_of c.args.out0 c.args.out1) c.args.output c.args.wire c.args.self.now c.loop-token.self c.loop-token.next c.in-Some.token
     c.loop-token.invariant c.requires.wires.0 (moving c) c.move_to.new.self c.wire_of_output.result
-    (away c.args.wire c.args.out0 c.args.out1 c.loop-token.next c.wire_of_output.result c.wire_of_output.ensures c.requires.apart.0 c.requires.apart.1) (moves c)
+    (away c.args.wire c.args.out0 c.args.out1 c.loop-token.next c.wire_of_output.result c.wire_of_output.ensures c.requires.distinct.0 c.requires.distinct.1) (moves c)
 
 pub loop-token-preserved : goal.loop-token-preserved
 loop-token-preserved c =
     goes-on (out_of c.args.out0 c.args.out1) c.args.output c.args.wire c.args.self.now c.loop-token.self c.loop-token.next c.in-Some.token
     c.loop-token.invariant c.requires.wires.0 (moving c) c.move_to.new.self c.wire_of_output.result c.wire_of_output.ensures
     (lands (length c.args.self.now.lists) c.args.out0 c.args.out1 c.loop-token.next c.wire_of_output.result c.wire_of_output.ensures c.requires.wires.1 c.requires.wires.2)
-    (away c.args.wire c.args.out0 c.args.out1 c.loop-token.next c.wire_of_output.result c.wire_of_output.ensures c.requires.apart.0 c.requires.apart.1) (moves c)
+    (away c.args.wire c.args.out0 c.args.out1 c.loop-token.next c.wire_of_output.result c.wire_of_output.ensures c.requires.distinct.0 c.requires.distinct.1) (moves c)
 
 all : (c : In_default) → Deals (out_of c.args.out0 c.args.out1) c.args.output (on c.args.self.now.lists c.args.wire) c.args.self.now c.loop-token.self
 all c =
@@ -60,9 +60,9 @@ all c =
 
 pub returns-clause-dealt : goal.returns-clause-dealt
 returns-clause-dealt c =
-    let apart = c.requires.apart in
+    let differ = c.requires.distinct in
     let wires = c.requires.wires in
-    dealt c.args.out0 c.args.out1 apart.2 c.args.wire c.args.output c.args.self.now c.loop-token.self apart.0 apart.1 wires.0 wires.1 wires.2
+    dealt c.args.out0 c.args.out1 differ.2 c.args.wire c.args.output c.args.self.now c.loop-token.self differ.0 differ.1 wires.0 wires.1 wires.2
     c.requires.output c.yard_laws.ensures.once (all c)
 
 pub returns-clause-moves : goal.returns-clause-moves

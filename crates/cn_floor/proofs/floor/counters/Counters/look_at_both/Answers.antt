@@ -6,7 +6,7 @@ use Rattle.cn_floor.specs.Steps.{IsAnswer, StoodInState}
 use Rattle.cn_floor.specs.Together.{Pair, both_of, cut_first, first_after}
 use Rattle.cn_floor.specs.Views.{after_entered, after_look}
 use Rattle.cn_floor.proofs.InStates.Placed.{first as lanes-place, joins-at, there}
-use Rattle.cn_floor.proofs.InStates.Together.{answers-both, names-apart, takes-together}
+use Rattle.cn_floor.proofs.InStates.Together.{answers-both, names-distinct, takes-together}
 use Rattle.cn_floor.proofs.floor.counters.Counters.look_at_both.Goals as goal
 
 pub join_seat-requires : goal.join_seat-requires
@@ -24,13 +24,13 @@ join_seat-requires g c =
       joins-at c.self.inside c.self.invariant (takes-together (start_of c.self.inside.table.shared.key) _ _ _ _ idle idle' long),
     )
 
-pub returns-clause-apart : goal.returns-clause-apart
-returns-clause-apart g c =
+pub returns-clause-distinct : goal.returns-clause-distinct
+returns-clause-distinct g c =
     let joined = ap (λ me. me.0.grants) c.join_seat.ensures.2 in
     let grants : c.load_all-entered.new.seat.me.0.grants ≡ c.args.seat.now.me.0.grants ++ c.args.other.me.0.grants =
     ap (λ (x : View). x.grants) c.load_all-entered.ensures.view ∙ joined
     ∙ (λ i. (c.look.ensures.looks.0 i).grants ++ (c.look-2.ensures.looks.0 i).grants) in
-    names-apart c.args.self.now.start c.args.seat.now.me.0 c.args.other.me.0 c.load_all-entered.new.seat.me.0 grants c.load_all-entered.ensures.in_state
+    names-distinct c.args.self.now.start c.args.seat.now.me.0 c.args.other.me.0 c.load_all-entered.new.seat.me.0 grants c.load_all-entered.ensures.in_state
 
 pub returns-clause-in_state : goal.returns-clause-in_state
 returns-clause-in_state g c =
@@ -55,27 +55,27 @@ cut-first start entered p v l one is =
     ∙ (λ i. record (one i) { seen = entered; steps = (one i).steps + p.second.steps + 1 + start.network.table.entries - p.second.steps + 1 })
     ∙ ap (λ (n : ℕ). record v { seen = entered; steps = n }) steps
 
-pub cut_apart-other-requires-clause-pair : goal.cut_apart-other-requires-clause-pair
-cut_apart-other-requires-clause-pair g c =
+pub cut_in_two-other-requires-clause-pair : goal.cut_in_two-other-requires-clause-pair
+cut_in_two-other-requires-clause-pair g c =
     let start : Start = c.args.self.now.start in
     let entered : ℕ = c.load_all-entered.result in
     c.load_all-entered.ensures.view ∙ ap (λ me. after_entered start entered me.0) c.join_seat.ensures.2
     ∙ (λ i. after_entered start entered (both_of ((c.look.ensures.looks.0 ∙ sym c.requires.pair.0) i) ((c.look-2.ensures.looks.0 ∙ sym c.requires.pair.1) i)))
 
-pub cut_apart-other-requires-clause-wires : goal.cut_apart-other-requires-clause-wires
-cut_apart-other-requires-clause-wires g c =
+pub cut_in_two-other-requires-clause-wires : goal.cut_in_two-other-requires-clause-wires
+cut_in_two-other-requires-clause-wires g c =
     ap (λ (x : View). length x.tokens) c.requires.pair.1 ∙ c.requires.wires ∙ sym (ap (λ (x : View). length x.tokens) c.requires.pair.0)
 
-pub cut_apart-other-requires-clause-idle : goal.cut_apart-other-requires-clause-idle
-cut_apart-other-requires-clause-idle g c =
+pub cut_in_two-other-requires-clause-idle : goal.cut_in_two-other-requires-clause-idle
+cut_in_two-other-requires-clause-idle g c =
     (ap (λ (x : View). x.loads) c.requires.pair.0 ∙ c.requires.slots.1, ap (λ (x : View). x.loads) c.requires.pair.1 ∙ c.requires.slots.3)
 
-pub cut_apart-other-requires-clause-first : goal.cut_apart-other-requires-clause-first
-cut_apart-other-requires-clause-first g c =
+pub cut_in_two-other-requires-clause-first : goal.cut_in_two-other-requires-clause-first
+cut_in_two-other-requires-clause-first g c =
     subst (λ (x : View). StoodInState c.args.self.now.start x) (c.look.ensures.looks.0 ∙ sym c.requires.pair.0) c.look.ensures.looks.1
 
-pub cut_apart-other-requires-clause-second : goal.cut_apart-other-requires-clause-second
-cut_apart-other-requires-clause-second g c =
+pub cut_in_two-other-requires-clause-second : goal.cut_in_two-other-requires-clause-second
+cut_in_two-other-requires-clause-second g c =
     subst (λ (x : View). StoodInState c.args.self.now.start x) (c.look-2.ensures.looks.0 ∙ sym c.requires.pair.1) c.look-2.ensures.looks.1
 
 pub returns-clause-first : goal.returns-clause-first
@@ -87,14 +87,14 @@ returns-clause-first g c =
     c.load_all-entered.ensures.view ∙ ap (λ me. after_entered start entered me.0) c.join_seat.ensures.2
     ∙ (λ i. after_entered start entered (both_of ((c.look.ensures.looks.0 ∙ sym c.requires.pair.0) i) ((c.look-2.ensures.looks.0 ∙ sym c.requires.pair.1) i))) in
     let view : cut_first p c.load_all-entered.new.seat.me.0 ≡ first_after start entered c.args.seat.now.me.0 = cut-first start entered p c.args.seat.now.me.0 _ c.requires.pair.0 is in (
-      c.cut_apart-other.ensures.first.0 ∙ c.load_all-entered.ensures.seat.0 ∙ c.join_seat.ensures.0 ∙ c.look.ensures.seat.0,
-      c.cut_apart-other.ensures.first.1 ∙ (λ i. (view i, [])),
+      c.cut_in_two-other.ensures.first.0 ∙ c.load_all-entered.ensures.seat.0 ∙ c.join_seat.ensures.0 ∙ c.look.ensures.seat.0,
+      c.cut_in_two-other.ensures.first.1 ∙ (λ i. (view i, [])),
     )
 
 pub returns-clause-second : goal.returns-clause-second
 returns-clause-second g c =
     let entered : ℕ = c.load_all-entered.result in
     let seen : c.load_all-entered.new.seat.me.0.seen ≡ entered = ap (λ (x : View). x.seen) c.load_all-entered.ensures.view in (
-      c.cut_apart-other.ensures.second.0 ∙ c.load_all-entered.ensures.seat.0 ∙ c.join_seat.ensures.0 ∙ c.look.ensures.seat.0,
-      c.cut_apart-other.ensures.second.1 ∙ (λ i. (record (c.requires.pair.1 i) { seen = seen i }, [])),
+      c.cut_in_two-other.ensures.second.0 ∙ c.load_all-entered.ensures.seat.0 ∙ c.join_seat.ensures.0 ∙ c.look.ensures.seat.0,
+      c.cut_in_two-other.ensures.second.1 ∙ (λ i. (record (c.requires.pair.1 i) { seen = seen i }, [])),
     )

@@ -8,8 +8,8 @@ use Rattle.cn_floor.specs.Together.{Pair, both_of, cut_first, cut_second}
 use Rattle.cn_floor.specs.Views.{base}
 use Rattle.cn_floor.proofs.InStates.Placed.{first as lanes-place, splits-at, there}
 use Rattle.cn_floor.proofs.InStates.Sharing.{IsSum}
-use Rattle.cn_floor.proofs.InStates.Together.{accounted-answered, accounted-seen, cuts-apart, sum-answered, sum-both}
-use Rattle.cn_floor.proofs.floor.counters.Counters.cut_apart.Goals as goal
+use Rattle.cn_floor.proofs.InStates.Together.{accounted-answered, accounted-seen, cuts-in-two, sum-answered, sum-both}
+use Rattle.cn_floor.proofs.floor.counters.Counters.cut_in_two.Goals as goal
 
 pub split_seat-requires : goal.split_seat-requires
 split_seat-requires g c =
@@ -26,7 +26,7 @@ split_seat-requires g c =
     subst (λ (s : Start). IsAccounted s.network (record p.first { seen = e; steps = j })) about (accounted-answered c.args.self.now.start.network p.first e j (accounted-seen c.args.self.now.start _ c.requires.first)) in
     let second : IsAccounted start.network (record p.second { seen = e; steps = p.second.steps }) =
     subst (λ (s : Start). IsAccounted s.network (record p.second { seen = e; steps = p.second.steps })) about (accounted-answered c.args.self.now.start.network p.second e p.second.steps (accounted-seen c.args.self.now.start _ c.requires.second)) in
-    let cuts = cuts-apart start c.args.seat.now.id _ _ _ cut-sum c.requires.idle.0 c.requires.idle.1 first second in (
+    let cuts = cuts-in-two start c.args.seat.now.id _ _ _ cut-sum c.requires.idle.0 c.requires.idle.1 first second in (
       search rules,
       there c.self.inside c.self.invariant (lanes-place c.self.inside c.self.invariant) (omega arith),
       splits-at c.self.inside c.self.invariant (subst (λ (x : View). Splits (HoldsAt start) c.args.seat.now.id x (cut_first p x) (cut_second p x)) (sym c.requires.pair) cuts),

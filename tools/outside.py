@@ -1,4 +1,4 @@
-"""Crates that stand apart from the gate, in folders of checks/long: it neither proves nor runs them.
+"""Crates that stand outside the gate, in folders of checks/long: it neither proves nor runs them.
 
 Their files have endings that no check reads. They get those of a crate in a copy of the repository's libraries, in a
 temporary folder, and what is built there is kept in the folder's out/.
