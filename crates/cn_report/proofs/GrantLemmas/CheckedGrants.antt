@@ -1,7 +1,7 @@
 -- The grants that were seen so far.
 use Rattle.cn_report.proofs.Common.{◌≡◌, ◌<◌, ◌≤◌, ◌+◌, ℕ, Bool, List, [], ◌∷◌, ◌++◌, true, false, Option, Some, None, length, refl, arith, suc, sym, ap, ◌∙◌, inl, inr, map, subst, length-append, if◌then◌else◌, ◌==◌, ◌||◌, ◌⊎◌, nat_eq, AllByRecursion, list_any, append-nil, map-append, filter-append, fold-append, lt-ltb, le-ltb, le-leb, lt-leb, ne_eqb, eq-eqb, leb_tells, MOST_RECORDS}
 use Rattle.std.proofs.Math.Dec.{leb}
-use Rattle.cn_report.specs.Grants.Checked.{AreSeen, HoldsGrants, IsChecked, IsGapBelow, Tells, joining_cause, latest_number, latest_seen}
+use Rattle.cn_report.specs.Grants.Checked.{AreSeen, HoldsGrants, IsChecked, IsGapBelow, Tells, adding_cause, latest_number, latest_seen}
 use Rattle.cn_report.specs.Grants.Printed.{epoch_numbers, named_epoch, plain_named, with_number}
 use Rattle.cn_report.specs.Grants.Granted.{form_cause, first_cause, has_client, has_name, last_epoch, of_epoch, twice_cause}
 use Rattle.cn_report.specs.Grants.TightList.{Lacks}
@@ -77,7 +77,7 @@ form-none before g h few = rw (le-ltb g.epoch (last_epoch before) h, lt-leb MOST
 
 -- the reported cause is that of the grant
 pub reported : (g : Granting) (before : List Granted) (grant : Granted) → HoldsGrants g before → g.latest ≡ grant.epoch → last_epoch before ≤ grant.epoch → length before < MOST_RECORDS
-    → joining_cause g grant ≡ first_cause (form_cause before grant) (twice_cause before grant)
+    → adding_cause g grant ≡ first_cause (form_cause before grant) (twice_cause before grant)
 unfolding twice_cause
 reported g before grant held here last few =
     let clients = held.clients grant.client in
@@ -179,9 +179,9 @@ seen-more ended latest count grants g t here = record {
     each (inl w) = rw w.0 (rw (number-last latest ended) refl)
     each (inr w) = rw (w.0, append-nil (map (λ (p : ℕ × ℕ). p.0) ended)) (rw (number-new latest ended t.below) refl)
 
-seen-joined : (old new : Granting) (before : List Granted) (grant : Granted) → old.latest ≡ grant.epoch → new.ended ≡ old.ended → new.latest ≡ old.latest → new.count ≡ old.count + 1
+seen-added : (old new : Granting) (before : List Granted) (grant : Granted) → old.latest ≡ grant.epoch → new.ended ≡ old.ended → new.latest ≡ old.latest → new.count ≡ old.count + 1
     → AreSeen (map plain_named old.ended.items) old.latest old.count before → AreSeen (map plain_named new.ended.items) new.latest new.count (before ++ grant ∷ [])
-seen-joined old new before grant here ended latest count t =
+seen-added old new before grant here ended latest count t =
     rw (ended, latest, count) (seen-more (map plain_named old.ended.items) old.latest old.count before grant t (sym here))
 
 -- what is found at the end
@@ -189,10 +189,10 @@ pub seen-end : (ended : List (ℕ × ℕ)) (next : ℕ) (grants : List Granted) 
 seen-end ended next grants t = t.seen ∙ ap (map (named_epoch grants)) (sym (t.numbers ∙ append-nil (map (λ (p : ℕ × ℕ). p.0) ended)))
 
 -- one more grant of the latest epoch
-pub joined : (old new : Granting) (before : List Granted) (grant : Granted) → HoldsGrants old before → Tells old before → old.latest ≡ grant.epoch → new.ended ≡ old.ended → new.gap ≡ old.gap → new.latest ≡ old.latest
+pub added : (old new : Granting) (before : List Granted) (grant : Granted) → HoldsGrants old before → Tells old before → old.latest ≡ grant.epoch → new.ended ≡ old.ended → new.gap ≡ old.gap → new.latest ≡ old.latest
     → new.count ≡ old.count + 1 → ((n : ℕ) → has new.clients n ≡ ((n == grant.client) || has old.clients n)) → ((n : ℕ) → has new.names n ≡ ((n == grant.name) || has old.names n))
     → IsChecked new (before ++ grant ∷ [])
-joined old new before grant held tells here ended gap latest count clients names =
+added old new before grant held tells here ended gap latest count clients names =
     let same = of_same before grant new.latest (sym here ∙ sym latest) in record {
       holds = record {
         below = rw latest (all_more old.latest before grant held.below (omega (arith, here)));
@@ -205,7 +205,7 @@ joined old new before grant held tells here ended gap latest count clients names
             (rw gap (gap-more before grant old.gap (subst (λ (e : ℕ). IsGapBelow e before old.gap) here held.gap)));
       };
       last = fold-append (λ (epoch : ℕ) (g : Granted). g.epoch) 0 before (grant ∷ []) ∙ sym (latest ∙ here);
-      tells = λ none. seen-joined old new before grant here ended latest count (tells (sym gap ∙ none));
+      tells = λ none. seen-added old new before grant here ended latest count (tells (sym gap ∙ none));
     }
 
 pub no_gap : (g : Granting) (grants : List Granted) → HoldsGrants g grants → IsGapBelow (g.latest + 1) grants None → (e n : ℕ) → Lacks grants e n → ⊥

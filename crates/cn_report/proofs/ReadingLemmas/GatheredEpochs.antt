@@ -9,7 +9,7 @@ use Rattle.cn_report.specs.declared.reading.batch.BatchEpoch.{BatchEpoch}
 use Rattle.cn_report.specs.declared.reading.batch.gathering.Gathering.{Gathering}
 use Rattle.cn_report.specs.Reading.Arrival.{arrival_cause, last_epoch, of_epoch}
 use Rattle.cn_report.specs.Reading.Batch.{AreEpochsOf, AreRising, arrivals_of}
-use Rattle.cn_report.specs.Reading.Gathered.{HoldsArrivals, IsGathered, ended_after, joining_cause}
+use Rattle.cn_report.specs.Reading.Gathered.{HoldsArrivals, IsGathered, adding_cause, ended_after}
 
 -- an arrival of this client
 abbrev pub arrival_at : ℕ → Client → Arrival
@@ -58,7 +58,7 @@ module _ (g : Gathering) (before : List Arrival) (held : HoldsArrivals g before)
 
   -- the cause reported of a client of the latest epoch is that of the arrival
   pub reported : (entries : ℕ) (c : Client) → last_epoch before ≤ g.latest.number → c.entry < entries → length before + 1 ≡ g.next
-      → joining_cause g c ≡ arrival_cause entries before (arrival_at g.latest.number c)
+      → adding_cause g c ≡ arrival_cause entries before (arrival_at g.latest.number c)
   unfolding arrival_cause
   reported entries c last within size =
       rw (
@@ -130,10 +130,10 @@ turned old new n before h ended number clients keys held =
     }
 
 -- a client more of the latest epoch
-pub joined : (old new : Gathering) (before : List Arrival) (c : Client) → HoldsArrivals old before → new.ended ≡ old.ended → new.latest.number ≡ old.latest.number
+pub added : (old new : Gathering) (before : List Arrival) (c : Client) → HoldsArrivals old before → new.ended ≡ old.ended → new.latest.number ≡ old.latest.number
     → new.latest.clients.items ≡ old.latest.clients.items ++ c ∷ [] → new.standing.keys ≡ old.standing.keys ++ c.id ∷ [] → new.next ≡ length before + 2
     → IsGathered new (before ++ arrival_at old.latest.number c ∷ [])
-joined old new before c held ended number clients keys next = record {
+added old new before c held ended number clients keys next = record {
   holds = record {
     spells =
         (λ i. flat_map arrivals_of (ended i).items ++ map (arrival_at (number i)) (clients i))
@@ -173,7 +173,7 @@ as-arrival n a e = λ i. record { epoch = e i; client = a.client; entry = a.entr
 
 -- the cause of an arrival in whose epoch the gathering has come
 pub reported-of : (g : Gathering) (before : List Arrival) (entries : ℕ) (a : Arrival) → HoldsArrivals g before → g.latest.number ≡ a.epoch → last_epoch before ≤ a.epoch → a.entry < entries
-    → length before + 1 ≡ g.next → joining_cause g (client_of a) ≡ arrival_cause entries before a
+    → length before + 1 ≡ g.next → adding_cause g (client_of a) ≡ arrival_cause entries before a
 reported-of g before entries a held number last within size =
     reported g before held entries (client_of a) (omega (arith, number, last)) within size ∙ ap (arrival_cause entries before) (as-arrival g.latest.number a number)
 
@@ -181,4 +181,4 @@ reported-of g before entries a held number last within size =
 pub taken_of : (old new : Gathering) (before : List Arrival) (a : Arrival) → HoldsArrivals old before → old.latest.number ≡ a.epoch → new.ended ≡ old.ended → new.latest.number ≡ old.latest.number
     → new.latest.clients.items ≡ old.latest.clients.items ++ client_of a ∷ [] → new.standing.keys ≡ old.standing.keys ++ a.client ∷ [] → new.next ≡ length before + 2 → IsGathered new (before ++ a ∷ [])
 taken_of old new before a held here ended number clients keys next =
-    subst (λ (x : Arrival). IsGathered new (before ++ x ∷ [])) (as-arrival old.latest.number a here) (joined old new before (client_of a) held ended number clients keys next)
+    subst (λ (x : Arrival). IsGathered new (before ++ x ∷ [])) (as-arrival old.latest.number a here) (added old new before (client_of a) held ended number clients keys next)

@@ -7,7 +7,7 @@ use Rattle.cn_spec.proofs.CallerLemmas.{times-append, times-cons, times-nil}
 use Rattle.cn_report.specs.declared.reading.batch.BatchEpoch.{BatchEpoch}
 use Rattle.cn_report.specs.declared.reading.batch.gathering.Gathering.{Gathering}
 use Rattle.cn_report.specs.Reading.Batch.{AreRising, AreServable, MayCome, clients_of_epochs}
-use Rattle.cn_report.specs.Reading.Gathered.{StaysServable, ended_after, joining_cause}
+use Rattle.cn_report.specs.Reading.Gathered.{StaysServable, adding_cause, ended_after}
 use Rattle.cn_report.proofs.ReadingLemmas.GatheredEpochs.{ended-below, rising_more}
 
 -- no client is few
@@ -71,22 +71,22 @@ absent x (y ∷ ids) e = by (nat_eq x y) refl e (λ rest. absent x ids rest)
         omega (arith, times-cons x y ids, rest e, other)
 
 -- what is known of a client of the latest epoch that has no cause
-new-and-few : (g : Gathering) (c : Client) → joining_cause g c ≡ None
+new-and-few : (g : Gathering) (c : Client) → adding_cause g c ≡ None
     → (list_any (nat_eq c.id) g.standing.keys ≡ false) × (length g.latest.clients.items < MOST_CLIENTS) × (g.next ≤ MOST_RECORDS)
 new-and-few g c none = by (list_any (nat_eq c.id) g.standing.keys) refl (nat_le MOST_CLIENTS (length g.latest.clients.items)) refl (nat_lt MOST_RECORDS g.next) refl none
   where
     by : (stands : Bool) → list_any (nat_eq c.id) g.standing.keys ≡ stands → (full : Bool) → nat_le MOST_CLIENTS (length g.latest.clients.items) ≡ full → (late : Bool) → nat_lt MOST_RECORDS g.next ≡ late
-        → joining_cause g c ≡ None → (list_any (nat_eq c.id) g.standing.keys ≡ false) × (length g.latest.clients.items < MOST_CLIENTS) × (g.next ≤ MOST_RECORDS)
+        → adding_cause g c ≡ None → (list_any (nat_eq c.id) g.standing.keys ≡ false) × (length g.latest.clients.items < MOST_CLIENTS) × (g.next ≤ MOST_RECORDS)
     by true is full e late l none = let it = rw is at none in cc
     by false is true e late l none = let it = rw (is, e) at none in cc
     by false is false e true l none = let it = rw (is, e, l) at none in cc
     by false is false e false l none = (is, grind (arith, nat_tests, e), grind (arith, nat_tests, l))
 
 -- a client more of the latest epoch
-pub joined-keeps : (old new : Gathering) (entries : ℕ) (c : Client) → joining_cause old c ≡ None → c.entry < entries → new.ended ≡ old.ended
+pub added-keeps : (old new : Gathering) (entries : ℕ) (c : Client) → adding_cause old c ≡ None → c.entry < entries → new.ended ≡ old.ended
     → new.latest.number ≡ old.latest.number → new.latest.clients.items ≡ old.latest.clients.items ++ c ∷ []
     → new.standing.keys ≡ old.standing.keys ++ c.id ∷ [] → new.next ≡ old.next + 1 → StaysServable entries old → StaysServable entries new
-joined-keeps old new entries c none entry ended number clients keys next keeps =
+added-keeps old new entries c none entry ended number clients keys next keeps =
     let (fresh, room, some) = new-and-few old c none in
     let ids : map (λ (x : Client). x.id) new.latest.clients.items ≡ map (λ (x : Client). x.id) old.latest.clients.items ++ c.id ∷ [] =
     ap (map (λ (x : Client). x.id)) clients ∙ map-append (λ (x : Client). x.id) old.latest.clients.items (c ∷ []) in

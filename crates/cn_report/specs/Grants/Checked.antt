@@ -56,8 +56,8 @@ pub record IsChecked (g : Granting) (grants : List Granted) : Type 0 where
   pub tells : Tells g grants
 
 -- the cause of a grant of the latest epoch
-abbrev pub joining_cause : Granting → Granted → Option GrantCause
-joining_cause g grant =
+abbrev pub adding_cause : Granting → Granted → Option GrantCause
+adding_cause g grant =
     if has g.clients grant.client then Some DuplicateClient
     else if has g.names grant.name then Some DuplicateName
     else None

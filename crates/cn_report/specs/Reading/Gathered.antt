@@ -40,8 +40,8 @@ abbrev pub ended_after : Gathering → List BatchEpoch
 ended_after g = if nat_lt 0 (length g.latest.clients.items) then g.ended.items ++ g.latest ∷ [] else g.ended.items
 
 -- the cause of a client of the latest epoch that is the next record
-abbrev pub joining_cause : Gathering → Client → Option BatchCause
-joining_cause g c =
+abbrev pub adding_cause : Gathering → Client → Option BatchCause
+adding_cause g c =
     if list_any (nat_eq c.id) g.standing.keys then Some Duplicate
     else if nat_le MOST_CLIENTS (length g.latest.clients.items) then Some EpochFull
     else if nat_lt MOST_RECORDS g.next then Some BatchFull

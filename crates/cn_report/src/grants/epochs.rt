@@ -3,7 +3,7 @@
 ghost use Rattle.std.specs.Prelude.{◌≡◌, ◌==◌, ◌||◌, ◌<◌, ◌≤◌, ◌+◌, ◌⊎◌, ◌∷◌, ◌++◌, ℕ, [], List, None, Some, OnOk, IfErr, IfOk, MatchResult, length, map};
 ghost use Rattle.cn_report.specs.declared.grants.record.Granted.{Granted};
 ghost use Rattle.cn_report.specs.Grants.Granted.{spelled_cause};
-ghost use Rattle.cn_report.specs.Grants.Checked.{HoldsGrants, IsGapBelow, IsChecked, Tells, joining_cause, latest_seen};
+ghost use Rattle.cn_report.specs.Grants.Checked.{HoldsGrants, IsGapBelow, IsChecked, Tells, adding_cause, latest_seen};
 ghost use Rattle.cn_report.specs.Grants.Printed.{epoch_numbers, named_epoch, plain_named};
 ghost use Rattle.cn_report.specs.Grants.TightList.{IsEndFlaw, Lacks};
 ghost use Rattle.cn_report.specs.Grants.Sets.{has};
@@ -118,16 +118,16 @@ impl Granting {
     }
 
     /// Adds a grant of the latest epoch, if it has no cause.
-    fn join(&mut self, grant: Granted) -> Result<(), GrantCause>
+    fn add_to_latest(&mut self, grant: Granted) -> Result<(), GrantCause>
         requires { self.old.count < MOST_RECORDS }
-        ensures ok { OnOk result ((joining_cause self.old grant ≡ None)
+        ensures ok { OnOk result ((adding_cause self.old grant ≡ None)
             × (self.new.ended ≡ self.old.ended) × (self.new.gap ≡ self.old.gap)
             × (self.new.latest ≡ self.old.latest)
             × (self.new.count ≡ self.old.count + 1)
             × ((n : ℕ) → has self.new.clients n ≡ ((n == grant.client) || has self.old.clients n))
             × ((n : ℕ) → has self.new.names n ≡ ((n == grant.name) || has self.old.names n))) }
         ensures err { IfErr result (λ cause.
-            (joining_cause self.old grant ≡ Some cause) ⊎ (cause ≡ GrantCause.Memory)) }
+            (adding_cause self.old grant ≡ Some cause) ⊎ (cause ≡ GrantCause.Memory)) }
     {
         match self.clients.add(grant.client) {
             Ok(true) => {}
@@ -160,7 +160,7 @@ impl Granting {
             return Err(GrantCause::Form);
         }
         self.turn_to(grant.epoch)?;
-        self.join(grant)
+        self.add_to_latest(grant)
     }
 
     /// The epochs, if none lacks a name.

@@ -6,7 +6,7 @@ ghost use Rattle.cn_report.specs.declared.reading.batch.arrival.Arrival.{Arrival
 ghost use Rattle.cn_report.specs.declared.reading.batch.arrival.Heading.{Heading};
 ghost use Rattle.cn_report.specs.Reading.Arrival.{arrival_cause};
 ghost use Rattle.cn_report.specs.Reading.Batch.{AreServable, IsBatch, IsBatchFault, clients_of_epochs};
-ghost use Rattle.cn_report.specs.Reading.Gathered.{HoldsArrivals, IsGathered, StaysServable, ended_after, joining_cause};
+ghost use Rattle.cn_report.specs.Reading.Gathered.{HoldsArrivals, IsGathered, StaysServable, adding_cause, ended_after};
 ghost use Rattle.cn_report.specs.Reading.Records.{Record};
 ghost use Rattle.cn_report.specs.Reading.Stretch.{AreTaken, Gathers};
 
@@ -94,8 +94,8 @@ impl Gathering {
 
     /// Adds a client of the latest epoch, which is the next record, if nothing is wrong with it. One look-up finds
     /// whether it stands there and puts it in.
-    fn join(&mut self, client: Client) -> Result<(), BatchCause>
-        ensures ok { OnOk result ((joining_cause self.old client ≡ None)
+    fn add_to_latest(&mut self, client: Client) -> Result<(), BatchCause>
+        ensures ok { OnOk result ((adding_cause self.old client ≡ None)
             × (self.new.ended ≡ self.old.ended)
             × (self.new.latest.number ≡ self.old.latest.number)
             × (self.new.latest.clients.items ≡ self.old.latest.clients.items ++ client ∷ [])
@@ -103,7 +103,7 @@ impl Gathering {
             × (self.new.next ≡ self.old.next + 1)) }
         ensures stays { OnErr result (self.new.next ≡ self.old.next) }
         ensures err { IfErr result (λ cause.
-            (joining_cause self.old client ≡ Some cause) ⊎ (cause ≡ BatchCause.Memory)) }
+            (adding_cause self.old client ≡ Some cause) ⊎ (cause ≡ BatchCause.Memory)) }
     {
         match self.standing.insert(client.id) {
             Ok(true) => {}
@@ -146,7 +146,7 @@ impl Gathering {
             id: arrival.client,
             entry: arrival.entry,
         };
-        self.join(client)
+        self.add_to_latest(client)
     }
 
     /// Gathers arrivals, those of the next records.

@@ -1,5 +1,5 @@
 use Rattle.cn_report.proofs.Common.{◌∙◌, sym, ap, inl, inr, arith}
-use Rattle.cn_report.proofs.GrantLemmas.CheckedGrants.{form-back, form-full, joined, reported}
+use Rattle.cn_report.proofs.GrantLemmas.CheckedGrants.{added, form-back, form-full, reported}
 use Rattle.cn_report.proofs.ReadingLemmas.Results.{if_err-map, on_ok-map}
 use Rattle.cn_report.specs.Grants.Granted.{first_cause, twice_cause}
 use Rattle.cn_report.proofs.grants.epochs.Granting.add.Goals as goal
@@ -16,16 +16,16 @@ returns-then-grant-self-clause-err c = λ before checked size.
 
 pub returns-clause-ok : goal.returns-clause-ok
 returns-clause-ok c =
-    on_ok-map c.join.result c.join.ensures.ok (λ j before checked size.
+    on_ok-map c.add_to_latest.result c.add_to_latest.ensures.ok (λ j before checked size.
     let (none, ended, gap, latest, count, clients, names) = j in
     let held = c.in_ok-turn_to.ensures.holds before checked.holds in (
       sym (reported c.turn_to.new.self before c.args.grant held c.in_ok-turn_to.ensures.here (omega (arith, checked.last, c.if-grant-self.false)) (omega (arith, size, c.if-at-gt-MOST_RECORDS.false))) ∙ none,
-      joined c.turn_to.new.self c.join.new.self before c.args.grant held (c.in_ok-turn_to.ensures.tells before checked.holds checked.tells) c.in_ok-turn_to.ensures.here ended gap latest count clients names,
+      added c.turn_to.new.self c.add_to_latest.new.self before c.args.grant held (c.in_ok-turn_to.ensures.tells before checked.holds checked.tells) c.in_ok-turn_to.ensures.here ended gap latest count clients names,
     ))
 
 pub returns-clause-err : goal.returns-clause-err
 returns-clause-err c =
-    if_err-map c.join.result c.join.ensures.err (λ cause e before checked size.
+    if_err-map c.add_to_latest.result c.add_to_latest.ensures.err (λ cause e before checked size.
     let held = c.in_ok-turn_to.ensures.holds before checked.holds in
     elim e [
       | inl is ↦
