@@ -12,6 +12,7 @@ pub mod Walked
 pub mod Sole
 pub mod Fresh
 pub mod Kept
+pub mod Enters
 pub mod Steps
 pub mod Sweeps
 pub mod EntersAll

@@ -3,7 +3,8 @@
 -- sound ledgers against full flows
 pub use Rattle.cn_ledger.proofs.Bound.{bounded, count-at_most, exit-shares, granted-once, names-differ, quiet-same, tight}
 -- events
-pub use Rattle.cn_ledger.proofs.EventLemmas.{eqb-sym, is_end-sym, sound-enters, sound-leaves, sound-passes}
+pub use Rattle.cn_ledger.proofs.AfterEvents.{eqb-sym, is_end-sym}
+pub use Rattle.cn_ledger.proofs.EventLemmas.{sound-enters, sound-leaves, sound-passes}
 pub use Rattle.cn_ledger.proofs.Happening.{entering, leaving, passing, standing-le-on}
 -- where nobody has come
 pub use Rattle.cn_ledger.proofs.EmptyLedger.{IsNothing, sound-empty, sound-nothing}

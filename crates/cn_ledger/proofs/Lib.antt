@@ -1,4 +1,6 @@
 pub mod Bound
+pub mod PutOnWires
+pub mod AfterEvents
 pub mod EventLemmas
 pub mod EmptyLedger
 pub mod Happening

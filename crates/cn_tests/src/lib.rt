@@ -9,15 +9,21 @@ mod carried;
 #[cfg(test)]
 mod checking;
 #[cfg(test)]
+mod command_lines;
+#[cfg(test)]
 mod cuts;
 #[cfg(test)]
 mod emitting;
+#[cfg(test)]
+mod fault_lines;
 #[cfg(test)]
 mod grants;
 #[cfg(test)]
 mod grants_form;
 #[cfg(test)]
 mod hostile;
+#[cfg(test)]
+mod job_texts;
 #[cfg(test)]
 mod listing;
 #[cfg(test)]
@@ -34,6 +40,8 @@ mod schedules;
 mod serving;
 #[cfg(test)]
 mod showing;
+#[cfg(test)]
+mod three_epochs;
 #[cfg(test)]
 mod waiting;
 #[cfg(test)]

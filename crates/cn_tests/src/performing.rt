@@ -3,12 +3,12 @@
 ghost use Rattle.std.specs.Prelude.{IsTrue};
 ghost use Rattle.cn_renamer.specs.Performing.{IsBuiltFor};
 
-use crate::words::words;
-use crate::writers::{Narrow, Then};
-use cn_renamer::{
-    BatchCause, BatchFault, CheckFault, Fault, Flaw, Form, Job, Net, Options, OutputFault,
-    ReplayFault, RuntimeFault, ScheduleCause, ScheduleFault, ServeFault, end, perform, run,
+use crate::job_texts::{
+    BATCH, BATCH_ON_BITONIC_TWO, GRANTS, GRANTS_OF_WIDTH_TWO, ONE_CLIENT,
+    ONE_CLIENT_ON_BITONIC_FOUR, ONE_CLIENT_ON_PERIODIC_TWO, ONE_CLIENT_ON_TREE_FOUR, TREE_TWO,
 };
+use crate::writers::{Narrow, Then};
+use cn_renamer::{Fault, Form, Job, Net, Options, end, perform};
 use cn_wiring::{Kind, is_width};
 use std::alloc::Global;
 use std::io;
@@ -16,58 +16,9 @@ use std::random::RandomSource;
 use std::sync::Wait;
 use std::thread::Threads;
 
-const ONE_CLIENT: &[u8] = b"op,client,wire\n\
-      enter,7,0\n\
-      step,7,\n";
-
-const ONE_CLIENT_ON_BITONIC_FOUR: &[u8] = b"network bitonic width 4 balancers 6 depth 3\n\
-      enter 7 wire 0\n\
-      pass 7 balancer 0 number 0 wire 4\n\
-      end epoch 0 entered 1 inside 1\n";
-
-const ONE_CLIENT_ON_PERIODIC_TWO: &[u8] = b"network periodic width 2 balancers 1 depth 1\n\
-      enter 7 wire 0\n\
-      pass 7 balancer 0 number 0 wire 2\n\
-      end epoch 0 entered 1 inside 1\n";
-
-const ONE_CLIENT_ON_TREE_FOUR: &[u8] = b"network tree width 4 balancers 3 depth 2\n\
-      enter 7 wire 0\n\
-      pass 7 balancer 0 number 0 wire 1\n\
-      end epoch 0 entered 1 inside 1\n";
-
-const BATCH: &[u8] = b"epoch,client,entry\n\
-      1,17,1\n";
-
-const BATCH_ON_BITONIC_TWO: &[u8] = b"network bitonic width 2 balancers 1 depth 1\n\
-      epoch 1 clients 1\n\
-      exit 0 count 1\n\
-      exit 1 count 0\n\
-      name 0 client 17\n\
-      end epochs 1 grants 1\n";
-
-const TWO_CLIENTS: &[u8] = b"epoch,client,entry\n\
-      1,100,2\n\
-      1,200,0\n";
-
-const HAND_OF_TWO_AS_GRANTS: &[u8] = b"epoch,client,name\n\
-      1,200,0\n\
-      1,100,1\n";
-
-const GRANTS: &[u8] = b"epoch,client,name\n\
-      1,17,0\n";
-
-const GRANTS_OF_WIDTH_TWO: &[u8] = b"epoch 1 clients 1 counts 1 0\n\
-      tight epochs 1 grants 1\n";
-
-const TREE_TWO: &[u8] = b"network tree width 2 balancers 1 depth 1\n\
-      wire 0 balancer 0\n\
-      wire 1 exit 0\n\
-      wire 2 exit 1\n\
-      end wires 3\n";
-
 /// A source of random words: one word again and again, or a failure.
 #[derive(Drop)]
-struct Words {
+pub(crate) struct Words {
     fault: Option<io::ErrorKind>,
 }
 
@@ -123,7 +74,7 @@ fn input_of(job: &Job) -> &'static [u8] {
 
 /// What a job is given: a writer, and a source of random words.
 #[derive(Clone, Copy, Debug, PartialEq, Eq)]
-enum Given {
+pub(crate) enum Given {
     All,
     NoWords(io::ErrorKind),
     NoFlush,
@@ -131,7 +82,7 @@ enum Given {
     Room(usize),
 }
 
-fn writer_of(alloc: Global, given: Given) -> Narrow {
+pub(crate) fn writer_of(alloc: Global, given: Given) -> Narrow {
     match given {
         Given::All | Given::NoWords(_) => Narrow::new(alloc, 100_000, Then::TakesNothing),
         Given::NoFlush => Narrow::unflushed(alloc),
@@ -139,7 +90,7 @@ fn writer_of(alloc: Global, given: Given) -> Narrow {
     }
 }
 
-fn source_of(given: Given) -> Words {
+pub(crate) fn source_of(given: Given) -> Words {
     match given {
         Given::NoWords(kind) => Words { fault: Some(kind) },
         _ => Words { fault: None },
@@ -290,7 +241,7 @@ const ROWS: [Row; 16] = [
 ];
 
 /// Whether an end prints this line and has this status.
-fn ends_with(alloc: Global, done: &Result<(), Fault>, line: &[u8], status: u8) -> bool {
+pub(crate) fn ends_with(alloc: Global, done: &Result<(), Fault>, line: &[u8], status: u8) -> bool {
     let mut errors = Narrow::new(alloc, 1_000, Then::TakesNothing);
     end(done, &mut errors) == status && errors.taken.as_slice() == line
 }
@@ -328,231 +279,4 @@ fn wrong_row<R: Threads + Wait + Sync>(rt: &R, alloc: Global) -> Option<usize> {
 #[test]
 fn jobs_write_their_texts_and_end(rt: HostRuntime) {
     assert_eq!(rt; wrong_row(&rt, rt.alloc()), None);
-}
-
-/// What the words of a line write of an input, the status, and what is printed of the fault.
-fn ran<R: Threads + Wait + Sync>(
-    rt: &R,
-    alloc: Global,
-    line: &str,
-    input: &[u8],
-) -> Option<(Vec<u8>, u8, Vec<u8>)> {
-    let words = words(alloc, line).ok()?;
-    let mut writer = writer_of(alloc, Given::All);
-    let done = run(rt, alloc, words, input, &mut writer, &source_of(Given::All));
-    let mut errors = Narrow::new(alloc, 1_000, Then::TakesNothing);
-    let status = end(&done, &mut errors);
-    Some((writer.taken, status, errors.taken))
-}
-
-/// Whether the words of a line write this text of an input, and end with status 0 and nothing printed.
-fn writes<R: Threads + Wait + Sync>(
-    rt: &R,
-    alloc: Global,
-    line: &str,
-    input: &[u8],
-    wanted: &[u8],
-) -> bool {
-    match ran(rt, alloc, line, input) {
-        Some((written, status, errors)) => {
-            written.as_slice() == wanted && status == 0 && errors.is_empty()
-        }
-        None => false,
-    }
-}
-
-const LINES: [(&str, &[u8], &[u8]); 6] = [
-    (
-        "renamer replay --network bitonic --width 4",
-        ONE_CLIENT,
-        ONE_CLIENT_ON_BITONIC_FOUR,
-    ),
-    (
-        "renamer replay --width 2 --network periodic",
-        ONE_CLIENT,
-        ONE_CLIENT_ON_PERIODIC_TWO,
-    ),
-    (
-        "renamer show --network tree --width 2",
-        ONE_CLIENT,
-        TREE_TWO,
-    ),
-    (
-        "renamer run --network bitonic --width 2 --hand 64",
-        BATCH,
-        BATCH_ON_BITONIC_TWO,
-    ),
-    (
-        "renamer run --network bitonic --width 4 --hand 2 --form grants",
-        TWO_CLIENTS,
-        HAND_OF_TWO_AS_GRANTS,
-    ),
-    ("renamer check --width 2", GRANTS, GRANTS_OF_WIDTH_TWO),
-];
-
-/// The first line that writes something else.
-fn wrong_line<R: Threads + Wait + Sync>(rt: &R, alloc: Global) -> Option<&'static str> {
-    for (line, input, text) in &LINES {
-        if !writes(rt, alloc, line, input, text) {
-            return Some(*line);
-        }
-    }
-    None
-}
-
-#[test]
-fn words_are_done(rt: HostRuntime) {
-    assert_eq!(rt; wrong_line(&rt, rt.alloc()), None);
-}
-
-/// Whether a fault is printed with this line, and ends with this status; also if the one write that fails is the first,
-/// after which no other is tried.
-fn is_printed(alloc: Global, fault: Fault, line: &[u8], status: u8) -> bool {
-    let done = Err(fault);
-    let mut full = Narrow::new(alloc, 0, Then::FailsOnce);
-    let ends = end(&done, &mut full) == status && full.taken.is_empty();
-    ends && ends_with(alloc, &done, line, status)
-}
-
-/// A replay's fault, at this line.
-const REPLAY_FAULTS: [(ReplayFault, &[u8], u8); 3] = [
-    (REFUSED, b"renamer: record 3: Op\n", 1),
-    (ReplayFault::Memory, b"renamer: memory\n", 3),
-    (
-        ReplayFault::Write { written: 9 },
-        b"renamer: write after 9 bytes\n",
-        3,
-    ),
-];
-
-const REFUSED: ReplayFault = ReplayFault::Schedule(ScheduleFault {
-    at: 3,
-    cause: ScheduleCause::Op,
-});
-
-/// The first line that is not a replay's fault's.
-fn wrong_replay_fault(alloc: Global) -> Option<&'static [u8]> {
-    for (fault, line, status) in &REPLAY_FAULTS {
-        if !is_printed(alloc, Fault::Replay(*fault), line, *status) {
-            return Some(*line);
-        }
-    }
-    None
-}
-
-/// A run's fault, at this line.
-const SERVE_FAULTS: [(ServeFault, &[u8], u8); 3] = [
-    (REFUSED_BATCH, b"renamer: record 2: Duplicate\n", 1),
-    (ServeFault::Memory, b"renamer: memory\n", 3),
-    (
-        ServeFault::Write { written: 10 },
-        b"renamer: write after 10 bytes\n",
-        3,
-    ),
-];
-
-const REFUSED_BATCH: ServeFault = ServeFault::Batch(BatchFault {
-    at: 2,
-    cause: BatchCause::Duplicate,
-});
-
-/// The first line that is not a run's fault's.
-fn wrong_serve_fault(alloc: Global) -> Option<&'static [u8]> {
-    for (fault, line, status) in &SERVE_FAULTS {
-        if !is_printed(alloc, Fault::Serve(*fault), line, *status) {
-            return Some(*line);
-        }
-    }
-    None
-}
-
-/// A check's fault, at this line.
-const CHECK_FAULTS: [(CheckFault, &[u8], u8); 8] = [
-    (
-        CheckFault::Flaw(Flaw::Read(4)),
-        b"renamer: record 4: Read\n",
-        1,
-    ),
-    (
-        CheckFault::Flaw(Flaw::Form(2)),
-        b"renamer: record 2: Form\n",
-        1,
-    ),
-    (
-        CheckFault::Flaw(Flaw::DuplicateClient(2)),
-        b"renamer: flaw: DuplicateClient record 2\n",
-        4,
-    ),
-    (
-        CheckFault::Flaw(Flaw::DuplicateName(3)),
-        b"renamer: flaw: DuplicateName record 3\n",
-        4,
-    ),
-    (GAP, b"renamer: flaw: Gap epoch 1 name 2\n", 4),
-    (CheckFault::Flaw(Flaw::Memory), b"renamer: memory\n", 3),
-    (CheckFault::Memory, b"renamer: memory\n", 3),
-    (
-        CheckFault::Write { written: 1 },
-        b"renamer: write after 1 bytes\n",
-        3,
-    ),
-];
-
-const GAP: CheckFault = CheckFault::Flaw(Flaw::Gap { epoch: 1, name: 2 });
-
-/// The first line that is not a check's fault's.
-fn wrong_check_fault(alloc: Global) -> Option<&'static [u8]> {
-    for (fault, line, status) in &CHECK_FAULTS {
-        if !is_printed(alloc, Fault::Check(*fault), line, *status) {
-            return Some(*line);
-        }
-    }
-    None
-}
-
-const OUTPUT_FAULTS: [(OutputFault, &[u8], u8); 2] = [
-    (OutputFault::Memory, b"renamer: memory\n", 3),
-    (
-        OutputFault::Write { written: 0 },
-        b"renamer: write after 0 bytes\n",
-        3,
-    ),
-];
-
-/// The first line that is not an output's fault's.
-fn wrong_output_fault(alloc: Global) -> Option<&'static [u8]> {
-    for (fault, line, status) in &OUTPUT_FAULTS {
-        if !is_printed(alloc, Fault::Output(*fault), line, *status) {
-            return Some(*line);
-        }
-    }
-    None
-}
-
-/// Whether words that are refused, and a runtime that fails, have their lines and statuses.
-fn are_printed(alloc: Global) -> Option<[bool; 2]> {
-    let no = String::from_str(alloc, "no\n").ok()?;
-    Some([
-        is_printed(alloc, Fault::Refused(no), b"no\n", 2),
-        is_printed(
-            alloc,
-            Fault::Runtime(RuntimeFault),
-            b"renamer: runtime\n",
-            3,
-        ),
-    ])
-}
-
-/// The first line of a job's fault that is another.
-fn wrong_fault(alloc: Global) -> Option<&'static [u8]> {
-    wrong_serve_fault(alloc)
-        .or_else(|| wrong_replay_fault(alloc))
-        .or_else(|| wrong_check_fault(alloc))
-        .or_else(|| wrong_output_fault(alloc))
-}
-
-#[test]
-fn each_fault_has_its_line_and_its_status(rt: HostRuntime) {
-    assert_eq!(rt; wrong_fault(rt.alloc()), None);
-    assert_eq!(rt; are_printed(rt.alloc()), Some([true, true]));
 }

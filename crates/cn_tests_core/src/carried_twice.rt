@@ -4,7 +4,7 @@ ghost use Rattle.std.specs.Prelude.{◌≡◌, ◌+◌, length};
 ghost use Rattle.cn_core.specs.State.{inside_in};
 
 use crate::calls::{Calls, answers_to};
-use crate::two_wide::clear;
+use crate::holders::clear;
 use cn_bitonic::bitonic;
 use cn_core::{Core, Event, Moved, Reply};
 use cn_epoch::{Answer, Command, EpochRecord, Epochs};

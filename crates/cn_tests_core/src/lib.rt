@@ -9,6 +9,10 @@ mod carried_twice;
 #[cfg(test)]
 mod epoch_calls;
 #[cfg(test)]
+mod full_core;
+#[cfg(test)]
+mod holders;
+#[cfg(test)]
 mod many_clients;
 #[cfg(test)]
 mod overtaking;

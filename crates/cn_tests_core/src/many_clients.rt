@@ -1,7 +1,7 @@
 //! Lists of some thousand clients, the greatest number among them, each walking on by itself.
 
 use crate::calls::{Calls, answers_to};
-use crate::two_wide::has_holders;
+use crate::holders::has_holders;
 use cn_core::{Core, Event};
 use cn_epoch::{Answer, Command, EpochRecord, Epochs};
 use cn_tree::tree;

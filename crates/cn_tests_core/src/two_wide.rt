@@ -6,7 +6,7 @@ use crate::calls::{Calls, replies_to};
 use cn_bitonic::bitonic;
 use cn_core::{Core, EnterFault, Event, Moved, Reply, StepFault};
 use cn_wiring::Counting;
-use std::alloc::{AllocError, Global};
+use std::alloc::Global;
 use std::hash::RandomState;
 use std::test::Fail;
 
@@ -27,13 +27,13 @@ fn counts_of(core: &Core<'_>, network: &Counting) -> Option<(u64, u64, u64)>
 
 /// What a core on one balancer answers: how many entered, how many are inside and whether that is nobody; the counts of
 /// the balancer and of the exits; and the names of clients 7 and 9.
-type Said = (
+pub(crate) type Said = (
     (u64, u64, bool),
     Option<(u64, u64, u64)>,
     (Option<u64>, Option<u64>),
 );
 
-fn said_by(core: &Core<'_>, network: &Counting) -> Said
+pub(crate) fn said_by(core: &Core<'_>, network: &Counting) -> Said
     requires { core.now.network ≡ network.now }
 {
     (
@@ -85,7 +85,7 @@ fn outcome_of(
     }
 }
 
-const TWO_CLIENTS: [Event; 6] = [
+pub(crate) const TWO_CLIENTS: [Event; 6] = [
     Event::Enter {
         client: 7,
         entry: 0,
@@ -100,7 +100,7 @@ const TWO_CLIENTS: [Event; 6] = [
     Event::Step { client: 7 },
 ];
 
-const TWO_CLIENTS_REPLIES: [Reply; 6] = [
+pub(crate) const TWO_CLIENTS_REPLIES: [Reply; 6] = [
     Reply::Entered,
     Reply::Entered,
     Reply::Stepped(Moved::On {
@@ -235,86 +235,5 @@ const ONE_INSIDE: Said = ((2, 1, false), Some((2, 1, 0)), (None, Some(0)));
 fn one_client_is_still_inside(rt: HostRuntime) -> Result<(), Fail> {
     let said = said_after(rt.alloc(), RandomState::new(&rt)?, &TWO_CLIENTS[..5]);
     assert_eq!(rt; said, Some(ONE_INSIDE));
-    Ok(())
-}
-
-/// Whether events were run, and had these replies.
-fn are(replies: Result<Vec<Reply>, AllocError>, wanted: &[Reply]) -> bool {
-    match replies {
-        Ok(replies) => replies.as_slice() == wanted,
-        Err(_) => false,
-    }
-}
-
-/// Forgets the clients, if nobody is inside.
-pub(crate) fn clear(core: &mut Core<'_>) -> Option<()>
-    ensures { core.new.network ≡ core.old.network }
-{
-    if core.inside() > 0 {
-        return None;
-    }
-    core.clear();
-    Some(())
-}
-
-/// The holders, if nobody is inside.
-fn holders_of(core: &Core<'_>) -> Option<Vec<u64>> {
-    if core.inside() > 0 {
-        return None;
-    }
-    match core.holders() {
-        Ok(holders) => Some(holders),
-        Err(_) => None,
-    }
-}
-
-/// Whether these are the holders, if nobody is inside.
-pub(crate) fn has_holders(core: &Core<'_>, wanted: &[u64]) -> bool {
-    match holders_of(core) {
-        Some(holders) => holders.as_slice() == wanted,
-        None => false,
-    }
-}
-
-/// Whether the two clients hold names, what a core answers once it is cleared, and whether it replies to the same
-/// events as before.
-type Anew = (bool, Said, bool);
-
-fn anew_by(core: &mut Core<'_>, network: &Counting) -> Option<Anew>
-    requires { core.old.network ≡ network.now }
-{
-    if core.run(&TWO_CLIENTS).is_err() {
-        return None;
-    }
-    let are_holders = has_holders(core, &[9, 7]);
-    clear(core)?;
-    let said = said_by(core, network);
-    Some((
-        are_holders,
-        said,
-        are(core.run(&TWO_CLIENTS), &TWO_CLIENTS_REPLIES),
-    ))
-}
-
-fn anew_on(alloc: Global, network: &Counting, state: RandomState) -> Option<Anew> {
-    match Core::new(alloc, network, state) {
-        Ok(mut core) => anew_by(&mut core, network),
-        Err(_) => None,
-    }
-}
-
-fn anew(alloc: Global, state: RandomState) -> Option<Anew> {
-    match bitonic(alloc, 2) {
-        Ok(network) => anew_on(alloc, &network, state),
-        Err(_) => None,
-    }
-}
-
-const CLEARED: Said = ((0, 0, true), Some((0, 0, 0)), (None, None));
-
-#[test]
-fn a_core_has_its_holders_and_once_cleared_answers_anew(rt: HostRuntime) -> Result<(), Fail> {
-    let found = anew(rt.alloc(), RandomState::new(&rt)?);
-    assert_eq!(rt; found, Some((true, CLEARED, true)));
     Ok(())
 }

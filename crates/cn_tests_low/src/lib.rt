@@ -11,6 +11,8 @@ mod exits;
 #[cfg(test)]
 mod names;
 #[cfg(test)]
+mod network_sizes;
+#[cfg(test)]
 mod networks;
 #[cfg(test)]
 mod small_lists;

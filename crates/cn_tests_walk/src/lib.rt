@@ -5,11 +5,15 @@
 #[cfg(test)]
 mod ample_memory;
 #[cfg(test)]
+mod asking;
+#[cfg(test)]
 mod carried;
 #[cfg(test)]
 mod dropped_lanes;
 #[cfg(test)]
 mod epochs;
+#[cfg(test)]
+mod epochs_after;
 #[cfg(test)]
 mod lists;
 #[cfg(test)]

@@ -1,9 +1,8 @@
 //! Epochs that go on from words, by one worker and by two: which workers ask the gate, and how often.
 
-use crate::carried::run_after;
-use crate::epochs::{
-    ONE_CLIENT, Row, THREE_CLIENTS, TWO_AT_ONCE, Tally, are_named, new_tally, wrong_asker,
-};
+use crate::asking::{Tally, new_tally, wrong_asker};
+use crate::epochs::{ONE_CLIENT, Row, THREE_CLIENTS, TWO_AT_ONCE, are_named};
+use crate::epochs_after::run_after;
 use cn_bitonic::bitonic;
 use cn_walk::Words;
 use cn_wiring::Counting;

@@ -4,7 +4,7 @@ use Rattle.std.proofs.lemmas.Bool.{cases_lt}
 use Rattle.cn_spec.specs.Sums.{times}
 use Rattle.cn_wiring.specs.Plan.{Plan, AllLoose, Builds}
 use Rattle.cn_spec.proofs.CallerLemmas.{times-append}
-use Rattle.cn_wiring.proofs.Join.{below_from-loose}
+use Rattle.cn_wiring.proofs.Marks.{below_from-loose}
 
 pub Builds-none : (d : Plan) (depth : ℕ) → Builds d d [] [] depth 0
 unfolding times

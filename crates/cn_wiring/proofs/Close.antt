@@ -11,7 +11,7 @@ use Rattle.cn_wiring.specs.Table.{Table, is_end, sum_at, Stands, LeadsOn, IsWell
 use Rattle.cn_wiring.specs.InsideDraft.{IsOrderly}
 use Rattle.cn_spec.specs.declared.limits.TheConstants.{MOST_ENDS}
 use Rattle.cn_spec.proofs.CallerLemmas.{times-member, times-place, times-two, total-where-map, total-where-one, total-where-tests}
-use Rattle.cn_wiring.proofs.Join.{below_from-loose, loose_in}
+use Rattle.cn_wiring.proofs.Marks.{below_from-loose, loose_in}
 
 at_most_one : (es : List (Option ℕ)) (w : ℕ) → loose_in es w ≤ 1
 at_most_one es w = elim (is_none (get_or es w (Some 0))) as (λ t. when t 1 ≤ 1) [ true ↦ omega arith | false ↦ omega arith ]

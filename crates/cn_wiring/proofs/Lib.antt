@@ -2,6 +2,8 @@ pub mod Flow
 pub mod Conserve
 pub mod Few
 pub mod Entries
+pub mod Marks
+pub mod Grown
 pub mod Join
 pub mod Builds
 pub mod Layers

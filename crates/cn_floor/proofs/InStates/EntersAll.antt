@@ -18,7 +18,7 @@ use Rattle.cn_floor.proofs.InStates.Bounds.{few-came}
 use Rattle.cn_floor.proofs.InStates.Kept.{counted-alike, kept-recounted, ledger-alike, one-step}
 use Rattle.cn_floor.proofs.InStates.Places.{get-here, set-here}
 use Rattle.cn_floor.proofs.InStates.Raised.{entered-word, raised}
-use Rattle.cn_floor.proofs.InStates.Steps.{came_in, kept-after-enter}
+use Rattle.cn_floor.proofs.InStates.Enters.{came_in, kept-after-enter}
 use Rattle.cn_spec.proofs.CallerLemmas.{sum-below-part}
 
 -- one after the other

@@ -1,5 +1,6 @@
 use Rattle.std.proofs.Common.{◌∙◌, rules, ◌≡◌, arith, None, ◌++◌, ◌∷◌, []}
-use Rattle.cn_core.proofs.LedgerLemmas.{IsCore-state_after_enter, ledger-enters}
+use Rattle.cn_core.proofs.LedgerMoves.{ledger-enters}
+use Rattle.cn_core.proofs.LedgerLemmas.{IsCore-state_after_enter}
 use Rattle.cn_core.proofs.TightLemmas.{room-entered}
 use Rattle.cn_core.proofs.HistoryLemmas.{history-enter}
 use Rattle.cn_core.specs.History.{carried_by}

@@ -12,7 +12,9 @@ use Rattle.cn_floor.specs.Lane.{FloorValue}
 use Rattle.cn_floor.specs.Listed.{HaveLeft, Stand, placed}
 use Rattle.cn_floor.specs.Sweeps.{AreLetBy, grants_out}
 use Rattle.cn_floor.specs.Views.{base}
-use Rattle.cn_floor.proofs.InLane.Listed.{GoTogether, above-first, above-second, dealt-so, first-stand, goes-on-by-itself, grants-by, grants-so, inside, kin-so, left-by, left-so, nobody-left, placed-many, together}
+use Rattle.cn_floor.proofs.InLane.Listed.Groups.{placed-many}
+use Rattle.cn_floor.proofs.InLane.Listed.Left.{nobody-left}
+use Rattle.cn_floor.proofs.InLane.Listed.Together.{GoTogether, above-first, above-second, dealt-so, first-stand, goes-on-by-itself, grants-by, grants-so, inside, kin-so, left-by, left-so, together}
 use Rattle.cn_floor.proofs.InLane.InTurn.{swept-both, swept-first, swept-none}
 use Rattle.cn_floor.proofs.floor.Floor.+pass_all.Goals as goal
 

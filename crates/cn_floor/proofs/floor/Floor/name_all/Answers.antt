@@ -10,7 +10,8 @@ use Rattle.cn_floor.specs.Lane.{FloorValue, LaneValue}
 use Rattle.cn_floor.specs.Listed.{WalkTogether}
 use Rattle.cn_floor.specs.Steps.{StoodInState}
 use Rattle.cn_floor.proofs.AtClose.Rises.{all-empty}
-use Rattle.cn_floor.proofs.InLane.Listed.{all-clients, came-once, nobody-stands, placed-many}
+use Rattle.cn_floor.proofs.InLane.Listed.Groups.{placed-many}
+use Rattle.cn_floor.proofs.InLane.Listed.CameIn.{all-clients, came-once, nobody-stands}
 use Rattle.cn_floor.proofs.InLane.InTurn.{walk-together}
 use Rattle.cn_floor.proofs.InLane.Lanes.{lane-with-way}
 use Rattle.cn_floor.proofs.floor.Floor.name_all.Goals as goal

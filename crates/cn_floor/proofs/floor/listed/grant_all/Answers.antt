@@ -5,7 +5,7 @@ use Rattle.cn_spec.specs.Step.{name_of}
 use Rattle.cn_floor.specs.declared.view.Grant.{Grant}
 use Rattle.cn_floor.specs.Listed.{placed}
 use Rattle.cn_floor.specs.Sweeps.{grants_out}
-use Rattle.cn_floor.proofs.InLane.Listed.{placed-many, placed-more}
+use Rattle.cn_floor.proofs.InLane.Listed.Groups.{placed-many, placed-more}
 use Rattle.cn_floor.proofs.InLane.Outs.{grants-many, grants-next}
 use Rattle.cn_floor.proofs.floor.listed.grant_all.Goals as goal
 

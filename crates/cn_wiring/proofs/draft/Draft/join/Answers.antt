@@ -2,7 +2,8 @@ use Rattle.std.proofs.Common.{◌≡◌, ◌<◌, [], ◌∷◌, ◌++◌, lengt
 use Rattle.cn_spec.specs.declared.limits.TheConstants.{MOST_BALANCERS}
 use Rattle.cn_wiring.specs.Plan.{AllLoose}
 use Rattle.cn_wiring.specs.InsideDraft.{plan_of}
-use Rattle.cn_wiring.proofs.Join.{two-stand, builds-grown, orderly-grown, halves-joined, flow-unjoined}
+use Rattle.cn_wiring.proofs.Grown.{builds-grown, orderly-grown}
+use Rattle.cn_wiring.proofs.Join.{two-stand, halves-joined, flow-unjoined}
 use Rattle.cn_wiring.proofs.draft.Draft.join.Goals as goal
 
 pub index_mut-requires : goal.index_mut-requires

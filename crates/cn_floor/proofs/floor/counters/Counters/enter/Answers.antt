@@ -4,7 +4,7 @@ use Rattle.cn_floor.specs.Lane.{FloorValue}
 use Rattle.cn_floor.specs.Plays.{Coming, ComesIn}
 use Rattle.cn_floor.specs.Rule.{start_of}
 use Rattle.cn_floor.proofs.InStates.Placed.{at-word, there}
-use Rattle.cn_floor.proofs.InStates.Steps.{lets-in-by}
+use Rattle.cn_floor.proofs.InStates.Enters.{lets-in-by}
 use Rattle.cn_floor.proofs.floor.counters.Counters.enter.Goals as goal
 
 pub fetch_add-requires : goal.fetch_add-requires

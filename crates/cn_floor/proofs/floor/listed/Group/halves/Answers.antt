@@ -1,6 +1,6 @@
 use Rattle.std.proofs.Common.{ℕ, ◌+◌, ◌-◌, ◌*◌, ◌/◌, ◌<◌, ◌≤◌, ◌≡◌, suc, zero, List, arith}
 use Rattle.cn_floor.specs.Listed.{placed}
-use Rattle.cn_floor.proofs.InLane.Listed.{placed-even, placed-odd, placed-one, within-part}
+use Rattle.cn_floor.proofs.InLane.Listed.Groups.{placed-even, placed-odd, placed-one, within-part}
 use Rattle.cn_floor.proofs.floor.listed.Group.halves.Goals as goal
 
 pub returns-then-half-eq0 : goal.returns-then-half-eq0
