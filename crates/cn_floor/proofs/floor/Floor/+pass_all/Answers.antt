@@ -41,9 +41,7 @@ pass_all-requires t c =
     let clients : List ℕ = c.args.clients.now in
     let many : length (on v.tokens wire) ≡ g.count = ap length c.requires.group.are ∙ placed-many clients g.first g.stride g.count in
     let go : GoTogether start wire (Balancer b) n v w =
-    subst (λ (e : End). GoTogether start wire e n v w) c.in-Balancer.is
-    (together start wire c.let_by-end.result.0 n v w c.start_laws.ensures c.requires.own.1 c.requires.wires c.requires.wire c.requires.once c.requires.above (omega (arith, many, c.if-group-eq0.false))
-    c.let_by-end.ensures.end c.let_by-end.ensures.stands c.let_by-end.ensures.went c.let_by-end.ensures.by) in
+    subst (λ (e : End). GoTogether start wire e n v w) c.in-Balancer.is (together start wire c.let_by-end.result.0 n v w c.start_laws.ensures c.requires.own.1 c.requires.wires c.requires.wire c.requires.once c.requires.above (omega (arith, many, c.if-group-eq0.false)) c.let_by-end.ensures.end c.let_by-end.ensures.stands c.let_by-end.ensures.went c.let_by-end.ensures.by) in
     let is = dealt-so start wire b n v w go in
     let like = kin-so start wire b n v w go in
     let itself = goes-on-by-itself start wire b n v w go (many ∙ c.if-group-eq1.true) in
@@ -52,31 +50,16 @@ pass_all-requires t c =
     let stand : Stand clients g (on w.tokens (c.entries.result + 2 * b + c.output_of-output.result)) =
     subst (λ (es : List (ℕ × ℕ)). Stand clients g es) (sym itself.to ∙ ap (λ (u : ℕ). on w.tokens u) (sym to)) c.requires.group in (
       search rules,
-      (
-        (c.let_by-end.ensures.seat.0 ∙ c.requires.own.0, like.start ∙ c.requires.own.1),
-        (
-          (c.let_by-end.ensures.seat.1, like.loads ∙ c.requires.slots.1),
-          (
-            is.wires,
-            (
-              omega (arith, entries, inside start wire b n v w go, c.output_of-output.ensures),
-              (
-                is.once,
-                (
-                  c.requires.network,
-                  (
-                    stand,
-                    (
-                      λ u more. itself.above u (omega (arith, more, to)),
-                      (c.requires.room, c.requires.grants ∙ sym (grants-so start wire b n v w go)),
-                    ),
-                  ),
-                ),
-              ),
-            ),
-          ),
-        ),
-      ),
+      (c.let_by-end.ensures.seat.0 ∙ c.requires.own.0, like.start ∙ c.requires.own.1),
+      (c.let_by-end.ensures.seat.1, like.loads ∙ c.requires.slots.1),
+      is.wires,
+      omega (arith, entries, inside start wire b n v w go, c.output_of-output.ensures),
+      is.once,
+      c.requires.network,
+      stand,
+      λ u more. itself.above u (omega (arith, more, to)),
+      c.requires.room,
+      c.requires.grants ∙ sym (grants-so start wire b n v w go),
     )
 
 pub returns-then-group-eq1-clause-left : goal.returns-then-group-eq1-clause-left
@@ -91,9 +74,7 @@ returns-then-group-eq1-clause-left t c =
     let g = c.args.group.now in
     let many : length (on v.tokens wire) ≡ g.count = ap length c.requires.group.are ∙ placed-many c.args.clients.now g.first g.stride g.count in
     let go : GoTogether start wire (Balancer b) n v w =
-    subst (λ (e : End). GoTogether start wire e n v w) c.in-Balancer.is
-    (together start wire c.let_by-end.result.0 n v w c.start_laws.ensures c.requires.own.1 c.requires.wires c.requires.wire c.requires.once c.requires.above (omega (arith, many, c.if-group-eq0.false))
-    c.let_by-end.ensures.end c.let_by-end.ensures.stands c.let_by-end.ensures.went c.let_by-end.ensures.by) in
+    subst (λ (e : End). GoTogether start wire e n v w) c.in-Balancer.is (together start wire c.let_by-end.result.0 n v w c.start_laws.ensures c.requires.own.1 c.requires.wires c.requires.wire c.requires.once c.requires.above (omega (arith, many, c.if-group-eq0.false)) c.let_by-end.ensures.end c.let_by-end.ensures.stands c.let_by-end.ensures.went c.let_by-end.ensures.by) in
     let itself = goes-on-by-itself start wire b n v w go (many ∙ c.if-group-eq1.true) in
     let entries : c.entries.result ≡ start.network.table.entries = c.entries.ensures.value ∙ ap (λ (y : Network). y.table.entries) c.requires.network in
     let to : c.entries.result + 2 * b + c.output_of-output.result ≡ output_wire start.network.table b (n % 2) = omega (arith, entries, c.output_of-output.ensures) in
@@ -111,9 +92,7 @@ pass_all-requires-in-Balancer t c =
     let clients : List ℕ = c.args.clients.now in
     let many : length (on v.tokens wire) ≡ g.count = ap length c.requires.group.are ∙ placed-many clients g.first g.stride g.count in
     let go : GoTogether start wire (Balancer b) n v w =
-    subst (λ (e : End). GoTogether start wire e n v w) c.in-Balancer.is
-    (together start wire c.let_by-end.result.0 n v w c.start_laws.ensures c.requires.own.1 c.requires.wires c.requires.wire c.requires.once c.requires.above (omega (arith, many, c.if-group-eq0.false))
-    c.let_by-end.ensures.end c.let_by-end.ensures.stands c.let_by-end.ensures.went c.let_by-end.ensures.by) in
+    subst (λ (e : End). GoTogether start wire e n v w) c.in-Balancer.is (together start wire c.let_by-end.result.0 n v w c.start_laws.ensures c.requires.own.1 c.requires.wires c.requires.wire c.requires.once c.requires.above (omega (arith, many, c.if-group-eq0.false)) c.let_by-end.ensures.end c.let_by-end.ensures.stands c.let_by-end.ensures.went c.let_by-end.ensures.by) in
     let is = dealt-so start wire b n v w go in
     let like = kin-so start wire b n v w go in
     let entries : c.entries.result ≡ start.network.table.entries = c.entries.ensures.value ∙ ap (λ (x : Network). x.table.entries) c.requires.network in
@@ -122,31 +101,16 @@ pass_all-requires-in-Balancer t c =
     subst (λ (es : List (ℕ × ℕ)). Stand clients c.deal.result.1 es)
     ((λ i. every_second (1 - c.output_of-output.ensures i) (sym c.requires.group.are i)) ∙ sym is.second ∙ ap (λ (u : ℕ). on w.tokens u) (sym to)) c.deal.ensures.lower in (
       search rules,
-      (
-        (c.let_by-end.ensures.seat.0 ∙ c.requires.own.0, like.start ∙ c.requires.own.1),
-        (
-          (c.let_by-end.ensures.seat.1, like.loads ∙ c.requires.slots.1),
-          (
-            is.wires,
-            (
-              omega (arith, entries, inside start wire b n v w go),
-              (
-                is.once,
-                (
-                  c.requires.network,
-                  (
-                    stand,
-                    (
-                      λ u more. above-second start wire b n v w go u (omega (arith, more, to)),
-                      (omega (arith, c.requires.room, c.deal.ensures.all), c.requires.grants ∙ sym (grants-so start wire b n v w go)),
-                    ),
-                  ),
-                ),
-              ),
-            ),
-          ),
-        ),
-      ),
+      (c.let_by-end.ensures.seat.0 ∙ c.requires.own.0, like.start ∙ c.requires.own.1),
+      (c.let_by-end.ensures.seat.1, like.loads ∙ c.requires.slots.1),
+      is.wires,
+      omega (arith, entries, inside start wire b n v w go),
+      is.once,
+      c.requires.network,
+      stand,
+      λ u more. above-second start wire b n v w go u (omega (arith, more, to)),
+      omega (arith, c.requires.room, c.deal.ensures.all),
+      c.requires.grants ∙ sym (grants-so start wire b n v w go),
     )
 
 pub pass_all-requires-in-Balancer-2 : goal.pass_all-requires-in-Balancer-2
@@ -162,9 +126,7 @@ pass_all-requires-in-Balancer-2 t c =
     let clients : List ℕ = c.args.clients.now in
     let many : length (on v.tokens wire) ≡ g.count = ap length c.requires.group.are ∙ placed-many clients g.first g.stride g.count in
     let go : GoTogether start wire (Balancer b) n v w =
-    subst (λ (e : End). GoTogether start wire e n v w) c.in-Balancer.is
-    (together start wire c.let_by-end.result.0 n v w c.start_laws.ensures c.requires.own.1 c.requires.wires c.requires.wire c.requires.once c.requires.above (omega (arith, many, c.if-group-eq0.false))
-    c.let_by-end.ensures.end c.let_by-end.ensures.stands c.let_by-end.ensures.went c.let_by-end.ensures.by) in
+    subst (λ (e : End). GoTogether start wire e n v w) c.in-Balancer.is (together start wire c.let_by-end.result.0 n v w c.start_laws.ensures c.requires.own.1 c.requires.wires c.requires.wire c.requires.once c.requires.above (omega (arith, many, c.if-group-eq0.false)) c.let_by-end.ensures.end c.let_by-end.ensures.stands c.let_by-end.ensures.went c.let_by-end.ensures.by) in
     let is = dealt-so start wire b n v w go in
     let like = kin-so start wire b n v w go in
     let entries : c.entries.result ≡ start.network.table.entries = c.entries.ensures.value ∙ ap (λ (x : Network). x.table.entries) c.requires.network in
@@ -182,31 +144,16 @@ pass_all-requires-in-Balancer-2 t c =
     ap length (c.pass_all-in-Balancer.ensures.grants ∙ grew) ∙ length-append w.grants more
     ∙ (λ i. length ((grants-so start wire b n v w go ∙ sym c.requires.grants) i) + (theirs.as_many ∙ lower) i) in (
       search rules,
-      (
-        (c.pass_all-in-Balancer.ensures.seat.0 ∙ c.let_by-end.ensures.seat.0 ∙ c.requires.own.0, left.start ∙ like.start ∙ c.requires.own.1),
-        (
-          (c.pass_all-in-Balancer.ensures.seat.1, left.loads ∙ like.loads ∙ c.requires.slots.1),
-          (
-            left.wires ∙ is.wires,
-            (
-              omega (arith, entries, inside start wire b n v w go),
-              (
-                c.pass_all-in-Balancer.ensures.once,
-                (
-                  c.requires.network,
-                  (
-                    stand,
-                    (
-                      λ u past. above-first start wire b n v w go mid left u (omega (arith, past, to0)),
-                      (omega (arith, c.requires.room, c.deal.ensures.all, grants, c.pass_all-in-Balancer.ensures.capacity), c.pass_all-in-Balancer.ensures.grants),
-                    ),
-                  ),
-                ),
-              ),
-            ),
-          ),
-        ),
-      ),
+      (c.pass_all-in-Balancer.ensures.seat.0 ∙ c.let_by-end.ensures.seat.0 ∙ c.requires.own.0, left.start ∙ like.start ∙ c.requires.own.1),
+      (c.pass_all-in-Balancer.ensures.seat.1, left.loads ∙ like.loads ∙ c.requires.slots.1),
+      left.wires ∙ is.wires,
+      omega (arith, entries, inside start wire b n v w go),
+      c.pass_all-in-Balancer.ensures.once,
+      c.requires.network,
+      stand,
+      λ u past. above-first start wire b n v w go mid left u (omega (arith, past, to0)),
+      omega (arith, c.requires.room, c.deal.ensures.all, grants, c.pass_all-in-Balancer.ensures.capacity),
+      c.pass_all-in-Balancer.ensures.grants,
     )
 
 pub returns-else-group-eq1-clause-left : goal.returns-else-group-eq1-clause-left
@@ -222,37 +169,23 @@ returns-else-group-eq1-clause-left t c =
     let g = c.args.group.now in
     let many : length (on v.tokens wire) ≡ g.count = ap length c.requires.group.are ∙ placed-many c.args.clients.now g.first g.stride g.count in
     let go : GoTogether start wire (Balancer b) n v w =
-    subst (λ (e : End). GoTogether start wire e n v w) c.in-Balancer.is
-    (together start wire c.let_by-end.result.0 n v w c.start_laws.ensures c.requires.own.1 c.requires.wires c.requires.wire c.requires.once c.requires.above (omega (arith, many, c.if-group-eq0.false))
-    c.let_by-end.ensures.end c.let_by-end.ensures.stands c.let_by-end.ensures.went c.let_by-end.ensures.by) in
+    subst (λ (e : End). GoTogether start wire e n v w) c.in-Balancer.is (together start wire c.let_by-end.result.0 n v w c.start_laws.ensures c.requires.own.1 c.requires.wires c.requires.wire c.requires.once c.requires.above (omega (arith, many, c.if-group-eq0.false)) c.let_by-end.ensures.end c.let_by-end.ensures.stands c.let_by-end.ensures.went c.let_by-end.ensures.by) in
     let entries : c.entries.result ≡ start.network.table.entries = c.entries.ensures.value ∙ ap (λ (y : Network). y.table.entries) c.requires.network in
     let to0 : c.entries.result + 2 * b ≡ output_wire start.network.table b 0 = omega (arith, entries) in
     let to1 : c.entries.result + 2 * b + 1 ≡ output_wire start.network.table b 1 = omega (arith, entries) in
     left-so start wire b n v w go mid x (subst (λ (u : ℕ). HaveLeft w mid u (on w.tokens u)) to1 c.pass_all-in-Balancer.ensures.left)
     (subst (λ (u : ℕ). HaveLeft mid x u (on mid.tokens u)) to0 c.pass_all-in-Balancer-2.ensures.left)
 
--- ---- the wires that were swept
-
 pub returns-then-group-eq0-clause-swept : goal.returns-then-group-eq0-clause-swept
 returns-then-group-eq0-clause-swept t c = swept-none c.args.self.now.start c.args.seat.now.me.0
 
 pub returns-then-group-eq1-clause-swept : goal.returns-then-group-eq1-clause-swept
 returns-then-group-eq1-clause-swept t c =
-    let g = c.args.group.now in
-    let many : length (on c.args.seat.now.me.0.tokens c.args.wire) ≡ g.count = ap length c.requires.group.are ∙ placed-many c.args.clients.now g.first g.stride g.count in
-    swept-first c.args.self.now.start c.args.wire c.let_by-end.result.0 c.let_by-end.result.1 _ _ _ c.let_by-end.ensures.end c.let_by-end.ensures.went
-    (omega (arith, many, c.if-group-eq0.false)) c.let_by-end.ensures.by
-    c.pass_all.ensures.swept
+    swept-first c.args.self.now.start c.args.wire c.let_by-end.result.0 c.let_by-end.result.1 _ _ _ c.let_by-end.ensures.end c.let_by-end.ensures.went (omega (arith, ap length c.requires.group.are ∙ placed-many c.args.clients.now c.args.group.now.first c.args.group.now.stride c.args.group.now.count, c.if-group-eq0.false)) c.let_by-end.ensures.by c.pass_all.ensures.swept
 
 pub returns-else-group-eq1-clause-swept : goal.returns-else-group-eq1-clause-swept
 returns-else-group-eq1-clause-swept t c =
-    let g = c.args.group.now in
-    let many : length (on c.args.seat.now.me.0.tokens c.args.wire) ≡ g.count = ap length c.requires.group.are ∙ placed-many c.args.clients.now g.first g.stride g.count in
-    swept-first c.args.self.now.start c.args.wire c.let_by-end.result.0 c.let_by-end.result.1 _ _ _ c.let_by-end.ensures.end c.let_by-end.ensures.went
-    (omega (arith, many, c.if-group-eq0.false)) c.let_by-end.ensures.by
-    (swept-both c.args.self.now.start _ _ _ c.pass_all-in-Balancer.ensures.swept c.pass_all-in-Balancer-2.ensures.swept)
-
--- ---- an exit
+    swept-first c.args.self.now.start c.args.wire c.let_by-end.result.0 c.let_by-end.result.1 _ _ _ c.let_by-end.ensures.end c.let_by-end.ensures.went (omega (arith, ap length c.requires.group.are ∙ placed-many c.args.clients.now c.args.group.now.first c.args.group.now.stride c.args.group.now.count, c.if-group-eq0.false)) c.let_by-end.ensures.by (swept-both c.args.self.now.start _ _ _ c.pass_all-in-Balancer.ensures.swept c.pass_all-in-Balancer-2.ensures.swept)
 
 module _ (t : ℕ) (c : goal.After-grant_all-arg-in-Exit-1 t) where
   abbrev start : Start
@@ -272,9 +205,7 @@ module _ (t : ℕ) (c : goal.After-grant_all-arg-in-Exit-1 t) where
 
 pub grant_all-requires-clause-visits : goal.grant_all-requires-clause-visits
 grant_all-requires-clause-visits t c =
-    let g = c.args.group.now in
-    let many : length (on c.args.seat.now.me.0.tokens c.args.wire) ≡ g.count = ap length c.requires.group.are ∙ placed-many c.args.clients.now g.first g.stride g.count in
-    omega (arith, (by t c).few, many, c.start_laws.ensures.few, c.start_laws.ensures.quota)
+    omega (arith, (by t c).few, ap length c.requires.group.are ∙ placed-many c.args.clients.now c.args.group.now.first c.args.group.now.stride c.args.group.now.count, c.start_laws.ensures.few, c.start_laws.ensures.quota)
 
 pub grant_all-requires-clause-names : goal.grant_all-requires-clause-names
 grant_all-requires-clause-names t c =
@@ -290,17 +221,11 @@ left t c =
     let n : ℕ = c.let_by-end.result.1 in
     let g = c.args.group.now in
     let many : length (on v.tokens wire) ≡ g.count = ap length c.requires.group.are ∙ placed-many c.args.clients.now g.first g.stride g.count in
-    subst (λ (e : End). GoTogether start wire e n v w) c.in-Exit.is
-    (together start wire c.let_by-end.result.0 n v w c.start_laws.ensures c.requires.own.1 c.requires.wires c.requires.wire c.requires.once c.requires.above (omega (arith, many, c.if-group-eq0.false))
-    c.let_by-end.ensures.end c.let_by-end.ensures.stands c.let_by-end.ensures.went c.let_by-end.ensures.by)
+    subst (λ (e : End). GoTogether start wire e n v w) c.in-Exit.is (together start wire c.let_by-end.result.0 n v w c.start_laws.ensures c.requires.own.1 c.requires.wires c.requires.wire c.requires.once c.requires.above (omega (arith, many, c.if-group-eq0.false)) c.let_by-end.ensures.end c.let_by-end.ensures.stands c.let_by-end.ensures.went c.let_by-end.ensures.by)
 
 pub returns-in-Exit-clause-swept : goal.returns-in-Exit-clause-swept
 returns-in-Exit-clause-swept t c =
-    let g = c.args.group.now in
-    let many : length (on c.args.seat.now.me.0.tokens c.args.wire) ≡ g.count = ap length c.requires.group.are ∙ placed-many c.args.clients.now g.first g.stride g.count in
-    swept-first c.args.self.now.start c.args.wire c.let_by-end.result.0 c.let_by-end.result.1 _ _ _ c.let_by-end.ensures.end c.let_by-end.ensures.went
-    (omega (arith, many, c.if-group-eq0.false)) c.let_by-end.ensures.by
-    (swept-none c.args.self.now.start _)
+    swept-first c.args.self.now.start c.args.wire c.let_by-end.result.0 c.let_by-end.result.1 _ _ _ c.let_by-end.ensures.end c.let_by-end.ensures.went (omega (arith, ap length c.requires.group.are ∙ placed-many c.args.clients.now c.args.group.now.first c.args.group.now.stride c.args.group.now.count, c.if-group-eq0.false)) c.let_by-end.ensures.by (swept-none c.args.self.now.start _)
 
 pub returns-in-Exit-clause-left : goal.returns-in-Exit-clause-left
 returns-in-Exit-clause-left t c =
@@ -317,12 +242,7 @@ returns-in-Exit-clause-grants t c =
     let n : ℕ = c.let_by-end.result.1 in
     let begun : c.self.inside.base ≡ base start = c.self.invariant.base ∙ ap (λ (h : FloorValue). base h.start) c.self.view_is in
     let width : c.width-width.result ≡ start.network.table.width = c.width-width.ensures.value ∙ ap (λ (x : Network). x.table.width) c.requires.network in
-    c.grant_all.ensures.granted
-    ∙ (λ x. c.requires.grants x ++ grants_out (width x) (begun x) i n (sym c.requires.group.are x))
-    ∙ sym (grants-by start c.args.wire i n c.args.seat.now.me.0 c.let_by-end.new.seat.me.0 (left t c))
-
-pub let_by-end-requires-clause-network : goal.let_by-end-requires-clause-network
-let_by-end-requires-clause-network t c = c.requires.network
+    c.grant_all.ensures.granted ∙ (λ x. c.requires.grants x ++ grants_out (width x) (begun x) i n (sym c.requires.group.are x)) ∙ sym (grants-by start c.args.wire i n c.args.seat.now.me.0 c.let_by-end.new.seat.me.0 (left t c))
 
 pub overflow_mul-out : goal.overflow_mul-out
 overflow_mul-out t c =
@@ -357,9 +277,6 @@ deal-requires-clause-group t c = (_, c.requires.group)
 pub grant_all-requires-clause-group : goal.grant_all-requires-clause-group
 grant_all-requires-clause-group t c = (_, c.requires.group)
 
-pub grant_all-requires-clause-room : goal.grant_all-requires-clause-room
-grant_all-requires-clause-room t c = c.requires.room
-
 pub grant_all-requires-clause-exits : goal.grant_all-requires-clause-exits
 grant_all-requires-clause-exits t c =
     let stands : Stands c.args.self.now.start.network.table (Exit c.in-Exit.exit) =
@@ -376,47 +293,5 @@ returns-else-group-eq1-clause-seat t c =
 pub returns-else-group-eq1-clause-capacity : goal.returns-else-group-eq1-clause-capacity
 returns-else-group-eq1-clause-capacity t c = c.pass_all-in-Balancer-2.ensures.capacity ∙ c.pass_all-in-Balancer.ensures.capacity
 
-pub let_by-end-requires-clause-own : goal.let_by-end-requires-clause-own
-let_by-end-requires-clause-own t c = c.requires.own
-
-pub let_by-end-requires-clause-slots : goal.let_by-end-requires-clause-slots
-let_by-end-requires-clause-slots t c = c.requires.slots
-
-pub let_by-end-requires-clause-wires : goal.let_by-end-requires-clause-wires
-let_by-end-requires-clause-wires t c = c.requires.wires
-
-pub let_by-end-requires-clause-wire : goal.let_by-end-requires-clause-wire
-let_by-end-requires-clause-wire t c = c.requires.wire
-
-pub let_by-end-requires-clause-once : goal.let_by-end-requires-clause-once
-let_by-end-requires-clause-once t c = c.requires.once
-
 pub returns-then-group-eq0-clause-seat : goal.returns-then-group-eq0-clause-seat
 returns-then-group-eq0-clause-seat t c = (refl, c.requires.slots.0)
-
-pub returns-then-group-eq0-clause-once : goal.returns-then-group-eq0-clause-once
-returns-then-group-eq0-clause-once t c = c.requires.once
-
-pub returns-then-group-eq0-clause-grants : goal.returns-then-group-eq0-clause-grants
-returns-then-group-eq0-clause-grants t c = c.requires.grants
-
-pub returns-then-group-eq1-clause-once : goal.returns-then-group-eq1-clause-once
-returns-then-group-eq1-clause-once t c = c.pass_all.ensures.once
-
-pub returns-then-group-eq1-clause-grants : goal.returns-then-group-eq1-clause-grants
-returns-then-group-eq1-clause-grants t c = c.pass_all.ensures.grants
-
-pub returns-then-group-eq1-clause-capacity : goal.returns-then-group-eq1-clause-capacity
-returns-then-group-eq1-clause-capacity t c = c.pass_all.ensures.capacity
-
-pub returns-else-group-eq1-clause-once : goal.returns-else-group-eq1-clause-once
-returns-else-group-eq1-clause-once t c = c.pass_all-in-Balancer-2.ensures.once
-
-pub returns-else-group-eq1-clause-grants : goal.returns-else-group-eq1-clause-grants
-returns-else-group-eq1-clause-grants t c = c.pass_all-in-Balancer-2.ensures.grants
-
-pub returns-in-Exit-clause-seat : goal.returns-in-Exit-clause-seat
-returns-in-Exit-clause-seat t c = c.let_by-end.ensures.seat
-
-pub returns-in-Exit-clause-capacity : goal.returns-in-Exit-clause-capacity
-returns-in-Exit-clause-capacity t c = c.grant_all.ensures.capacity
