@@ -10,9 +10,10 @@ ghost use Rattle.cn_renamer.specs.Outputs.{until_output};
 ghost use Rattle.cn_renamer.specs.Replay.{AreAnsweredAs, IsAnsweredAs, IsReplayFault, IsReplayOfCommands, IsReplayOfKnown, IsReplayText, IsWithoutCounts, fault_of_output, fault_of_schedule, status_of_replay, until_replay};
 
 use crate::output_fault::OutputFault;
-use cn_core::{EnterFault, Reply};
-use cn_epoch::{Answer, Command, Epochs, TurnFault};
+use cn_core::EnterFault;
+use cn_epoch::{Epochs, TurnFault};
 use cn_nets::Net;
+use cn_record::{Answer, Command, Reply};
 use cn_report::{OpenEpoch, Pieces, ScheduleCause, ScheduleFault, read_schedule, write_replay};
 use cn_wiring::Counting;
 use std::alloc::Global;

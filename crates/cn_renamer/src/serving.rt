@@ -131,9 +131,9 @@ pub fn serve<I: Read + Drop, W: Write, G: Gate + Sync, R: Threads + Wait + Sync>
     Ok(())
 }
 
-/// Does what [`serve`] does, and returns the receipts of the floors: what it has written has of each epoch the counts
-/// by exit of a closed floor on which the clients of the epoch walked, and nobody else, and the names that they were
-/// granted there.
+/// Serves a batch for the program: does what [`serve`], which is for callers, says, and returns the receipts of the
+/// floors: what it has written has of each epoch the counts by exit of a closed floor on which the clients of the epoch
+/// walked, and nobody else, and the names that they were granted there.
 ///
 /// # Errors
 /// Those of [`serve`].

@@ -62,12 +62,15 @@ impl<'a> Runner<'a> {
         self.leftovers.words()
     }
 
-    /// Runs an epoch of these clients by a crew, as [`crate::run_epoch_after`] does, on a floor that goes on from the
-    /// runner's words, and returns the runner for the next epoch, with the closed floor. If the epoch is refused, the
-    /// words are as they were.
+    /// Runs an epoch of these clients by a crew, on a floor that goes on from the runner's words: the runner for the
+    /// next epoch, and the closed floor. Of k clients, worker j of n has those at the positions from `j * k / n` up to,
+    /// not including, `(j + 1) * k / n`, both rounded down; one that has none gets no lane and no thread. All lanes are
+    /// made, and their memory is reserved, before the first worker starts. One worker starts no thread, and a fork that
+    /// gets no thread has its halves walk one after the other. It returns only if the gate lets each worker on.
     ///
     /// # Errors
-    /// As those of [`crate::run_epoch`], in its order.
+    /// The first that stands: `Workers`, `Hand`, `TooMany`, `NoSuchEntry`, `Memory`. Then the words are as they were,
+    /// and no worker is left running.
     pub fn run<G: Gate + Sync, R: Threads + Wait + Sync>(
         self,
         rt: &R,
