@@ -48,19 +48,8 @@ pass_all-requires t c =
     let entries : c.entries.result ≡ start.network.table.entries = c.entries.ensures.value ∙ ap (λ (x : Network). x.table.entries) c.requires.network in
     let to : c.entries.result + 2 * b + c.output_of-output.result ≡ output_wire start.network.table b (n % 2) = omega (arith, entries, c.output_of-output.ensures) in
     let stand : Stand clients g (on w.tokens (c.entries.result + 2 * b + c.output_of-output.result)) =
-    subst (λ (es : List (ℕ × ℕ)). Stand clients g es) (sym itself.to ∙ ap (λ (u : ℕ). on w.tokens u) (sym to)) c.requires.group in (
-      search rules,
-      (c.let_by-end.ensures.seat.0 ∙ c.requires.own.0, like.start ∙ c.requires.own.1),
-      (c.let_by-end.ensures.seat.1, like.loads ∙ c.requires.slots.1),
-      is.wires,
-      omega (arith, entries, inside start wire b n v w go, c.output_of-output.ensures),
-      is.once,
-      c.requires.network,
-      stand,
-      λ u more. itself.above u (omega (arith, more, to)),
-      c.requires.room,
-      c.requires.grants ∙ sym (grants-so start wire b n v w go),
-    )
+    subst (λ (es : List (ℕ × ℕ)). Stand clients g es) (sym itself.to ∙ ap (λ (u : ℕ). on w.tokens u) (sym to)) c.requires.group in
+    (search rules, ((c.let_by-end.ensures.seat.0 ∙ c.requires.own.0, like.start ∙ c.requires.own.1), ((c.let_by-end.ensures.seat.1, like.loads ∙ c.requires.slots.1), (is.wires, (omega (arith, entries, inside start wire b n v w go, c.output_of-output.ensures), (is.once, (c.requires.network, (stand, (λ u more. itself.above u (omega (arith, more, to)), (c.requires.room, c.requires.grants ∙ sym (grants-so start wire b n v w go)))))))))))
 
 pub returns-then-group-eq1-clause-left : goal.returns-then-group-eq1-clause-left
 returns-then-group-eq1-clause-left t c =
@@ -99,19 +88,8 @@ pass_all-requires-in-Balancer t c =
     let to : c.entries.result + 2 * b + 1 ≡ output_wire start.network.table b 1 = omega (arith, entries) in
     let stand : Stand clients c.deal.result.1 (on w.tokens (c.entries.result + 2 * b + 1)) =
     subst (λ (es : List (ℕ × ℕ)). Stand clients c.deal.result.1 es)
-    ((λ i. every_second (1 - c.output_of-output.ensures i) (sym c.requires.group.are i)) ∙ sym is.second ∙ ap (λ (u : ℕ). on w.tokens u) (sym to)) c.deal.ensures.lower in (
-      search rules,
-      (c.let_by-end.ensures.seat.0 ∙ c.requires.own.0, like.start ∙ c.requires.own.1),
-      (c.let_by-end.ensures.seat.1, like.loads ∙ c.requires.slots.1),
-      is.wires,
-      omega (arith, entries, inside start wire b n v w go),
-      is.once,
-      c.requires.network,
-      stand,
-      λ u more. above-second start wire b n v w go u (omega (arith, more, to)),
-      omega (arith, c.requires.room, c.deal.ensures.all),
-      c.requires.grants ∙ sym (grants-so start wire b n v w go),
-    )
+    ((λ i. every_second (1 - c.output_of-output.ensures i) (sym c.requires.group.are i)) ∙ sym is.second ∙ ap (λ (u : ℕ). on w.tokens u) (sym to)) c.deal.ensures.lower in
+    (search rules, ((c.let_by-end.ensures.seat.0 ∙ c.requires.own.0, like.start ∙ c.requires.own.1), ((c.let_by-end.ensures.seat.1, like.loads ∙ c.requires.slots.1), (is.wires, (omega (arith, entries, inside start wire b n v w go), (is.once, (c.requires.network, (stand, (λ u more. above-second start wire b n v w go u (omega (arith, more, to)), (omega (arith, c.requires.room, c.deal.ensures.all), c.requires.grants ∙ sym (grants-so start wire b n v w go)))))))))))
 
 pub pass_all-requires-in-Balancer-2 : goal.pass_all-requires-in-Balancer-2
 pass_all-requires-in-Balancer-2 t c =
@@ -142,19 +120,8 @@ pass_all-requires-in-Balancer-2 t c =
     let (more, grew, theirs) = left.grants in
     let grants : length c.pass_all-in-Balancer.new.grants.items ≡ length c.args.grants.now.items + c.deal.result.1.count =
     ap length (c.pass_all-in-Balancer.ensures.grants ∙ grew) ∙ length-append w.grants more
-    ∙ (λ i. length ((grants-so start wire b n v w go ∙ sym c.requires.grants) i) + (theirs.as_many ∙ lower) i) in (
-      search rules,
-      (c.pass_all-in-Balancer.ensures.seat.0 ∙ c.let_by-end.ensures.seat.0 ∙ c.requires.own.0, left.start ∙ like.start ∙ c.requires.own.1),
-      (c.pass_all-in-Balancer.ensures.seat.1, left.loads ∙ like.loads ∙ c.requires.slots.1),
-      left.wires ∙ is.wires,
-      omega (arith, entries, inside start wire b n v w go),
-      c.pass_all-in-Balancer.ensures.once,
-      c.requires.network,
-      stand,
-      λ u past. above-first start wire b n v w go mid left u (omega (arith, past, to0)),
-      omega (arith, c.requires.room, c.deal.ensures.all, grants, c.pass_all-in-Balancer.ensures.capacity),
-      c.pass_all-in-Balancer.ensures.grants,
-    )
+    ∙ (λ i. length ((grants-so start wire b n v w go ∙ sym c.requires.grants) i) + (theirs.as_many ∙ lower) i) in
+    (search rules, ((c.pass_all-in-Balancer.ensures.seat.0 ∙ c.let_by-end.ensures.seat.0 ∙ c.requires.own.0, left.start ∙ like.start ∙ c.requires.own.1), ((c.pass_all-in-Balancer.ensures.seat.1, left.loads ∙ like.loads ∙ c.requires.slots.1), (left.wires ∙ is.wires, (omega (arith, entries, inside start wire b n v w go), (c.pass_all-in-Balancer.ensures.once, (c.requires.network, (stand, (λ u past. above-first start wire b n v w go mid left u (omega (arith, past, to0)), (omega (arith, c.requires.room, c.deal.ensures.all, grants, c.pass_all-in-Balancer.ensures.capacity), c.pass_all-in-Balancer.ensures.grants))))))))))
 
 pub returns-else-group-eq1-clause-left : goal.returns-else-group-eq1-clause-left
 returns-else-group-eq1-clause-left t c =
