@@ -1,18 +1,11 @@
 -- Where nobody is inside, the counts of an epoch can be carried on.
 use Rattle.std.proofs.Common.{◌≡◌, ◌≢◌, ℕ, ◌+◌, ◌<◌, ◌≤◌, Bool, true, false, List, [], ◌∷◌, length, refl, sym, ap, arith, ◌∙◌, inl, inr, ◌&&◌, slice_index}
-use Rattle.std.specs.Prelude.{nat_lt, ◌==◌}
-use Rattle.std.proofs.lemmas.Bool.{cases_lt, eq-eqb, eqb-true, lt-ltb, ltb-true, ne_eqb}
-use Rattle.cn_spec.specs.Step.{name_of, share}
-use Rattle.cn_spec.specs.Sums.{once_below, when}
+use Rattle.cn_core.proofs.Common.{AgreesAfter, Balancer, Carried, End, Event, Exit, IsCore, State, after_carry, carried_by, cases_lt, eq-eqb, inside_in, name_of, nat_lt, ne_eqb, once_below, past, share, state_ledger, ◌==◌}
+use Rattle.std.proofs.lemmas.Bool.{eqb-true, lt-ltb, ltb-true}
+use Rattle.cn_spec.specs.Sums.{when}
 use Rattle.cn_spec.specs.declared.limits.TheConstants.{MOST_CARRIED}
 use Rattle.cn_spec.proofs.CallerLemmas.{sum-below-zero, total-where-agree}
-use Rattle.cn_wiring.specs.declared.end.End.{End}
-use Rattle.cn_wiring.specs.declared.end.End.TheVariants.{Balancer, Exit}
 use Rattle.cn_wiring.specs.Table.{Stands, is_end, sum_at}
-use Rattle.cn_core.specs.declared.event.Event.{Event}
-use Rattle.cn_core.specs.State.{State, after_carry, inside_in, past}
-use Rattle.cn_core.specs.History.{AgreesAfter, Carried, carried_by}
-use Rattle.cn_core.specs.StateLedger.{IsCore, state_ledger}
 use Rattle.cn_ledger.specs.Ledger.{IsSound, Ledger, put}
 use Rattle.cn_core.proofs.HistoryLemmas.{Agrees-after_carry}
 use Rattle.cn_core.proofs.StateLemmas.{given_before, IsState-after_carry}

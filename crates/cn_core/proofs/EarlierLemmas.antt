@@ -1,21 +1,14 @@
 -- Epochs that were accepted lead to a state, and so each exit let out its share of their clients.
 use Rattle.std.proofs.Common.{◌≡◌, ℕ, ◌<◌, ◌≤◌, Bool, true, false, List, [], ◌∷◌, length, ◌+◌, refl, sym, ap, arith, ◌∙◌, subst, Option, None, Some, nat_le}
 use Rattle.std.specs.Prelude.{if◌then◌else◌, is_some}
-use Rattle.std.proofs.lemmas.Bool.Decides.{nat_tests}
-use Rattle.cn_spec.specs.Step.{share}
+use Rattle.cn_core.proofs.Common.{Carried, Enter, Event, Exit, IsCore, Network, On, Position, State, Step, after_carry, carried_by, end_of, inside_in, nat_tests, position_after, position_in, share, start, state_after_enter, state_after_step}
 use Rattle.cn_spec.specs.declared.limits.TheConstants.{MOST_CARRIED, MOST_CLIENTS}
-use Rattle.cn_wiring.specs.declared.end.End.TheVariants.{Exit}
-use Rattle.cn_wiring.specs.Network.{Network, IsNetwork}
-use Rattle.cn_wiring.specs.Table.{Table, end_of}
-use Rattle.cn_core.specs.declared.position.Position.{Position}
-use Rattle.cn_core.specs.declared.position.Position.TheVariants.{On, Holds}
-use Rattle.cn_core.specs.declared.event.Event.{Event}
-use Rattle.cn_core.specs.declared.event.Event.TheVariants.{Enter, Step}
+use Rattle.cn_wiring.specs.Network.{IsNetwork}
+use Rattle.cn_wiring.specs.Table.{Table}
+use Rattle.cn_core.specs.declared.position.Position.TheVariants.{Holds}
 use Rattle.cn_record.specs.declared.reply.EnterFault.TheVariants.{NoSuchEntry, AlreadyIn, EpochFull}
 use Rattle.cn_record.specs.declared.reply.Reply.TheVariants.{Entered, EnterRefused}
-use Rattle.cn_core.specs.State.{State, after_carry, inside_in, position_in, start, state_after_enter, state_after_step}
-use Rattle.cn_core.specs.History.{Agrees, HasOneHolder, AreEpochs, ByHistories, Carried, IsHistory, carried_by, enters_of, is_accepted, position_after, step_answer}
-use Rattle.cn_core.specs.StateLedger.{IsCore}
+use Rattle.cn_core.specs.History.{Agrees, HasOneHolder, AreEpochs, ByHistories, IsHistory, enters_of, is_accepted, step_answer}
 use Rattle.cn_core.specs.Tight.{HasShares}
 use Rattle.cn_core.proofs.CarryLemmas.{IsCore-after_carry, visits-after-carry}
 use Rattle.cn_core.proofs.HistoryLemmas.{Agrees-after_carry, Agrees-start, Agrees-state_after_step, AgreesAfter-state_after_enter, inside-by_history, inside-or-named, network-state_after_step}

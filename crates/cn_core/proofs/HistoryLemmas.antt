@@ -1,27 +1,18 @@
 -- A state that agrees with a history answers by it.
 use Rattle.std.proofs.Common.{◌≡◌, ℕ, ◌+◌, ◌<◌, ◌≤◌, cond, nat_eq, List, [], ◌∷◌, length, get_or, refl, ap, arith, Some, None, sym, ◌∙◌, length-append, inl, inr, subst, drop, drop-cons, add-one}
-use Rattle.std.specs.Prelude.{count_by}
-use Rattle.std.specs.Map.{values_of}
-use Rattle.std.proofs.lemmas.Bool.Decides.{nat_tests}
+use Rattle.cn_core.proofs.Common.{AgreesAfter, Balancer, Carried, End, Enter, Event, Exit, IsState, Network, On, Position, State, Step, after_carry, carried_by, count_by, end_of, inside_in, nat_tests, past, position_after, position_in, position_past, start, state_after_enter, state_after_step, values_of, with_position}
 use Rattle.std.proofs.lemmas.Map.{length-set_value}
 use Rattle.std.proofs.lemmas.List.Sums.{sum_by-cons}
 use Rattle.cn_spec.specs.declared.limits.TheConstants.{MOST_CLIENTS}
 use Rattle.cn_spec.proofs.CallerLemmas.{one_more-at, zero_at}
-use Rattle.cn_wiring.specs.declared.end.End.{End}
-use Rattle.cn_wiring.specs.declared.end.End.TheVariants.{Balancer, Exit}
-use Rattle.cn_wiring.specs.Table.{Table, end_of, is_end}
-use Rattle.cn_wiring.specs.Network.{Network}
-use Rattle.cn_core.specs.declared.position.Position.{Position}
-use Rattle.cn_core.specs.declared.position.Position.TheVariants.{On, Holds}
-use Rattle.cn_core.specs.declared.event.Event.{Event}
-use Rattle.cn_core.specs.declared.event.Event.TheVariants.{Enter, Step}
+use Rattle.cn_wiring.specs.Table.{Table, is_end}
+use Rattle.cn_core.specs.declared.position.Position.TheVariants.{Holds}
 use Rattle.cn_record.specs.declared.reply.EnterFault.TheVariants.{NoSuchEntry, AlreadyIn, EpochFull, Memory}
 use Rattle.cn_record.specs.declared.reply.StepFault.TheVariants.{Stranger, HasName}
 use Rattle.cn_record.specs.declared.reply.Reply.{Reply}
 use Rattle.cn_record.specs.declared.reply.Reply.TheVariants.{Entered, EnterRefused, Stepped, StepRefused}
-use Rattle.cn_core.specs.State.{State, IsState, position_in, position_past, past, after_carry, state_after_enter, state_after_step, start, is_named, is_inside, inside_in}
-use Rattle.cn_core.specs.InsideClients.{with_position}
-use Rattle.cn_core.specs.History.{Carried, position_after, leaves_of, inside_of, end_at, is_leave, IsHistory, Agrees, AgreesAfter, MayAnswerAll, carried_by, history_after, steps_before}
+use Rattle.cn_core.specs.State.{is_named, is_inside}
+use Rattle.cn_core.specs.History.{leaves_of, inside_of, end_at, is_leave, IsHistory, Agrees, MayAnswerAll, history_after, steps_before}
 use Rattle.cn_core.specs.Calls.{EntersTo, StepsTo, TakesTo, IsLedgerEvent, AnswersByHistory, RunsByHistory, RunsTo}
 use Rattle.cn_yard.proofs.CallerLemmas.{lookup-push, lookup-set, count-push, count-set}
 use Rattle.cn_core.proofs.StateLemmas.{stands-at}

@@ -1,10 +1,10 @@
 -- The clients of a quiet state, listed by the names that they hold.
 use Rattle.std.proofs.Common.{◌≡◌, ℕ, zero, suc, ◌+◌, ◌-◌, ◌<◌, ◌≤◌, Bool, true, false, cond, nat_eq, List, [], ◌∷◌, length, get_or, map, refl, sym, ap, ap₂, subst, ◌∙◌, arith, zero-add, Some, inl, inr}
-use Rattle.std.specs.Prelude.{AllPairs, Contains, count_by}
-use Rattle.std.specs.Map.{keys_of, values_of}
+use Rattle.cn_core.proofs.Common.{IsCore, On, Position, State, Walking, count_by, eq-eqb, inside_in, position_in, positions, values_of}
+use Rattle.std.specs.Prelude.{AllPairs, Contains}
+use Rattle.std.specs.Map.{keys_of}
 use Rattle.std.specs.List.{range_with_len, sum_by}
 use Rattle.std.specs.List.Sorted.{IsPermutation}
-use Rattle.std.proofs.lemmas.Bool.{eq-eqb}
 use Rattle.std.proofs.lemmas.List.{get_or-map, length-map}
 use Rattle.std.proofs.lemmas.List.Elements.{Contains-get_or}
 use Rattle.std.proofs.lemmas.List.FromFn.{get_or-range_with_len, length-range_with_len}
@@ -12,13 +12,11 @@ use Rattle.std.proofs.lemmas.List.Sorted.{Contains-permutation, IsPermutation-ma
 use Rattle.std.proofs.lemmas.List.Sums.{sum_by-cons}
 use Rattle.cn_yard.specs.Lists.{Lists}
 use Rattle.cn_names.specs.declared.standing.Standing.{Standing}
-use Rattle.cn_names.specs.declared.standing.Standing.TheVariants.{Walking, Holds as Named}
+use Rattle.cn_names.specs.declared.standing.Standing.TheVariants.{Holds as Named}
 use Rattle.cn_names.specs.Grants.{IsRising, ListsByName, grants_in}
-use Rattle.cn_core.specs.declared.position.Position.{Position}
-use Rattle.cn_core.specs.declared.position.Position.TheVariants.{On, Holds}
-use Rattle.cn_core.specs.InsideClients.{Clients, position_by, positions}
-use Rattle.cn_core.specs.State.{State, inside_in, is_inside, name_at, position_in, times_entered}
-use Rattle.cn_core.specs.StateLedger.{IsCore}
+use Rattle.cn_core.specs.declared.position.Position.TheVariants.{Holds}
+use Rattle.cn_core.specs.InsideClients.{Clients, position_by}
+use Rattle.cn_core.specs.State.{is_inside, name_at, times_entered}
 use Rattle.cn_core.specs.Tight.{ListsStateHolders, grants_of_clients}
 use Rattle.cn_core.proofs.Clientele.{placed}
 use Rattle.cn_core.proofs.TightLemmas.{tight-state}

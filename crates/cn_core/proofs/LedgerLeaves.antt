@@ -1,23 +1,13 @@
 -- A client that leaves by an exit is an event of the ledger.
 use Rattle.std.proofs.Common.{◌≡◌, ℕ, ◌+◌, ◌-◌, ◌%◌, ◌/◌, ◌<◌, Bool, true, false, nat_eq, List, ◌∷◌, refl, ap, arith, Some, sym, ◌∙◌, slice_index, inl, inr, ◌&&◌, eqb, ap₂, add-zero}
-use Rattle.std.specs.Prelude.{count_by, nat_lt, ◌==◌}
-use Rattle.std.specs.Map.{values_of}
-use Rattle.std.proofs.lemmas.Bool.{cases_eq, cases_lt, eq-eqb, ne_eqb, lt-ltb, le-ltb}
-use Rattle.cn_spec.specs.Step.{name_of}
-use Rattle.cn_spec.specs.Sums.{when, once_below}
+use Rattle.cn_core.proofs.Common.{AgreesAfter, Balancer, Carried, End, Event, Exit, IsState, On, Position, State, Step, cases_eq, cases_lt, count_by, end_of, eq-eqb, name_of, nat_lt, ne_eqb, once_below, position_in, position_past, state_after_step, state_ledger, values_of, with_position, ◌==◌}
+use Rattle.std.proofs.lemmas.Bool.{lt-ltb, le-ltb}
+use Rattle.cn_spec.specs.Sums.{when}
 use Rattle.cn_spec.proofs.CallerLemmas.{exit_of-name_of}
-use Rattle.cn_wiring.specs.declared.end.End.{End}
-use Rattle.cn_wiring.specs.declared.end.End.TheVariants.{Balancer, Exit}
-use Rattle.cn_wiring.specs.Table.{end_of, is_end}
-use Rattle.cn_core.specs.declared.position.Position.{Position}
-use Rattle.cn_core.specs.declared.position.Position.TheVariants.{On}
-use Rattle.cn_core.specs.declared.event.Event.{Event}
-use Rattle.cn_core.specs.declared.event.Event.TheVariants.{Step}
-use Rattle.cn_core.specs.State.{State, IsState, position_in, position_past, state_after_step}
-use Rattle.cn_core.specs.InsideClients.{with_position}
-use Rattle.cn_core.specs.History.{AgreesAfter, Carried, times_passed}
+use Rattle.cn_wiring.specs.Table.{is_end}
+use Rattle.cn_core.specs.History.{times_passed}
 use Rattle.cn_ledger.specs.Events.{Leaves}
-use Rattle.cn_core.specs.StateLedger.{is_on, holds, given_in_state, state_ledger}
+use Rattle.cn_core.specs.StateLedger.{is_on, holds, given_in_state}
 use Rattle.cn_yard.proofs.CallerLemmas.{count-set}
 use Rattle.cn_core.proofs.StateLemmas.{given_before, name-later, stands-at}
 use Rattle.cn_ledger.proofs.CallerLemmas.{eqb-sym}

@@ -1,26 +1,19 @@
 -- Each event of a core is an event of its ledger, and so its ledger is sound.
 use Rattle.std.proofs.Common.{◌≡◌, ℕ, ◌+◌, ◌<◌, Bool, true, false, List, [], ◌∷◌, length, refl, ap, arith, Some, None, sym, ◌∙◌, inl, inr, ◌&&◌}
-use Rattle.std.specs.Prelude.{nat_lt, ◌==◌}
-use Rattle.std.proofs.lemmas.Bool.{cases_lt, lt-ltb, le-ltb}
-use Rattle.cn_spec.specs.Step.{name_of, share}
-use Rattle.cn_spec.specs.Sums.{when, once_below}
+use Rattle.cn_core.proofs.Common.{AgreesAfter, Balancer, Carried, End, Enter, Event, Exit, IsCore, IsState, Network, On, State, Step, carried_by, cases_lt, end_of, name_of, nat_lt, once_below, past, position_in, share, start, state_after_enter, state_after_step, state_ledger, ◌==◌}
+use Rattle.std.proofs.lemmas.Bool.{lt-ltb, le-ltb}
+use Rattle.cn_spec.specs.Sums.{when}
 use Rattle.cn_spec.specs.declared.limits.TheConstants.{MOST_CLIENTS}
 use Rattle.cn_spec.proofs.CallerLemmas.{zero_at}
-use Rattle.cn_wiring.specs.declared.end.End.{End}
-use Rattle.cn_wiring.specs.declared.end.End.TheVariants.{Balancer, Exit}
-use Rattle.cn_wiring.specs.Table.{end_of, Stands}
-use Rattle.cn_wiring.specs.Network.{Network, IsNetwork}
-use Rattle.cn_core.specs.declared.position.Position.TheVariants.{On}
-use Rattle.cn_core.specs.declared.event.Event.{Event}
-use Rattle.cn_core.specs.declared.event.Event.TheVariants.{Enter, Step}
-use Rattle.cn_core.specs.State.{State, IsState, position_in, past, state_after_enter, state_after_step, start}
-use Rattle.cn_core.specs.History.{AgreesAfter, ByHistories, Carried, carried_by, moved_past}
+use Rattle.cn_wiring.specs.Table.{Stands}
+use Rattle.cn_wiring.specs.Network.{IsNetwork}
+use Rattle.cn_core.specs.History.{ByHistories, moved_past}
 use Rattle.cn_ledger.specs.Ledger.{IsSound}
 use Rattle.cn_ledger.specs.declared.moved.Moved.{Moved}
 use Rattle.cn_record.specs.declared.reply.Reply.TheVariants.{Stepped}
 use Rattle.cn_ledger.specs.Moves.{IsMoveOf}
 use Rattle.cn_core.specs.Calls.{IsLedgerEvent, StepsTo}
-use Rattle.cn_core.specs.StateLedger.{given_in_state, state_ledger, HasSoundLedger, IsCore}
+use Rattle.cn_core.specs.StateLedger.{given_in_state, HasSoundLedger}
 use Rattle.cn_core.proofs.StateLemmas.{given_before, name-later, share-zero, stands-at, IsState-start, IsState-state_after_enter, IsState-state_after_step}
 use Rattle.cn_core.proofs.HistoryLemmas.{Agrees-start, AgreesAfter-state_after_enter, AgreesAfter-state_after_step}
 use Rattle.cn_core.proofs.PassageLemmas.{sound-passages}

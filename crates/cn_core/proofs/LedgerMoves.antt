@@ -1,23 +1,12 @@
 -- A client that enters, or passes a balancer, is an event of the ledger.
 use Rattle.std.proofs.Common.{◌≡◌, ℕ, ◌+◌, ◌<◌, Bool, true, false, cond, nat_eq, List, ◌∷◌, length, refl, ap, arith, Option, Some, sym, ◌∙◌, slice_index, inl, inr, ◌&&◌, eqb, add-zero}
-use Rattle.std.specs.Prelude.{count_by, nat_lt, ◌==◌}
-use Rattle.std.specs.Map.{values_of}
-use Rattle.std.proofs.lemmas.Bool.{cases_eq, ne_eqb}
-use Rattle.cn_spec.specs.Step.{name_of}
+use Rattle.cn_core.proofs.Common.{AgreesAfter, Balancer, Carried, End, Enter, Event, Exit, IsState, On, Position, State, Step, cases_eq, count_by, end_of, name_of, nat_lt, ne_eqb, past, position_after, position_in, position_past, state_after_enter, state_after_step, state_ledger, values_of, with_position, ◌==◌}
 use Rattle.cn_spec.specs.Sums.{when}
 use Rattle.cn_spec.proofs.CallerLemmas.{one_more-at}
-use Rattle.cn_wiring.specs.declared.end.End.{End}
-use Rattle.cn_wiring.specs.declared.end.End.TheVariants.{Balancer, Exit}
-use Rattle.cn_wiring.specs.Table.{end_of, is_end}
-use Rattle.cn_core.specs.declared.position.Position.{Position}
-use Rattle.cn_core.specs.declared.position.Position.TheVariants.{On}
-use Rattle.cn_core.specs.declared.event.Event.{Event}
-use Rattle.cn_core.specs.declared.event.Event.TheVariants.{Enter, Step}
-use Rattle.cn_core.specs.State.{State, IsState, position_in, position_past, past, state_after_enter, state_after_step}
-use Rattle.cn_core.specs.InsideClients.{with_position}
-use Rattle.cn_core.specs.History.{AgreesAfter, Carried, position_after, steps_before, end_at, is_same_end, times_passed}
+use Rattle.cn_wiring.specs.Table.{is_end}
+use Rattle.cn_core.specs.History.{steps_before, end_at, is_same_end, times_passed}
 use Rattle.cn_ledger.specs.Events.{Enters, Passes}
-use Rattle.cn_core.specs.StateLedger.{is_on, holds, given_in_state, state_ledger}
+use Rattle.cn_core.specs.StateLedger.{is_on, holds, given_in_state}
 use Rattle.cn_yard.proofs.CallerLemmas.{count-push, count-set, count-pair-push, count-pair-set}
 use Rattle.cn_core.proofs.StateLemmas.{given_before}
 use Rattle.cn_core.proofs.HistoryLemmas.{past-state_after_step}

@@ -1,3 +1,4 @@
+mod Common
 pub mod Clientele
 pub mod StateLemmas
 pub mod HistoryLemmas

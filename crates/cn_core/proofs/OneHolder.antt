@@ -1,20 +1,13 @@
 -- No two clients hold one name: by any history, whether its events were accepted or not, after what is carried.
 use Rattle.std.proofs.Common.{◌≡◌, ℕ, ◌+◌, ◌-◌, ◌%◌, ◌/◌, ◌<◌, ◌≤◌, inl, inr, List, [], ◌∷◌, length, refl, ap, arith, sym, ◌∙◌, Option, Some, None}
 use Rattle.std.specs.Option.{option_map}
-use Rattle.std.proofs.lemmas.Bool.{cases_eq, cases_lt, eq-eqb, ne_eqb}
+use Rattle.cn_core.proofs.Common.{Balancer, Carried, End, Enter, Event, Exit, Network, On, Position, Step, cases_eq, cases_lt, end_of, eq-eqb, name_of, ne_eqb, position_after, position_past}
 use Rattle.std.proofs.lemmas.List.{get_or_past}
-use Rattle.cn_spec.specs.Step.{name_of}
 use Rattle.cn_spec.proofs.CallerLemmas.{exit_of-name_of, name-below}
-use Rattle.cn_wiring.specs.declared.end.End.{End}
-use Rattle.cn_wiring.specs.declared.end.End.TheVariants.{Balancer, Exit}
-use Rattle.cn_wiring.specs.Network.{Network, IsNetwork}
-use Rattle.cn_wiring.specs.Table.{Table, end_of}
-use Rattle.cn_core.specs.declared.event.Event.{Event}
-use Rattle.cn_core.specs.declared.event.Event.TheVariants.{Enter, Step}
-use Rattle.cn_core.specs.declared.position.Position.{Position}
-use Rattle.cn_core.specs.declared.position.Position.TheVariants.{On, Holds}
-use Rattle.cn_core.specs.History.{Carried, HasOneHolder, end_at, position_after, steps_before}
-use Rattle.cn_core.specs.State.{position_past}
+use Rattle.cn_wiring.specs.Network.{IsNetwork}
+use Rattle.cn_wiring.specs.Table.{Table}
+use Rattle.cn_core.specs.declared.position.Position.TheVariants.{Holds}
+use Rattle.cn_core.specs.History.{HasOneHolder, end_at, steps_before}
 use Rattle.cn_core.specs.Tight.{HasShares}
 use Rattle.cn_core.proofs.StateLemmas.{stands-at}
 

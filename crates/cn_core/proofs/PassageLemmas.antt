@@ -1,13 +1,8 @@
 -- The passages of each history have sound numbers.
 use Rattle.std.proofs.Common.{◌≡◌, ℕ, ◌+◌, ◌&&◌, Bool, true, false, cond, eqb, List, [], ◌∷◌, arith}
-use Rattle.std.specs.Prelude.{nat_lt}
-use Rattle.std.proofs.lemmas.Bool.Decides.{nat_tests}
-use Rattle.cn_spec.specs.Sums.{once_below}
-use Rattle.cn_wiring.specs.declared.end.End.TheVariants.{Balancer}
+use Rattle.cn_core.proofs.Common.{Balancer, Carried, Enter, Event, Step, nat_lt, nat_tests, once_below, position_after}
 use Rattle.cn_wiring.specs.Table.{Table}
-use Rattle.cn_core.specs.declared.event.Event.{Event}
-use Rattle.cn_core.specs.declared.event.Event.TheVariants.{Enter, Step}
-use Rattle.cn_core.specs.History.{Carried, end_at, is_same_end, position_after, steps_before, times_passed}
+use Rattle.cn_core.specs.History.{end_at, is_same_end, steps_before, times_passed}
 
 -- numbers that are those below m, each once, and m if the step is a passage
 one-more : (before times m n : ℕ) (here : Bool) → before + times ≡ cond (nat_lt n m) 1 0 → before + (times + cond (here && eqb m n) 1 0) ≡ cond (nat_lt n (m + cond here 1 0)) 1 0

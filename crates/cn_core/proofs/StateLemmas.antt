@@ -1,21 +1,15 @@
 -- Each event keeps what each state keeps.
 use Rattle.std.proofs.Common.{◌≡◌, ℕ, ◌+◌, ◌*◌, ◌%◌, ◌<◌, ◌≤◌, nat_eq, inl, inr, List, [], ◌∷◌, ◌++◌, length, arith, Some, None, ◌∙◌, slice_index, length-set, length-append, subst, ap}
 use Rattle.std.specs.Prelude.{replicate}
-use Rattle.std.proofs.lemmas.Bool.{cases_lt}
-use Rattle.std.proofs.lemmas.Bool.Decides.{nat_tests}
+use Rattle.cn_core.proofs.Common.{Balancer, End, Exit, IsState, Network, On, Position, State, after_carry, cases_lt, end_of, name_of, nat_tests, once_below, position_in, position_past, share, start, state_after_enter, state_after_step}
 use Rattle.std.proofs.lemmas.List.{length-replicate}
 use Rattle.std.proofs.lemmas.Map.{length-set_value}
 use Rattle.cn_spec.specs.declared.limits.TheConstants.{MOST_CARRIED, MOST_CLIENTS}
 use Rattle.cn_spec.proofs.CallerLemmas.{name-below, one_more-at, sum-below-change, sum-below-zero, zero_at}
-use Rattle.cn_spec.specs.Step.{name_of, share}
-use Rattle.cn_spec.specs.Sums.{once_below, one_more}
-use Rattle.cn_wiring.specs.declared.end.End.{End}
-use Rattle.cn_wiring.specs.declared.end.End.TheVariants.{Balancer, Exit}
-use Rattle.cn_wiring.specs.Table.{end_of, Stands, LeadsOn}
-use Rattle.cn_wiring.specs.Network.{Network, IsNetwork}
-use Rattle.cn_core.specs.declared.position.Position.{Position}
-use Rattle.cn_core.specs.declared.position.Position.TheVariants.{On}
-use Rattle.cn_core.specs.State.{State, IsState, came_in, position_in, position_past, after_carry, state_after_enter, state_after_step, start, times_entered}
+use Rattle.cn_spec.specs.Sums.{one_more}
+use Rattle.cn_wiring.specs.Table.{Stands, LeadsOn}
+use Rattle.cn_wiring.specs.Network.{IsNetwork}
+use Rattle.cn_core.specs.State.{came_in, times_entered}
 use Rattle.cn_yard.proofs.CallerLemmas.{lookup-push, lookup-set, times-push, times-absent, times-set}
 
 -- how often the name of a visit of an exit was given in earlier epochs: they gave each exit its share of the base

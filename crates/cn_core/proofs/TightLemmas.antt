@@ -1,22 +1,17 @@
 -- What a core has given out: at any time, and when nobody is inside.
 use Rattle.std.proofs.Common.{◌≡◌, ℕ, ◌+◌, ◌%◌, ◌/◌, ◌<◌, inl, inr, ◌≤◌, Bool, true, false, cond, nat_eq, List, [], ◌∷◌, length, map, refl, ap, arith, Option, Some, None, sym, ◌∙◌, slice_index}
-use Rattle.std.specs.Prelude.{count_by, ◌==◌}
-use Rattle.std.specs.Map.{values_of}
-use Rattle.std.proofs.lemmas.Bool.{cases_eq, cases_lt, eq-eqb, le-ltb, lt-ltb, ne_eqb}
+use Rattle.cn_core.proofs.Common.{End, IsCore, IsState, On, Position, State, carried_by, cases_eq, cases_lt, count_by, eq-eqb, inside_in, name_of, ne_eqb, once_below, past, position_in, share, state_ledger, values_of, ◌==◌}
+use Rattle.std.proofs.lemmas.Bool.{le-ltb, lt-ltb}
 use Rattle.std.proofs.lemmas.Nat.{mod_below}
 use Rattle.std.proofs.lemmas.List.Sums.{sum_by-cons}
-use Rattle.cn_spec.specs.Step.{name_of, share}
-use Rattle.cn_spec.specs.Sums.{once_below, times}
+use Rattle.cn_spec.specs.Sums.{times}
 use Rattle.cn_spec.proofs.CallerLemmas.{each_below, name-below, name_of-exit_of, sum-below-part, times-cons, times-nil}
 use Rattle.cn_spec.specs.declared.limits.TheConstants.{MOST_ARRIVALS}
-use Rattle.cn_wiring.specs.declared.end.End.{End}
 use Rattle.cn_wiring.specs.Table.{Stands}
-use Rattle.cn_core.specs.declared.position.Position.{Position}
-use Rattle.cn_core.specs.declared.position.Position.TheVariants.{On, Holds}
-use Rattle.cn_core.specs.State.{State, IsState, came_in, past, position_in, name_at, name_in, times_entered, is_inside, is_named, inside_in}
+use Rattle.cn_core.specs.declared.position.Position.TheVariants.{Holds}
+use Rattle.cn_core.specs.State.{came_in, name_at, name_in, times_entered, is_inside, is_named}
 use Rattle.cn_ledger.specs.Ledger.{IsQuiescent, Ledger, times_given}
-use Rattle.cn_core.specs.History.{carried_by}
-use Rattle.cn_core.specs.StateLedger.{is_on, holds, granted_in_state, state_ledger, IsCore}
+use Rattle.cn_core.specs.StateLedger.{is_on, holds, granted_in_state}
 use Rattle.cn_core.specs.Tight.{grants_of_clients, IsTightState, IsBoundedState}
 use Rattle.cn_ledger.proofs.CallerLemmas.{bounded, counts-few, names-differ, tight}
 use Rattle.cn_yard.proofs.CallerLemmas.{count-pair-found}

@@ -1,3 +1,4 @@
+mod Common
 mod Lists
 mod InStates
 mod InLane

@@ -1,16 +1,12 @@
 -- Records that move from line to line.
 use Rattle.std.proofs.Common.{◌≡◌, ◌≢◌, ℕ, ◌+◌, ◌<◌, ◌≤◌, inl, inr, Bool, true, false, cond, eqb, ltb, List, [], ◌∷◌, ◌++◌, length, get_or, refl, ap, ◌∙◌, arith}
-use Rattle.std.proofs.lemmas.Bool.{cases_eq, cases_lt}
-use Rattle.std.proofs.lemmas.Bool.Decides.{nat_tests}
+use Rattle.cn_yard.proofs.Common.{Line, Record, but, cases_eq, cases_lt, count_of, marked, nat_tests, next_of, prev_of, times, wire_of}
 use Rattle.std.proofs.lemmas.List.{append-nil, get_or_append_left, length-append, length_push}
-use Rattle.cn_spec.specs.Sums.{sum_below, times, when}
+use Rattle.cn_spec.specs.Sums.{sum_below, when}
 use Rattle.cn_spec.proofs.CallerLemmas.{sum-below-part, sum-below-pick, sum-below-same, times-append}
-use Rattle.cn_yard.specs.declared.records.Record.{Record}
-use Rattle.cn_yard.specs.declared.lines.Line.{Line}
-use Rattle.cn_yard.specs.Chains.{but, last_of, put_last}
-use Rattle.cn_yard.specs.Lines.{IsOff, IsOn, Linked, OffLine, count_of}
-use Rattle.cn_yard.specs.Records.{next_of, no_record, prev_of, wire_of}
-use Rattle.cn_yard.specs.Marks.{marked}
+use Rattle.cn_yard.specs.Chains.{last_of, put_last}
+use Rattle.cn_yard.specs.Lines.{IsOff, IsOn, Linked, OffLine}
+use Rattle.cn_yard.specs.Records.{no_record}
 use Rattle.cn_yard.specs.Moving.{HasMarks, IsAdded, IsLinks, IsMore, SameBut}
 use Rattle.cn_yard.proofs.Chains.{chain-same, length-but, times-but}
 use Rattle.cn_yard.proofs.Unlinked.{in-tail}

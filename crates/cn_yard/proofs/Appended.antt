@@ -1,15 +1,11 @@
 -- A record is put last on a line.
 use Rattle.std.proofs.Common.{◌≡◌, ◌≢◌, ℕ, zero, suc, ◌+◌, ◌<◌, ◌≤◌, inl, inr, Bool, true, false, cond, eqb, List, [], ◌∷◌, ◌++◌, length, set, refl, sym, ap, ◌∙◌, arith, subst, ◌⊎◌}
-use Rattle.std.proofs.lemmas.Bool.{cases_eq}
-use Rattle.std.proofs.lemmas.Bool.Decides.{nat_tests}
+use Rattle.cn_yard.proofs.Common.{Line, Record, cases_eq, count_of, line_of, nat_tests, next_of, no_line, prev_of, times, times-nil, wire_of}
 use Rattle.std.proofs.lemmas.List.{append-nil, get_or-set_other, get_or-set_same, length-append, length-set}
-use Rattle.cn_spec.specs.Sums.{times}
-use Rattle.cn_spec.proofs.CallerLemmas.{times-cons, times-nil, times-append}
-use Rattle.cn_yard.specs.declared.records.Record.{Record}
-use Rattle.cn_yard.specs.declared.lines.Line.{Line}
+use Rattle.cn_spec.proofs.CallerLemmas.{times-cons, times-append}
 use Rattle.cn_yard.specs.Chains.{Chain, last_of, last_or, put_last}
-use Rattle.cn_yard.specs.Lines.{Ends, IsOn, Linked, OffLine, count_of, line_of, line_with, no_line}
-use Rattle.cn_yard.specs.Records.{IsLink, IsPut, next_of, prev_of, wire_of}
+use Rattle.cn_yard.specs.Lines.{Ends, IsOn, Linked, OffLine, line_with}
+use Rattle.cn_yard.specs.Records.{IsLink, IsPut}
 use Rattle.cn_yard.proofs.Chains.{chain-one, chain-push, chain-same, last-in, last-push}
 use Rattle.cn_yard.proofs.Unlinked.{in-tail, once-at, one-line}
 

@@ -4,17 +4,11 @@ use Rattle.std.proofs.Common.{vec_len, Vec, Global}
 use Rattle.std.specs.Prelude.{IsSome}
 use Rattle.std.specs.Vec.{with_items}
 use Rattle.std.proofs.lemmas.List.{get_or_read, with_items_is}
-use Rattle.std.proofs.lemmas.Bool.Decides.{nat_tests}
+use Rattle.cn_yard.proofs.Common.{Inside, Keeps, Line, Record, Yard, client_of, count_of, line_of, lists_of, moved, nat_tests, no_line, standing, tokens_in, wire_of, yard_of}
 use Rattle.cn_spec.specs.declared.limits.TheConstants.{MOST_TOKENS}
-use Rattle.cn_yard.specs.declared.yard.Yard.TheInside.{Inside}
-use Rattle.cn_yard.specs.declared.records.Record.{Record}
-use Rattle.cn_yard.specs.declared.lines.Line.{Line}
-use Rattle.cn_yard.specs.Lists.{Admits, Moves, Releases, Yard, standing, tokens_in}
-use Rattle.cn_yard.specs.Chains.{moved}
-use Rattle.cn_yard.specs.Lines.{count_of, line_of, no_line}
-use Rattle.cn_yard.specs.Records.{IsClient, client_of, wire_of}
+use Rattle.cn_yard.specs.Lists.{Admits, Moves, Releases}
+use Rattle.cn_yard.specs.Records.{IsClient}
 use Rattle.cn_yard.specs.Moving.{Fills, IsLined, IsMore, IsMove, SameBut}
-use Rattle.cn_yard.specs.InsideYard.{Keeps, lists_of, yard_of}
 use Rattle.cn_yard.proofs.Changes.{admits-of, links-client, lists-same, moves-of, releases-of}
 use Rattle.cn_yard.proofs.Appended.{last-below, last-there}
 use Rattle.cn_yard.proofs.Wires.{live, standing-live, tokens-are}

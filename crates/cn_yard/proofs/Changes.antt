@@ -1,18 +1,12 @@
 -- What callers see when a token comes, moves or goes.
 use Rattle.std.proofs.Common.{max, ◌≡◌, ◌≢◌, ℕ, ◌+◌, ◌-◌, ◌<◌, inl, inr, true, false, eqb, List, [], ◌++◌, length, get_or, refl, sym, ap, ◌∙◌, arith, subst, None}
-use Rattle.std.proofs.lemmas.Bool.{cases_eq, cases_lt}
-use Rattle.std.proofs.lemmas.Bool.Decides.{nat_tests}
+use Rattle.cn_yard.proofs.Common.{Inside, Keeps, Line, Lists, Record, Yard, cases_eq, cases_lt, client_of, count_of, last_on, lists_of, moved, nat_tests, next_of, on, prev_of, standing, times, tokens_in, wire_of, without, yard_of}
 use Rattle.std.proofs.lemmas.List.{append-nil, ext_get_or}
-use Rattle.cn_spec.specs.Sums.{sum_below, times}
-use Rattle.cn_yard.specs.declared.yard.Yard.TheInside.{Inside}
-use Rattle.cn_yard.specs.declared.records.Record.{Record}
-use Rattle.cn_yard.specs.declared.lines.Line.{Line}
-use Rattle.cn_yard.specs.Lists.{Admits, Lists, Moves, Releases, Yard, last_on, on, standing, tokens_in, without}
-use Rattle.cn_yard.specs.Chains.{moved}
-use Rattle.cn_yard.specs.Lines.{count_of}
-use Rattle.cn_yard.specs.Records.{IsClient, client_of, next_of, prev_of, wire_of}
+use Rattle.cn_spec.specs.Sums.{sum_below}
+use Rattle.cn_yard.specs.Lists.{Admits, Moves, Releases}
+use Rattle.cn_yard.specs.Records.{IsClient}
 use Rattle.cn_yard.specs.Moving.{IsLinks, SameBut}
-use Rattle.cn_yard.specs.InsideYard.{Keeps, with_clients, lists_of, yard_of}
+use Rattle.cn_yard.specs.InsideYard.{with_clients}
 use Rattle.cn_yard.proofs.Chains.{but-out, chain-same}
 use Rattle.cn_yard.proofs.Keyed.{lookup-added, lookup-gone, lookup-last, lookup-without}
 use Rattle.cn_yard.proofs.Standings.{lookup-absent, standing-added, standing-same}

@@ -1,15 +1,13 @@
 -- Lists of keys with values, as of tokens with their clients: look-ups, counts and sums where an entry is added or taken
 -- out, and where one key's value changes.
 use Rattle.std.proofs.Common.{◌≡◌, ◌≢◌, ℕ, ◌+◌, ◌≤◌, ◌&&◌, Bool, true, false, cond, nat_eq, eqb, sym, ap, List, [], ◌∷◌, ◌++◌, refl, arith, Some, None}
-use Rattle.std.specs.Prelude.{count_by}
-use Rattle.std.specs.Map.{lookup, set_value, values_of}
+use Rattle.cn_yard.proofs.Common.{count_by, last_on, lookup, nat_tests, without}
+use Rattle.std.specs.Map.{set_value, values_of}
 use Rattle.cn_spec.specs.Sums.{when}
-use Rattle.cn_yard.specs.Lists.{last_on, without}
 use Rattle.std.proofs.lemmas.Bool.{eqb-true}
 use Rattle.std.specs.List.{sum_by}
 use Rattle.std.proofs.lemmas.List.Sums.{sum_by-cons}
 use Rattle.std.proofs.lemmas.Map.Entries.{sum_by-set_value}
-use Rattle.std.proofs.lemmas.Bool.Decides.{nat_tests}
 
 -- a look-up after a new key
 pub lookup-push : {X : Type 0} (es : List (ℕ × X)) (k : ℕ) (x : X) (q : ℕ)

@@ -1,3 +1,4 @@
+mod Common
 pub mod Keyed
 pub mod There
 pub mod Standings

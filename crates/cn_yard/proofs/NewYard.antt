@@ -5,16 +5,13 @@ use Rattle.std.specs.Prelude.{replicate}
 use Rattle.std.specs.Int.{bit_at}
 use Rattle.std.proofs.lemmas.List.{get_or-replicate, length-replicate}
 use Rattle.std.proofs.lemmas.Nat.Bits.{bit_at-zero}
-use Rattle.cn_spec.proofs.CallerLemmas.{times-nil, sum-below-zero}
-use Rattle.cn_yard.specs.declared.yard.Yard.TheInside.{Inside}
-use Rattle.cn_yard.specs.declared.lines.Line.{Line}
+use Rattle.cn_yard.proofs.Common.{Inside, Keeps, Line, count_of, line_of, marked, next_of, no_line, prev_of, times-nil, yard_of}
+use Rattle.cn_spec.proofs.CallerLemmas.{sum-below-zero}
 use Rattle.cn_yard.specs.Lists.{empty}
-use Rattle.cn_yard.specs.Marks.{marked}
 use Rattle.cn_yard.proofs.Chains.{chain-nil}
 use Rattle.cn_yard.specs.Chains.{last_or}
-use Rattle.cn_yard.specs.Lines.{Ends, count_of, line_of, no_line}
-use Rattle.cn_yard.specs.Records.{next_of, prev_of}
-use Rattle.cn_yard.specs.InsideYard.{IsYard, Keeps, yard_of}
+use Rattle.cn_yard.specs.Lines.{Ends}
+use Rattle.cn_yard.specs.InsideYard.{IsYard}
 use Rattle.cn_yard.proofs.Bare.{bare-empty, closed, closed-bare, empty-of, opened}
 use Rattle.cn_yard.proofs.Wires.{on-wire}
 

@@ -1,9 +1,7 @@
 -- Where the tokens of a yard stand.
 use Rattle.std.proofs.Common.{◌≡◌, ◌≢◌, ℕ, zero, suc, ◌<◌, inl, inr, nat_eq, length, refl, arith, Option, Some, None, true, false, cond, eqb}
-use Rattle.std.specs.Map.{lookup}
-use Rattle.std.proofs.lemmas.Bool.{cases_eq}
-use Rattle.std.proofs.lemmas.Bool.Decides.{nat_tests}
-use Rattle.cn_yard.specs.Lists.{Lists, here_or, on, standing, standing_below}
+use Rattle.cn_yard.proofs.Common.{Lists, cases_eq, lookup, nat_tests, on, standing}
+use Rattle.cn_yard.specs.Lists.{here_or, standing_below}
 
 -- ---- of any yard: a token that is on only one wire, or on none, and yards that agree
 

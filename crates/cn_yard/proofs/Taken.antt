@@ -1,13 +1,13 @@
 -- The first token of a wire, taken off it.
 use Rattle.std.proofs.Common.{◌≡◌, ◌≢◌, ℕ, ◌+◌, ◌<◌, ◌≤◌, inl, inr, eqb, cond, Bool, true, false, List, [], ◌∷◌, ◌++◌, length, refl, sym, ap, ◌∙◌, arith, Option, Some, None}
-use Rattle.std.specs.Prelude.{count_by, nat_eq, sum_by}
-use Rattle.std.specs.Map.{lookup}
-use Rattle.std.proofs.lemmas.Bool.{cases_lt, eq-eqb}
+use Rattle.cn_yard.proofs.Common.{Lists, Yard, cases_lt, count_by, last_on, lookup, on, times_in, without}
+use Rattle.std.specs.Prelude.{nat_eq, sum_by}
+use Rattle.std.proofs.lemmas.Bool.{eq-eqb}
 use Rattle.std.proofs.lemmas.List.{get_or_past}
 use Rattle.std.proofs.lemmas.List.Sums.{sum_by-append, sum_by-cons}
 use Rattle.cn_spec.specs.Sums.{sum_below, when}
 use Rattle.cn_spec.proofs.CallerLemmas.{sum-below-one, sum-below-part, sum-below-parts, sum-below-shift, sum-below-zero}
-use Rattle.cn_yard.specs.Lists.{IsThere, Lists, Yard, first_of, last_on, on, times_in, without}
+use Rattle.cn_yard.specs.Lists.{IsThere, first_of}
 use Rattle.cn_yard.proofs.Keyed.{found-once, last_on-sum}
 use Rattle.cn_yard.proofs.Standings.{standing-only}
 use Rattle.cn_yard.proofs.There.{there}

@@ -1,11 +1,10 @@
 -- Where a token stands: on only one wire, once.
 use Rattle.std.proofs.Common.{◌≡◌, ◌≢◌, ℕ, zero, suc, ◌<◌, ◌≤◌, inl, inr, eqb, List, [], length, refl, sym, ap, ◌∙◌, arith, Option, Some, None}
-use Rattle.std.specs.Prelude.{count_by}
-use Rattle.std.specs.Map.{lookup}
-use Rattle.std.proofs.lemmas.Bool.{cases_eq, cases_lt, ne_eqb, eq-eqb}
+use Rattle.cn_yard.proofs.Common.{Lists, cases_eq, cases_lt, count_by, lookup, on, standing, times_in, tokens_in}
+use Rattle.std.proofs.lemmas.Bool.{ne_eqb, eq-eqb}
 use Rattle.std.proofs.lemmas.List.{get_or_past}
 use Rattle.cn_spec.proofs.CallerLemmas.{sum-below-part, sum-below-parts}
-use Rattle.cn_yard.specs.Lists.{IsThere, Lists, here_or, on, standing, standing_below, times_in, tokens_in}
+use Rattle.cn_yard.specs.Lists.{IsThere, here_or, standing_below}
 use Rattle.cn_yard.proofs.Keyed.{found-once, without-none, without-one}
 
 first : {a b : ℕ × ℕ} → Some a ≡ Some b → a.0 ≡ b.0

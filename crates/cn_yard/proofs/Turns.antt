@@ -1,10 +1,11 @@
 -- The tokens of a wire, dealt to two others one after the other.
 use Rattle.std.proofs.Common.{◌≡◌, ◌≢◌, ℕ, zero, suc, ◌+◌, ◌-◌, ◌%◌, ◌<◌, ◌≤◌, inl, inr, cond, Bool, true, false, List, [], ◌∷◌, ◌++◌, length, refl, sym, ap, ◌∙◌, subst, arith, Some, append-nil}
 use Rattle.std.specs.Prelude.{◌==◌}
-use Rattle.std.proofs.lemmas.Bool.{cases_eq, eq-eqb, ne_eqb}
+use Rattle.cn_yard.proofs.Common.{Yard, cases_eq, last_on, on, standing, times_in, tokens_in, without}
+use Rattle.std.proofs.lemmas.Bool.{eq-eqb, ne_eqb}
 use Rattle.std.proofs.lemmas.List.{append_assoc, length_push}
 use Rattle.cn_yard.specs.Deals.{Deals, IsDealt, every_second, out_of}
-use Rattle.cn_yard.specs.Lists.{Moves, Yard, last_on, on, standing, times_in, tokens_in, without}
+use Rattle.cn_yard.specs.Lists.{Moves}
 use Rattle.cn_yard.proofs.Taken.{IsFirst, first-there, once-moved, others-on, rest-on}
 
 -- ---- one after the other

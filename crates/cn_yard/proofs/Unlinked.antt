@@ -1,15 +1,11 @@
 -- A record is taken off its line.
 use Rattle.std.proofs.Common.{◌≡◌, ◌≢◌, ℕ, ◌+◌, ◌-◌, ◌<◌, ◌≤◌, inl, inr, Bool, true, false, cond, eqb, List, [], ◌∷◌, length, set, refl, sym, ap, ◌∙◌, arith, subst, ◌||◌, ◌⊎◌}
-use Rattle.std.proofs.lemmas.Bool.{cases_eq}
-use Rattle.std.proofs.lemmas.Bool.Decides.{nat_tests}
+use Rattle.cn_yard.proofs.Common.{Line, Record, but, cases_eq, count_of, line_of, nat_tests, next_of, no_line, prev_of, times, times-nil, wire_of}
 use Rattle.std.proofs.lemmas.List.{get_or-set_other, get_or-set_same, length-set}
-use Rattle.cn_spec.specs.Sums.{times}
-use Rattle.cn_yard.specs.declared.records.Record.{Record}
-use Rattle.cn_yard.specs.declared.lines.Line.{Line}
-use Rattle.cn_yard.specs.Chains.{Chain, but, head_or, last_or}
-use Rattle.cn_yard.specs.Lines.{Ends, IsOff, Linked, count_of, line_of, line_without, no_line}
-use Rattle.cn_yard.specs.Records.{IsLink, next_of, prev_of, wire_of}
-use Rattle.cn_spec.proofs.CallerLemmas.{times-cons, times-nil}
+use Rattle.cn_yard.specs.Chains.{Chain, head_or, last_or}
+use Rattle.cn_yard.specs.Lines.{Ends, IsOff, Linked, line_without}
+use Rattle.cn_yard.specs.Records.{IsLink}
+use Rattle.cn_spec.proofs.CallerLemmas.{times-cons}
 use Rattle.cn_yard.proofs.Chains.{but-cons, but-head, but-out, chain-but, chain-but-last, chain-rest, chain-same, chain-tied, last-but, last-in, last-left, length-but, next-in, prev-in, tail_of, times-but}
 
 -- ---- what is left of one line, with its links n and p

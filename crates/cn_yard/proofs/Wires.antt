@@ -1,21 +1,16 @@
 -- What stands on the wires of a yard.
 use Rattle.std.proofs.Common.{◌≡◌, ◌≢◌, ℕ, zero, suc, ◌+◌, ◌<◌, ◌≤◌, inl, inr, Bool, true, false, cond, not, nat_eq, eqb, ltb, List, [], ◌∷◌, ◌++◌, length, refl, sym, ap, ◌∙◌, arith, subst, Some, None}
-use Rattle.std.specs.Prelude.{IsSome, count_by}
-use Rattle.std.specs.Map.{lookup}
-use Rattle.std.proofs.lemmas.Bool.{cases_eq, cases_lt}
-use Rattle.std.proofs.lemmas.Bool.Decides.{nat_tests}
+use Rattle.cn_yard.proofs.Common.{Inside, Keeps, but, cases_eq, cases_lt, client_of, count_by, count_of, last_on, line_of, lists_of, lookup, moved, nat_tests, next_of, on, prev_of, standing, times, times-nil, times_in, tokens_in, wire_of, without}
+use Rattle.std.specs.Prelude.{IsSome}
 use Rattle.std.proofs.lemmas.List.{length-map, map-append}
 use Rattle.std.proofs.lemmas.List.Sums.{sum_by-cons}
 use Rattle.std.proofs.lemmas.List.FromFn.{get_or-map-range_with_len}
-use Rattle.cn_spec.specs.Sums.{sum_below, times}
-use Rattle.cn_spec.proofs.CallerLemmas.{times-cons, times-nil, sum-below-same}
-use Rattle.cn_yard.specs.declared.yard.Yard.TheInside.{Inside}
+use Rattle.cn_spec.specs.Sums.{sum_below}
+use Rattle.cn_spec.proofs.CallerLemmas.{times-cons, sum-below-same}
 use Rattle.cn_yard.proofs.There.{there}
-use Rattle.cn_yard.specs.Lists.{IsThere, next_after, last_on, on, standing, times_in, tokens_in, without}
-use Rattle.cn_yard.specs.Chains.{Chain, but, last_of, last_or, moved}
-use Rattle.cn_yard.specs.Lines.{count_of, line_of}
-use Rattle.cn_yard.specs.Records.{client_of, next_of, prev_of, wire_of}
-use Rattle.cn_yard.specs.InsideYard.{Keeps, walked, with_clients, lists_of}
+use Rattle.cn_yard.specs.Lists.{IsThere, next_after}
+use Rattle.cn_yard.specs.Chains.{Chain, last_of, last_or}
+use Rattle.cn_yard.specs.InsideYard.{walked, with_clients}
 use Rattle.cn_yard.proofs.Bare.{on-beyond, wires-are}
 use Rattle.cn_yard.proofs.Chains.{chain-rest, chain-tied, last-in, times-but, walk-chain}
 use Rattle.cn_yard.proofs.Standings.{standing-none, standing-only}

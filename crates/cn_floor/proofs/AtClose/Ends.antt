@@ -1,20 +1,13 @@
 -- Where nobody is inside, the names of a floor are tight, and its words can be carried.
 use Rattle.std.proofs.Common.{◌≡◌, ◌≢◌, ℕ, ◌+◌, ◌<◌, ◌≤◌, ◌&&◌, inl, inr, Bool, true, false, eqb, ltb, List, [], length, get_or, sym, refl, ap, arith}
-use Rattle.std.proofs.lemmas.Bool.{cases_lt, eq-eqb, eqb-true, lt-ltb, le-ltb, ltb-true, ne_eqb}
-use Rattle.atomic_table.specs.Table.{State}
-use Rattle.cn_spec.specs.Step.{name_of}
-use Rattle.cn_spec.specs.Sums.{when}
-use Rattle.cn_wiring.specs.declared.end.End.{End}
-use Rattle.cn_wiring.specs.declared.end.End.TheVariants.{Balancer, Exit}
-use Rattle.cn_wiring.specs.Table.{Stands, Table, is_end, sum_at}
-use Rattle.cn_ledger.specs.Ledger.{IsSound, IsTight, Ledger, put}
-use Rattle.cn_floor.specs.declared.view.Start.{Start}
-use Rattle.cn_floor.specs.declared.view.View.{View}
-use Rattle.cn_floor.specs.Carried.{AreTight, IsClosed, WordsValue}
+use Rattle.cn_floor.proofs.Common.{Balancer, End, Exit, HoldsAt, IsClosed, IsSound, IsStart, Ledger, Stands, Start, State, Table, View, WordsValue, cases_lt, count_in, eq-eqb, le-ltb, ledger_of, lt-ltb, name_of, ne_eqb, sum-below-zero, when, word_count}
+use Rattle.std.proofs.lemmas.Bool.{eqb-true, ltb-true}
+use Rattle.cn_wiring.specs.Table.{is_end, sum_at}
+use Rattle.cn_ledger.specs.Ledger.{IsTight, put}
+use Rattle.cn_floor.specs.Carried.{AreTight}
 use Rattle.cn_floor.specs.Ends.{NobodyInside}
-use Rattle.cn_floor.specs.Rule.{IsCarried, IsStart, HoldsAt, ledger_of}
-use Rattle.cn_floor.specs.Words.{count_in, word_count}
-use Rattle.cn_spec.proofs.CallerLemmas.{once-in, sum-below-zero, total-where-agree}
+use Rattle.cn_floor.specs.Rule.{IsCarried}
+use Rattle.cn_spec.proofs.CallerLemmas.{once-in, total-where-agree}
 use Rattle.cn_ledger.proofs.CallerLemmas.{tight}
 
 -- ---- the ledger of words without lanes

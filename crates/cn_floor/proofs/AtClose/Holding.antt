@@ -2,14 +2,12 @@
 use Rattle.std.proofs.Common.{◌≡◌, ◌≢◌, ℕ, zero, suc, ◌+◌, ◌<◌, ◌≤◌, inl, inr, cond, List, [], ◌∷◌, length, get_or, set, map, sym, refl, ap, ◌∙◌, subst, arith, length-set}
 use Rattle.std.specs.Prelude.{IsPermutation}
 use Rattle.std.specs.List.{range_with_len}
-use Rattle.std.proofs.lemmas.Bool.{cases_eq, cases_lt, le-ltb}
+use Rattle.cn_floor.proofs.Common.{Grant, cases_eq, cases_lt, le-ltb, once_below, times}
 use Rattle.std.proofs.lemmas.List.{get_or-map, get_or-set_other, get_or-set_same, length-map}
 use Rattle.std.proofs.lemmas.List.FromFn.{fill_by_all}
 use Rattle.std.proofs.lemmas.List.Sorted.{IsPermutation-map, IsPermutation-sym}
 use Rattle.cn_spec.specs.Step.{IsEachBelow}
-use Rattle.cn_spec.specs.Sums.{once_below, times}
 use Rattle.cn_spec.proofs.CallerLemmas.{at_most_once, once_each, times-member, times-two}
-use Rattle.cn_floor.specs.declared.view.Grant.{Grant}
 use Rattle.cn_floor.specs.Ends.{ListsHolders}
 
 module _ (grants : List Grant) (names : IsEachBelow (length grants) (map (λ (g : Grant). g.name) grants)) where

@@ -3,15 +3,11 @@ use Rattle.std.proofs.Common.{◌≡◌, ℕ, zero, suc, ◌+◌, ◌<◌, ◌�
 use Rattle.std.specs.List.{range_with_len}
 use Rattle.std.proofs.lemmas.List.{get_or-drop, length-drop, take_more}
 use Rattle.std.proofs.lemmas.List.FromFn.{map-range_with_len_more}
-use Rattle.cn_wiring.specs.declared.end.End.TheVariants.{Balancer, Exit}
-use Rattle.cn_wiring.specs.Table.{Table}
-use Rattle.cn_yard.specs.Lists.{Lists, on, tokens_in}
+use Rattle.cn_floor.proofs.Common.{Balancer, Exit, IsClosed, Lists, Start, Table, WordsValue, ledger_of, on, tokens_in}
 use Rattle.cn_yard.proofs.CallerLemmas.{nobody-on}
 use Rattle.cn_ledger.proofs.CallerLemmas.{counts-few}
-use Rattle.cn_floor.specs.declared.view.Start.{Start}
-use Rattle.cn_floor.specs.Carried.{IsClosed, WordsValue, client_count}
+use Rattle.cn_floor.specs.Carried.{client_count}
 use Rattle.cn_floor.specs.Ends.{HasRisen, counts_by_exit, passes_of}
-use Rattle.cn_floor.specs.Rule.{ledger_of}
 use Rattle.cn_floor.specs.Words.{NoneWent}
 
 -- a part of a list, place by place

@@ -2,11 +2,10 @@
 use Rattle.std.proofs.Common.{◌≡◌, ℕ, List, sym, ap, ◌∙◌, subst}
 use Rattle.atomic_table.specs.Table.{Final, Seen}
 use Rattle.cn_floor.specs.declared.floor.counters.Counters.TheInside.{Inside}
-use Rattle.cn_floor.specs.declared.view.View.{View}
+use Rattle.cn_floor.proofs.Common.{View, spread, start_of}
 use Rattle.cn_floor.specs.Closing.{IsEnding}
 use Rattle.cn_floor.specs.InsideCounters.{IsCounters}
-use Rattle.cn_floor.specs.Rule.{start_of}
-use Rattle.cn_floor.specs.Spread.{picked, spread}
+use Rattle.cn_floor.specs.Spread.{picked}
 use Rattle.cn_floor.proofs.AtClose.Closings.{ending-at}
 use Rattle.cn_floor.proofs.InStates.Placed.{Rule}
 use Rattle.cn_floor.proofs.InStates.Spreads.{picked-spread}

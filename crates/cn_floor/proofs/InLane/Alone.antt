@@ -1,24 +1,14 @@
 -- The only token of a lane, on its way.
 use Rattle.std.proofs.Common.{◌≡◌, ◌≢◌, ℕ, ◌+◌, ◌*◌, ◌%◌, ◌<◌, ◌≤◌, inl, inr, cond, eqb, true, false, Bool, List, [], ◌∷◌, ◌++◌, length, sum_by, refl, sym, ap, ◌∙◌, subst, arith, Some}
 use Rattle.std.specs.Prelude.{nat_eq}
-use Rattle.std.proofs.lemmas.Bool.{cases_eq, cases_lt, eq-eqb, ne_eqb}
-use Rattle.std.proofs.lemmas.List.{get_or_past, nil_from_length}
-use Rattle.std.proofs.lemmas.List.FromFn.{length-map-range_with_len}
+use Rattle.cn_floor.proofs.Common.{Balancer, IsAlone, IsLetBy, IsThere, IsWellFormed, LaneValue, LeadsOn, Lists, Stands, Start, Table, View, Yard, after_step, cases_eq, cases_lt, end_of, eq-eqb, get_or_past, lane_of, last_on, length-map-range_with_len, ne_eqb, on, output_wire, sum-below-one, sum-below-part, sum-below-same, times_in, tokens_in, when, without}
+use Rattle.std.proofs.lemmas.List.{nil_from_length}
 use Rattle.std.proofs.lemmas.Nat.{mod_below}
-use Rattle.cn_spec.specs.Sums.{when}
-use Rattle.cn_spec.proofs.CallerLemmas.{sum-below-one, sum-below-part, sum-below-parts, sum-below-same}
-use Rattle.cn_wiring.specs.declared.end.End.TheVariants.{Balancer}
-use Rattle.cn_wiring.specs.Table.{IsWellFormed, LeadsOn, Stands, Table, end_of, output_wire}
-use Rattle.cn_yard.specs.Lists.{IsThere, Lists, Moves, Yard, first_of, last_on, on, times_in, tokens_in, without}
+use Rattle.cn_spec.proofs.CallerLemmas.{sum-below-parts}
+use Rattle.cn_yard.specs.Lists.{Moves, first_of}
 use Rattle.cn_yard.proofs.CallerLemmas.{IsFirst, first-is, first-there, last_on-sum, there-alike}
-use Rattle.cn_floor.specs.declared.view.Start.{Start}
-use Rattle.cn_floor.specs.declared.view.View.{View}
-use Rattle.cn_floor.specs.Alone.{IsAlone, OnlyPassed, PassesOn}
-use Rattle.cn_floor.specs.Plays.{IsLetBy}
+use Rattle.cn_floor.specs.Alone.{OnlyPassed, PassesOn}
 use Rattle.cn_floor.specs.declared.floor.lane.Lane.TheInside.{Inside}
-use Rattle.cn_floor.specs.InsideLane.{lane_of}
-use Rattle.cn_floor.specs.Lane.{LaneValue}
-use Rattle.cn_floor.specs.Views.{after_step}
 use Rattle.cn_floor.proofs.Lists.{made}
 use Rattle.cn_floor.proofs.InStates.Sweeps.{lists-after-on}
 use Rattle.cn_floor.proofs.InLane.Swept.{some-inside}

@@ -1,14 +1,9 @@
 -- Wires are swept one after the other.
 use Rattle.std.proofs.Common.{◌≡◌, ℕ, ◌+◌, ◌<◌, List, [], ◌∷◌, ◌++◌, length, refl, sym, ap, ◌∙◌, subst, arith}
-use Rattle.cn_wiring.specs.declared.end.End.{End}
-use Rattle.cn_wiring.specs.Table.{end_of}
-use Rattle.cn_yard.specs.Lists.{on}
-use Rattle.cn_floor.specs.declared.view.Start.{Start}
-use Rattle.cn_floor.specs.declared.view.View.{View}
+use Rattle.cn_floor.proofs.Common.{AreLetBy, End, IsAtomicStep, Start, View, after_sweep, end_of, on}
 use Rattle.cn_floor.specs.EntersAll.{ComeTogether, EnterInTurn, after_enter_all}
 use Rattle.cn_floor.specs.Listed.{WalkTogether}
-use Rattle.cn_floor.specs.Steps.{IsAtomicStep}
-use Rattle.cn_floor.specs.Sweeps.{AreLetBy, SweptBy, after_sweep}
+use Rattle.cn_floor.specs.Sweeps.{SweptBy}
 
 -- some wires were swept
 abbrev pub IsSwept : Start → View → View → Type 0

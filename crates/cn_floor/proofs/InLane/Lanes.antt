@@ -1,23 +1,14 @@
 -- What a lane holds is what its view says, also after a step.
 use Rattle.std.proofs.Common.{Global, Vec, ◌≡◌, ℕ, ◌+◌, ◌-◌, ◌%◌, ◌<◌, ◌≤◌, List, [], ◌∷◌, ◌++◌, length, get_or, Some, sym, ap, ◌∙◌, subst, arith, append-nil}
 use Rattle.std.specs.Prelude.{vec_capacity}
-use Rattle.std.proofs.lemmas.List.{length_push}
-use Rattle.cn_spec.specs.Step.{name_of}
-use Rattle.cn_wiring.specs.declared.end.End.TheVariants.{Balancer, Exit}
-use Rattle.cn_wiring.specs.declared.end.End.{End}
-use Rattle.cn_wiring.specs.Table.{end_of, output_wire}
-use Rattle.cn_yard.specs.Lists.{Admits, Moves, Releases, last_on, on, standing, tokens_in, without}
+use Rattle.cn_floor.proofs.Common.{Balancer, End, Exit, Grant, IsAtomicStep, IsLetBy, LaneValue, Start, View, after_enter, after_step, base, end_of, last_on, length_push, name_of, on, output_wire, tokens_in, without}
+use Rattle.cn_yard.specs.Lists.{Admits, Moves, Releases, standing}
 use Rattle.cn_ledger.specs.Moves.{IsMoveOf}
 use Rattle.cn_ledger.specs.declared.moved.Moved.{Moved}
 use Rattle.cn_floor.specs.declared.floor.lane.Lane.TheInside.{Inside}
-use Rattle.cn_floor.specs.declared.view.Grant.{Grant}
-use Rattle.cn_floor.specs.declared.view.View.{View}
-use Rattle.cn_floor.specs.declared.view.Start.{Start}
 use Rattle.cn_floor.specs.InsideLane.{IsLane}
-use Rattle.cn_floor.specs.Lane.{LaneValue, PutsOn, StepsOn}
-use Rattle.cn_floor.specs.Plays.{IsLetBy}
-use Rattle.cn_floor.specs.Steps.{IsAtomicStep, answer_at}
-use Rattle.cn_floor.specs.Views.{after_enter, after_step, base}
+use Rattle.cn_floor.specs.Lane.{PutsOn, StepsOn}
+use Rattle.cn_floor.specs.Steps.{answer_at}
 use Rattle.cn_floor.proofs.Lists.{made}
 
 module _ (old new : Inside) (token client : ℕ) (kept : IsLane old) (no_slot : new.seat.me.1 ≡ []) where

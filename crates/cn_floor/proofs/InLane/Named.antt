@@ -1,19 +1,8 @@
 -- A client that walks through by itself.
 use Rattle.std.proofs.Common.{◌≡◌, ℕ, ◌-◌, ◌%◌, ◌<◌, ◌++◌, ◌∷◌, inl, inr, All, List, [], get_or, length, replicate, refl, sym, ap, ◌∙◌, arith}
-use Rattle.std.proofs.lemmas.Bool.{cases_lt}
-use Rattle.std.proofs.lemmas.List.FromFn.{length-map-range_with_len}
-use Rattle.cn_spec.specs.Step.{name_of}
-use Rattle.cn_wiring.specs.declared.end.End.TheVariants.{Balancer, Exit}
-use Rattle.cn_wiring.specs.Table.{output_wire}
-use Rattle.cn_ledger.specs.Ledger.{Ledger}
-use Rattle.cn_yard.specs.Lists.{last_on, on, without}
-use Rattle.cn_floor.specs.declared.view.Start.{Start}
-use Rattle.cn_floor.specs.declared.view.View.{View}
-use Rattle.cn_floor.specs.Alone.{IsAlone, OnlyPassed, PassesOn}
+use Rattle.cn_floor.proofs.Common.{Balancer, Exit, IsAlone, IsAtomicStep, IsStart, Ledger, Start, StoodInState, View, after_enter, after_step, base, cases_lt, last_on, length-map-range_with_len, name_of, on, output_wire, without}
+use Rattle.cn_floor.specs.Alone.{OnlyPassed, PassesOn}
 use Rattle.cn_floor.specs.Named.{WalksThrough}
-use Rattle.cn_floor.specs.Rule.{IsStart}
-use Rattle.cn_floor.specs.Steps.{IsAtomicStep, StoodInState}
-use Rattle.cn_floor.specs.Views.{after_enter, after_step, base}
 use Rattle.cn_floor.proofs.Lists.{made_at, made-beyond}
 use Rattle.cn_floor.proofs.AtClose.Rises.{all-empty}
 use Rattle.cn_floor.proofs.InStates.Bounds.{few-came}

@@ -1,11 +1,9 @@
 -- The tokens of a wire leave one after the other.
 use Rattle.std.proofs.Common.{◌≡◌, ℕ, suc, ◌+◌, ◌-◌, ◌<◌, ◌≤◌, List, [], ◌∷◌, ◌++◌, length, refl, sym, ap, ◌∙◌, subst, arith, Some, append-nil, length-append}
-use Rattle.std.proofs.lemmas.List.{append_assoc, length_push}
-use Rattle.cn_spec.specs.Step.{name_of}
+use Rattle.cn_floor.proofs.Common.{Grant, IsThere, Yard, append_assoc, length_push, name_of, on, times_in}
 use Rattle.cn_yard.specs.Deals.{Frees}
-use Rattle.cn_yard.specs.Lists.{IsThere, Releases, Yard, on, standing, times_in}
+use Rattle.cn_yard.specs.Lists.{Releases, standing}
 use Rattle.cn_yard.proofs.CallerLemmas.{IsFirst, first-there, once-gone, rest-on, there-alike}
-use Rattle.cn_floor.specs.declared.view.Grant.{Grant}
 use Rattle.cn_floor.specs.Sweeps.{grants_out}
 
 -- a release after others

@@ -1,24 +1,14 @@
 -- What a lane holds is what its view says, also after a sweep.
 use Rattle.std.proofs.Common.{◌≡◌, ◌≢◌, ℕ, zero, suc, ◌+◌, ◌-◌, ◌*◌, ◌%◌, ◌<◌, ◌≤◌, List, [], ◌∷◌, ◌++◌, length, get_or, refl, sym, ap, ◌∙◌, subst, arith, append-nil, length-append, inl, inr}
 use Rattle.std.specs.Prelude.{vec_capacity}
-use Rattle.std.proofs.lemmas.Bool.{cases_lt}
-use Rattle.std.proofs.lemmas.List.{append_assoc, get_or_past}
-use Rattle.cn_spec.specs.Step.{name_of}
-use Rattle.cn_wiring.specs.declared.end.End.{End}
-use Rattle.cn_wiring.specs.declared.end.End.TheVariants.{Balancer, Exit}
-use Rattle.cn_wiring.specs.Table.{end_of, output_wire}
+use Rattle.cn_floor.proofs.Common.{AreLetBy, Balancer, End, Exit, Grant, LaneValue, Lists, Start, View, Yard, after_step, after_sweep, append_assoc, base, cases_lt, end_of, get_or_past, last_on, name_of, on, output_wire, times_in, tokens_in, without}
 use Rattle.cn_yard.specs.Deals.{Deals, Frees, IsCleared, IsDealt, out_of}
-use Rattle.cn_yard.specs.Lists.{Lists, Moves, Releases, Yard, last_on, on, times_in, tokens_in, without}
+use Rattle.cn_yard.specs.Lists.{Moves, Releases}
 use Rattle.cn_yard.proofs.CallerLemmas.{once-gone, others-on, rest-on}
 use Rattle.cn_floor.specs.declared.floor.lane.Lane.TheInside.{Inside}
-use Rattle.cn_floor.specs.declared.view.Grant.{Grant}
-use Rattle.cn_floor.specs.declared.view.Start.{Start}
 use Rattle.cn_floor.specs.declared.view.Sweep.{Sweep}
-use Rattle.cn_floor.specs.declared.view.View.{View}
 use Rattle.cn_floor.specs.InsideLane.{IsLane}
-use Rattle.cn_floor.specs.Lane.{LaneValue}
-use Rattle.cn_floor.specs.Sweeps.{AreLetBy, PutsAll, SweepsOn, after_steps, after_sweep, grants_out, sweep_at}
-use Rattle.cn_floor.specs.Views.{after_step, base}
+use Rattle.cn_floor.specs.Sweeps.{PutsAll, SweepsOn, after_steps, grants_out, sweep_at}
 use Rattle.cn_floor.proofs.Lists.{made}
 use Rattle.cn_floor.proofs.InLane.Outs.{grants-many}
 

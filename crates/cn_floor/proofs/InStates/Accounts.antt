@@ -1,23 +1,10 @@
 -- Each view accounts for its clients, also after a step.
 use Rattle.std.proofs.Common.{◌≡◌, ℕ, ◌+◌, ◌-◌, ◌*◌, ◌%◌, ◌<◌, inl, inr, eqb, [], ◌∷◌, ◌++◌, length, get_or, ap, ◌∙◌, arith}
-use Rattle.std.proofs.lemmas.Bool.{cases_eq, ne_eqb, eq-eqb}
-use Rattle.std.proofs.lemmas.List.{length_push}
+use Rattle.cn_floor.proofs.Common.{Balancer, End, Exit, Grant, IsAccounted, IsThere, Network, View, after_enter, after_step, base, cases_eq, end_of, eq-eqb, last_on, length-map-range_with_len, length_push, name_of, ne_eqb, on, on_in, output_wire, sum-below-one, sum-below-same, sum-below-zero, sum_below, when, without}
 use Rattle.std.proofs.lemmas.List.Elements.{All-push}
-use Rattle.std.proofs.lemmas.List.FromFn.{length-map-range_with_len}
-use Rattle.cn_spec.specs.Step.{name_of}
-use Rattle.cn_spec.specs.Sums.{when, sum_below}
-use Rattle.cn_wiring.specs.declared.end.End.{End}
-use Rattle.cn_wiring.specs.declared.end.End.TheVariants.{Balancer, Exit}
-use Rattle.cn_wiring.specs.Network.{Network}
-use Rattle.cn_wiring.specs.Table.{end_of, output_wire}
-use Rattle.cn_yard.specs.Lists.{IsThere, last_on, without, on}
 use Rattle.cn_ledger.specs.Events.{one_at}
-use Rattle.cn_floor.specs.declared.view.Grant.{Grant}
-use Rattle.cn_floor.specs.declared.view.View.{View}
-use Rattle.cn_floor.specs.Rule.{IsAccounted}
-use Rattle.cn_floor.specs.Views.{after_enter, after_step, base, on_in}
 use Rattle.cn_floor.proofs.InStates.Ledgers.{on-after-enter, on-after_step, onto, Lands}
-use Rattle.cn_spec.proofs.CallerLemmas.{sum-below-one, sum-below-same, sum-below-shift, sum-below-zero}
+use Rattle.cn_spec.proofs.CallerLemmas.{sum-below-shift}
 
 -- ---- sums over wires, each counted g times
 

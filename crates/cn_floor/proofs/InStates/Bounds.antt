@@ -1,19 +1,9 @@
 -- No count is more than the clients that came, and no name is one of an earlier floor.
 use Rattle.std.proofs.Common.{◌≡◌, ℕ, ◌+◌, ◌<◌, ◌≤◌, inl, inr, cond, [], length, sum_by, refl, ap, ◌∙◌, arith}
-use Rattle.std.proofs.lemmas.Bool.{cases_lt, lt-ltb, le-ltb}
-use Rattle.atomic_table.specs.Table.{State}
-use Rattle.cn_spec.specs.Step.{name_of, share}
-use Rattle.cn_spec.specs.Sums.{once_below, sum_below, times}
-use Rattle.cn_wiring.specs.declared.end.End.{End}
-use Rattle.cn_wiring.specs.declared.end.End.TheVariants.{Exit}
-use Rattle.cn_wiring.specs.Table.{Stands, Table}
-use Rattle.cn_floor.specs.declared.view.Start.{Start}
-use Rattle.cn_floor.specs.declared.view.View.{View}
-use Rattle.cn_floor.specs.Rule.{HoldsAt, ledger_of}
-use Rattle.cn_floor.specs.Views.{base}
-use Rattle.cn_floor.specs.Words.{clients_in, count_in, entered_in}
+use Rattle.cn_floor.proofs.Common.{End, Exit, HoldsAt, Stands, Start, State, Table, View, base, cases_lt, clients_in, count_in, entered_in, le-ltb, ledger_of, lt-ltb, name_of, once_below, sum-below-same, sum_below, times}
+use Rattle.cn_spec.specs.Step.{share}
 use Rattle.cn_floor.proofs.InStates.Totals.{total-le, total_same}
-use Rattle.cn_spec.proofs.CallerLemmas.{name-below, sum-below-plus, sum-below-same, sum-below-total, times-below}
+use Rattle.cn_spec.proofs.CallerLemmas.{name-below, sum-below-plus, sum-below-total, times-below}
 use Rattle.cn_ledger.proofs.CallerLemmas.{counts-few, tight}
 
 module _ (start : Start) (s : State (Unit {0}) View) (kept : HoldsAt start s) where

@@ -1,19 +1,10 @@
 -- The rule is kept where a client comes in.
 use Rattle.std.proofs.Common.{◌≡◌, ℕ, ◌+◌, ◌%◌, ◌^◌, ◌<◌, ◌≤◌, List, [], ◌∷◌, ◌++◌, length, get_or, set, sym, refl, ap, ◌∙◌, arith, subst, ⊎_elim, length-set}
-use mathlib.Core.Option.{some}
-use lib.ListN.{get_elem?}
-use Rattle.std.proofs.lemmas.List.{length_push}
-use Rattle.atomic_table.specs.Table.{Allows, Me, State, keeps, stepped}
-use Rattle.atomic_table.proofs.Lists.{at_set}
+use Rattle.cn_floor.proofs.Common.{Allows, HoldsAt, IsAccounted, IsAtomicStep, IsFresh, Me, Start, State, View, after_enter, at_set, base, clients_in, entered_in, get_elem?, keeps, ledger_of, length_push, load_bound, some, sum-below-one, sum-below-part, sum-below-same}
+use Rattle.atomic_table.specs.Table.{stepped}
 use Rattle.cn_spec.specs.Sums.{times}
 use Rattle.cn_ledger.specs.Events.{Enters, one_at}
-use Rattle.cn_floor.specs.declared.view.Start.{Start}
-use Rattle.cn_floor.specs.declared.view.View.{View}
 use Rattle.cn_floor.specs.Plays.{Coming, ComesIn}
-use Rattle.cn_floor.specs.Steps.{IsAtomicStep}
-use Rattle.cn_floor.specs.Rule.{IsAccounted, IsFresh, HoldsAt, ledger_of, load_bound}
-use Rattle.cn_floor.specs.Views.{after_enter, base}
-use Rattle.cn_floor.specs.Words.{clients_in, entered_in}
 use Rattle.cn_floor.proofs.InStates.Bounds.{few-came}
 use Rattle.cn_floor.proofs.InStates.Accounts.{accounted-after-enter}
 use Rattle.cn_floor.proofs.InStates.Fresh.{fresh-grown, names_below}
@@ -21,7 +12,7 @@ use Rattle.cn_floor.proofs.InStates.Kept.{one-step}
 use Rattle.cn_floor.proofs.InStates.Ledgers.{enters}
 use Rattle.cn_floor.proofs.InStates.Totals.{total-set}
 use Rattle.cn_floor.proofs.InStates.Raised.{entered-raised, entered-word, lanes-raised, raised}
-use Rattle.cn_spec.proofs.CallerLemmas.{sum-below-one, sum-below-part, sum-below-plus, sum-below-same, times-append, times-nil}
+use Rattle.cn_spec.proofs.CallerLemmas.{sum-below-plus, times-append, times-nil}
 use Rattle.cn_ledger.proofs.CallerLemmas.{sound-enters}
 
 -- one entry more

@@ -1,25 +1,14 @@
 -- The rule is kept where clients of a list come in by one step.
 use Rattle.std.proofs.Common.{◌≡◌, ℕ, zero, suc, ◌+◌, ◌%◌, ◌^◌, ◌<◌, ◌≤◌, List, [], ◌++◌, length, get_or, set, sym, refl, ap, ◌∙◌, arith, subst}
 use Rattle.std.specs.Prelude.{slice_index}
-use mathlib.Core.Option.{some}
-use lib.ListN.{get_elem?}
+use Rattle.cn_floor.proofs.Common.{Allows, HoldsAt, Me, Start, State, Table, View, after_enter, base, clients_in, entered_in, get_elem?, keeps, last_on, ledger_of, length-map-range_with_len, on, some, sum-below-part}
 use Rattle.std.proofs.lemmas.List.{set-get_or, set-set, get_or-set_same}
-use Rattle.std.proofs.lemmas.List.FromFn.{length-map-range_with_len}
-use Rattle.atomic_table.specs.Table.{Allows, Me, State, keeps}
-use Rattle.cn_wiring.specs.Table.{Table}
-use Rattle.cn_yard.specs.Lists.{last_on, on}
-use Rattle.cn_floor.specs.declared.view.Start.{Start}
-use Rattle.cn_floor.specs.declared.view.View.{View}
 use Rattle.cn_floor.specs.EntersAll.{AllComeIn, EnterInTurn, EnteringAll, after_enter_all, after_enters}
-use Rattle.cn_floor.specs.Rule.{HoldsAt, ledger_of}
-use Rattle.cn_floor.specs.Views.{after_enter, base}
-use Rattle.cn_floor.specs.Words.{clients_in, entered_in}
 use Rattle.cn_floor.proofs.InStates.Bounds.{few-came}
 use Rattle.cn_floor.proofs.InStates.Kept.{counted-alike, kept-recounted, ledger-alike, one-step}
 use Rattle.cn_floor.proofs.InStates.Places.{get-here, set-here}
 use Rattle.cn_floor.proofs.InStates.Raised.{entered-word, raised}
 use Rattle.cn_floor.proofs.InStates.Enters.{came_in, kept-after-enter}
-use Rattle.cn_spec.proofs.CallerLemmas.{sum-below-part}
 
 -- one after the other
 module _ (start : Start) (id entry : ℕ) (clients : List ℕ) (low : entry < start.network.table.entries) where

@@ -1,21 +1,7 @@
 -- The rule is kept where views change and what they add up to does not.
 use Rattle.std.proofs.Common.{◌≡◌, ℕ, ◌+◌, ◌&&◌, List, length, set, sum_by, subst, refl, arith, eqb, ltb, ⊎_elim}
-use mathlib.Core.Option.{some}
-use lib.ListN.{get_elem?}
-use Rattle.atomic_table.specs.Table.{State}
-use Rattle.atomic_table.proofs.Lists.{at_set}
-use Rattle.cn_spec.specs.Step.{name_of}
-use Rattle.cn_spec.specs.Sums.{once_below, times, when}
-use Rattle.cn_wiring.specs.declared.end.End.{End}
-use Rattle.cn_wiring.specs.declared.end.End.TheVariants.{Balancer, Exit}
-use Rattle.cn_wiring.specs.Table.{Table}
-use Rattle.cn_ledger.specs.Ledger.{IsSound, Ledger}
-use Rattle.cn_floor.specs.declared.view.Start.{Start}
-use Rattle.cn_floor.specs.declared.view.View.{View}
-use Rattle.cn_floor.specs.Rule.{IsAccounted, IsFresh, HoldsAt, KeepsRule, ledger_of}
-use Rattle.cn_floor.specs.Steps.{IsAtomicStep}
-use Rattle.cn_floor.specs.Views.{base, given_in, granted_in, on_in, standing_in}
-use Rattle.cn_floor.specs.Words.{clients_in, count_in, entered_in}
+use Rattle.cn_floor.proofs.Common.{Balancer, End, Exit, HoldsAt, IsAccounted, IsAtomicStep, IsFresh, IsSound, Ledger, Start, State, Table, View, at_set, base, clients_in, count_in, entered_in, get_elem?, given_in, granted_in, ledger_of, name_of, on_in, once_below, some, standing_in, times, when}
+use Rattle.cn_floor.specs.Rule.{KeepsRule}
 use Rattle.cn_floor.proofs.InStates.Places.{get-here}
 use Rattle.cn_floor.proofs.InStates.Totals.{total-set}
 

@@ -1,27 +1,14 @@
 -- Each step of a lane is one event on the floor's ledger.
 use Rattle.std.proofs.Common.{◌≡◌, ℕ, ◌+◌, ◌-◌, ◌%◌, ◌<◌, ◌≤◌, ◌&&◌, Bool, true, false, cond, eqb, List, [], length, get_or, set, sym, refl, ap, ◌∙◌, arith, subst}
-use mathlib.Core.Option.{some}
-use lib.ListN.{get_elem?}
+use Rattle.cn_floor.proofs.Common.{Balancer, End, Exit, Grant, IsThere, Ledger, Stands, Start, Table, View, after_enter, after_step, base, count_in, end_of, end_word, get_elem?, given_in, granted_in, ledger_of, name_of, on_in, output_wire, some, standing_in, when, word_count}
 use Rattle.std.proofs.lemmas.Bool.Decides.{nat_tests}
 use Rattle.std.proofs.lemmas.List.Sums.{sum_by_push}
-use Rattle.cn_spec.specs.Step.{name_of}
-use Rattle.cn_spec.specs.Sums.{when}
-use Rattle.cn_wiring.specs.declared.end.End.{End}
-use Rattle.cn_wiring.specs.declared.end.End.TheVariants.{Balancer, Exit}
-use Rattle.cn_wiring.specs.Table.{Table, Stands, end_of, output_wire, is_end}
+use Rattle.cn_wiring.specs.Table.{is_end}
 use Rattle.cn_ledger.specs.Events.{Enters, Goes, Leaves, Passes, one_at}
-use Rattle.cn_ledger.specs.Ledger.{Ledger}
-use Rattle.cn_floor.specs.declared.view.Grant.{Grant}
 use Rattle.cn_floor.specs.declared.view.Passage.{Passage}
-use Rattle.cn_floor.specs.declared.view.Start.{Start}
-use Rattle.cn_floor.specs.declared.view.View.{View}
-use Rattle.cn_floor.specs.Rule.{ledger_of}
-use Rattle.cn_floor.specs.Views.{after_enter, after_step, base, given_in, granted_in, on_in, standing_in}
-use Rattle.cn_floor.specs.Words.{count_in, end_word, word_count}
 use Rattle.cn_floor.proofs.Lists.{ones, weigh-come, weigh-leave, weigh-pass}
 use Rattle.cn_floor.proofs.InStates.Totals.{total-set}
 use Rattle.cn_floor.proofs.InStates.Raised.{count-kept, count-raised, entered-kept, entered-raised, raised}
-use Rattle.cn_yard.specs.Lists.{IsThere}
 
 -- ---- one view
 

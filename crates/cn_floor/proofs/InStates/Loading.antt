@@ -1,22 +1,10 @@
 -- A load keeps the rule, and the last one gives the answer.
 use Rattle.std.proofs.Common.{◌≡◌, ℕ, ◌+◌, ◌-◌, ◌≤◌, ◌<◌, Bool, true, false, eqb, List, [], ◌∷◌, ◌++◌, length, get_or, set, sum, sum_by, sym, refl, ap, ◌∙◌, subst, ⊎_elim, arith}
-use Rattle.std.proofs.lemmas.List.{length_push, set-get_or}
-use Rattle.std.proofs.lemmas.Bool.{cases_lt, eq-eqb, ne_eqb}
+use Rattle.cn_floor.proofs.Common.{Allows, Balancer, End, Exit, HoldsAt, IsAccounted, IsAnswer, IsFresh, Me, Network, Start, StoodInState, Table, View, at_set, base, cases_lt, clients_in, entered_in, eq-eqb, given_in, granted_in, keeps, length_push, load_bound, ne_eqb, on_in, standing_in, times}
+use Rattle.std.proofs.lemmas.List.{set-get_or}
 use Rattle.std.proofs.lemmas.List.Sums.{sum_by_push}
-use Rattle.atomic_table.specs.Table.{Allows, Me, keeps}
-use Rattle.atomic_table.proofs.Lists.{at_set}
-use Rattle.cn_spec.specs.Sums.{times}
-use Rattle.cn_wiring.specs.declared.end.End.{End}
-use Rattle.cn_wiring.specs.declared.end.End.TheVariants.{Balancer, Exit}
-use Rattle.cn_wiring.specs.Network.{Network}
-use Rattle.cn_wiring.specs.Table.{Table}
-use Rattle.cn_floor.specs.declared.view.Start.{Start}
-use Rattle.cn_floor.specs.declared.view.View.{View}
 use Rattle.cn_floor.specs.Plays.{IsLoad, Loads}
-use Rattle.cn_floor.specs.Steps.{IsAnswer, StoodInState}
-use Rattle.cn_floor.specs.Rule.{HoldsAt, IsAccounted, IsFresh, load_bound}
-use Rattle.cn_floor.specs.Views.{after_load, after_load_by, base, given_in, granted_in, on_in, standing_in}
-use Rattle.cn_floor.specs.Words.{clients_in, entered_in}
+use Rattle.cn_floor.specs.Views.{after_load, after_load_by}
 use Rattle.cn_floor.proofs.InStates.Bounds.{few-came}
 use Rattle.cn_floor.proofs.InStates.Fresh.{fresh-load, load-bound-all, load-bound-few, load-bound-more, low-more, sum-few}
 use Rattle.cn_floor.proofs.InStates.Kept.{AddUpAlike, kept_alike}

@@ -1,20 +1,12 @@
 -- In each state no name stands twice in a lane.
 use Rattle.std.proofs.Common.{◌≡◌, ℕ, ◌+◌, ◌<◌, ◌≤◌, ◌&&◌, inl, inr, Bool, true, false, cond, eqb, List, length, get_or, map, sym, refl, ap, ◌∙◌, arith}
-use mathlib.Core.Option.{some}
-use lib.ListN.{get_elem?}
-use Rattle.std.proofs.lemmas.Bool.{cases_eq, cases_lt, eq-eqb, ne_eqb}
+use Rattle.cn_floor.proofs.Common.{Grant, Ledger, Start, View, base, cases_eq, cases_lt, eq-eqb, get_elem?, granted_in, ne_eqb, some, times}
 use Rattle.std.proofs.lemmas.List.{get_or-map, length-map}
 use Rattle.std.proofs.lemmas.List.Sums.{get_or-le-sum_by}
-use Rattle.cn_spec.specs.Sums.{times}
 use Rattle.cn_spec.proofs.CallerLemmas.{sum-by-same, times-map, times-place}
-use Rattle.cn_ledger.specs.Ledger.{Ledger}
 use Rattle.cn_ledger.proofs.CallerLemmas.{granted-once, names-differ}
-use Rattle.cn_floor.specs.declared.view.Grant.{Grant}
-use Rattle.cn_floor.specs.declared.view.Start.{Start}
-use Rattle.cn_floor.specs.declared.view.View.{View}
 use Rattle.cn_floor.specs.Laws.{ledger_at}
 use Rattle.cn_floor.specs.Rule.{FloorState, KeepsRule}
-use Rattle.cn_floor.specs.Views.{base, granted_in}
 use Rattle.cn_floor.proofs.InStates.Totals.{part-le}
 
 no-grant : Grant

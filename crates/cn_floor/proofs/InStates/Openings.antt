@@ -1,24 +1,11 @@
 -- A floor at the start.
 use Rattle.std.proofs.Common.{◌≡◌, ℕ, zero, suc, ◌+◌, ◌*◌, ◌≤◌, ◌&&◌, Bool, true, false, cond, eqb, ltb, List, [], ◌∷◌, length, get_or, sum_by, replicate, sym, refl, ap, ◌∙◌, arith, subst}
-use mathlib.Core.Option.{some, some-injective, some-ne-none}
-use lib.ListN.{get_elem?}
-use Rattle.std.proofs.lemmas.Bool.{le-ltb}
-use Rattle.std.proofs.lemmas.List.{length-replicate}
-use Rattle.std.proofs.lemmas.List.Sums.{sum_by-cons}
+use Rattle.cn_floor.proofs.Common.{Balancer, End, Exit, HoldsAt, IsAccounted, IsFresh, IsSound, IsStart, Start, Table, View, base, clients_in, count_in, end_word, entered_in, get_elem?, given_in, granted_in, le-ltb, ledger_of, length-replicate, name_of, on_in, once_below, some, standing_in, sum-below-zero, sum_by-cons, tokens_in, when, word_count}
+use mathlib.Core.Option.{some-injective, some-ne-none}
 use Rattle.atomic_table.specs.Table.{opening}
-use Rattle.cn_spec.specs.Step.{name_of}
-use Rattle.cn_spec.specs.Sums.{once_below, when}
-use Rattle.cn_wiring.specs.declared.end.End.{End}
-use Rattle.cn_wiring.specs.declared.end.End.TheVariants.{Balancer, Exit}
-use Rattle.cn_wiring.specs.Table.{Table}
-use Rattle.cn_ledger.specs.Ledger.{IsSound}
-use Rattle.cn_yard.specs.Lists.{tokens_in}
-use Rattle.cn_floor.specs.declared.view.Start.{Start}
-use Rattle.cn_floor.specs.declared.view.View.{View}
-use Rattle.cn_floor.specs.Rule.{IsCarried, IsAccounted, IsFresh, HoldsAt, IsStart, ledger_of}
-use Rattle.cn_floor.specs.Views.{base, given_in, granted_in, empty_view, on_in, standing_in, levels_in}
-use Rattle.cn_floor.specs.Words.{clients_in, count_in, end_word, entered_in, word_count}
-use Rattle.cn_spec.proofs.CallerLemmas.{sum-below-zero, times-nil, zero_at}
+use Rattle.cn_floor.specs.Rule.{IsCarried}
+use Rattle.cn_floor.specs.Views.{empty_view, levels_in}
+use Rattle.cn_spec.proofs.CallerLemmas.{times-nil, zero_at}
 use Rattle.cn_ledger.proofs.CallerLemmas.{IsNothing, sound-nothing}
 
 nothing : (b : Bool) → ◌≡◌ {A = ℕ} (when b 0) 0

@@ -1,13 +1,11 @@
 -- What a seat may do on a floor's table, in which the words lie a stride apart, by what it may do to the words.
 use Rattle.std.proofs.Common.{◌≡◌, ℕ, ◌*◌, ◌<◌, ◌≤◌, sym, ap, ◌∙◌, arith}
-use Rattle.atomic_table.specs.Table.{Allows, Joins, Me, Splits}
+use Rattle.cn_floor.proofs.Common.{Allows, HoldsAt, Me, Splits, Start, View, start_of, word_count}
+use Rattle.atomic_table.specs.Table.{Joins}
 use Rattle.cn_floor.specs.declared.floor.counters.Counters.TheInside.{Inside}
-use Rattle.cn_floor.specs.declared.view.Start.{Start}
-use Rattle.cn_floor.specs.declared.view.View.{View}
 use Rattle.cn_floor.specs.InsideCounters.{IsCounters}
-use Rattle.cn_floor.specs.Rule.{FloorState, HoldsAt, start_of}
+use Rattle.cn_floor.specs.Rule.{FloorState}
 use Rattle.cn_floor.specs.Spread.{HoldsSpread}
-use Rattle.cn_floor.specs.Words.{word_count}
 use Rattle.cn_floor.proofs.InStates.Spreads.{allows-at, joins-spread, low-spread, splits-spread}
 
 module _ (c : Inside) (is : IsCounters c) where

@@ -1,25 +1,14 @@
 -- Where one lane has the whole quota, the next number is the count of its own.
 use Rattle.std.proofs.Common.{◌≡◌, ℕ, zero, suc, ◌+◌, ◌*◌, ◌<◌, ◌≤◌, ◌&&◌, inl, inr, Bool, true, false, cond, length, sum_by, sym, refl, ap, ◌∙◌, arith, eqb}
-use Rattle.std.proofs.lemmas.Bool.{cases_lt, lt-ltb, le-ltb, eq-eqb}
+use Rattle.cn_floor.proofs.Common.{Balancer, End, Exit, Grant, HoldsAt, Stands, Start, State, Table, View, cases_lt, count_in, eq-eqb, get_elem?, given_in, le-ltb, lt-ltb, once_below, some, sum-below-one, sum-below-same, sum-below-zero}
 use Rattle.std.proofs.lemmas.List.Sums.{count_by-le-length}
-use mathlib.Core.Option.{some}
-use lib.ListN.{get_elem?}
-use Rattle.atomic_table.specs.Table.{State}
-use Rattle.cn_spec.specs.Sums.{once_below, sum_below}
-use Rattle.cn_wiring.specs.declared.end.End.{End}
-use Rattle.cn_wiring.specs.declared.end.End.TheVariants.{Balancer, Exit}
-use Rattle.cn_wiring.specs.Table.{Stands, Table}
-use Rattle.cn_floor.specs.declared.view.Grant.{Grant}
+use Rattle.cn_spec.specs.Sums.{sum_below}
 use Rattle.cn_floor.specs.declared.view.Passage.{Passage}
-use Rattle.cn_floor.specs.declared.view.Start.{Start}
-use Rattle.cn_floor.specs.declared.view.View.{View}
-use Rattle.cn_floor.specs.Rule.{HoldsAt}
-use Rattle.cn_floor.specs.Views.{given_in, own_count}
-use Rattle.cn_floor.specs.Words.{count_in}
+use Rattle.cn_floor.specs.Views.{own_count}
 use Rattle.cn_floor.proofs.InStates.Bounds.{count-risen}
 use Rattle.cn_floor.proofs.InStates.Walked.{no-levels}
 use Rattle.cn_floor.proofs.InStates.Totals.{mine-only, part-le, total_same}
-use Rattle.cn_spec.proofs.CallerLemmas.{once-in, sum-below-one, sum-below-plus, sum-below-same, sum-below-total, sum-below-zero}
+use Rattle.cn_spec.proofs.CallerLemmas.{once-in, sum-below-plus, sum-below-total}
 use Rattle.cn_wiring.proofs.CallerLemmas.{levels}
 
 -- the numbers below c, of those below n

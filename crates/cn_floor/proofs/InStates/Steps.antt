@@ -1,27 +1,13 @@
 -- The rule is kept where a token goes on.
 use Rattle.std.proofs.Common.{◌≡◌, ℕ, ◌+◌, ◌-◌, ◌%◌, ◌^◌, ◌<◌, ◌≤◌, true, cond, List, [], length, get_or, set, sym, refl, ap, ◌∙◌, arith, subst, ⊎_elim, length-set}
-use mathlib.Core.Option.{some}
-use lib.ListN.{get_elem?}
-use Rattle.std.proofs.lemmas.Bool.{eq-eqb, lt-ltb}
+use Rattle.cn_floor.proofs.Common.{Allows, Balancer, End, Exit, Grant, HoldsAt, IsAccounted, IsFresh, IsLetBy, IsSound, IsThere, Ledger, Me, Stands, Start, State, Table, View, after_step, at_set, base, clients_in, count_in, end_of, end_word, entered_in, eq-eqb, get_elem?, keeps, ledger_of, load_bound, lt-ltb, name_of, once_below, output_wire, some, times}
 use Rattle.std.proofs.lemmas.List.Elements.{All-push}
-use Rattle.atomic_table.specs.Table.{Allows, Me, State, keeps, stepped}
-use Rattle.atomic_table.proofs.Lists.{at_set}
-use Rattle.cn_spec.specs.Step.{name_of}
-use Rattle.cn_spec.specs.Sums.{once_below, times}
-use Rattle.cn_wiring.specs.declared.end.End.{End}
-use Rattle.cn_wiring.specs.declared.end.End.TheVariants.{Balancer, Exit}
-use Rattle.cn_wiring.specs.Table.{Stands, Table, end_of, is_end, output_wire}
-use Rattle.cn_ledger.specs.Ledger.{IsSound, Ledger}
-use Rattle.cn_floor.specs.declared.view.Grant.{Grant}
-use Rattle.cn_floor.specs.declared.view.Start.{Start}
-use Rattle.cn_floor.specs.declared.view.View.{View}
+use Rattle.atomic_table.specs.Table.{stepped}
+use Rattle.cn_wiring.specs.Table.{is_end}
 use Rattle.cn_ledger.specs.Moves.{IsMoveOf}
-use Rattle.cn_floor.specs.Plays.{Going, GoesOn, IsLetBy}
+use Rattle.cn_floor.specs.Plays.{Going, GoesOn}
 use Rattle.cn_floor.specs.Steps.{answer_at}
 use Rattle.cn_floor.specs.Sweeps.{GoesFrom}
-use Rattle.cn_floor.specs.Rule.{IsAccounted, IsFresh, HoldsAt, ledger_of, load_bound}
-use Rattle.cn_floor.specs.Views.{after_step, base}
-use Rattle.cn_floor.specs.Words.{clients_in, count_in, end_word, entered_in}
 use Rattle.cn_floor.proofs.InStates.Bounds.{count-few, few-came, name-later}
 use Rattle.cn_floor.proofs.InStates.Accounts.{accounted-after_step}
 use Rattle.cn_floor.proofs.InStates.Fresh.{fresh-grown}
@@ -31,7 +17,6 @@ use Rattle.cn_floor.proofs.InStates.Sole.{sole}
 use Rattle.cn_floor.proofs.InStates.Totals.{total-set}
 use Rattle.cn_floor.proofs.InStates.Raised.{count-raised, count-word, entered-kept, lanes-raised, one-end, raised}
 use Rattle.cn_ledger.proofs.CallerLemmas.{bounded, sound-leaves, sound-passes}
-use Rattle.cn_yard.specs.Lists.{IsThere}
 
 pub end-self : (end : End) → is_end end end ≡ true
 end-self (Balancer b) = eq-eqb b b refl

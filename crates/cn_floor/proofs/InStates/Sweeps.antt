@@ -1,25 +1,10 @@
 -- The rule is kept by a sweep: by as many events in turn as tokens go.
 use Rattle.std.proofs.Common.{◌≡◌, ℕ, suc, ◌+◌, ◌*◌, ◌%◌, ◌^◌, ◌<◌, ◌≤◌, inl, inr, cond, List, [], ◌∷◌, ◌++◌, length, get_or, set, sym, refl, ap, ◌∙◌, arith, subst, append-nil}
-use mathlib.Core.Option.{some}
-use lib.ListN.{get_elem?}
-use Rattle.std.proofs.lemmas.Bool.{cases_lt, ne_eqb}
-use Rattle.std.proofs.lemmas.List.{get_or_past, set-get_or, set-set, get_or-set_same}
-use Rattle.std.proofs.lemmas.List.FromFn.{length-map-range_with_len}
-use Rattle.atomic_table.specs.Table.{Allows, Me, State, keeps}
-use Rattle.cn_spec.specs.Step.{name_of}
-use Rattle.cn_wiring.specs.declared.end.End.{End}
-use Rattle.cn_wiring.specs.declared.end.End.TheVariants.{Balancer, Exit}
-use Rattle.cn_wiring.specs.Table.{IsWellFormed, LeadsOn, Stands, Table, end_of, output_wire}
+use Rattle.cn_floor.proofs.Common.{Allows, Balancer, End, Exit, HoldsAt, IsThere, IsWellFormed, LeadsOn, Ledger, Me, Stands, Start, State, Table, View, after_step, after_sweep, base, cases_lt, clients_in, count_in, end_of, end_word, get_elem?, get_or_past, keeps, last_on, ledger_of, length-map-range_with_len, name_of, ne_eqb, on, output_wire, some, times_in, without}
+use Rattle.std.proofs.lemmas.List.{set-get_or, set-set, get_or-set_same}
 use Rattle.std.proofs.lemmas.Nat.{mod_below}
-use Rattle.cn_ledger.specs.Ledger.{Ledger}
-use Rattle.cn_yard.specs.Lists.{IsThere, last_on, on, times_in, without}
 use Rattle.cn_yard.proofs.CallerLemmas.{first-there, once-gone, once-moved, rest-on}
-use Rattle.cn_floor.specs.declared.view.Start.{Start}
-use Rattle.cn_floor.specs.declared.view.View.{View}
-use Rattle.cn_floor.specs.Rule.{HoldsAt, ledger_of}
-use Rattle.cn_floor.specs.Sweeps.{AllGoOn, GoInTurn, GoesFrom, Sweeping, after_steps, after_sweep}
-use Rattle.cn_floor.specs.Views.{after_step, base}
-use Rattle.cn_floor.specs.Words.{clients_in, count_in, end_word}
+use Rattle.cn_floor.specs.Sweeps.{AllGoOn, GoInTurn, GoesFrom, Sweeping, after_steps}
 use Rattle.cn_floor.proofs.InStates.Bounds.{count-few, few-came, name-later}
 use Rattle.cn_floor.proofs.InStates.Kept.{counted-alike, kept-recounted, ledger-alike, one-step}
 use Rattle.cn_floor.proofs.Lists.{lists_after, made_at, made-beyond}

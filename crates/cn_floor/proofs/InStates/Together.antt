@@ -1,31 +1,20 @@
 -- Two views are taken together for a moment, and cut in two again.
 use Rattle.std.proofs.Common.{◌≡◌, ℕ, ◌+◌, ◌*◌, ◌<◌, ◌≤◌, ◌&&◌, inl, inr, All, List, [], ◌∷◌, ◌++◌, length, get_or, map, set, sum_by, cond, eqb, sym, refl, ap, ◌∙◌, subst, ⊎_elim, arith}
-use Rattle.std.proofs.lemmas.Bool.{cases_lt}
-use Rattle.std.proofs.lemmas.List.{get_or-append-add, get_or_append_left, get_or_past, length-append}
+use Rattle.cn_floor.proofs.Common.{Balancer, End, Exit, Grant, HoldsAt, IsAccounted, IsAnswer, IsFresh, Network, Splits, Start, StoodInState, View, at_set, base, cases_lt, clients_in, get_or_past, given_in, granted_in, length-map-range_with_len, load_bound, on_in, standing_in, sum-below-same, sum_below, sum_by-append, times}
+use Rattle.std.proofs.lemmas.List.{get_or-append-add, get_or_append_left, length-append}
 use Rattle.std.proofs.lemmas.List.Elements.{All-append}
-use Rattle.std.proofs.lemmas.List.FromFn.{length-map-range_with_len}
-use Rattle.std.proofs.lemmas.List.Sums.{sum_by-append, sum_by_push}
-use Rattle.atomic_table.specs.Table.{Joins, Splits}
-use Rattle.atomic_table.proofs.Lists.{at_set, at_snoc}
-use Rattle.cn_spec.specs.Sums.{sum_below, times}
-use Rattle.cn_wiring.specs.declared.end.End.{End}
-use Rattle.cn_wiring.specs.declared.end.End.TheVariants.{Balancer, Exit}
-use Rattle.cn_wiring.specs.Network.{Network}
-use Rattle.cn_floor.specs.declared.view.Grant.{Grant}
+use Rattle.std.proofs.lemmas.List.Sums.{sum_by_push}
+use Rattle.atomic_table.specs.Table.{Joins}
+use Rattle.atomic_table.proofs.Lists.{at_snoc}
 use Rattle.cn_floor.specs.declared.view.Passage.{Passage}
-use Rattle.cn_floor.specs.declared.view.Start.{Start}
-use Rattle.cn_floor.specs.declared.view.View.{View}
-use Rattle.cn_floor.specs.Rule.{HoldsAt, IsAccounted, IsFresh, load_bound}
-use Rattle.cn_floor.specs.Steps.{IsAnswer, StoodInState}
 use Rattle.cn_floor.specs.Together.{HaveDistinctNames, both_of}
-use Rattle.cn_floor.specs.Views.{base, given_in, granted_in, nobody, on_in, standing_in}
-use Rattle.cn_floor.specs.Words.{clients_in}
+use Rattle.cn_floor.specs.Views.{nobody}
 use Rattle.cn_floor.proofs.Lists.{made_at, made-beyond, ones}
 use Rattle.cn_floor.proofs.InStates.Kept.{AddUpAlike, kept_alike}
 use Rattle.cn_floor.proofs.InStates.Names.{names-once}
 use Rattle.cn_floor.proofs.InStates.Sharing.{IsSum, granted-both, joins-sum}
 use Rattle.cn_floor.proofs.InStates.Totals.{total-set}
-use Rattle.cn_spec.proofs.CallerLemmas.{sum-below-plus, sum-below-same, times-append, times-map}
+use Rattle.cn_spec.proofs.CallerLemmas.{sum-below-plus, times-append, times-map}
 
 module _ (v w : View) (idle : v.loads ≡ []) (long : length w.tokens ≡ length v.tokens) where
   abbrev both : View

@@ -1,8 +1,7 @@
 -- Sums over all views, where one of them changes.
 use Rattle.std.proofs.Common.{◌≡◌, ℕ, zero, suc, ◌+◌, ◌≤◌, List, [], ◌∷◌, set, sum_by, sym, refl, ap, arith}
-use mathlib.Core.Option.{some, some-injective, some-ne-none}
-use lib.ListN.{get_elem?}
-use Rattle.std.proofs.lemmas.List.Sums.{sum_by-cons}
+use Rattle.cn_floor.proofs.Common.{get_elem?, some, sum_by-cons}
+use mathlib.Core.Option.{some-injective, some-ne-none}
 
 module _ {X : Type 0} where
   -- the total where one view changes

@@ -1,14 +1,10 @@
 -- How many steps the tokens of a lane have taken.
 use Rattle.std.proofs.Common.{◌≡◌, ℕ, ◌+◌, ◌*◌, length, refl, ap, ◌∙◌, arith}
-use Rattle.cn_spec.proofs.CallerLemmas.{sum-below-part, sum-below-same, sum-below-zero}
+use Rattle.cn_floor.proofs.Common.{IsAccounted, Start, View, on_in, sum-below-part, sum-below-same, sum-below-zero, tokens_in}
 use Rattle.cn_wiring.specs.Network.{IsNetwork}
 use Rattle.cn_wiring.proofs.CallerLemmas.{levels}
-use Rattle.cn_yard.specs.Lists.{tokens_in}
-use Rattle.cn_floor.specs.declared.view.Start.{Start}
-use Rattle.cn_floor.specs.declared.view.View.{View}
 use Rattle.cn_floor.specs.Laws.{TakesItsSteps}
-use Rattle.cn_floor.specs.Rule.{IsAccounted}
-use Rattle.cn_floor.specs.Views.{levels_in, on_in}
+use Rattle.cn_floor.specs.Views.{levels_in}
 
 -- where nobody is inside, there are no levels to add up
 pub no-levels : (level : ℕ → ℕ) (v : View) → tokens_in v.tokens ≡ 0 → levels_in level v ≡ 0

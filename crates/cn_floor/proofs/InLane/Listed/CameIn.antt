@@ -2,17 +2,11 @@
 use Rattle.std.proofs.Common.{◌≡◌, ℕ, zero, suc, ◌+◌, ◌*◌, ◌<◌, ◌≤◌, ◌==◌, inl, inr, eqb, List, [], ◌∷◌, ◌++◌, count_by, sum_by, take, length, replicate, refl, sym, ap, ◌∙◌, subst, arith, cond, append-nil}
 use Rattle.std.specs.Prelude.{slice_index, false, Bool}
 use Rattle.std.proofs.Math.Seq.{take-length}
-use Rattle.std.proofs.lemmas.Bool.{cases_eq, cases_lt, eq-eqb, ne_eqb}
-use Rattle.std.proofs.lemmas.List.{append_assoc, get_or_past, take_more, replicate-append-replicate}
-use Rattle.std.proofs.lemmas.List.Sums.{sum_by-append, sum_by-cons}
-use Rattle.std.proofs.lemmas.List.FromFn.{length-map-range_with_len}
-use Rattle.cn_spec.specs.Sums.{times, when}
-use Rattle.cn_spec.proofs.CallerLemmas.{sum-below-one, sum-below-same}
-use Rattle.cn_yard.specs.Lists.{last_on, on, times_in}
-use Rattle.cn_floor.specs.declared.view.View.{View}
+use Rattle.cn_floor.proofs.Common.{View, after_enter, append_assoc, cases_eq, cases_lt, eq-eqb, get_or_past, last_on, length-map-range_with_len, ne_eqb, on, sum-below-one, sum-below-same, sum_by-append, sum_by-cons, times_in, when}
+use Rattle.std.proofs.lemmas.List.{take_more, replicate-append-replicate}
+use Rattle.cn_spec.specs.Sums.{times}
 use Rattle.cn_floor.specs.EntersAll.{after_enter_all, after_enters}
 use Rattle.cn_floor.specs.Listed.{CameIn, HaveLeft, placed}
-use Rattle.cn_floor.specs.Views.{after_enter}
 use Rattle.cn_floor.proofs.Lists.{made_at, made-beyond}
 use Rattle.cn_floor.proofs.AtClose.Rises.{all-empty}
 use Rattle.cn_floor.proofs.InLane.Yards.{nobody-there}

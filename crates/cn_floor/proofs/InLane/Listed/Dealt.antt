@@ -1,16 +1,9 @@
 -- A sweep deals the tokens of a wire, by a balancer, to its two outputs.
 use Rattle.std.proofs.Common.{◌≡◌, ◌≢◌, ℕ, zero, suc, ◌+◌, ◌-◌, ◌*◌, ◌%◌, ◌<◌, ◌≤◌, List, [], ◌∷◌, ◌++◌, length, refl, sym, ap, ◌∙◌, subst, arith, append-nil}
-use Rattle.std.proofs.lemmas.Bool.{eq-eqb, ne_eqb}
-use Rattle.std.proofs.lemmas.List.{append_assoc}
-use Rattle.cn_wiring.specs.declared.end.End.TheVariants.{Balancer}
-use Rattle.cn_wiring.specs.Table.{IsWellFormed, LeadsOn, Stands, Table, end_of, output_wire}
+use Rattle.cn_floor.proofs.Common.{Balancer, IsWellFormed, LeadsOn, Stands, Start, Table, View, after_step, after_sweep, append_assoc, end_of, eq-eqb, last_on, ne_eqb, on, output_wire, times_in}
 use Rattle.cn_yard.specs.Deals.{every_second}
-use Rattle.cn_yard.specs.Lists.{last_on, on, times_in}
 use Rattle.cn_yard.proofs.CallerLemmas.{others-on}
-use Rattle.cn_floor.specs.declared.view.Start.{Start}
-use Rattle.cn_floor.specs.declared.view.View.{View}
-use Rattle.cn_floor.specs.Sweeps.{after_steps, after_sweep}
-use Rattle.cn_floor.specs.Views.{after_step}
+use Rattle.cn_floor.specs.Sweeps.{after_steps}
 use Rattle.cn_floor.proofs.InStates.Sweeps.{MayGo, lists-after-on, rest-may}
 
 module _ (start : Start) (wire b : ℕ) (formed : IsWellFormed start.network.table) (low : wire < length start.network.table.ends)

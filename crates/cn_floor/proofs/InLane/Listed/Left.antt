@@ -1,21 +1,10 @@
 -- A group has left: at once by an exit, or by the two outputs of a balancer.
 use Rattle.std.proofs.Common.{◌≡◌, ◌≢◌, ℕ, suc, ◌+◌, ◌-◌, ◌*◌, ◌%◌, ◌<◌, ◌≤◌, ◌==◌, ◌⊎◌, inl, inr, List, [], ◌∷◌, ◌++◌, length, refl, sym, ap, ◌∙◌, subst, arith, cond, append-nil, length-append}
-use Rattle.std.proofs.lemmas.Bool.{cases_eq, cases_lt}
-use Rattle.std.proofs.lemmas.List.{append_assoc}
-use Rattle.std.proofs.lemmas.List.Sums.{sum_by-append, sum_by-cons}
-use Rattle.cn_spec.specs.Step.{name_of}
-use Rattle.cn_wiring.specs.declared.end.End.TheVariants.{Balancer, Exit}
-use Rattle.cn_wiring.specs.Table.{IsWellFormed, LeadsOn, Stands, Table, end_of, output_wire}
+use Rattle.cn_floor.proofs.Common.{Balancer, Exit, Grant, IsWellFormed, LeadsOn, Stands, Start, StoodInState, Table, View, after_step, after_sweep, append_assoc, cases_eq, cases_lt, end_of, name_of, on, output_wire, sum_by-append, sum_by-cons, times_in, without}
 use Rattle.cn_yard.specs.Deals.{every_second}
-use Rattle.cn_yard.specs.Lists.{on, times_in, without}
 use Rattle.cn_yard.proofs.CallerLemmas.{others-on}
-use Rattle.cn_floor.specs.declared.view.Grant.{Grant}
-use Rattle.cn_floor.specs.declared.view.Start.{Start}
-use Rattle.cn_floor.specs.declared.view.View.{View}
 use Rattle.cn_floor.specs.Listed.{AreTheirs, HaveLeft}
-use Rattle.cn_floor.specs.Steps.{StoodInState}
-use Rattle.cn_floor.specs.Sweeps.{after_steps, after_sweep, grants_out}
-use Rattle.cn_floor.specs.Views.{after_step}
+use Rattle.cn_floor.specs.Sweeps.{after_steps, grants_out}
 use Rattle.cn_floor.proofs.InStates.Sweeps.{MayGo, lists-after-on, rest-may}
 use Rattle.cn_floor.proofs.InLane.Swept.{grants-kept, grants-left, kin-by}
 use Rattle.cn_floor.proofs.InLane.Listed.Groups.{length-dealt, sum-dealt}

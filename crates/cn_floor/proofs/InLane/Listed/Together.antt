@@ -1,18 +1,9 @@
 -- One step of a group, whose tokens all pass the end of a wire together.
 use Rattle.std.proofs.Common.{◌≡◌, ℕ, zero, suc, ◌+◌, ◌-◌, ◌*◌, ◌%◌, ◌<◌, ◌≤◌, inl, inr, List, [], ◌∷◌, ◌++◌, length, refl, sym, ap, ◌∙◌, subst, arith}
-use Rattle.std.proofs.lemmas.Bool.{cases_eq}
-use Rattle.cn_wiring.specs.declared.end.End.{End}
-use Rattle.cn_wiring.specs.declared.end.End.TheVariants.{Balancer, Exit}
-use Rattle.cn_wiring.specs.Table.{IsWellFormed, LeadsOn, Stands, end_of, output_wire}
+use Rattle.cn_floor.proofs.Common.{AreLetBy, Balancer, End, Exit, IsStart, IsWellFormed, LeadsOn, Stands, Start, StoodInState, View, after_sweep, base, cases_eq, end_of, on, output_wire, times_in}
 use Rattle.cn_yard.specs.Deals.{every_second}
-use Rattle.cn_yard.specs.Lists.{on, times_in}
-use Rattle.cn_floor.specs.declared.view.Start.{Start}
-use Rattle.cn_floor.specs.declared.view.View.{View}
 use Rattle.cn_floor.specs.Listed.{HaveLeft}
-use Rattle.cn_floor.specs.Rule.{IsStart}
-use Rattle.cn_floor.specs.Steps.{StoodInState}
-use Rattle.cn_floor.specs.Sweeps.{AreLetBy, after_sweep, grants_out}
-use Rattle.cn_floor.specs.Views.{base}
+use Rattle.cn_floor.specs.Sweeps.{grants_out}
 use Rattle.cn_floor.proofs.InStates.Sweeps.{MayGo}
 use Rattle.cn_floor.proofs.InLane.Named.{state-after}
 use Rattle.cn_floor.proofs.InLane.Swept.{IsKin, grants-kept, grants-left, kin-by}

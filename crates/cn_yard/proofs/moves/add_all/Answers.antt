@@ -1,5 +1,5 @@
 use Rattle.std.proofs.Common.{◌≡◌, ◌∙◌, length, arith, rules, vec_len}
-use Rattle.std.proofs.lemmas.Bool.Decides.{nat_tests}
+use Rattle.cn_yard.proofs.Common.{nat_tests}
 use Rattle.cn_yard.specs.Chains.{put_last}
 use Rattle.cn_yard.proofs.AllLines.{more-add, same-put}
 use Rattle.cn_yard.proofs.moves.add_all.Goals as goal

@@ -1,5 +1,5 @@
 use Rattle.std.proofs.Common.{◌≡◌, ◌+◌, ◌-◌, length, vec_capacity}
-use Rattle.cn_yard.specs.Lines.{count_of}
+use Rattle.cn_yard.proofs.Common.{count_of}
 use Rattle.cn_yard.specs.Moving.{Fills, IsMore}
 use Rattle.cn_yard.proofs.moves.add_all.Given as goal
 

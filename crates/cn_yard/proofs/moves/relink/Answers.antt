@@ -1,8 +1,5 @@
 use Rattle.std.proofs.Common.{ℕ, List, refl, arith, true, ltb}
-use Rattle.std.proofs.lemmas.Bool.Decides.{nat_tests}
-use Rattle.cn_yard.specs.Chains.{but}
-use Rattle.cn_yard.specs.Lines.{count_of}
-use Rattle.cn_yard.specs.Records.{wire_of}
+use Rattle.cn_yard.proofs.Common.{but, count_of, nat_tests, wire_of}
 use Rattle.cn_yard.specs.Moving.{HasMarks, IsLined}
 use Rattle.cn_yard.proofs.AllLines.{ButOne, but-one, but-none, count-le, marks-one}
 use Rattle.cn_yard.proofs.moves.relink.Goals.{After-unlink}

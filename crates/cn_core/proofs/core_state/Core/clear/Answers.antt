@@ -1,8 +1,6 @@
 use Rattle.std.proofs.Common.{rules, ◌≡◌, ◌∙◌, refl, subst, sym, ap}
 use Rattle.std.specs.Prelude.{replicate}
-use Rattle.cn_core.specs.InsideClients.{positions}
-use Rattle.cn_core.specs.State.{State, start}
-use Rattle.cn_core.specs.StateLedger.{IsCore}
+use Rattle.cn_core.proofs.Common.{IsCore, State, positions, start}
 use Rattle.cn_core.proofs.LedgerLemmas.{IsCore-start}
 use Rattle.cn_core.proofs.core_state.Core.clear.Goals as goal
 

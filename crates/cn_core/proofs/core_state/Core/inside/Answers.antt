@@ -1,6 +1,5 @@
 use Rattle.std.proofs.Common.{◌≡◌, ◌∙◌, rules}
-use Rattle.cn_core.specs.History.{carried_by}
-use Rattle.cn_core.specs.State.{inside_in}
+use Rattle.cn_core.proofs.Common.{carried_by, inside_in}
 use Rattle.cn_core.proofs.HistoryLemmas.{inside-by_history}
 use Rattle.cn_core.proofs.core_state.Core.inside.Goals as goal
 

@@ -2,9 +2,8 @@ use Rattle.std.proofs.Common.{rules, ◌≡◌, ◌+◌, ◌*◌, [], List, ℕ,
 use Rattle.std.specs.Prelude.{replicate, length}
 use Rattle.std.proofs.lemmas.List.{length-replicate}
 use Rattle.cn_core.specs.History.{Agrees}
-use Rattle.cn_core.specs.InsideClients.{Clients, positions}
-use Rattle.cn_core.specs.State.{State, start}
-use Rattle.cn_core.specs.StateLedger.{IsCore}
+use Rattle.cn_core.proofs.Common.{IsCore, State, positions, start}
+use Rattle.cn_core.specs.InsideClients.{Clients}
 use Rattle.cn_core.proofs.HistoryLemmas.{Agrees-start}
 use Rattle.cn_core.proofs.LedgerLemmas.{IsCore-start}
 use Rattle.cn_core.proofs.core_state.Core.new.Goals as goal

@@ -1,6 +1,6 @@
 use Rattle.std.proofs.Common.{◌≡◌, ◌≤◌, ◌++◌, List, drop, length, vec_len}
 use Rattle.std.specs.Vec.{vec_capacity}
-use Rattle.cn_core.specs.State.{State}
+use Rattle.cn_core.proofs.Common.{State}
 use Rattle.cn_core.specs.Calls.{RunsByHistory, RunsTo}
 use Rattle.cn_record.specs.declared.reply.Reply.{Reply}
 use Rattle.cn_core.proofs.core_state.Core.run.Given as goal

@@ -1,12 +1,8 @@
 use Rattle.std.proofs.Common.{rules, refl, sym, ◌≡◌, ◌+◌, ◌-◌, ◌*◌, ◌∙◌, Some}
 use Rattle.std.specs.Prelude.{slice_index}
-use Rattle.cn_wiring.specs.declared.end.End.TheVariants.{Balancer, Exit}
+use Rattle.cn_core.proofs.Common.{Balancer, Exit, On, State, Walking, position_in, position_past, positions, state_after_step, with_position}
 use Rattle.cn_names.specs.Names.{standing_of_client}
-use Rattle.cn_names.specs.declared.standing.Standing.TheVariants.{Walking}
-use Rattle.cn_core.specs.InsideClients.{positions, with_position}
 use Rattle.cn_core.specs.InsideCore.{state_of}
-use Rattle.cn_core.specs.State.{State, position_in, position_past, state_after_step}
-use Rattle.cn_core.specs.declared.position.Position.TheVariants.{On}
 use Rattle.cn_ledger.specs.declared.moved.Moved.TheVariants.{On as Passed, Out}
 use Rattle.cn_core.proofs.HistoryLemmas.{history-step}
 use Rattle.cn_core.proofs.TightLemmas.{room-past}

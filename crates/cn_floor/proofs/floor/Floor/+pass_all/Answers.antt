@@ -1,17 +1,9 @@
 use Rattle.std.proofs.Common.{rules, ◌≡◌, ℕ, ◌+◌, ◌-◌, ◌*◌, ◌%◌, ◌≤◌, List, ◌++◌, length, refl, arith, sym, ap, ◌∙◌, subst, length-append}
 use Rattle.cn_spec.specs.Step as step
-use Rattle.cn_wiring.specs.declared.end.End.{End}
-use Rattle.cn_wiring.specs.declared.end.End.TheVariants.{Balancer, Exit}
-use Rattle.cn_wiring.specs.Network.{Network}
-use Rattle.cn_wiring.specs.Table.{Stands, output_wire}
+use Rattle.cn_floor.proofs.Common.{AreLetBy, Balancer, End, Exit, FloorValue, Network, Stands, Start, View, base, on, output_wire}
 use Rattle.cn_yard.specs.Deals.{every_second}
-use Rattle.cn_yard.specs.Lists.{on}
-use Rattle.cn_floor.specs.declared.view.Start.{Start}
-use Rattle.cn_floor.specs.declared.view.View.{View}
-use Rattle.cn_floor.specs.Lane.{FloorValue}
 use Rattle.cn_floor.specs.Listed.{HaveLeft, Stand, placed}
-use Rattle.cn_floor.specs.Sweeps.{AreLetBy, grants_out}
-use Rattle.cn_floor.specs.Views.{base}
+use Rattle.cn_floor.specs.Sweeps.{grants_out}
 use Rattle.cn_floor.proofs.InLane.Listed.Groups.{placed-many}
 use Rattle.cn_floor.proofs.InLane.Listed.Left.{nobody-left}
 use Rattle.cn_floor.proofs.InLane.Listed.Together.{GoTogether, above-first, above-second, dealt-so, first-stand, goes-on-by-itself, grants-by, grants-so, inside, kin-so, left-by, left-so, together}

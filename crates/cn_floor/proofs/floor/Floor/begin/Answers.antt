@@ -1,12 +1,8 @@
 use Rattle.std.proofs.Common.{◌≡◌, ℕ, ◌*◌, ◌≤◌, length, [], replicate, sym, ap, ◌∙◌, subst, arith}
-use Rattle.std.proofs.lemmas.List.{length-replicate}
+use Rattle.cn_floor.proofs.Common.{IsClosed, IsStart, View, WordsValue, base, length-replicate, tokens_in, word_count}
 use Rattle.cn_spec.specs.declared.limits.TheConstants.{MOST_CARRIED, MOST_CLIENTS}
-use Rattle.cn_yard.specs.Lists.{tokens_in}
-use Rattle.cn_floor.specs.declared.view.View.{View}
-use Rattle.cn_floor.specs.Carried.{IsClosed, WordsValue, client_count, start_after, words_before}
-use Rattle.cn_floor.specs.Rule.{IsStart}
-use Rattle.cn_floor.specs.Views.{base, empty_view}
-use Rattle.cn_floor.specs.Words.{word_count}
+use Rattle.cn_floor.specs.Carried.{client_count, start_after, words_before}
+use Rattle.cn_floor.specs.Views.{empty_view}
 use Rattle.cn_floor.proofs.InLane.Yards.{nobody-in}
 use Rattle.cn_floor.proofs.floor.Floor.begin.Goals as goal
 

@@ -1,5 +1,5 @@
 use Rattle.std.proofs.Common.{length, arith, sym, subst}
-use Rattle.cn_floor.specs.declared.view.View.{View}
+use Rattle.cn_floor.proofs.Common.{View}
 use Rattle.cn_floor.specs.Listed.{CameIn}
 use Rattle.cn_floor.proofs.InLane.Listed.CameIn.{all-came-in}
 use Rattle.cn_floor.proofs.floor.Floor.come_in.Goals as goal

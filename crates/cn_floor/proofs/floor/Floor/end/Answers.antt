@@ -1,17 +1,8 @@
 use Rattle.std.proofs.Common.{◌≡◌, ℕ, ◌+◌, ◌-◌, inl, inr, List, [], length, replicate, rules, sym, ap, ◌∙◌, subst, arith}
-use Rattle.std.proofs.lemmas.Bool.{cases_lt}
-use Rattle.std.specs.Mem.Slots.{slots_items}
-use Rattle.cn_wiring.specs.Network.{Network}
-use Rattle.cn_yard.specs.Lists.{tokens_in}
-use Rattle.cn_floor.specs.declared.view.Start.{Start}
-use Rattle.cn_floor.specs.declared.view.View.{View}
-use Rattle.cn_floor.specs.Carried.{IsClosed, WordsValue, words_before}
+use Rattle.cn_floor.proofs.Common.{FloorValue, IsClosed, LaneValue, Network, Start, View, WordsValue, base, cases_lt, clients_in, slots_items, tokens_in, words_in}
+use Rattle.cn_floor.specs.Carried.{words_before}
 use Rattle.cn_floor.specs.Closing.{IsMissing}
 use Rattle.cn_floor.specs.Ends.{IsClosedFloor}
-use Rattle.cn_floor.specs.Lane.{FloorValue, LaneValue}
-use Rattle.cn_floor.specs.Spread.{words_in}
-use Rattle.cn_floor.specs.Views.{base}
-use Rattle.cn_floor.specs.Words.{clients_in}
 use Rattle.cn_floor.proofs.AtClose.Closings.{inside-yard}
 use Rattle.cn_floor.proofs.AtClose.Rises.{all-empty}
 use Rattle.cn_floor.proofs.floor.Floor.end.Goals as goal

@@ -1,14 +1,8 @@
 use Rattle.std.proofs.Common.{◌≡◌, length, refl, arith, ap, ◌∙◌, sym, subst}
-use Rattle.cn_wiring.specs.Network.{Network}
+use Rattle.cn_floor.proofs.Common.{FloorValue, IsAtomicStep, LaneValue, Network, Start, View, Yard, after_enter, lane_of, tokens_in}
 use Rattle.cn_ledger.specs.Events.{Enters}
-use Rattle.cn_yard.specs.Lists.{Yard, tokens_in}
 use Rattle.cn_floor.specs.declared.floor.lane.Lane.TheInside.{Inside}
-use Rattle.cn_floor.specs.declared.view.Start.{Start}
-use Rattle.cn_floor.specs.declared.view.View.{View}
-use Rattle.cn_floor.specs.InsideLane.{IsLane, lane_of}
-use Rattle.cn_floor.specs.Lane.{FloorValue, LaneValue}
-use Rattle.cn_floor.specs.Steps.{IsAtomicStep}
-use Rattle.cn_floor.specs.Views.{after_enter}
+use Rattle.cn_floor.specs.InsideLane.{IsLane}
 use Rattle.cn_floor.proofs.InLane.Lanes.{lane-in, lane-with-way}
 use Rattle.cn_floor.proofs.floor.Floor.enter.Goals as goal
 

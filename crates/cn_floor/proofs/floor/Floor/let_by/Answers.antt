@@ -1,8 +1,5 @@
 use Rattle.std.proofs.Common.{◌<◌, length, ap, sym, ◌∙◌, subst, arith}
-use Rattle.cn_wiring.specs.Network.{Network}
-use Rattle.cn_wiring.specs.Table.{Stands, end_of}
-use Rattle.cn_floor.specs.Lane.{FloorValue}
-use Rattle.cn_floor.specs.Sweeps.{AreLetBy}
+use Rattle.cn_floor.proofs.Common.{AreLetBy, FloorValue, Network, Stands, end_of}
 use Rattle.cn_floor.proofs.floor.Floor.let_by.Goals as goal
 
 pub end-end-requires : goal.end-end-requires

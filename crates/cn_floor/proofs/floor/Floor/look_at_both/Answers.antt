@@ -1,9 +1,5 @@
 use Rattle.std.proofs.Common.{◌≡◌, length, refl, ap, sym, ◌∙◌, subst}
-use Rattle.cn_floor.specs.declared.view.Start.{Start}
-use Rattle.cn_floor.specs.declared.view.View.{View}
-use Rattle.cn_floor.specs.InsideLane.{lane_of}
-use Rattle.cn_floor.specs.Lane.{FloorValue, LaneValue}
-use Rattle.cn_floor.specs.Steps.{IsAnswer}
+use Rattle.cn_floor.proofs.Common.{FloorValue, IsAnswer, LaneValue, Start, View, lane_of}
 use Rattle.cn_floor.specs.Together.{HaveDistinctNames, StoodAsOne, first_after, second_after}
 use Rattle.cn_floor.proofs.floor.Floor.look_at_both.Goals as goal
 

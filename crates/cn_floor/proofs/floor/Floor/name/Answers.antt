@@ -1,19 +1,10 @@
 use Rattle.std.proofs.Common.{◌≡◌, ℕ, ◌-◌, ◌<◌, ◌++◌, ◌∷◌, [], List, length, replicate, get_or, sym, ap, ◌∙◌, subst, arith}
 use Rattle.std.proofs.Math.Seq.{get_or-append_seam}
-use Rattle.std.proofs.lemmas.List.{length_push, nil_from_length}
+use Rattle.cn_floor.proofs.Common.{FloorValue, Grant, IsStart, LaneValue, Lists, Network, Start, StoodInState, View, base, lane_of, length_push, on, tokens_in}
+use Rattle.std.proofs.lemmas.List.{nil_from_length}
 use Rattle.cn_spec.specs.Step as step
-use Rattle.cn_wiring.specs.Network.{Network}
-use Rattle.cn_yard.specs.Lists.{Lists, on, tokens_in}
 use Rattle.cn_yard.proofs.CallerLemmas.{nobody-on}
-use Rattle.cn_floor.specs.declared.view.Grant.{Grant}
-use Rattle.cn_floor.specs.declared.view.Start.{Start}
-use Rattle.cn_floor.specs.declared.view.View.{View}
-use Rattle.cn_floor.specs.InsideLane.{lane_of}
-use Rattle.cn_floor.specs.Lane.{FloorValue, LaneValue}
 use Rattle.cn_floor.specs.Named.{WalksThrough}
-use Rattle.cn_floor.specs.Rule.{IsStart}
-use Rattle.cn_floor.specs.Steps.{StoodInState}
-use Rattle.cn_floor.specs.Views.{base}
 use Rattle.cn_floor.proofs.AtClose.Rises.{all-empty}
 use Rattle.cn_floor.proofs.InLane.Named.{grew, names-low, state-after}
 use Rattle.cn_floor.proofs.InLane.Lanes.{lane-with-way}

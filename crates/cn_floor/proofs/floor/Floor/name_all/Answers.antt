@@ -1,14 +1,8 @@
 use Rattle.std.proofs.Common.{◌≡◌, ℕ, ◌+◌, ◌==◌, List, [], ◌++◌, count_by, length, replicate, arith, sym, ap, ◌∙◌, subst, length-append}
 use Rattle.std.proofs.lemmas.List.{nil_from_length}
-use Rattle.cn_wiring.specs.Network.{Network}
-use Rattle.cn_yard.specs.Lists.{Lists, on, tokens_in}
+use Rattle.cn_floor.proofs.Common.{FloorValue, LaneValue, Lists, Network, Start, StoodInState, View, lane_of, on, tokens_in}
 use Rattle.cn_yard.proofs.CallerLemmas.{nobody-on}
-use Rattle.cn_floor.specs.declared.view.Start.{Start}
-use Rattle.cn_floor.specs.declared.view.View.{View}
-use Rattle.cn_floor.specs.InsideLane.{lane_of}
-use Rattle.cn_floor.specs.Lane.{FloorValue, LaneValue}
 use Rattle.cn_floor.specs.Listed.{WalkTogether}
-use Rattle.cn_floor.specs.Steps.{StoodInState}
 use Rattle.cn_floor.proofs.AtClose.Rises.{all-empty}
 use Rattle.cn_floor.proofs.InLane.Listed.Groups.{placed-many}
 use Rattle.cn_floor.proofs.InLane.Listed.CameIn.{all-clients, came-once, nobody-stands}

@@ -1,6 +1,6 @@
 use Rattle.std.proofs.Common.{arith}
 use Rattle.cn_spec.proofs.CallerLemmas.{at_most_once}
-use Rattle.cn_floor.specs.Words.{count_in}
+use Rattle.cn_floor.proofs.Common.{count_in}
 use Rattle.cn_floor.proofs.floor.Floor.numbers_differ.Goals as goal
 
 pub returns : goal.returns

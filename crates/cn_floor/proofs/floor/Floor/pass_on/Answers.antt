@@ -1,13 +1,6 @@
 use Rattle.std.proofs.Common.{◌≡◌, ℕ, ◌+◌, ◌*◌, ◌%◌, ◌<◌, List, [], ◌∷◌, ◌++◌, length, refl, sym, ap, ◌∙◌, subst, arith}
-use Rattle.cn_wiring.specs.declared.end.End.TheVariants.{Balancer}
-use Rattle.cn_wiring.specs.Network.{Network}
-use Rattle.cn_wiring.specs.Table.{IsWellFormed, end_of, output_wire}
-use Rattle.cn_floor.specs.declared.view.Start.{Start}
-use Rattle.cn_floor.specs.declared.view.View.{View}
-use Rattle.cn_floor.specs.Lane.{FloorValue}
-use Rattle.cn_floor.specs.Alone.{IsAlone, OnlyPassed, PassesOn}
-use Rattle.cn_floor.specs.Plays.{IsLetBy}
-use Rattle.cn_floor.specs.Views.{after_step}
+use Rattle.cn_floor.proofs.Common.{Balancer, FloorValue, IsAlone, IsLetBy, IsWellFormed, Network, Start, View, after_step, end_of, output_wire}
+use Rattle.cn_floor.specs.Alone.{OnlyPassed, PassesOn}
 use Rattle.cn_floor.proofs.InLane.Alone.{alone-on, onward, passed-more, passed-on, passes-more, there-alone}
 use Rattle.cn_floor.proofs.floor.Floor.pass_on.Given as given
 use Rattle.cn_floor.proofs.floor.Floor.pass_on.Goals as goal

@@ -1,5 +1,6 @@
 use Rattle.std.proofs.Common.{◌≡◌, ℕ, ◌-◌, ◌≤◌, List, [], length}
-use Rattle.cn_floor.specs.Alone.{IsAlone, OnlyPassed, PassesOn}
+use Rattle.cn_floor.proofs.Common.{IsAlone}
+use Rattle.cn_floor.specs.Alone.{OnlyPassed, PassesOn}
 use Rattle.cn_floor.proofs.floor.Floor.pass_on.Given as goal
 
 abbrev pub ghosts-step : goal.ghosts-step

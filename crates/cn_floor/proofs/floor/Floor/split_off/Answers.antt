@@ -1,11 +1,6 @@
 use Rattle.std.proofs.Common.{◌≡◌, ℕ, ◌-◌, [], length, replicate, sym, ap, ◌∙◌, arith}
-use Rattle.std.proofs.lemmas.List.{length-replicate}
-use Rattle.cn_wiring.specs.Network.{Network}
+use Rattle.cn_floor.proofs.Common.{FloorValue, LaneValue, Network, Start, View, lane_of, length-replicate}
 use Rattle.cn_yard.specs.Lists.{empty}
-use Rattle.cn_floor.specs.declared.view.Start.{Start}
-use Rattle.cn_floor.specs.declared.view.View.{View}
-use Rattle.cn_floor.specs.InsideLane.{lane_of}
-use Rattle.cn_floor.specs.Lane.{FloorValue, LaneValue}
 use Rattle.cn_floor.proofs.floor.Floor.split_off.Goals as goal
 
 pub invariant_of-lane : goal.invariant_of-lane

@@ -1,21 +1,11 @@
 use Rattle.std.proofs.Common.{◌≡◌, ℕ, ◌+◌, ◌*◌, ◌-◌, ◌%◌, List, Some, length, refl, arith, sym, ap, ◌∙◌, subst}
 use Rattle.std.specs.Option.{IsSome}
-use Rattle.cn_spec.specs.Step.{name_of}
-use Rattle.cn_wiring.specs.declared.end.End.{End}
-use Rattle.cn_wiring.specs.Network.{Network}
-use Rattle.cn_wiring.specs.declared.end.End.TheVariants.{Balancer, Exit}
-use Rattle.cn_wiring.specs.Table.{Stands, end_of, output_wire}
+use Rattle.cn_floor.proofs.Common.{Balancer, End, Exit, FloorValue, IsLetBy, IsThere, LaneValue, Network, Stands, Start, View, after_step, base, end_of, lane_of, name_of, output_wire}
 use Rattle.cn_ledger.specs.declared.moved.Moved.TheVariants.{On, Out}
-use Rattle.cn_floor.specs.declared.view.View.{View}
-use Rattle.cn_floor.specs.Plays.{IsLetBy}
-use Rattle.cn_floor.specs.declared.view.Start.{Start}
-use Rattle.cn_floor.specs.Lane.{FloorValue, LaneValue}
-use Rattle.cn_floor.specs.InsideLane.{lane_of}
-use Rattle.cn_floor.specs.Views.{after_step, base}
 use Rattle.cn_floor.proofs.InLane.Lanes.{lane-on, lane-out, steps-on}
 use Rattle.cn_yard.proofs.CallerLemmas.{there-alike}
 use Rattle.cn_floor.proofs.floor.Floor.step.Goals as goal
-use Rattle.cn_yard.specs.Lists.{IsThere, Moves, standing}
+use Rattle.cn_yard.specs.Lists.{Moves, standing}
 
 pub step-number-requires-clause-there : goal.step-number-requires-clause-there
 step-number-requires-clause-there c =

@@ -1,19 +1,7 @@
 use Rattle.std.proofs.Common.{◌≡◌, ℕ, ◌+◌, ◌*◌, ◌%◌, ◌<◌, ◌≤◌, length, refl, arith, sym, ap, ◌∙◌, subst}
-use Rattle.cn_spec.proofs.CallerLemmas.{sum-below-part}
-use Rattle.cn_spec.specs.Step.{name_of}
-use Rattle.cn_wiring.specs.declared.end.End.{End}
-use Rattle.cn_wiring.specs.declared.end.End.TheVariants.{Balancer, Exit}
-use Rattle.cn_wiring.specs.Network.{Network}
-use Rattle.cn_wiring.specs.Table.{LeadsOn, Stands, end_of, output_wire}
+use Rattle.cn_floor.proofs.Common.{AreLetBy, Balancer, End, Exit, FloorValue, LaneValue, LeadsOn, Lists, Network, Stands, Start, View, after_sweep, base, end_of, lane_of, name_of, on, output_wire, sum-below-part, times_in}
 use Rattle.cn_yard.specs.Deals.{IsDealt, out_of}
-use Rattle.cn_yard.specs.Lists.{Lists, on, times_in}
-use Rattle.cn_floor.specs.declared.view.Start.{Start}
 use Rattle.cn_floor.specs.declared.view.Sweep.TheVariants.{On, Out}
-use Rattle.cn_floor.specs.declared.view.View.{View}
-use Rattle.cn_floor.specs.InsideLane.{lane_of}
-use Rattle.cn_floor.specs.Lane.{FloorValue, LaneValue}
-use Rattle.cn_floor.specs.Sweeps.{AreLetBy, after_sweep}
-use Rattle.cn_floor.specs.Views.{base}
 use Rattle.cn_floor.proofs.InLane.Swept.{cleared, kin-by, lane-dealt, lane-left, outs-are, some-inside, sweeps-on}
 use Rattle.cn_floor.proofs.floor.Floor.sweep.Goals as goal
 

@@ -1,12 +1,7 @@
 use Rattle.std.proofs.Common.{◌≡◌, ◌+◌, ◌-◌, ◌++◌, List, [], length, get_or, length-append, sym, ap, ◌∙◌, subst, arith}
-use Rattle.cn_yard.specs.Lists.{Lists, tokens_in}
+use Rattle.cn_floor.proofs.Common.{FloorValue, Grant, LaneValue, Lists, StoodInState, View, lane_of, on_in, tokens_in}
 use Rattle.cn_yard.proofs.CallerLemmas.{nobody-on}
-use Rattle.cn_floor.specs.declared.view.Grant.{Grant}
-use Rattle.cn_floor.specs.declared.view.View.{View}
-use Rattle.cn_floor.specs.InsideLane.{lane_of}
-use Rattle.cn_floor.specs.Lane.{FloorValue, LaneValue}
-use Rattle.cn_floor.specs.Steps.{StoodInState}
-use Rattle.cn_floor.specs.Views.{after_join, after_look, on_in}
+use Rattle.cn_floor.specs.Views.{after_join, after_look}
 use Rattle.cn_floor.proofs.InLane.Lanes.{lane-with-way}
 use Rattle.cn_floor.proofs.floor.Floor.take_in.Goals as goal
 

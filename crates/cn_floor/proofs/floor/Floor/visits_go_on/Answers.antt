@@ -1,6 +1,5 @@
 use Rattle.std.proofs.Common.{ℕ, ap, arith}
-use Rattle.cn_spec.specs.Sums.{once_below}
-use Rattle.cn_wiring.specs.declared.end.End.TheVariants.{Exit}
+use Rattle.cn_floor.proofs.Common.{Exit, once_below}
 use Rattle.cn_floor.proofs.AtClose.Ends.{tight-before}
 use Rattle.cn_floor.proofs.floor.Floor.visits_go_on.Goals as goal
 

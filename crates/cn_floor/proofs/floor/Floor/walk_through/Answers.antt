@@ -1,17 +1,6 @@
 use Rattle.std.proofs.Common.{◌≡◌, ℕ, ◌<◌, ◌++◌, [], length, replicate, rules, sym, ap, ◌∙◌, subst, arith}
-use Rattle.std.proofs.lemmas.List.FromFn.{length-map-range_with_len}
-use Rattle.cn_yard.specs.Lists.{last_on, on}
-use Rattle.cn_wiring.specs.declared.end.End.{End}
-use Rattle.cn_wiring.specs.declared.end.End.TheVariants.{Exit}
-use Rattle.cn_wiring.specs.Network.{Network}
-use Rattle.cn_wiring.specs.Table.{Stands, end_of}
+use Rattle.cn_floor.proofs.Common.{End, Exit, FloorValue, IsAlone, IsAtomicStep, IsLetBy, Network, Stands, Start, View, end_of, last_on, length-map-range_with_len, on}
 use Rattle.cn_ledger.specs.Events.{Enters}
-use Rattle.cn_floor.specs.declared.view.Start.{Start}
-use Rattle.cn_floor.specs.declared.view.View.{View}
-use Rattle.cn_floor.specs.Plays.{IsLetBy}
-use Rattle.cn_floor.specs.Steps.{IsAtomicStep}
-use Rattle.cn_floor.specs.Lane.{FloorValue}
-use Rattle.cn_floor.specs.Alone.{IsAlone}
 use Rattle.cn_floor.proofs.InLane.Alone.{there-alone}
 use Rattle.cn_floor.proofs.InLane.Named.{alone-entered, gone-alone}
 use Rattle.cn_floor.proofs.floor.Floor.walk_through.Goals as goal

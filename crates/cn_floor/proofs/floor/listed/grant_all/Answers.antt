@@ -1,8 +1,6 @@
 use Rattle.std.proofs.Common.{◌≡◌, ℕ, suc, ◌+◌, ◌-◌, ◌*◌, List, [], ◌∷◌, ◌++◌, length, refl, arith, sym, ap, ◌∙◌, append-nil, length-append}
 use Rattle.std.specs.Prelude.{slice_index}
-use Rattle.std.proofs.lemmas.List.{append_assoc}
-use Rattle.cn_spec.specs.Step.{name_of}
-use Rattle.cn_floor.specs.declared.view.Grant.{Grant}
+use Rattle.cn_floor.proofs.Common.{Grant, append_assoc, name_of}
 use Rattle.cn_floor.specs.Listed.{placed}
 use Rattle.cn_floor.specs.Sweeps.{grants_out}
 use Rattle.cn_floor.proofs.InLane.Listed.Groups.{placed-many, placed-more}

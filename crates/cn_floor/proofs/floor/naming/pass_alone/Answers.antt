@@ -1,12 +1,6 @@
 use Rattle.std.proofs.Common.{◌≡◌, ℕ, ◌<◌, length, sym, ap, ◌∙◌, refl, subst, arith}
-use Rattle.cn_floor.specs.declared.view.Start.{Start}
-use Rattle.cn_wiring.specs.declared.end.End.TheVariants.{Exit}
-use Rattle.cn_wiring.specs.Table.{end_of}
-use Rattle.cn_yard.specs.Lists.{Lists, Yard, on}
-use Rattle.cn_floor.specs.declared.view.View.{View}
-use Rattle.cn_floor.specs.InsideLane.{lane_of}
-use Rattle.cn_floor.specs.Lane.{FloorValue, LaneValue}
-use Rattle.cn_floor.specs.Alone.{IsAlone, PassesOn}
+use Rattle.cn_floor.proofs.Common.{Exit, FloorValue, IsAlone, LaneValue, Lists, Start, View, Yard, end_of, lane_of, on}
+use Rattle.cn_floor.specs.Alone.{PassesOn}
 use Rattle.cn_floor.proofs.InLane.Alone.{alone-alike, alone-in, alone-moved, there-alone}
 use Rattle.cn_floor.proofs.InLane.Swept.{some-inside}
 use Rattle.cn_floor.proofs.InLane.Yards.{first-stands}

@@ -1,8 +1,6 @@
 use Rattle.std.proofs.Common.{ℕ, ◌+◌, sym, arith}
 use Rattle.cn_spec.proofs.CallerLemmas.{sum-below-fewer, sum-below-next, sum-below-none}
-use Rattle.std.specs.Mem.Slots.{slots_items}
-use Rattle.cn_floor.specs.Spread.{words_in}
-use Rattle.cn_floor.specs.Words.{entered_in}
+use Rattle.cn_floor.proofs.Common.{entered_in, slots_items, words_in}
 use Rattle.cn_floor.proofs.InStates.Raised.{entered-word}
 use Rattle.cn_floor.proofs.floor.reading.clients_of.Goals as goal
 

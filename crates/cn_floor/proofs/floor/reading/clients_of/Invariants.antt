@@ -1,8 +1,5 @@
 use Rattle.std.proofs.Common.{◌≡◌}
-use Rattle.cn_spec.specs.Sums.{sum_below}
-use Rattle.std.specs.Mem.Slots.{slots_items}
-use Rattle.cn_floor.specs.Spread.{words_in}
-use Rattle.cn_floor.specs.Words.{entered_in}
+use Rattle.cn_floor.proofs.Common.{entered_in, slots_items, sum_below, words_in}
 use Rattle.cn_floor.proofs.floor.reading.clients_of.Given as goal
 
 abbrev pub invariant-loop-entry : goal.invariant-loop-entry

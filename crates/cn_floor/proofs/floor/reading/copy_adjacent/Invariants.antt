@@ -1,5 +1,5 @@
 use Rattle.std.proofs.Common.{◌≡◌, length, take}
-use Rattle.std.specs.Mem.Slots.{slots_items}
+use Rattle.cn_floor.proofs.Common.{slots_items}
 use Rattle.cn_floor.proofs.floor.reading.copy_adjacent.Given as goal
 
 -- the places so far have the words of the table

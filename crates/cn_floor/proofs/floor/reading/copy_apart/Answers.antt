@@ -1,6 +1,5 @@
 use Rattle.std.proofs.Common.{arith, rules, sym}
-use Rattle.std.specs.Mem.Slots.{slots_items}
-use Rattle.cn_floor.specs.Spread.{words_in}
+use Rattle.cn_floor.proofs.Common.{slots_items, words_in}
 use Rattle.cn_floor.proofs.Lists.{copied-all, copied-next}
 use Rattle.cn_floor.proofs.floor.reading.copy_apart.Goals as goal
 

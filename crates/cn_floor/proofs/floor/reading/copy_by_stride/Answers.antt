@@ -1,6 +1,6 @@
 use Rattle.std.proofs.Common.{◌≡◌, ℕ, List, ap, length, sym, ◌∙◌}
-use Rattle.std.specs.Mem.Slots.{slots_items}
-use Rattle.cn_floor.specs.Spread.{IsSpaced, spread, words_in}
+use Rattle.cn_floor.proofs.Common.{slots_items, spread, words_in}
+use Rattle.cn_floor.specs.Spread.{IsSpaced}
 use Rattle.cn_floor.proofs.InStates.Laid.{spread-one}
 use Rattle.cn_floor.proofs.floor.reading.copy_by_stride.Goals as goal
 

@@ -1,6 +1,5 @@
 use Rattle.std.proofs.Common.{◌≡◌, ℕ, ◌-◌, ◌++◌, ◌∷◌, [], sym, ◌∙◌, arith, rules}
-use Rattle.cn_spec.specs.Step.{name_of}
-use Rattle.cn_yard.specs.Lists.{on}
+use Rattle.cn_floor.proofs.Common.{name_of, on}
 use Rattle.cn_yard.proofs.CallerLemmas.{IsFirst, first-is, none-first}
 use Rattle.cn_floor.proofs.InLane.Outs.{client-is, has-many, leaves-on, leaving, left-all, one-less, some-left, stands}
 use Rattle.cn_floor.proofs.floor.sweeping.leave_all.Goals as goal

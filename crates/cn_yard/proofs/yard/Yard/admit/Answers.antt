@@ -1,10 +1,5 @@
 use Rattle.std.proofs.Common.{◌≡◌, ◌∙◌, ◌<◌, ℕ, List, length, refl, ap, arith, max}
-use Rattle.cn_yard.specs.Chains.{moved}
-use Rattle.cn_yard.specs.InsideYard.{Keeps, lists_of}
-use Rattle.cn_yard.specs.Lines.{count_of}
-use Rattle.cn_yard.specs.Lists.{Yard}
-use Rattle.cn_yard.specs.Records.{wire_of}
-use Rattle.cn_yard.specs.declared.yard.Yard.TheInside.{Inside}
+use Rattle.cn_yard.proofs.Common.{Inside, Keeps, Yard, count_of, lists_of, moved, wire_of}
 use Rattle.cn_yard.proofs.Bodies.{Relinked, Renamed, admits-renamed, after, free-read, keeps-relinked, keeps-renamed, relinked-by, renamed-by, with_records}
 use Rattle.cn_yard.proofs.Bare.{closed, wires-are}
 use Rattle.cn_yard.proofs.Readers.{kept-count}

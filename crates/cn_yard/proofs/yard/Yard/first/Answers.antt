@@ -1,10 +1,7 @@
 use Rattle.std.proofs.Common.{◌≡◌, ◌∙◌, ◌<◌, ℕ, List, [], length, refl, sym, ap, arith, rules, vec_len, false, eqb}
-use Rattle.std.proofs.lemmas.Bool.Decides.{nat_tests}
+use Rattle.cn_yard.proofs.Common.{Keeps, Line, count_of, lists_of, nat_tests, on}
 use Rattle.std.proofs.lemmas.List.{nil_from_length}
-use Rattle.cn_yard.specs.declared.lines.Line.{Line}
-use Rattle.cn_yard.specs.InsideYard.{Keeps, lists_of}
-use Rattle.cn_yard.specs.Lines.{count_of}
-use Rattle.cn_yard.specs.Lists.{first_of, on}
+use Rattle.cn_yard.specs.Lists.{first_of}
 use Rattle.cn_yard.proofs.Bare.{wires-are}
 use Rattle.cn_yard.proofs.Readers.{count-all, count-read, first-read, kept-count}
 use Rattle.cn_yard.proofs.yard.Yard.first.Goals.{After-count_on}

@@ -1,5 +1,5 @@
 use Rattle.std.proofs.Common.{◌≡◌, ◌<◌, length, arith, rules, vec_len}
-use Rattle.std.proofs.lemmas.Bool.Decides.{nat_tests}
+use Rattle.cn_yard.proofs.Common.{nat_tests}
 use Rattle.cn_yard.proofs.Bare.{kept-live}
 use Rattle.cn_yard.proofs.Wires.{live}
 use Rattle.cn_yard.proofs.Readers.{kept-record, live-read}

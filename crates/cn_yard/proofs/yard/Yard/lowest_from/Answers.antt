@@ -1,8 +1,6 @@
 use Rattle.std.proofs.Common.{◌≡◌, ℕ, ◌/◌, ◌<◌, Bool, false, nat_eq, vec_len, List, [], length, ap, ◌∙◌, arith, rules, sym, subst}
-use Rattle.std.proofs.lemmas.Bool.Decides.{nat_tests}
-use Rattle.cn_yard.specs.declared.yard.Yard.TheInside.{Inside}
-use Rattle.cn_yard.specs.InsideYard.{IsYard, Keeps, lists_of, yard_of}
-use Rattle.cn_yard.specs.Lists.{Yard, on}
+use Rattle.cn_yard.proofs.Common.{Inside, Keeps, Yard, lists_of, nat_tests, on, yard_of}
+use Rattle.cn_yard.specs.InsideYard.{IsYard}
 use Rattle.cn_yard.proofs.Readers.{lowest-read, nobody-all, nobody-read, none-read}
 use Rattle.cn_yard.proofs.Bare.{kept-some, wires-are}
 use Rattle.cn_yard.proofs.yard.Yard.lowest_from.Goals as goal

@@ -1,7 +1,5 @@
 use Rattle.std.proofs.Common.{◌≡◌, ℕ, [], Vec, Global}
-use Rattle.cn_yard.specs.declared.yard.Yard.TheInside.{Inside}
-use Rattle.cn_yard.specs.declared.records.Record.{Record}
-use Rattle.cn_yard.specs.declared.lines.Line.{Line}
+use Rattle.cn_yard.proofs.Common.{Inside, Line, Record}
 use Rattle.cn_yard.specs.InsideYard.{IsBare}
 use Rattle.cn_yard.proofs.Bare.{bare-empty, bare-tokens, closed-bare}
 use Rattle.cn_yard.proofs.yard.Yard.new.Goals as goal

@@ -1,11 +1,7 @@
 use Rattle.std.proofs.Common.{◌≡◌, ◌∙◌, ◌+◌, ◌≤◌, ℕ, List, Vec, Global, refl, ap, arith}
 use Rattle.std.proofs.lemmas.Result.{on_err_weaker}
 use Rattle.cn_spec.specs.declared.limits.TheConstants.{MOST_TOKENS}
-use Rattle.cn_yard.specs.declared.yard.Yard.TheInside.{Inside}
-use Rattle.cn_yard.specs.declared.lines.Line.{Line}
-use Rattle.cn_yard.specs.InsideYard.{Keeps, lists_of, yard_of}
-use Rattle.cn_yard.specs.Lines.{count_of}
-use Rattle.cn_yard.specs.Lists.{Yard, tokens_in}
+use Rattle.cn_yard.proofs.Common.{Inside, Keeps, Line, Yard, count_of, lists_of, tokens_in, yard_of}
 use Rattle.cn_yard.proofs.Bare.{closed}
 use Rattle.cn_yard.proofs.Bodies.{Filled, after-fill, filled, filled-by, filled-lists, room-for, unfilled}
 use Rattle.cn_yard.proofs.Changes.{tokens-same}

@@ -1,6 +1,5 @@
 use Rattle.std.proofs.Common.{◌∙◌, ap, List}
-use Rattle.cn_yard.specs.declared.lines.Line.{Line}
-use Rattle.cn_yard.specs.Lines.{count_of}
+use Rattle.cn_yard.proofs.Common.{Line, count_of}
 use Rattle.cn_yard.proofs.yard.Yard.spare.Goals as goal
 
 pub returns : goal.returns

@@ -3,7 +3,7 @@ use Rattle.cn_yard.proofs.Bare.{bare-times, kept-live, opened}
 use Rattle.cn_yard.proofs.Readers.{few-all, tokens-all}
 use Rattle.cn_yard.proofs.There.{there}
 use Rattle.cn_yard.proofs.Wires.{live, times-most}
-use Rattle.cn_yard.specs.InsideYard.{lists_of}
+use Rattle.cn_yard.proofs.Common.{lists_of}
 use Rattle.cn_yard.proofs.yard.Yard.yard_laws.Goals as goal
 
 pub returns-clause-once : goal.returns-clause-once

@@ -1,9 +1,6 @@
 use Rattle.std.proofs.Common.{ap, rules, subst}
-use Rattle.std.specs.Mem.Slots.{slots_items}
+use Rattle.cn_floor.proofs.Common.{FloorValue, Start, slots_items, words_in}
 use Rattle.cn_floor.specs.Closing.{IsEnding}
-use Rattle.cn_floor.specs.Lane.{FloorValue}
-use Rattle.cn_floor.specs.Spread.{words_in}
-use Rattle.cn_floor.specs.declared.view.Start.{Start}
 use Rattle.cn_floor.proofs.AtClose.Spread.{ending-spread, picked-all}
 use Rattle.cn_floor.proofs.floor.counters.Counters.close.Goals as goal
 

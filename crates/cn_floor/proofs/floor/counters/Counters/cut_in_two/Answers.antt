@@ -1,11 +1,6 @@
 use Rattle.std.proofs.Common.{◌≡◌, ◌+◌, ◌-◌, rules, sym, ap, subst, arith}
-use Rattle.atomic_table.specs.Table.{Splits}
-use Rattle.cn_floor.specs.declared.view.Start.{Start}
-use Rattle.cn_floor.specs.declared.view.View.{View}
-use Rattle.cn_floor.specs.Lane.{FloorValue}
-use Rattle.cn_floor.specs.Rule.{HoldsAt, IsAccounted, start_of}
+use Rattle.cn_floor.proofs.Common.{FloorValue, HoldsAt, IsAccounted, Splits, Start, View, base, start_of}
 use Rattle.cn_floor.specs.Together.{Pair, both_of, cut_first, cut_second}
-use Rattle.cn_floor.specs.Views.{base}
 use Rattle.cn_floor.proofs.InStates.Placed.{first as lanes-place, splits-at, there}
 use Rattle.cn_floor.proofs.InStates.Sharing.{IsSum}
 use Rattle.cn_floor.proofs.InStates.Together.{accounted-answered, accounted-seen, cuts-in-two, sum-answered, sum-both}

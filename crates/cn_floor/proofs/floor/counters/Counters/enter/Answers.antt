@@ -1,8 +1,6 @@
 use Rattle.std.proofs.Common.{◌≡◌, ◌^◌, ◌%◌, ◌+◌, [], ◌<◌, rules, sym, ap, ◌∙◌, subst, arith}
-use Rattle.cn_floor.specs.declared.view.Start.{Start}
-use Rattle.cn_floor.specs.Lane.{FloorValue}
+use Rattle.cn_floor.proofs.Common.{FloorValue, Start, start_of}
 use Rattle.cn_floor.specs.Plays.{Coming, ComesIn}
-use Rattle.cn_floor.specs.Rule.{start_of}
 use Rattle.cn_floor.proofs.InStates.Placed.{at-word, there}
 use Rattle.cn_floor.proofs.InStates.Enters.{lets-in-by}
 use Rattle.cn_floor.proofs.floor.counters.Counters.enter.Goals as goal

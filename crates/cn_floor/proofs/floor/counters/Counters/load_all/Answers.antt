@@ -1,8 +1,5 @@
 use Rattle.std.proofs.Common.{◌≡◌, ℕ, ◌+◌, ◌-◌, ◌<◌, refl, sym, ap, ◌∙◌, subst, arith}
-use Rattle.cn_floor.specs.declared.view.View.{View}
-use Rattle.cn_floor.specs.Lane.{FloorValue}
-use Rattle.cn_floor.specs.Rule.{IsStart}
-use Rattle.cn_floor.specs.Steps.{IsAnswer}
+use Rattle.cn_floor.proofs.Common.{FloorValue, IsAnswer, IsStart, View}
 use Rattle.cn_floor.proofs.InStates.Loading.{Loaded, loaded-next, loaded-none}
 use Rattle.cn_floor.proofs.floor.counters.Counters.load_all.Goals as goal
 

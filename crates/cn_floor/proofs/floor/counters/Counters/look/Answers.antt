@@ -1,7 +1,6 @@
 use Rattle.std.proofs.Common.{◌≡◌, ℕ, [], ◌*◌, rules, sym, refl, ap, ◌∙◌, arith}
-use Rattle.cn_floor.specs.Lane.{FloorValue}
+use Rattle.cn_floor.proofs.Common.{FloorValue, start_of}
 use Rattle.cn_floor.specs.Plays.{Looks}
-use Rattle.cn_floor.specs.Rule.{start_of}
 use Rattle.cn_floor.proofs.InStates.Placed.{at-word, there}
 use Rattle.cn_floor.proofs.InStates.Sharing.{looks}
 use Rattle.cn_floor.proofs.floor.counters.Counters.look.Goals as goal

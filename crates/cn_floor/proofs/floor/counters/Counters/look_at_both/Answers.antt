@@ -1,8 +1,5 @@
 use Rattle.std.proofs.Common.{◌≡◌, ℕ, ◌+◌, ◌-◌, ◌++◌, [], length, rules, sym, ap, ◌∙◌, subst, arith}
-use Rattle.cn_floor.specs.declared.view.Start.{Start}
-use Rattle.cn_floor.specs.declared.view.View.{View}
-use Rattle.cn_floor.specs.Rule.{start_of}
-use Rattle.cn_floor.specs.Steps.{IsAnswer, StoodInState}
+use Rattle.cn_floor.proofs.Common.{IsAnswer, Start, StoodInState, View, start_of}
 use Rattle.cn_floor.specs.Together.{Pair, both_of, cut_first, first_after}
 use Rattle.cn_floor.specs.Views.{after_entered, after_look}
 use Rattle.cn_floor.proofs.InStates.Placed.{first as lanes-place, joins-at, there}

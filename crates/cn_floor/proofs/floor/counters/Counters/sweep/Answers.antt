@@ -1,10 +1,6 @@
 use Rattle.std.proofs.Common.{◌≡◌, ◌^◌, ◌%◌, ◌+◌, [], ◌<◌, length, rules, sym, ap, ◌∙◌, subst, arith}
-use Rattle.cn_wiring.specs.Table.{Stands, end_of}
-use Rattle.cn_floor.specs.declared.view.Start.{Start}
-use Rattle.cn_floor.specs.Lane.{FloorValue}
+use Rattle.cn_floor.proofs.Common.{FloorValue, Stands, Start, end_of, end_word, start_of}
 use Rattle.cn_floor.specs.Sweeps.{AllGoOn}
-use Rattle.cn_floor.specs.Rule.{start_of}
-use Rattle.cn_floor.specs.Words.{end_word}
 use Rattle.cn_floor.proofs.InStates.Placed.{at-word, there}
 use Rattle.cn_floor.proofs.InStates.Raised.{end-there}
 use Rattle.cn_floor.proofs.InStates.Sweeps.{all_go-on}

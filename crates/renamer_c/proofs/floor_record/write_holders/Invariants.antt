@@ -1,9 +1,0 @@
-use Rattle.std.proofs.Common.{◌≡◌, ℕ, ◌<◌, length, get_or}
-use Rattle.cn_floor.specs.declared.view.Grant.{Grant}
-use Rattle.renamer_c.proofs.floor_record.write_holders.Given as goal
-
--- the clients of the grants so far stand at their names
-abbrev pub invariant-loop-grant : goal.invariant-loop-grant
-invariant-loop-grant l =
-    (length l.holders.items ≡ length l.quiet.did.grants)
-    × ((j : ℕ) (d : Grant) → j < l.grant-index → get_or l.holders.items (get_or l.quiet.did.grants j d).name 0 ≡ (get_or l.quiet.did.grants j d).client)
