@@ -2,9 +2,10 @@
 use Rattle.std.proofs.Common.{◌≡◌, ◌<◌, ◌^◌, ◌↔◌, ℕ, List, Result, Ok, Err, MatchResult, codes, arith, lit<, subst}
 use Rattle.std.specs.Prelude.{IsErr, IsErrOf}
 use Rattle.clap.specs.Words.{Row}
+use Rattle.cn_spec.specs.Workers.{HandFits, WorkersFit}
 use Rattle.cn_spec.specs.declared.limits.TheConstants.{MOST_HAND, MOST_WORKERS}
 use Rattle.cn_cli.specs.Choices.{GivesNumber, NamesNoRun}
-use Rattle.cn_cli.specs.Options.{HandFits, Settings, WorkersFit}
+use Rattle.cn_cli.specs.Options.{Settings}
 use Rattle.cn_cli.specs.declared.options.OptionFault.{OptionFault}
 use Rattle.cn_cli.specs.declared.options.OptionFault.TheVariants.{Hand, Workers}
 use Rattle.cn_cli.proofs.WordNumbers.{one_number}

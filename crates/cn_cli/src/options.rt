@@ -2,7 +2,8 @@
 
 ghost use Rattle.std.specs.Prelude.{◌≡◌, ◌↔◌, IfOk, IsErrOf, false, true};
 ghost use Rattle.cn_cli.specs.Choices.{form_word};
-ghost use Rattle.cn_cli.specs.Options.{HandFits, SettingsFit, Settings, WorkersFit};
+ghost use Rattle.cn_spec.specs.Workers.{HandFits, WorkersFit};
+ghost use Rattle.cn_cli.specs.Options.{SettingsFit, Settings};
 
 use cn_nets::Net;
 use cn_spec::limits::{MOST_HAND, MOST_WORKERS};

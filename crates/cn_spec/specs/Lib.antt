@@ -1,3 +1,4 @@
 pub mod Step
 pub mod Networks
 pub mod Sums
+pub mod Workers

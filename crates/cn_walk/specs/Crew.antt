@@ -1,7 +1,7 @@
 -- Workers who run epochs.
 use Rattle.std.specs.Prelude.{ℕ, ◌+◌, ◌-◌, ◌*◌, ◌/◌, ◌<◌, ◌≤◌, max, min}
 use Rattle.cn_spec.specs.declared.limits.TheConstants.{MOST_WORKERS}
-use Rattle.cn_walk.specs.Runs.{HandFits}
+use Rattle.cn_spec.specs.Workers.{HandFits}
 use Rattle.cn_walk.specs.declared.crew.Crew.{Crew}
 
 -- some worker is there, none has a number that no worker may have, and each may have so many clients in hand

@@ -3,9 +3,10 @@ use Rattle.std.specs.Prelude.{◌≡◌, ℕ, ◌+◌, ◌-◌, ◌<◌, ◌≤�
 use Rattle.std.specs.List.{range_with_len}
 use Rattle.cn_spec.specs.Step.{IsEachBelow, name_of, shares, shares_after}
 use Rattle.cn_spec.specs.Sums.{times}
-use Rattle.cn_spec.specs.declared.limits.TheConstants.{MOST_CLIENTS, MOST_HAND, MOST_WORKERS}
+use Rattle.cn_spec.specs.Workers.{HandFits, WorkersFit}
+use Rattle.cn_spec.specs.declared.limits.TheConstants.{MOST_CLIENTS}
 use Rattle.cn_wiring.specs.declared.end.End.TheVariants.{Balancer}
-use Rattle.cn_wiring.specs.Faults.{IsFirst, IsWithin}
+use Rattle.cn_wiring.specs.Faults.{IsFirst}
 use Rattle.cn_wiring.specs.Network.{Network}
 use Rattle.cn_wiring.specs.Table.{IsFullFlow, sum_at}
 use Rattle.cn_ledger.specs.declared.client.Client.{Client}
@@ -20,15 +21,7 @@ use Rattle.cn_floor.specs.Words.{clients_in, count_in, entered_in}
 abbrev pub ComesByOne : ℕ → List Client → ℕ → Type 0
 ComesByOne entries clients k = (d : Client) → (slice_index_or clients k d).entry < entries
 
--- the number of workers is within its limits
-abbrev pub WorkersFit : ℕ → Type 0
-WorkersFit workers = IsWithin 1 MOST_WORKERS workers
-
--- so is the number of clients in hand
-abbrev pub HandFits : ℕ → Type 0
-HandFits hand = IsWithin 1 MOST_HAND hand
-
--- and the number of clients
+-- the number of clients is within its limit
 abbrev pub AreFew : List Client → Type 0
 AreFew clients = length clients ≤ MOST_CLIENTS
 
