@@ -29,7 +29,7 @@ MOST = {
                          for name, times in (("Join", 3), ("Play", 7), ("Split", 3), ("TableRule", 2))},
     FLOOR + "counters.rt": {"atomic_table::Table": 2, ".shared": 6, ".fetch_add": 4, ".join_seat": 1, ".split_seat": 1,
                             CLOSED: ANY, SNAPSHOT: ANY, SNAPSHOT + "::of": 2},
-    FLOOR + "counters/looking.rt": {".shared": 4, ".load": 2, ".join_seat": 1, ".split_seat": 1},
+    FLOOR + "counters/loading.rt": {".shared": 4, ".load": 2, ".join_seat": 1, ".split_seat": 1},
     FLOOR + "counters/spreading.rt": {"atomic_table::Table": 2, "atomic_table::Table::of_words": 2, ".shared": 4},
     FLOOR + "sharing.rt": {".split_seat": 1},
     # Its network, which several may own.

@@ -11,7 +11,7 @@ use Rattle.cn_walk.specs.Walks.{WalksAll}
 use Rattle.renamer_c.specs.Questions.{AreGrantsFrom}
 use Rattle.renamer_c.specs.declared.client.Client.{Client}
 use Rattle.renamer_c.specs.declared.granting.Grant.{Grant}
-use Rattle.renamer_c.specs.declared.held_lane.naming_many.TheConstants.{TOGETHER}
+use Rattle.renamer_c.specs.declared.held_lane.by_entry.TheConstants.{TOGETHER}
 
 -- a client of a list of C's
 abbrev pub client_from : Client → ledger.Client

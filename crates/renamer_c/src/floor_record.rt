@@ -1,7 +1,6 @@
 //! What a closed floor leaves.
 
 ghost use Rattle.std.specs.Prelude.{◌≡◌, length};
-ghost use Rattle.cn_floor.specs.Ends.{ListsHolders};
 ghost use Rattle.renamer_c.specs.Records.{IsRecordOfClosed, list_of};
 
 use cn_floor::{Quiet, Words};
@@ -34,17 +33,6 @@ pub(crate) enum RecordList {
     Holders,
 }
 
-/// Writes the clients of a closed floor at their names.
-fn write_holders(quiet: &Quiet<'_>, holders: &mut Vec<u64>)
-    requires { length holders.old.items ≡ length quiet.now.did.grants }
-    ensures { ListsHolders quiet.now.did.grants holders.new.items }
-{
-    quiet.quiet_laws();
-    for grant in quiet.grants() {
-        holders[grant.name as usize] = grant.client;
-    }
-}
-
 impl FloorRecord {
     /// That of a closed floor, in lists that are long enough.
     pub(crate) fn of(
@@ -57,7 +45,7 @@ impl FloorRecord {
         ensures { IsRecordOfClosed quiet.entry result }
     {
         counts.copy_from_slice(quiet.counts());
-        write_holders(&quiet, &mut holders);
+        quiet.list_holders(&mut holders);
         FloorRecord {
             words: quiet.into_words(),
             counts,

@@ -1,9 +1,9 @@
 //! A lane with its share of its floor.
 
-mod closing;
-mod naming_many;
+mod by_entry;
+mod last_lane;
 mod returning;
-mod stepping;
+mod single_steps;
 
 ghost use Rattle.std.specs.Arc.{arc_value};
 ghost use Rattle.std.specs.Prelude.{◌≡◌, ◌≤◌, Some, IfErr, IfOk, IfSome, OnErr, OnOk};

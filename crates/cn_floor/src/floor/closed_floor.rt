@@ -81,16 +81,6 @@ impl<'a> ClosedFloor<'a> {
         copy_words(&self.table, self.stride, list);
     }
 
-    /// A list with a place for each word.
-    ///
-    /// # Errors
-    /// `AllocError` if the list gets no memory.
-    fn room_for_words(&self) -> Result<Vec<u64>, AllocError>
-        ensures { IfOk result (λ room. length room.items ≡ word_count self.now.start.network.table) }
-    {
-        zeros(self.alloc, self.network.get())
-    }
-
     /// The same closed floor, with its words in a list, and with how much each has risen since it began: what is left
     /// of it has these words.
     ///
@@ -100,7 +90,7 @@ impl<'a> ClosedFloor<'a> {
         requires { leftovers.words ≡ words_before self.start }
         ensures { IfOk result (λ quiet. quiet ≡ self.entry) }
     {
-        let room = self.room_for_words()?;
+        let room = zeros(self.alloc, self.network.get())?;
         Ok(self.quiet_in(leftovers.into_words(), room))
     }
 
@@ -149,19 +139,6 @@ impl Drop for ClosedFloor<'_> {
         } = self;
         table.free();
     }
-}
-
-/// The clients by rising name, in a list. The names are those below the number of grants, each once.
-///
-/// # Errors
-/// `AllocError` if the list gets no memory.
-pub(super) fn holders_of(alloc: Global, grants: &[Grant]) -> Result<Vec<u64>, AllocError>
-    requires { IsEachBelow (length grants.now) (map (λ g. g.name) grants.now) }
-    ensures { IfOk result (λ holders. ListsHolders grants.now holders.items) }
-{
-    let mut holders = vec![in alloc; 0; grants.len()]?;
-    put_holders(grants, &mut holders);
-    Ok(holders)
 }
 
 /// Writes each grant's client at the place of its name. The names are those below the number of grants, each once.

@@ -50,21 +50,11 @@ impl<'a> Floor<'a> {
         if lane.inside() > 0 {
             return Err(CloseFault::StillWalking(self, lane));
         }
-        let Ok(room) = self.room_for_words() else {
+        let Ok(room) = zeros(self.alloc, self.network()) else {
             return Err(CloseFault::Memory(self, lane));
         };
         let (closed, leftovers) = self.close_for(lane)?;
         Ok(closed.quiet_in(leftovers.into_words(), room))
-    }
-
-    /// A list with a place for each word.
-    ///
-    /// # Errors
-    /// `AllocError` if the list gets no memory.
-    fn room_for_words(&self) -> Result<Vec<u64>, AllocError>
-        ensures { IfOk result (λ room. length room.items ≡ word_count self.now.start.network.table) }
-    {
-        zeros(self.alloc, self.network())
     }
 
     /// One more holder of its network.

@@ -1,7 +1,7 @@
 //! The shared words of a floor, and the atomic steps on them. No other module reaches the table: each step of a lane on
 //! the word of an entry, a balancer or an exit is a call of a function of this folder, and the lane's view counts it.
 
-mod looking;
+mod loading;
 mod spreading;
 
 ghost use Rattle.std.specs.Mem.Slots.{slots_items, slots_len, IsFull};

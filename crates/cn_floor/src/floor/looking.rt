@@ -1,4 +1,4 @@
-//! Two lanes of one floor, looked at together.
+//! For callers in Rattle: two lanes of one floor, looked at together. Neither the program nor the library asks this.
 
 ghost use Rattle.std.specs.Prelude.{◌≡◌};
 ghost use Rattle.cn_floor.specs.Steps.{IsAnswer};

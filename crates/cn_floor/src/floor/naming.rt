@@ -92,7 +92,7 @@ impl<'a> Floor<'a> {
         }
     }
 
-    /// Lets a token that stands alone in a view pass one balancer after the other, until its wire ends at an exit.
+    /// Lets a token that is alone in a view pass one balancer after the other, until its wire ends at an exit.
     /// Gives this wire.
     pub(super) fn pass_on<P: Pause>(
         &self,

@@ -35,6 +35,7 @@ pub(super) fn zeros(alloc: Global, network: &Counting) -> Result<Vec<u64>, Alloc
     ensures network { IsNetwork network.now }
     ensures words { IfOk result (λ words. words.items
         ≡ replicate (word_count network.now.table) 0) }
+    ensures many { IfOk result (λ words. length words.items ≡ word_count network.now.table) }
     ensures carried { IfOk result (λ words. IsCarried network.now.table words.items) }
     ensures nobody { IfOk result (λ words. clients_in network.now.table words.items ≡ 0) }
 {
@@ -133,7 +134,7 @@ impl<'a> Floor<'a> {
 
     /// A floor as [`Floor::open`] opens it, whose words lie 128 bytes apart in memory, with zeros between: two threads
     /// that step on two of them never wait for one cache line. It takes 16 times the memory for its words. So does each
-    /// floor that goes on from it.
+    /// floor that goes on from it. For callers in Rattle; the library uses [`Floor::open_shared_apart`].
     ///
     /// # Errors
     /// The first that stands: `Quota` (more than [`MOST_CLIENTS`]), `Memory`.

@@ -1,9 +1,9 @@
 //! What a closed floor leaves.
 
-ghost use Rattle.std.specs.Prelude.{◌≡◌, IfOk};
+ghost use Rattle.std.specs.Prelude.{◌≡◌, length, IfOk};
 ghost use Rattle.cn_floor.specs.Ends.{HasRisen, IsClosedFloor, ListsHolders, counts_by_exit, passes_of};
 
-use super::closed_floor::holders_of;
+use super::closed_floor::put_holders;
 use super::lane::Lane;
 use super::words::Words;
 use crate::view::Grant;
@@ -102,6 +102,15 @@ impl<'a> Quiet<'a> {
         words
     }
 
+    /// Writes the clients by rising name over a list of as many, as [`crate::ClosedFloor::list_holders`] does.
+    pub fn list_holders(&self, holders: &mut [u64])
+        requires { length holders.old ≡ length self.now.did.grants }
+        ensures { ListsHolders self.now.did.grants holders.new }
+    {
+        self.quiet_laws();
+        put_holders(self.grants.as_slice(), holders);
+    }
+
     /// The clients by rising name: `holders[n]` is the client with name n.
     ///
     /// # Errors
@@ -109,8 +118,9 @@ impl<'a> Quiet<'a> {
     pub fn holders(&self) -> Result<Vec<u64>, AllocError>
         ensures { IfOk result (λ holders. ListsHolders self.now.did.grants holders.items) }
     {
-        self.quiet_laws();
-        holders_of(self.alloc, self.grants.as_slice())
+        let mut holders = vec![in self.alloc; 0; self.grants().len()]?;
+        self.list_holders(&mut holders);
+        Ok(holders)
     }
 }
 

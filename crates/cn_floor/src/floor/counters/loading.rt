@@ -1,4 +1,4 @@
-//! Looks at the shared words: by one lane, and by two at one moment.
+//! Loads of the shared words: by one lane, and by two at one moment.
 
 ghost use Rattle.std.specs.Prelude.{◌≡◌, ◌<◌, [], length};
 ghost use Rattle.cn_floor.specs.Plays.{Loads, Looks};

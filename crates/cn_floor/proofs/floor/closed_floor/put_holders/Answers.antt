@@ -1,5 +1,5 @@
 use Rattle.std.proofs.Common.{rules, ◌<◌, List, length, get_or, arith}
-use Rattle.cn_floor.specs.declared.view.Grant.{Grant}
+use Rattle.cn_floor.proofs.Common.{Grant}
 use Rattle.cn_floor.proofs.AtClose.Holding.{all-stand, name-low, one-more}
 use Rattle.cn_floor.proofs.floor.closed_floor.put_holders.Goals as goal
 

@@ -2,7 +2,7 @@ use Rattle.std.proofs.Common.{inl, inr, ℕ, List, ap, arith, get_or}
 use Rattle.std.proofs.lemmas.Bool.{cases_eq}
 use Rattle.std.proofs.lemmas.List.{get_or_default}
 use Rattle.renamer_c.specs.declared.client.Client.{Client}
-use Rattle.renamer_c.proofs.held_lane.naming_many.all_enter.Goals as goal
+use Rattle.renamer_c.proofs.held_lane.by_entry.all_enter.Goals as goal
 
 abbrev nobody : Client
 nobody = record { client = 0; entry = 0 }

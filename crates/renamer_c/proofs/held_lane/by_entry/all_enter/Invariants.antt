@@ -1,6 +1,6 @@
 use Rattle.std.proofs.Common.{ℕ, ◌<◌, get_or}
 use Rattle.renamer_c.specs.declared.client.Client.{Client}
-use Rattle.renamer_c.proofs.held_lane.naming_many.all_enter.Given as goal
+use Rattle.renamer_c.proofs.held_lane.by_entry.all_enter.Given as goal
 
 -- the clients so far come by one of the entries
 abbrev pub invariant-loop-client : goal.invariant-loop-client

@@ -1,7 +1,7 @@
 use Rattle.std.proofs.Common.{◌≡◌, ℕ, ◌-◌, ◌<◌, ◌≤◌, get_or, length, map, take}
 use Rattle.renamer_c.specs.Many.{first_entry}
 use Rattle.renamer_c.specs.declared.client.Client.{Client}
-use Rattle.renamer_c.proofs.held_lane.naming_many.copy_run.Given as goal
+use Rattle.renamer_c.proofs.held_lane.by_entry.copy_run.Given as goal
 
 abbrev pub invariant-loop-count : goal.invariant-loop-count
 invariant-loop-count l = record {

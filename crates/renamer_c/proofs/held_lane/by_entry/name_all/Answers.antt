@@ -8,7 +8,7 @@ use Rattle.cn_walk.specs.Walks.{WalksAll}
 use Rattle.renamer_c.specs.Many.{AreNamedAtOnce, AreNamedByRuns, IsLongestRun, by_entry, client_from, first_entry}
 use Rattle.renamer_c.specs.declared.client.Client.{Client}
 use Rattle.renamer_c.proofs.Listed.{by-run, map-part, more, take_both}
-use Rattle.renamer_c.proofs.held_lane.naming_many.name_all.Goals as goal
+use Rattle.renamer_c.proofs.held_lane.by_entry.name_all.Goals as goal
 
 pub loop-named-preserved : goal.loop-named-preserved
 loop-named-preserved c =

@@ -3,7 +3,7 @@ use Rattle.cn_floor.specs.Lane.{LaneValue}
 use Rattle.cn_floor.specs.Steps.{StoodInState}
 use Rattle.cn_walk.specs.Walks.{WalksAll}
 use Rattle.renamer_c.specs.Many.{AreNamedByRuns, client_from}
-use Rattle.renamer_c.proofs.held_lane.naming_many.name_all.Given as goal
+use Rattle.renamer_c.proofs.held_lane.by_entry.name_all.Given as goal
 
 -- the clients so far are named, and by runs: a lane that names the others by runs has named all by runs
 abbrev pub invariant-loop-named : goal.invariant-loop-named

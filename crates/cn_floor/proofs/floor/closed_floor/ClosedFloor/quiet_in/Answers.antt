@@ -1,11 +1,9 @@
 use Rattle.std.proofs.Common.{◌≡◌, ℕ, List, ap, sym, ◌∙◌, subst}
-use Rattle.std.specs.Mem.Slots.{slots_items}
+use Rattle.cn_floor.proofs.Common.{IsClosed, Start, WordsValue, slots_items, word_count, words_in}
 use Rattle.std.specs.Prelude.{IfSome}
-use Rattle.cn_floor.specs.declared.view.Start.{Start}
-use Rattle.cn_floor.specs.Carried.{IsClosed, WordsValue, client_count, words_before}
+use Rattle.cn_floor.specs.Carried.{client_count, words_before}
 use Rattle.cn_floor.specs.Ends.{IsClosedFloor, QuietValue}
-use Rattle.cn_floor.specs.Spread.{words_in}
-use Rattle.cn_floor.specs.Words.{IsDifference, NoneWent, word_count}
+use Rattle.cn_floor.specs.Words.{IsDifference, NoneWent}
 use Rattle.cn_floor.proofs.floor.closed_floor.ClosedFloor.quiet_in.Goals as goal
 
 pub copy_words-requires-clause-places : goal.copy_words-requires-clause-places
