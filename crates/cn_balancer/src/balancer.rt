@@ -1,4 +1,5 @@
-//! One balancer.
+//! For callers in Rattle: one balancer by itself. The balancers of the program are words of a floor or of a core, and
+//! take of this crate only [`crate::output_of`].
 
 ghost use Rattle.std.specs.Prelude.{◌≡◌, ◌==◌, ℕ, ◌+◌, ◌%◌, ◌<◌, ◌≤◌, ◌↔◌, IsTrue, [], ◌∷◌, slice_index, slice_set};
 ghost use Rattle.cn_spec.specs.Step.{half};

@@ -113,7 +113,8 @@ impl<'a> Epochs<'a> {
         Epochs::begin(alloc, network, false, state)
     }
 
-    /// As [`Epochs::new`], but each turn carries the counts on, as by [`Core::carry`].
+    /// As [`Epochs::new`], but each turn carries the counts on, as by [`Core::carry`]. For callers in Rattle: those of
+    /// the program are cleared.
     ///
     /// # Errors
     /// As there.

@@ -1,4 +1,5 @@
-//! What can be wrong with a table of wire ends.
+//! For callers in Rattle: what can be wrong with a table of wire ends from outside, which [`crate::Wiring::from_ends`]
+//! takes. The program makes its networks by [`crate::Draft`], which needs no check.
 
 ghost use Rattle.std.specs.Prelude.{◌≡◌, ℕ, ◌+◌, ◌*◌, ◌<◌, ◌↔◌, ◌^◌, IfErr, IfOk, IsTrue, length, slice_index, vec_len};
 ghost use Rattle.cn_spec.specs.Sums.{total_where};

@@ -1,4 +1,4 @@
-//! One event after another.
+//! For callers in Rattle: one event after another. The program applies commands, by cn_epoch.
 
 ghost use Rattle.std.specs.Prelude.{◌≡◌, IfOk, OnErr};
 ghost use Rattle.cn_core.specs.Calls.{AnswersByHistory, IsLedgerEvent, RunsByHistory, RunsTo, TakesTo};

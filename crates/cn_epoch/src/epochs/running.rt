@@ -33,7 +33,7 @@ impl<'a> Epochs<'a> {
     }
 
     /// One command after another, as by [`Epochs::enter`], [`Epochs::step`] and [`Epochs::turn`], and their answers.
-    /// The room for the answers is taken first.
+    /// The room for the answers is taken first. For callers in Rattle; the program takes one at a time.
     ///
     /// [`Epochs::number`] and the number of commands together are below 2^64. If turns carry ([`Epochs::carrying`]),
     /// the carried clients ([`Epochs::base`]), those that entered and the number of commands are together at most
