@@ -8,7 +8,7 @@ ROOT = pathlib.Path(__file__).resolve().parents[2]
 # Folders of what is built or drawn, and files that are no sources.
 BUILT, PAGES = {"out", "target", ".git", "pictures"}, (".md", ".svg", ".gif")
 # What stands for a name of the reader's, or is of no source.
-OF_NO_SOURCE = re.compile(r"NAME|MODULE|\bInsideX\b|/out/|x86-|^(?:mawk|parallel|CMAKE_PREFIX_PATH)$")
+OF_NO_SOURCE = re.compile(r"NAME|MODULE|\bInsideX\b|/out/|x86-|^(?:mawk|parallel|python3-minimal|CMAKE_PREFIX_PATH)$")
 NAME = r"[A-Za-z_][\w'-]*"
 PUBLIC = r"(?:pub(?:\([\w ]+\))? )?"
 FUNCTION = re.compile(rf'^( *){PUBLIC}(?:const |final |unsafe |extern "C" )*fn (\w+)', re.M)
