@@ -1,5 +1,5 @@
 -- What the calls make of lanes.
-use Rattle.std.specs.Prelude.{◌≡◌, ℕ, ◌≤◌, Option, Some}
+use Rattle.std.specs.Prelude.{◌≡◌, ℕ, ◌*◌, ◌≤◌, Bool, true, false, Option, Some}
 use Rattle.cn_spec.specs.declared.limits.TheConstants.{MOST_ROOM}
 use Rattle.cn_wiring.specs.declared.kind.Kind.{Kind}
 use Rattle.cn_wiring.specs.declared.kind.Kind.TheVariants.{Bitonic, Periodic, Tree}
@@ -10,6 +10,8 @@ use Rattle.cn_floor.specs.Lane.{LaneValue, empty_lane, with_room}
 use Rattle.cn_floor.specs.Named.{IsNamed}
 use Rattle.cn_floor.specs.Steps.{IsAnswer, StoodInState}
 use Rattle.cn_floor.specs.Views.{after_entered, after_look, after_split, base, split_off}
+use Rattle.cn_floor.specs.Words.{word_count}
+use Rattle.cn_floor.specs.declared.floor.counters.TheConstants.{MOST_STRIDE}
 use Rattle.renamer_c.specs.Records.{RecordValue}
 
 -- a lane that has done nothing, with the whole quota of a floor on which nobody came before
@@ -17,6 +19,11 @@ pub record IsOpened (lane : LaneValue) (most : ℕ) : Type 0 where
   pub quota : lane.home.start.quota ≡ most
   pub zero : base lane.home.start ≡ 0
   pub empty : lane ≡ empty_lane lane.home most
+
+-- the words of a lane's floor lie apart in memory, or side by side
+abbrev pub LieApart : Bool → LaneValue → Type 0
+LieApart false lane = lane.home.table.words ≡ word_count lane.home.start.network.table
+LieApart true lane = lane.home.table.words ≡ MOST_STRIDE * word_count lane.home.start.network.table
 
 -- some of a lane's quota is another lane's, of the same floor
 pub record IsSplit (old lane other : LaneValue) (quota : ℕ) : Type 0 where

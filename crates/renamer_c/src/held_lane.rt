@@ -13,7 +13,7 @@ ghost use Rattle.cn_floor.specs.Lane.{empty_lane, with_room};
 ghost use Rattle.cn_floor.specs.Named.{IsNamed};
 ghost use Rattle.cn_floor.specs.Steps.{IsAnswer, StoodInState};
 ghost use Rattle.cn_floor.specs.Views.{after_entered, base};
-ghost use Rattle.renamer_c.specs.Calls.{IsOpened, IsSplit};
+ghost use Rattle.renamer_c.specs.Calls.{IsOpened, IsSplit, LieApart};
 ghost use Rattle.renamer_c.specs.Placing.{IsNearOf, IsPlaceOf};
 ghost use Rattle.renamer_c.specs.Questions.{number_asked};
 ghost use Rattle.renamer_c.specs.Refusals.{NotNamed, NotReserved};
@@ -66,6 +66,7 @@ fn floor_over(
     ensures start { IfOk result (λ r. (r.0.start.network ≡ arc_value network.now)
         × (r.0.start.quota ≡ quota) × (base r.0.start ≡ 0)) }
     ensures lane { IfOk result (λ r. r.1 ≡ empty_lane r.0 quota) }
+    ensures spaced { IfOk result (λ r. LieApart apart r.1) }
 {
     if apart {
         Floor::open_shared_apart(alloc, network, quota)
@@ -133,6 +134,7 @@ impl HeldLane {
         requires { quota ≤ MOST_CLIENTS }
         ensures opened { IfOk result (λ lane. IsOpened lane quota
             × (lane.home.start.network ≡ network)) }
+        ensures spaced { IfOk result (LieApart apart) }
         ensures memory { IfErr result (λ r. r ≡ Refusal.Memory) }
     {
         let Ok(network) = Arc::new(alloc, network) else {

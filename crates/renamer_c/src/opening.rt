@@ -1,11 +1,11 @@
 //! Calls that open, split and free.
 
-ghost use Rattle.std.specs.Prelude.{◌≡◌, ◌<◌, ◌≤◌, None, IfErr, IfOk, OnErr, OnOk};
+ghost use Rattle.std.specs.Prelude.{◌≡◌, ◌<◌, ◌≤◌, true, false, None, IfErr, IfOk, OnErr, OnOk};
 ghost use Rattle.cn_spec.specs.declared.limits.TheConstants.{MOST_CLIENTS};
 ghost use Rattle.cn_wiring.specs.Widths.{IsWidth};
-ghost use Rattle.renamer_c.specs.Calls.{Opens, Splits, number_of};
+ghost use Rattle.renamer_c.specs.Calls.{LieApart, Opens, Splits, number_of};
 ghost use Rattle.renamer_c.specs.Handles.{lane_in, lane_held};
-ghost use Rattle.renamer_c.specs.Refusals.{IsRefusal, NotOpened, NotSplit};
+ghost use Rattle.renamer_c.specs.Refusals.{IsRefusal, NotOpened, NotSplit, WithLane};
 ghost use Rattle.renamer_c.specs.declared.refusal.TheConstants.{DONE};
 
 use crate::handle::Handle;
@@ -55,6 +55,7 @@ fn asked(kind: u32, width: u32, quota: u64) -> Result<Net, Refusal>
 /// The first that stands: `Kind`, `Width`, `Quota`, `Memory`.
 fn open(alloc: Global, kind: u32, width: u32, quota: u64, apart: bool) -> Result<Box<Held>, Refusal>
     ensures ok { IfOk result (λ b. Opens (lane_held b.value) kind width quota) }
+    ensures spaced { IfOk result (λ b. WithLane (lane_held b.value) (LieApart apart)) }
     ensures err { IfErr result (NotOpened kind width quota) }
 {
     let net = asked(kind, width, quota)?;
@@ -78,6 +79,7 @@ pub extern "C" fn renamer_open(
     quota: u64,
 ) -> u32
     ensures opened { result ≡ DONE → Opens (lane_in lane.new.held) kind width quota }
+    ensures spaced { result ≡ DONE → WithLane (lane_in lane.new.held) (LieApart false) }
     ensures kept { 0 < result → lane.new.held ≡ lane.old.held }
     ensures refused { 0 < result → IsRefusal (NotOpened kind width quota) result }
 {
@@ -100,6 +102,7 @@ pub extern "C" fn renamer_open_apart(
     quota: u64,
 ) -> u32
     ensures opened { result ≡ DONE → Opens (lane_in lane.new.held) kind width quota }
+    ensures spaced { result ≡ DONE → WithLane (lane_in lane.new.held) (LieApart true) }
     ensures kept { 0 < result → lane.new.held ≡ lane.old.held }
     ensures refused { 0 < result → IsRefusal (NotOpened kind width quota) result }
 {
