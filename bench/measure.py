@@ -243,6 +243,8 @@ def options(description):
 
 def measure(script, rows, chosen):
     """Prints the rows of a script. Returns those that it has, which of them miss their goals, and whether it failed."""
+    if (ROOT / "renamer").is_symlink():
+        sys.exit("bench: these are the pages of a release; what is measured is built in the repository")
     names, missed = [], []
     with tempfile.TemporaryDirectory() as folder:
         try:
