@@ -11,7 +11,6 @@ use Rattle.cn_floor.specs.Named.{IsNamed}
 use Rattle.cn_floor.specs.Steps.{IsAnswer, StoodInState}
 use Rattle.cn_floor.specs.Views.{after_entered, after_look, after_split, base, split_off}
 use Rattle.cn_floor.specs.Words.{word_count}
-use Rattle.cn_floor.specs.declared.floor.counters.TheConstants.{MOST_STRIDE}
 use Rattle.renamer_c.specs.Records.{RecordValue}
 
 -- a lane that has done nothing, with the whole quota of a floor on which nobody came before
@@ -20,10 +19,10 @@ pub record IsOpened (lane : LaneValue) (most : ℕ) : Type 0 where
   pub zero : base lane.home.start ≡ 0
   pub empty : lane ≡ empty_lane lane.home most
 
--- the words of a lane's floor lie apart in memory, or side by side
+-- the words of a lane's floor lie apart in memory, each in 16 words of its own, or side by side
 abbrev pub LieApart : Bool → LaneValue → Type 0
 LieApart false lane = lane.home.table.words ≡ word_count lane.home.start.network.table
-LieApart true lane = lane.home.table.words ≡ MOST_STRIDE * word_count lane.home.start.network.table
+LieApart true lane = lane.home.table.words ≡ 16 * word_count lane.home.start.network.table
 
 -- some of a lane's quota is another lane's, of the same floor
 pub record IsSplit (old lane other : LaneValue) (quota : ℕ) : Type 0 where
