@@ -49,7 +49,7 @@ fn join_one(alloc: Global, lane: &mut Handle) -> Result<(), Refusal>
             lane.put_lane(held, boxed);
             Ok(())
         }
-        Err((refusal, held)) => {
+        Err((refusal, held, _)) => {
             lane.put_lane(held, boxed);
             Err(refusal)
         }

@@ -1,5 +1,6 @@
 //! Lanes that are handed back, and taken into others.
 
+ghost use Rattle.std.specs.Arc.{arc_value};
 ghost use Rattle.std.specs.Prelude.{◌≡◌, Some, IfErr, IfOk};
 ghost use Rattle.renamer_c.specs.Ended.{EndsSomewhere};
 ghost use Rattle.renamer_c.specs.Placing.{IsPlaceOf};
@@ -7,7 +8,7 @@ ghost use Rattle.renamer_c.specs.Refusals.{NotHandedBack, NotJoined};
 ghost use Rattle.renamer_c.specs.Returns.{IsBack, IsJoined};
 
 use super::HeldLane;
-use crate::floor_share::{floor_of, with_places};
+use crate::floor_share::{FloorShare, floor_of, with_places};
 use crate::floor_with_places::FloorWithPlaces;
 use crate::place_row::Miss;
 use crate::places::Place;
@@ -15,7 +16,7 @@ use crate::refusal::Refusal;
 use cn_floor::{JoinFault, Lane};
 use std::sync::Arc;
 
-/// Where a lane went that was handed back.
+/// Where a lane went that was handed back, also by a join that could not take it in.
 #[derive(Drop)]
 pub(crate) enum Handed {
     /// To its place, whose word says so.
@@ -24,6 +25,19 @@ pub(crate) enum Handed {
     WithFloor(Option<FloorWithPlaces>),
     /// Nowhere, since its place was not its own, which no call makes it.
     Missed(Miss),
+}
+
+/// Puts a lane of the share's floor at its place.
+fn put_at_place(share: &FloorShare, place: Place, lane: Lane) -> Handed
+    requires floor { arc_value share.now ≡ Some lane.home }
+    requires place { IsPlaceOf lane.home place }
+    requires lane { IsBack lane.home lane }
+    ensures { EndsSomewhere result }
+{
+    match with_places(share).hand_back(place, lane) {
+        Ok(word) => Handed::AtPlace(word),
+        Err(miss) => Handed::Missed(miss),
+    }
 }
 
 impl HeldLane {
@@ -48,10 +62,7 @@ impl HeldLane {
         } = self;
         match Arc::try_unwrap(floor) {
             Ok(floor) => Ok(Handed::WithFloor(floor)),
-            Err(floor) => match with_places(&floor).hand_back(place, lane) {
-                Ok(word) => Ok(Handed::AtPlace(word)),
-                Err(miss) => Ok(Handed::Missed(miss)),
-            },
+            Err(floor) => Ok(put_at_place(&floor, place, lane)),
         }
     }
 
@@ -73,16 +84,16 @@ impl HeldLane {
     /// Takes in a lane of the floor that was handed back.
     ///
     /// # Errors
-    /// `Memory`, with the lane as it was: the other is handed back again, to its place.
+    /// `Memory`, with the lane as it was, and where the other went, which is handed back again.
     pub(crate) fn join(
         self,
         other: Lane,
         other_place: Place,
-    ) -> Result<HeldLane, (Refusal, HeldLane)>
+    ) -> Result<HeldLane, (Refusal, HeldLane, Handed)>
         requires back { IsBack self.home other }
         requires place { IsPlaceOf self.home other_place }
         ensures ok { IfOk result (λ r. IsJoined self r other) }
-        ensures err { IfErr result (λ r. r.1 ≡ self) }
+        ensures err { IfErr result (λ r. (r.1 ≡ self) × EndsSomewhere r.2) }
         ensures refused { IfErr result (λ r. NotJoined (Some self) r.0) }
     {
         let HeldLane {
@@ -95,9 +106,9 @@ impl HeldLane {
         match floor_of(&floor).join(lane, other) {
             Ok(lane) => Ok(HeldLane::of(floor, lane, most, place, near)),
             Err((JoinFault::Memory, lane, other)) => {
-                let _ = with_places(&floor).hand_back(other_place, other);
+                let handed = put_at_place(&floor, other_place, other);
                 let lane = HeldLane::of(floor, lane, most, place, near);
-                Err((Refusal::Memory, lane))
+                Err((Refusal::Memory, lane, handed))
             }
             Err((JoinFault::StillWalking, _, _)) => unreachable!(),
         }
