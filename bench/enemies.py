@@ -2,7 +2,7 @@
 """The processor time that clients take who share a bucket of the program's tables, beside random clients.
 
 65,536 clients share a bucket of the job's table under one fixed state of random words: `run` of 16 epochs of them, `replay`
-of five epochs in which they enter and walk out, `check` of 16 epochs of grants to them, ten runs each. The program draws
+of five epochs in which they enter and walk out, ten runs each. The program draws
 fresh words in each run, so nobody can choose such clients beforehand. The last rows show what the clients would cost if the
 state were that one: the same runs, once each, with random words that are all zero.
 """
@@ -21,13 +21,10 @@ def commands(clients):
 
 
 def inputs(bench, kind, clients):
-    named = list(enumerate(clients))
     batch = (f"{epoch},{client},0" for epoch in range(EPOCHS) for client in clients)
-    grants = (f"{epoch},{client},{name}" for epoch in range(EPOCHS) for name, client in named)
     return {
         "run": bench.write(f"{kind}-batch", "epoch,client,entry", batch),
         "replay": bench.write(f"{kind}-schedule", "op,client,wire", commands(clients)),
-        "check": bench.write(f"{kind}-grants", "epoch,client,name", grants),
     }
 
 
@@ -42,7 +39,7 @@ def rows(bench):
     theirs = {**sharing("sip"), "run": sharing("scatter")["run"]}
     others = inputs(bench, "others", [bench.chance.randrange(10**19, 2**64) for _ in range(count)])
     tree = ["--network", "tree", "--width", "2"]
-    jobs = {"run": ["run", *tree], "replay": ["replay", *tree], "check": ["check", "--width", "2"]}
+    jobs = {"run": ["run", *tree], "replay": ["replay", *tree]}
     pairs = {job: [([bench.proved, *words], paths[job]) for paths in (theirs, others)] for job, words in jobs.items()}
     for job, pair in pairs.items():
         yield bench.compare(job, pair, bench.size(10, 3))

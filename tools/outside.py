@@ -1,4 +1,4 @@
-"""Crates that stand outside the gate, in folders of checks/long: it neither proves nor runs them.
+"""Crates that stand outside the gate, in folders of checks/long and bench: it neither proves nor runs them.
 
 Their files have endings that no check reads. They get those of a crate in a copy of the repository's libraries, in a
 temporary folder, and what is built there is kept in the folder's out/.
@@ -24,9 +24,8 @@ def libraries():
 
 
 @contextlib.contextmanager
-def as_a_crate(folder, name, uses=(), tests=False):
-    """The folder as a crate of that name, which also uses these of the kit, in a copy of the libraries; for its tests
-    with what rt has proved of them."""
+def as_a_crate(folder, name, tests=False):
+    """The folder as a crate of that name in a copy of the libraries; for its tests with what rt has proved of them."""
     with tempfile.TemporaryDirectory() as copied:
         copy, below = pathlib.Path(copied), libraries()
         for library in below:
@@ -39,18 +38,18 @@ def as_a_crate(folder, name, uses=(), tests=False):
                 at.parent.mkdir(parents=True, exist_ok=True)
                 shutil.copy(path, at)
         shutil.copy(ROOT / "HANDLES", copy)
-        lines = [*below.values(), f"{name}: {' '.join([*below, *uses])}"]
+        lines = [*below.values(), f"{name}: {' '.join(below)}"]
         (copy / "crates.txt").write_text("\n".join(lines) + "\n")
         yield crate
 
 
-def build(built, folder, name, uses=(), tests=False):
+def build(built, folder, name, tests=False):
     """Builds the crate if a source is newer than what is built: its tests by rt, a program by tools/build, which takes
     what it has proved of the libraries."""
     if subprocess.run([ROOT / "tools" / "is_current", built, *libraries(), "--", folder]).returncode == 0:
         return
     began = time.time()
-    with as_a_crate(folder, name, uses, tests) as crate:
+    with as_a_crate(folder, name, tests) as crate:
         words = ["rt", "test"] if tests else [ROOT / "tools" / "build", name, name, crate.parent.parent]
         # What a test ends with says nothing of the build: that is judged when it is run.
         subprocess.run(words, cwd=crate, stdout=subprocess.DEVNULL, stdin=subprocess.DEVNULL)

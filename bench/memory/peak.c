@@ -1,5 +1,5 @@
 // Runs a program with its words, and prints the kilobytes that were resident at its peak on standard error. The status is
-// 0 where the program's is, else 1.
+// 0 if the program's is, else 1.
 #define _DEFAULT_SOURCE
 #include <signal.h>
 #include <stdio.h>

@@ -170,7 +170,7 @@ RENAMER_CALL uint32_t renamer_open(renamer_lane *lane, uint32_t kind, uint32_t w
 
 /* Opens a floor as renamer_open does, whose words lie 128 bytes apart in memory and not 8: so threads that go by two ends at
    once do not wait for one cache line. That is for machines of many processors: the words take 16 times the memory, and by one
-   thread a name takes 1.5 to 1.7 times as long on wide networks, 2.6 on a busy machine. The next floor's lie apart too.
+   thread a name takes up to 1.7 times as long, 2.6 times on a busy machine. The next floor's lie apart too.
    RENAMER_KIND, _WIDTH, _QUOTA, _MEMORY. One thread at a time. */
 RENAMER_CALL uint32_t renamer_open_apart(renamer_lane *lane, uint32_t kind, uint32_t width, uint64_t quota);
 
@@ -253,7 +253,7 @@ RENAMER_CALL uint32_t renamer_grants(const renamer_lane *lane, uint64_t first, r
    RENAMER_NONE, _STILL_WALKING. One thread at a time. */
 RENAMER_CALL uint32_t renamer_hand_back(renamer_lane *lane);
 
-/* Takes one lane of the same floor in that was handed back: its quota is added, and its grants come after the lane's own.
+/* Takes in one lane of the same floor that was handed back: its quota is added, and its grants come after the lane's own.
    Which of several, is not said. Any lane may take in any other. Takes no memory if the lane has room for these grants, and
    has that much less room then. RENAMER_NOTHING_BACK says that at one moment of the call no lane was back: each whose
    hand-back had returned was taken by another join. A thread that is stopped in a call keeps from others no lane but the one

@@ -42,9 +42,9 @@ class Network:
 class Lines:
     """Cache lines: when each is free, and which processor used it last."""
 
-    def __init__(self, prices: Prices, seed: int):
+    def __init__(self, prices: Prices):
         self.prices = prices
-        self.random = random.Random(seed)
+        self.random = random.Random(1)
         self.free: dict[int, float] = {}
         self.last: dict[int, int] = {}
 
@@ -59,9 +59,9 @@ class Lines:
         return end
 
 
-def counter_rate(processors: int, prices: Prices, names: int, seed: int = 1) -> float:
+def counter_rate(processors: int, prices: Prices, names: int) -> float:
     """Returns the names per microsecond of one word, on which a name is one add."""
-    lines, waiting = Lines(prices, seed), [(0.0, processor) for processor in range(processors)]
+    lines, waiting = Lines(prices), [(0.0, processor) for processor in range(processors)]
     now = 0.0
     for _ in range(names):
         now, processor = heapq.heappop(waiting)
@@ -69,13 +69,13 @@ def counter_rate(processors: int, prices: Prices, names: int, seed: int = 1) -> 
     return 1000 * names / now
 
 
-def network_rate(network: Network, processors: int, stride: int, prices: Prices, names: int, seed: int = 1) -> float:
+def network_rate(network: Network, processors: int, stride: int, prices: Prices, names: int) -> float:
     """Returns the names per microsecond of a network whose words lie so many words apart.
 
     A name is an add at an entry, at each balancer on the way and at an exit. A processor lets its clients in by one
     entry of its own, or by all in turn if there are fewer entries than processors.
     """
-    lines, counts = Lines(prices, seed), [0] * network.balancers
+    lines, counts = Lines(prices), [0] * network.balancers
     # When a processor goes on, its number, the wire on which its client stands, and by which entry the next comes in.
     waiting = [(0.0, processor, None, processor % network.entries) for processor in range(processors)]
     step = 0 if network.entries >= processors else 1

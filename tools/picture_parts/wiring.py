@@ -23,7 +23,6 @@ class Wiring:
     """A network: the entries are its first wires, and balancer b has the outputs E + 2b and E + 2b + 1 for E entries."""
 
     heading: str
-    kind: str
     width: int
     ends: list[End]
     inputs: list[list[int]]
@@ -73,7 +72,7 @@ class Wiring:
 def read_wiring(lines: Lines) -> Wiring:
     """Reads what `renamer show` prints."""
     heading = lines.match(HEADING, "heading of a network")
-    kind, width, balancers = heading[1], int(heading[2]), int(heading[3])
+    width, balancers = int(heading[2]), int(heading[3])
     ends: list[End] = []
     while lines.read < len(lines.texts) and lines.texts[lines.read].startswith("wire "):
         found = lines.match(WIRE, "wire")
@@ -83,7 +82,7 @@ def read_wiring(lines: Lines) -> Wiring:
     if int(lines.match(END, "wire, and no end of a wiring")[1]) != len(ends):
         raise lines.fault(f"there are {len(ends)} wires")
     lines.end()
-    wiring = Wiring(heading[0], kind, width, ends, inputs_of(ends, balancers, lines.name))
+    wiring = Wiring(heading[0], width, ends, inputs_of(ends, balancers, lines.name))
     refuse_unsound(wiring, lines.name)
     return wiring
 

@@ -4,7 +4,7 @@
  *
  *     fuzz SEED CALLS [EPISODE]
  *
- * Episodes of some hundred calls are made until there were so many calls; each begins and ends with nothing. Episode n
+ * Episodes of some 1,600 calls are made until there were so many calls; each begins and ends with nothing. Episode n
  * follows from the seed and n: with EPISODE it makes this one, and shows each call. At the first call that differs it
  * prints what was to hold, and where that was. Else it prints how often each call returned which status. The status is
  * 0 only if nothing differed, and, of a million calls, each status came but RENAMER_CARRIED (carried.c).

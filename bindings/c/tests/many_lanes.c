@@ -1,6 +1,6 @@
 /*
- * A thousand threads are alive at once on each network, each with a lane of its own: more than a floor has places for lanes that
- * come back. They name a client each, and free their lanes or hand them back; then the floor is closed by all of them.
+ * A thousand threads are alive at once on each network, each with a lane of its own. They name a client each, and free
+ * their lanes or hand them back; then the floor is closed by all of them.
  */
 #define _POSIX_C_SOURCE 200112L
 #include "judge.h"

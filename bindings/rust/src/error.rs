@@ -3,7 +3,7 @@ use crate::{Lane, MOST_CARRIED, MOST_CLIENTS};
 use std::error;
 use std::fmt;
 
-/// Why a call is refused. A refused call has changed nothing.
+/// Why a call is refused. A refused call has changed nothing; only one that joins all may have taken in some lanes.
 ///
 /// The numbers are those of the library's header. What it refuses with 1, a handle that is none, does not come here.
 #[derive(Clone, Copy, Debug, PartialEq, Eq, Hash)]

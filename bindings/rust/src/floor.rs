@@ -46,7 +46,7 @@ impl Floor {
 
     /// Opens a floor as [`Floor::open`] does, whose words lie 128 bytes apart in memory and not 8: so threads that go by two
     /// ends at once do not wait for one cache line. That is for machines of many processors: the words take 16 times the
-    /// memory, and with few processors nothing is gained. The words of a floor that goes on from it lie apart too.
+    /// memory, and one thread gains nothing. The words of a floor that goes on from it lie apart too.
     ///
     /// # Errors
     /// As those of [`Floor::open`].

@@ -1,5 +1,5 @@
 """The rows of the built program whose growths checks/long/refuse refuses. What they wait for is reckoned by the rules: the
-n-th client of an epoch, counted from 0, has name n where one worker with one token in hand names them; and of c clients
+n-th client of an epoch, counted from 0, has name n if one worker with one token in hand names them; and of c clients
 a network of width w lets (c + w - 1 - i) div w out by exit i. But for help: that is as the program prints it with memory."""
 import subprocess
 

@@ -3,7 +3,7 @@
    The growth REFUSE_N of the main program is refused, no other library's. A thread of the main program that takes OPENING
    bytes opens a span of its own, and one that takes CLOSING bytes closes it: these two are marks and no growths. To the
    file descriptor REFUSE_SAID it writes `r` for the refusal, `g` for each growth in a span, `s` for each span that is
-   closed, `u` for a mark out of turn, and at the end `t` where another thread is still there after a second. */
+   closed, `u` for a mark out of turn, and at the end `t` if another thread is still there after a second. */
 #define _GNU_SOURCE
 #include <dirent.h>
 #include <errno.h>

@@ -79,7 +79,7 @@ impl<'a> Core<'a> {
     /// A network that nobody has entered. The table of its clients hashes by `state`.
     ///
     /// # Errors
-    /// `AllocError` if the counts or the wires get no memory.
+    /// `AllocError` if the counts get no memory.
     pub fn new(alloc: Global, network: &'a Counting, state: RandomState) -> Result<Self, AllocError>
         ensures start { IfOk result (λ core. core ≡ start network.now) }
         ensures history { IfOk result (λ core. Agrees core [] []) }

@@ -104,7 +104,7 @@ impl<'a> Epochs<'a> {
     /// hashes by `state`.
     ///
     /// # Errors
-    /// `AllocError` if the counts or the wires get no memory.
+    /// `AllocError` if the counts get no memory.
     pub fn new(alloc: Global, network: &'a Counting, state: RandomState) -> Result<Self, AllocError>
         ensures start { IfOk result (λ epochs.
             epochs ≡ record { number = 0; carries = false; core = start network.now }) }
@@ -113,8 +113,8 @@ impl<'a> Epochs<'a> {
         Epochs::begin(alloc, network, false, state)
     }
 
-    /// As [`Epochs::new`], but each turn carries the counts on, as by [`Core::carry`]. For callers in Rattle: those of
-    /// the program are cleared.
+    /// As [`Epochs::new`], but each turn carries the counts on, as by [`Core::carry`]. For callers in Rattle: a replay
+    /// clears its counts.
     ///
     /// # Errors
     /// As there.

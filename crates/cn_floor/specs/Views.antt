@@ -128,7 +128,7 @@ after_join v w = record v {
   steps = v.steps + w.steps + 1;
 }
 
--- a view that no lane has now
+-- a start that no floor has
 abbrev pub no_start : Start
 no_start = record {
   network = record {

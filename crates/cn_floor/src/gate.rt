@@ -1,4 +1,4 @@
-//! What a worker asks before each of its atomic steps.
+//! What a worker asks before it lets clients in, on or out.
 
 use std::sync::Wait;
 
@@ -7,13 +7,13 @@ use std::sync::Wait;
 pub enum Moment {
     /// A client comes in.
     Enter,
-    /// A token passes a balancer.
+    /// Tokens pass a balancer.
     Pass,
-    /// A token leaves by an exit.
+    /// Tokens leave by an exit.
     Leave,
 }
 
-/// Holds workers up: each asks it before each of its atomic steps.
+/// Holds workers up: each asks it before it lets clients in, on or out, by one atomic step.
 pub trait Gate {
     /// The worker with this number is about to make a step of this kind. It may be made to wait.
     fn before<R: Wait>(&self, rt: &R, worker: u32, moment: Moment);
@@ -26,7 +26,7 @@ impl Gate for OpenGate {
     fn before<R: Wait>(&self, _rt: &R, _worker: u32, _moment: Moment) {}
 }
 
-/// What is asked before each atomic step of one worker.
+/// What is asked before each of these steps of one worker.
 pub(crate) trait Pause {
     /// A step of this kind comes.
     fn before(&self, moment: Moment);

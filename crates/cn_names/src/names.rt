@@ -54,7 +54,7 @@ impl Names {
     /// Nobody has a standing. The table hashes by `state`.
     ///
     /// # Errors
-    /// `AllocError` if the table gets no memory. Today it asks for none before the first client.
+    /// `AllocError` if the table gets no memory. It asks for none before the first client.
     pub fn new(alloc: Global, state: RandomState) -> Result<Self, AllocError>
         ensures { IfOk result (λ names. names ≡ []) }
     {

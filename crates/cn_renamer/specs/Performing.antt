@@ -18,7 +18,7 @@ use Rattle.cn_renamer.specs.Headline.{IsRunInOrderOfKnown, IsRunOfKnown}
 use Rattle.cn_renamer.specs.Serve.{IsServeFault, status_of_serve, until_serve}
 use Rattle.cn_renamer.specs.Show.{IsWiringOf}
 
--- networks are built of the width that a job has; those of a replay, a run and a wiring that is shown are by themselves
+-- the width of a check is one of which networks are built; the other jobs have a network that is built
 abbrev pub IsBuiltFor : Job → Type 0
 IsBuiltFor (job.Check width) = IsWidth width
 IsBuiltFor other = Unit {0}

@@ -10,7 +10,7 @@ ghost use Rattle.cn_report.specs.Reading.Records.{Record, records_of};
 ghost use Rattle.cn_report.specs.Grants.Printed.{printed_epochs};
 ghost use Rattle.cn_report.specs.Grants.ListText.{AreTightRecords, checked_epoch, grants_text};
 
-/// The records of a text determine its batch: two batches that they are have the same epochs.
+/// The records of a text determine its batch: two batches of them have the same epochs.
 pub fn batch_is_one()
     ensures { (entries : ℕ) (records : List Record) (one other : List BatchEpoch)
         → IsBatch entries records one → IsBatch entries records other

@@ -9,7 +9,7 @@ ghost use Rattle.cn_spec.specs.Networks.{HasStepChains, IsRow, a_cochain, b_coch
 ghost use Rattle.cn_spec.specs.Sums.{IsOnceBelow, times};
 ghost use Rattle.cn_spec.specs.declared.limits.TheConstants.{MOST_ARRIVALS, MOST_BALANCERS, MOST_CARRIED, MOST_CLIENTS, MOST_DIGITS, MOST_ENDS, MOST_HAND, MOST_LEVEL, MOST_RECORDS, MOST_ROOM, MOST_TOKENS, MOST_WORKERS};
 
-/// What each limit is, in numbers. Clauses and code cite the limits by name; only this law gives the numbers.
+/// What each limit is, in numbers.
 pub fn limits_are()
     ensures widths { MOST_LEVEL ≡ 8 }
     ensures wirings { (MOST_ENDS ≡ 4_096) × (MOST_BALANCERS ≡ 65_536) }

@@ -1,4 +1,4 @@
-//! The callers that the pages of the crates show, word for word, each in a module of its own.
+//! The callers of the pages that say so, word for word, each in a module of its own.
 #![tactic(auto)]
 
 pub mod of_balancer;

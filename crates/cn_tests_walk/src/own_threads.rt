@@ -1,4 +1,4 @@
-//! A caller with threads of its own, each with a lane of a floor that they share: that of cn_floor's page, word for word.
+//! A caller with two threads of its own, each with a lane of a floor that they share.
 
 ghost use Rattle.std.specs.Prelude.{◌≡◌, IfSome};
 

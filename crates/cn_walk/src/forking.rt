@@ -34,7 +34,7 @@ fn first_position(clients: u32, workers: u32, worker: u32) -> u32
 }
 
 /// Makes the lanes of the workers from `from` up to, not including, `to`, out of one, and reserves their memory: each
-/// has quota and room for its own clients, and the first lane of each half has room for the grants of both. Workers
+/// has quota and room for its own clients, and of two halves the first has room for the grants of both. Workers
 /// without clients get no lane; if none of these has clients, the first one has the lane. `None` if memory is refused.
 pub(crate) fn make_lanes<'a>(
     alloc: Global,

@@ -15,7 +15,7 @@ pub fn wires_have_levels()
         → (level : ℕ → ℕ) × IsLevel network.table network.depth level × CountsPaths network.table level }
 {}
 
-/// A plan, and wires that end at its exits in order, have one table: two networks that are made alike are the same.
+/// A plan, and wires that end at its exits in order, have one table: two tables that are made alike are the same.
 pub fn tables_are_unique()
     ensures { (t s : Table) (made : Plan × List ℕ) → IsWellFormed t → IsWellFormed s
         → IsTableOf t made → IsTableOf s made → t ≡ s }

@@ -10,8 +10,8 @@ use crate::floor_record::FloorRecord;
 use crate::held_lane::HeldLane;
 use crate::refusal::Refusal;
 
-/// What a handle has. What a lane and a record are stands open: the checker passes no `&mut` with a lifetime in it to
-/// a closure.
+/// What a handle has. Lane and record are type parameters: the checker passes no `&mut` with a lifetime in it to a
+/// closure.
 #[derive(Drop)]
 pub enum Held<L = HeldLane, R = FloorRecord> {
     /// Nothing, while a call works on it.

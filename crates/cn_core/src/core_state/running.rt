@@ -22,12 +22,12 @@ impl<'a> Core<'a> {
         }
     }
 
-    /// One event after another, as by [`Core::enter`] and [`Core::step`], and their replies. The room for the replies
-    /// is taken first.
+    /// One event after another, as by [`Core::enter`] and [`Core::step`], and their replies, whose
+    /// memory is taken first.
     ///
     /// # Errors
-    /// `AllocError` if the replies get no room; then no event has been applied. An enter that meets want of memory is a
-    /// reply like the others.
+    /// `AllocError` if the replies get no memory; then no event has been applied. An enter that meets want of memory is
+    /// a reply like the others.
     pub fn run(&mut self, events: &[Event]) -> Result<Vec<Reply>, AllocError>
         ensures events { IfOk result (λ replies.
             RunsTo self.old events.now replies.items self.new) }

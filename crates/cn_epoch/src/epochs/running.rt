@@ -32,15 +32,15 @@ impl<'a> Epochs<'a> {
         }
     }
 
-    /// One command after another, as by [`Epochs::enter`], [`Epochs::step`] and [`Epochs::turn`], and their answers.
-    /// The room for the answers is taken first. For callers in Rattle; the program takes one at a time.
+    /// One command after another, as by [`Epochs::enter`], [`Epochs::step`] and [`Epochs::turn`], and their answers,
+    /// whose memory is taken first. For callers in Rattle; the program takes one at a time.
     ///
     /// [`Epochs::number`] and the number of commands together are below 2^64. If turns carry ([`Epochs::carrying`]),
     /// the carried clients ([`Epochs::base`]), those that entered and the number of commands are together at most
     /// [`MOST_CARRIED`].
     ///
     /// # Errors
-    /// `AllocError` if the answers get no room; then no command has been applied. A command that meets want of memory
+    /// `AllocError` if the answers get no memory; then no command has been applied. A command that meets want of memory
     /// is answered like the others.
     pub fn run(&mut self, commands: &[Command]) -> Result<Vec<Answer>, AllocError>
         requires number { self.old.number + length commands.now < 2 ^ 64 }

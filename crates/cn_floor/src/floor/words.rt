@@ -19,7 +19,7 @@ use std::alloc::{AllocError, Global};
 use std::marker::Model;
 use std::sync::Arc;
 
-/// How the words of a floor lie in memory. Nothing that contracts see of a floor or of its words depends on it.
+/// How the words of a floor lie in memory. Of a floor contracts see by it only how many words its table has.
 #[derive(Clone, Copy)]
 pub(super) enum Spacing {
     /// Side by side.

@@ -103,8 +103,8 @@ fn take_grants<R: Read>(
 
 /// Whether a grant list gives each epoch's clients the names below their number, each once: a header
 /// `epoch,client,name`, and then a record of three numbers for each grant, as `csv` reads them. An epoch is a run of
-/// records of one number, and the numbers rise. Of each epoch it returns the number, and how many clients it has: of
-/// the names each exit's share of so many is `i` modulo the width, for each exit i and by any width.
+/// records of one number, and the numbers rise. Of each epoch it returns the number, and how many clients it has: by
+/// any width exit i's share of so many is how many of the names are `i` modulo the width.
 ///
 /// # Errors
 ///

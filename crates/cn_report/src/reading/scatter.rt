@@ -7,7 +7,7 @@ use std::hash::{BuildHasher, Hasher, RandomState};
 
 /// The numbers by which a number x gets its place: the upper half of `factor * x + term`, modulo 2 ^ 128.
 ///
-/// If both are drawn evenly, two different numbers have each two places with the same chance: so numbers that were
+/// If both are drawn evenly, two different numbers take any two places with the same chance: so numbers that were
 /// picked before the draw share places as random ones do (M. Dietzfelbinger, Universal hashing and k-wise independent
 /// random variables via integer arithmetic without primes, STACS 1996).
 #[derive(Clone, Copy)]
