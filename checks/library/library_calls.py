@@ -1,7 +1,7 @@
 """Compares the header of the library with the crate that it is built from, with the Rust crate over it, and with the
 symbols of the archive and of the shared library: calls with what they take and return, structs with their fields, numbers,
-statuses, limits, versions; the header for C++ with that for C; what each status is said to mean with TEXTS; and what the archive wants with
-what docs/EMBEDDING.md says of that.
+statuses, limits; the header for C++ with that for C; what each status is said to mean with TEXTS; and what the archive
+wants with what docs/EMBEDDING.md says of that.
 
 A call is a list of the types that it takes, in the words of Rust, and what it returns. A slice of the proved crate is a
 pointer and a size, and a handle is a handle in all three.
@@ -215,17 +215,6 @@ def wrong_texts():
             *differences("the text in Rust of", rust, {"TEXTS": wanted})]
 
 
-def wrong_versions():
-    version = (ROOT / "VERSION").read_text().strip()
-    major, minor, patch = map(int, version.split("."))
-    wrong = []
-    if f"#define RENAMER_VERSION {major * 1_000_000 + minor * 1_000 + patch}\n" not in HEADER.read_text():
-        wrong.append(f"the header has another version than {version}")
-    if f'\nversion = "{version}"\n' not in (RUST / "Cargo.toml").read_text():
-        wrong.append(f"the Rust crate has another version than {version}")
-    return wrong
-
-
 def differences(what, header, others):
     """What the header has and another has otherwise, or has not, and the reverse."""
     for where, other in others.items():
@@ -250,4 +239,4 @@ def wrong(archive, shared):
     versioned = {f"{name}@@RENAMER_1" for name in calls}
     found += [f"{name}: only the header or the shared library has it" for name in sorted(symbols_for_all(shared) ^ versioned)]
     found += [f"{name}: the archive wants it, or docs/EMBEDDING.md says so" for name in sorted(wanted ^ said_to_be_wanted())]
-    return [*found, *wrong_numbers(), *wrong_limits(), *wrong_objects(), *wrong_texts(), *wrong_versions()]
+    return [*found, *wrong_numbers(), *wrong_limits(), *wrong_objects(), *wrong_texts()]
