@@ -11,8 +11,8 @@
  * Calls that are `const` only ask: any number of threads may make them at once on one object. An object that was only
  * made, or was moved from, handed back or closed, has nothing, and its calls return status::none. Objects can be moved,
  * also to another thread, and not copied. A lane that goes out of scope is handed back to its floor. Only calls that
- * write a std::vector throw, if it gets no memory. name_many makes such a list at each call; for lists again and again
- * renamer_name_many writes into an array that is there.
+ * write a std::vector throw, if it gets no memory. Of these name_many makes a new list at each call; the call of
+ * renamer.h writes into an array that is there.
  */
 #ifndef RENAMER_HPP
 #define RENAMER_HPP
