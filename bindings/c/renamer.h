@@ -2,9 +2,9 @@
  * renamer: tight one-shot renaming on counting networks, for C99 and C++11.
  *
  * A floor is a counting network on atomic words. Threads name clients on it at once, without a lock: each client gets a
- * name, no two clients of a floor get the same, each name is below the number of clients that came in, and when nobody
- * is inside the names of k clients are 0 to k-1. A floor is for one epoch: it lets in at most RENAMER_MOST_CLIENTS, and
- * names are given back only all at once, by the next floor.
+ * name, and no two clients of a floor get the same. Each name is below the number of clients that came in, and when
+ * nobody is inside the names of k clients are 0 to k-1. A floor is for one epoch: it lets in at most
+ * RENAMER_MOST_CLIENTS, and names are not given back one by one, but all at once by the next floor.
  *
  *     renamer_lane lane = RENAMER_NO_LANE_YET;
  *     uint64_t name;
@@ -13,29 +13,34 @@
  *         printf("client 17 has name %llu\n", (unsigned long long)name);
  *     renamer_free(&lane);
  *
- * HANDLES. There are two, a lane and a quiet floor. Each is a struct with one pointer, and all zero is none. Set a handle
- * to zero before its first call, also before renamer_open: by RENAMER_NO_LANE_YET where it is declared, or by
- * `lane = RENAMER_NO_LANE;` later, as in a struct from malloc. Pass its address, and keep one copy only: a handle may be
- * moved to another place, also by memcpy, if the old place is not used any more, or is set to none. A call that puts
- * something into a handle frees what was there before. renamer_free and renamer_free_quiet free all that a handle has;
- * after them it is none.
+ * HANDLES. There are two kinds, a lane and a quiet floor. Each is a struct with one pointer, and one that is all zero
+ * has nothing: it is none. Set a handle to zero before its first call, also before renamer_open: by RENAMER_NO_LANE_YET
+ * where it is declared, or by `lane = RENAMER_NO_LANE;` later, as in a struct from malloc. Pass its address, and keep
+ * one copy only: a handle may be moved to another place, also by memcpy, if the old place is not used any more, or is
+ * set to none. A call that puts something into a handle frees what was there before. renamer_free and
+ * renamer_free_quiet free all that a handle has; after them it is none.
  *
- * STATUSES. Each call takes any numbers, any sizes and any handle, also one that is none, and returns a status. A call
- * that does not return RENAMER_DONE has changed nothing: no handle, no floor, no number or array of the caller's; only
- * renamer_join_all may have taken in some lanes. Of several causes the first in the order of the call's list is returned.
- * It is a number of 32 bits and no renamer_status, since C99 leaves the size of an enumeration to the compiler.
+ * STATUSES. Calls take any numbers, any sizes and any handle, also one that is none, and all that take a handle return a
+ * status, but for the two that free. A call that does not return RENAMER_DONE has changed no handle, no floor, and no
+ * number or array of the caller's; only renamer_join_all may have taken in some lanes. Of several causes the first in
+ * the order of the call's list is returned. A status is returned as a number of 32 bits and not as a renamer_status,
+ * since C99 leaves the size of an enumeration to the compiler.
  *
- * THREADS. Calls on different handles may run at once in any threads, also on lanes of one floor. Calls on one handle may
- * not overlap, but for those that take it as `const`: they only ask, and write nothing to it, so any number of threads
- * may make them at once, while no other call on it is made. Nothing marks a handle as in use: what two calls do that
- * overlap on one handle, is not defined. A handle may go to another thread by what orders memory: a start or a join of a
- * thread, a lock, an atomic. No call waits for another thread, and none starts one. No call may be made from a signal
- * handler, or in the child of a fork of a process with threads. A fork copies floors: parent and child both give name 1,
- * to two clients.
+ * THREADS. Calls on different handles may run at once in any threads, also on lanes of one floor. Calls on one handle
+ * may not overlap, but for those that take it as `const`: they only ask, and write nothing to it, so any number of
+ * threads may make them at once, while no other call on it is made. Nothing marks a handle as in use: what two calls do
+ * that overlap on one handle is not defined. A handle may go to another thread by what orders memory: a start or a join
+ * of a thread, a lock, an atomic. No call may be made from a signal handler, or in the child of a fork of a process
+ * with threads. A fork copies floors: parent and child both give name 1, to two clients.
+ *
+ * WAITING. No call starts a thread, and in the library's own code no call waits for another thread, wherever that is
+ * stopped. But malloc and free of the C library may make threads wait for one another. Calls that open, split, hand
+ * back, join, close or free use them. Calls that name clients or let them in use them only if the lane has no room,
+ * which renamer_reserve makes. Calls that step, sweep or only ask never use them.
  *
  * THE CALLER'S SIDE. What no call can check is the caller's: no pointer is NULL but one that is freed, also not that of
- * an array of size 0; an array is as long as its size says; a number or an array that a call writes overlaps nothing else
- * that is passed; two handles of one call are not the same handle.
+ * an array of size 0; an array is as long as its size says; a number or an array that a call writes overlaps nothing
+ * else that is passed; two handles of one call are not the same handle.
  */
 #ifndef RENAMER_H
 #define RENAMER_H
@@ -43,7 +48,7 @@
 #include <stddef.h>
 #include <stdint.h>
 
-/* What a compiler warns of at a call: a status that is not looked at, and NULL where something is to stand. */
+/* With these a compiler warns at a call of a status that is not looked at, and of NULL where something is to stand. */
 #ifdef __GNUC__
 #define RENAMER_NO_NULL __attribute__((nonnull))
 #else
@@ -61,8 +66,8 @@
 extern "C" {
 #endif
 
-/* The calls stand in another library, or in an archive that hides them: with either this is so, whatever visibility a
-   program is compiled with. */
+/* The calls stand in another library, or in an archive that hides them. Both are found, whatever visibility a program
+   is compiled with. */
 #ifdef __GNUC__
 #pragma GCC visibility push(default)
 #endif
@@ -70,7 +75,7 @@ extern "C" {
 /* The version of this header: major * 1000000 + minor * 1000 + patch. renamer_version returns that of the library. */
 #define RENAMER_VERSION 1000000
 
-/* How many clients a floor lets in at most, and how many may have come before a floor that goes on from others. */
+/* How many clients a floor lets in at most, and how many may have come in before a floor that goes on from others. */
 #define RENAMER_MOST_CLIENTS 262144
 #define RENAMER_MOST_CARRIED 2147483648
 
@@ -103,7 +108,7 @@ typedef struct renamer_client {
     uint64_t entry;
 } renamer_client;
 
-/* A client that got its name: it left by an exit, by which visit others had left before. */
+/* A client that got its name. It left by the exit, and so many clients had left by that exit before as visit says. */
 typedef struct renamer_grant {
     uint64_t client;
     uint64_t exit;
@@ -111,8 +116,9 @@ typedef struct renamer_grant {
     uint64_t name;
 } renamer_grant;
 
-/* Where a client went by one step. It passed the balancer `place` as its passage `number`, and stands last on the wire
-   `next`; or it left by the exit `place` as its visit `number`, and `next` is its name. Numbers and visits count from 0. */
+/* Where a client went by one step. Either it passed the balancer `place` as its passage `number`, and stands last on
+   the wire `next`; or it left by the exit `place` as its visit `number`, and `next` is its name. Passages and visits
+   count from 0. */
 typedef struct renamer_moved {
     uint64_t client;
     uint64_t has_left; /* 0 or 1 */
@@ -121,8 +127,8 @@ typedef struct renamer_moved {
     uint64_t next;
 } renamer_moved;
 
-/* Where the clients on a wire went by one step: as many as `clients`, in the order in which they stood, by the balancer or
-   the exit `place`, with the passages or visits from `first` on. */
+/* Where the clients on a wire went by one sweep. There were `clients` of them, and they went in the order in which they
+   stood, by the balancer or the exit `place`, with the passages or visits from `first` on. */
 typedef struct renamer_swept {
     uint64_t have_left; /* 0 or 1 */
     uint64_t place;
@@ -157,143 +163,166 @@ typedef enum renamer_status {
     RENAMER_LANES_THERE = 15     /* other lanes of the floor are there still, with nothing of it */
 } renamer_status;
 
-/* A sentence that says what a status means, and what is allowed. It is there as long as the program runs. */
+/* Returns a sentence that says what a status means, and what is allowed. It is there as long as the program runs. */
 const char *renamer_explain(uint32_t status);
 
-/* The version of the library, as RENAMER_VERSION. */
+/* Returns the version of the library, as RENAMER_VERSION has it. */
 uint32_t renamer_version(void);
 
-/* Opens a floor over a network. The lane has the whole quota: as many clients may come in, over all lanes. The handle must be
-   none or have something: one that was never set holds a pointer to nowhere, which the call frees.
+/* Opens a floor over a network. The lane has the whole quota: so many clients may come in, over all lanes. The handle
+   must be none or have something. One that was never set holds a pointer to nowhere, which the call would free.
    RENAMER_KIND, _WIDTH, _QUOTA, _MEMORY. One thread at a time. */
 RENAMER_CALL uint32_t renamer_open(renamer_lane *lane, uint32_t kind, uint32_t width, uint64_t quota);
 
-/* Opens a floor as renamer_open does, whose words lie 128 bytes apart in memory and not 8: so threads that go by two ends at
-   once do not wait for one cache line. That is for machines of many processors: the words take 16 times the memory, and by one
-   thread a name takes up to 1.7 times as long, 2.6 times on a busy machine. The next floor's lie apart too.
+/* Opens a floor as renamer_open does, whose words lie 128 bytes apart in memory and not 8. So threads that pass two
+   ends at once do not wait for one cache line. That is for machines of many processors: the words take 16 times the
+   memory, and by one thread a name takes up to 1.7 times as long, on a busy machine 2.6 times. The words of the next
+   floor, opened by renamer_open_after, lie apart too.
    RENAMER_KIND, _WIDTH, _QUOTA, _MEMORY. One thread at a time. */
 RENAMER_CALL uint32_t renamer_open_apart(renamer_lane *lane, uint32_t kind, uint32_t width, uint64_t quota);
 
-/* Splits off another lane of the same floor, with so much of the quota; the lane keeps all else. Other lanes may walk
-   meanwhile, and the lane may have clients inside. On every network the other lane takes less than 1,000 bytes, until a
-   client comes in by renamer_enter or renamer_name_many, or renamer_reserve makes room: then a list for each wire too.
+/* Splits off another lane of the same floor, with so much of the quota; the first lane keeps all else. Other lanes may
+   walk meanwhile, and the first lane may have clients inside. On every network the new lane takes less than 1,000
+   bytes. Once a client comes in by renamer_enter or renamer_name_many, or renamer_reserve makes room, it takes a list
+   for each wire too.
    RENAMER_NONE, _QUOTA_TOO_SMALL, _MEMORY. One thread at a time. */
 RENAMER_CALL uint32_t renamer_split(renamer_lane *lane, uint64_t quota, renamer_lane *other);
 
-/* Makes room for so many clients more: they come in, and get their names, without further memory. At most 1048576.
+/* Makes room for so many clients more, at most 1048576. They come in, and get their names, without further memory.
+
+   It is for a lane that must not be refused for memory or call malloc later, and for one that lets clients in by
+   renamer_enter. A lane that names clients only by renamer_name needs no room: it names them faster without.
    RENAMER_NONE, _MEMORY (also if it is more than that). One thread at a time. */
 RENAMER_CALL uint32_t renamer_reserve(renamer_lane *lane, uint64_t clients);
 
-/* Names a client: lets it in by an entry and walks it out. Takes memory only if the lane has no room, and then only for
-   its grant. Identities are any numbers, and are not compared: a client that is named twice gets two names.
+/* Names a client: lets it in by an entry and walks it out. It takes memory only if the lane has no room, and then only
+   for the client's grant. Identities are any numbers, and are not compared: a client that is named twice gets two
+   names.
 
-   Any entry will do. If threads name clients at once on a bitonic network of width w, it is best that each lets its clients
-   in by entries of its own, one after another: thread t of n, which is at most w, by those from t * w / n up to, not
-   including, (t + 1) * w / n. That network is two of half the width, on the lower and the upper half of the entries, and a
-   merger. So threads with halves or quarters of the entries meet only in mergers.
+   Any entry will do. If threads name clients at once on a bitonic network of width w, it is best that each lets its
+   clients in by entries of its own, one after another: thread t of n, which is at most w, by those from t * w / n up
+   to, not including, (t + 1) * w / n. That network is two of half the width, on the lower and the upper half of the
+   entries, and a merger. So threads with halves or quarters of the entries meet only in mergers.
    RENAMER_NONE, _STILL_WALKING, _NO_SUCH_ENTRY, _QUOTA_SPENT, _MEMORY. One thread at a time. */
 RENAMER_CALL uint32_t renamer_name(renamer_lane *lane, uint64_t client, uint64_t entry, uint64_t *name);
 
-/* Names clients by one call. Those who follow one another in the list by one entry, up to 64 of them, come in by one atomic
-   add and go on together, by one more for all that are on a wire; one who has none of its entry beside it walks as by
-   renamer_name. So a list by entries in turn costs as many adds as single calls. Of 64 by one entry each costs 2 adds in
-   place of 8 on tree 64, 10 of 23 on bitonic 64, 25 of 38 on bitonic 256, and 32 of 38 on periodic 64.
-   Copies their grants, in the order in which they left, which has not to be that of the clients; they are the lane's last
-   ones too. Takes memory only if the lane has less room.
-   RENAMER_NONE, _SIZE (there are not as many grants as clients), _STILL_WALKING, _NO_SUCH_ENTRY, _QUOTA_SPENT,
-   _MEMORY. One thread at a time. */
+/* Names clients by one call. Clients who follow one another in the list by one entry, up to 64 of them, come in by one
+   atomic add and go on together, by one more add for all that are on a wire. A client whose neighbours in the list come
+   by other entries walks as by renamer_name. So a list by entries in turn costs as many adds as single calls, and lists
+   of 64 clients by one entry are the fastest. Of these each client costs 2 adds in place of 8 on tree 64, 10 in place
+   of 23 on bitonic 64, 25 in place of 38 on bitonic 256, and 32 in place of 38 on periodic 64.
+
+   The call copies their grants, in the order in which they left, which need not be that of the clients. These are the
+   lane's last grants too. It takes memory only if the lane has less room.
+   RENAMER_NONE, _SIZE (there are not as many grants as clients), _STILL_WALKING, _NO_SUCH_ENTRY, _QUOTA_SPENT, _MEMORY.
+   One thread at a time. */
 RENAMER_CALL uint32_t renamer_name_many(renamer_lane *lane, const renamer_client *clients, size_t client_count, renamer_grant *grants,
                                         size_t grant_count);
 
-/* Lets a client in by an entry: it stands last on the wire with the entry's number. Takes memory only if the lane has no
-   room.
+/* Lets a client in by an entry: it stands last on the wire with the entry's number. It takes memory only if the lane
+   has no room.
 
-   Single steps are for a program that is to say in which order clients walk. The clients of a lane stand on the network's
-   wires, in the order in which they came there. Wires have numbers: wire i begins at entry i, and each other one at a
-   balancer, with a greater number than the wires that end there. So sweeping the lowest wire again and again lets all out.
+   Single steps are for a program that is to say in which order clients walk. The clients of a lane stand on the
+   network's wires, in the order in which they came there. Wires have numbers: wire i begins at entry i. Each other wire
+   begins at a balancer, and has a greater number than the wires that end there. So sweeping the lowest wire again and
+   again lets all out.
    RENAMER_NONE, _NO_SUCH_ENTRY, _QUOTA_SPENT, _MEMORY. One thread at a time. */
 RENAMER_CALL uint32_t renamer_enter(renamer_lane *lane, uint64_t client, uint64_t entry);
 
-/* Lets the lane's first client on a wire go by the wire's end, through a balancer or out with its name, by one atomic add.
+/* Lets the lane's first client on a wire pass the wire's end, through a balancer or out with its name, by one atomic
+   add.
    RENAMER_NONE, _NOBODY_THERE. One thread at a time. */
 RENAMER_CALL uint32_t renamer_step(renamer_lane *lane, uint64_t wire, renamer_moved *moved);
 
-/* Lets all of the lane's clients on a wire go by the wire's end, by one atomic add. If they left, the lane's last grants
-   are theirs, in their order. RENAMER_NONE, _NOBODY_THERE. One thread at a time. */
+/* Lets all of the lane's clients on a wire pass the wire's end, by one atomic add. If they left, the lane's last grants
+   are theirs, in their order.
+   RENAMER_NONE, _NOBODY_THERE. One thread at a time. */
 RENAMER_CALL uint32_t renamer_sweep(renamer_lane *lane, uint64_t wire, renamer_swept *swept);
 
-/* The least wire on which a client of the lane stands. RENAMER_NONE, _NOBODY_THERE (nobody of the lane is inside). */
+/* Returns the least wire on which a client of the lane stands.
+   RENAMER_NONE, _NOBODY_THERE (nobody of the lane is inside). */
 RENAMER_CALL uint32_t renamer_lowest(const renamer_lane *lane, uint64_t *wire);
 
-/* How many clients came in by all lanes, as far as this one can know: more than each name that it was given, no less
-   than its earlier answers, and never more than came in.
+/* Returns how many clients came in by all lanes, as far as this one can know: more than each name that it was given, no
+   less than its earlier answers, and never more than came in.
    RENAMER_NONE. */
 RENAMER_CALL uint32_t renamer_entered(const renamer_lane *lane, uint64_t *entered);
 
-/* How many clients more the lane may let in. RENAMER_NONE. */
+/* Returns how many clients more the lane may let in. RENAMER_NONE. */
 RENAMER_CALL uint32_t renamer_quota(const renamer_lane *lane, uint64_t *quota);
 
-/* How many clients of the lane are inside. RENAMER_NONE. */
+/* Returns how many clients of the lane are inside. RENAMER_NONE. */
 RENAMER_CALL uint32_t renamer_inside(const renamer_lane *lane, uint64_t *inside);
 
-/* How many entries the network of the lane's floor has, and how many exits. RENAMER_NONE. */
+/* Return how many entries the network of the lane's floor has, and how many exits. RENAMER_NONE. */
 RENAMER_CALL uint32_t renamer_entries(const renamer_lane *lane, uint64_t *entries);
 RENAMER_CALL uint32_t renamer_exits(const renamer_lane *lane, uint64_t *exits);
 
-/* How many grants the lane has. RENAMER_NONE. */
+/* Returns how many grants the lane has. RENAMER_NONE. */
 RENAMER_CALL uint32_t renamer_grant_count(const renamer_lane *lane, uint64_t *count);
 
-/* Copies size grants of the lane, in the order in which they were given, from the grant with the index first on.
+/* Copies as many grants of the lane as size says, in the order in which they were given, from the grant with the index
+   first on.
    RENAMER_NONE, _SIZE (there are fewer than first + size). */
 RENAMER_CALL uint32_t renamer_grants(const renamer_lane *lane, uint64_t first, renamer_grant *grants, size_t size);
 
-/* Hands the lane back to its floor, from any thread: its quota, its grants and all that it did. The lane is none then, and
-   another lane of the floor may take it in by renamer_join. It takes no memory, and any number of lanes may be back. It is a
-   few atomic steps, whatever other threads do and wherever they are stopped. If it was the only lane, the floor is freed.
+/* Hands the lane back to its floor, from any thread: its quota, its grants and all that it did. The lane is none then,
+   and another lane of the floor may take it in by renamer_join. Any number of lanes may be back.
+
+   A hand-back takes no memory. In the library's own code it is a few atomic steps, whatever other threads do and
+   wherever they are stopped. Then it frees the memory of the handle, by free of the C library. If the lane was the only
+   one, the floor is freed.
    RENAMER_NONE, _STILL_WALKING. One thread at a time. */
 RENAMER_CALL uint32_t renamer_hand_back(renamer_lane *lane);
 
-/* Takes in one lane of the same floor that was handed back: its quota is added, and its grants come after the lane's own.
-   Which of several, is not said. Any lane may take in any other. Takes no memory if the lane has room for these grants, and
-   has that much less room then. RENAMER_NOTHING_BACK says that at one moment of the call no lane was back: each whose
-   hand-back had returned was taken by another join. A thread that is stopped in a call keeps from others no lane but the one
-   that it hands back or takes in. A join looks again only if a lane came back or was taken meanwhile.
+/* Takes in one lane of the same floor that was handed back: its quota is added, and its grants come after the lane's
+   own. It is not said which of several lanes that is. Any lane may take in any other. The call takes no memory if the
+   lane has room for these grants, and the lane has that much less room then.
+
+   RENAMER_NOTHING_BACK says that at one moment of the call no lane was back: each whose hand-back had returned was
+   taken by another join. A thread that is stopped in a call keeps from others no lane but the one that it hands back or
+   takes in. A join looks again only if a lane came back or was taken meanwhile. The more lanes of the floor are alive,
+   the longer it looks.
    RENAMER_NONE, _NOTHING_BACK, _MEMORY. One thread at a time. */
 RENAMER_CALL uint32_t renamer_join(renamer_lane *lane);
 
-/* Takes in lanes as renamer_join does, one after another, and is done once it finds none back. With another status some may
-   have been taken in; the call may be made again. RENAMER_NONE, _MEMORY. One thread at a time. */
+/* Takes in lanes as renamer_join does, one after another, and is done once it finds none back. While other threads go
+   on splitting off and handing back lanes it may go on too. If it returns another status, some lanes may have been
+   taken in, and the call may be made again.
+   RENAMER_NONE, _MEMORY. One thread at a time. */
 RENAMER_CALL uint32_t renamer_join_all(renamer_lane *lane);
 
-/* Closes the floor. The lane must have all of it, and no other may be there: each that was split off was handed back or
-   freed, and those that had quota or grants were joined. So after the threads have ended
+/* Closes the floor. The lane must have all of it, and no other lane may be there: each that was split off was handed
+   back or freed, and those that had quota or grants were joined. So after the threads have ended
 
        if (renamer_join_all(&lane) != RENAMER_DONE || renamer_close(&lane, &quiet) != RENAMER_DONE)
            return 1;
 
-   closes it. The lane is none then. RENAMER_NONE, _STILL_WALKING, _LANES_MISSING, _MEMORY, _LANES_THERE.
-   One thread at a time. */
+   closes it. The lane is none then.
+   RENAMER_NONE, _STILL_WALKING, _LANES_MISSING, _MEMORY, _LANES_THERE. One thread at a time. */
 RENAMER_CALL uint32_t renamer_close(renamer_lane *lane, renamer_quiet *quiet);
 
-/* How many clients left by each exit is a list of as many numbers as there are exits; who has which name is a list of as
-   many clients as came in. These two return the sizes. RENAMER_NONE. */
+/* How many clients left by each exit is a list of as many numbers as there are exits. Who has which name is a list of
+   as many clients as came in. These two calls return the sizes of the lists. RENAMER_NONE. */
 RENAMER_CALL uint32_t renamer_quiet_exits(const renamer_quiet *quiet, uint64_t *exits);
 RENAMER_CALL uint32_t renamer_quiet_clients(const renamer_quiet *quiet, uint64_t *clients);
 
-/* Copies how many left by each exit: counts[i] is that of exit i. RENAMER_NONE, _SIZE (counts has not that size). */
+/* Copies how many clients left by each exit: counts[i] is the number of exit i.
+   RENAMER_NONE, _SIZE (counts has not that size). */
 RENAMER_CALL uint32_t renamer_counts(const renamer_quiet *quiet, uint64_t *counts, size_t size);
 
-/* Copies who has which name: holders[n] is the client with name n. RENAMER_NONE, _SIZE (holders has not that size). */
+/* Copies who has which name: holders[n] is the client with name n.
+   RENAMER_NONE, _SIZE (holders has not that size). */
 RENAMER_CALL uint32_t renamer_holders(const renamer_quiet *quiet, uint64_t *holders, size_t size);
 
-/* Opens a floor that goes on from the counters of a closed one, over the same network; its names begin at 0 again. The
+/* Opens a floor that goes on from the counters of a closed one, over the same network. Its names begin at 0 again. The
    closed floor stays as it is.
    RENAMER_NONE, _CARRIED, _QUOTA, _MEMORY. One thread at a time. */
 RENAMER_CALL uint32_t renamer_open_after(renamer_lane *lane, const renamer_quiet *quiet, uint64_t quota);
 
-/* Frees what the handle has, if it has something; of NULL does nothing. A lane is handed back, unless clients are inside: then
-   its quota and names are lost with it, and its floor cannot be closed any more; the names of other lanes stay as good as
-   they were. One thread at a time. */
+/* Frees what the handle has, if it has something; for NULL it does nothing. A lane is handed back, unless clients are
+   inside. Then its quota and names are lost with it, and its floor cannot be closed any more; the names of other lanes
+   stay as good as they were. One thread at a time. */
 void renamer_free(renamer_lane *lane);
 void renamer_free_quiet(renamer_quiet *quiet);
 

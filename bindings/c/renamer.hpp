@@ -8,10 +8,11 @@
  *         && lane.name(17, 0, name) == renamer::status::done)
  *         std::cout << "client 17 has name " << name << "\n";
  *
- * Calls that are `const` only ask: any number of threads may make them at once on one object. An object that was made,
- * moved from, handed back or closed has nothing, and its calls return status::none. Objects can be moved, also to another
- * thread, and not copied. A lane that goes out of scope is handed back to its floor. No call here throws, but for those
- * that write a std::vector, if it gets no memory.
+ * Calls that are `const` only ask: any number of threads may make them at once on one object. An object that was only
+ * made, or was moved from, handed back or closed, has nothing, and its calls return status::none. Objects can be moved,
+ * also to another thread, and not copied. A lane that goes out of scope is handed back to its floor. Only calls that
+ * write a std::vector throw, if it gets no memory. Of these name_many makes a new list at each call; the call of
+ * renamer.h writes into an array that is there.
  */
 #ifndef RENAMER_HPP
 #define RENAMER_HPP
@@ -31,7 +32,7 @@ enum class kind : std::uint32_t {
     tree = RENAMER_TREE
 };
 
-/* What calls return; from C++17 on a compiler warns if it is not looked at. */
+/* What calls return. From C++17 on a compiler warns if it is not looked at. */
 #if __cplusplus >= 201703L
 enum class [[nodiscard]] status : std::uint32_t {
 #else
@@ -55,7 +56,7 @@ enum class status : std::uint32_t {
     lanes_there = RENAMER_LANES_THERE
 };
 
-/* A sentence that says what a status means, and what is allowed. */
+/* Returns a sentence that says what a status means, and what is allowed. */
 inline const char *explain(status status) noexcept { return renamer_explain(static_cast<std::uint32_t>(status)); }
 
 using client = renamer_client;
