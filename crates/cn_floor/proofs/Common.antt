@@ -1,5 +1,5 @@
 -- What many proofs of this crate import: they import it here.
-
+use Rattle.std.specs.Prelude.{ℕ, ◌==◌, count_by}
 pub use Rattle.std.proofs.lemmas.Bool.{cases_eq, cases_lt, eq-eqb, le-ltb, lt-ltb, ne_eqb}
 pub use Rattle.std.proofs.lemmas.List.{append_assoc, get_or_past, length-replicate, length_push}
 pub use Rattle.std.proofs.lemmas.List.FromFn.{length-map-range_with_len}
@@ -27,8 +27,12 @@ pub use Rattle.cn_floor.specs.Rule.{HoldsAt, IsAccounted, IsFresh, IsStart, ledg
 pub use Rattle.cn_floor.specs.Spread.{spread, words_in}
 pub use Rattle.cn_floor.specs.Steps.{IsAnswer, IsAtomicStep, StoodInState}
 pub use Rattle.cn_floor.specs.Sweeps.{AreLetBy, after_sweep}
-pub use Rattle.cn_floor.specs.Views.{after_enter, after_step, base, given_in, granted_in, on_in, standing_in}
+pub use Rattle.cn_floor.specs.Views.{after_enter, after_step, base, given_in, granted_in, on_in}
 pub use Rattle.cn_floor.specs.Words.{clients_in, count_in, end_word, entered_in, word_count}
 pub use Rattle.cn_floor.specs.declared.view.Grant.{Grant}
 pub use Rattle.cn_floor.specs.declared.view.Start.{Start}
 pub use Rattle.cn_floor.specs.declared.view.View.{View}
+
+-- how many tokens on wire u are client c
+abbrev pub standing_in : ℕ → ℕ → View → ℕ
+standing_in u c v = count_by (λ e. e.1 == c) (on v.tokens u)

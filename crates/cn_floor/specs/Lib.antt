@@ -1,5 +1,6 @@
 pub mod Words
 pub mod Views
+pub mod History
 pub mod Rule
 pub mod Spread
 pub mod Spacing

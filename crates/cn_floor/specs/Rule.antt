@@ -1,5 +1,5 @@
 -- The rule of a floor: what the words and the views of all lanes are to each other between any two atomic steps.
-use Rattle.std.specs.Prelude.{◌≡◌, ℕ, ◌+◌, ◌*◌, ◌<◌, ◌≤◌, ◌&&◌, ◌==◌, nat_lt, All, List, [], length, slice_index, slice_index_or, sum_by}
+use Rattle.std.specs.Prelude.{◌≡◌, ℕ, ◌+◌, ◌*◌, ◌<◌, ◌≤◌, ◌&&◌, ◌==◌, nat_lt, All, List, [], length, slice_index, slice_index_or, count_by, sum_by}
 use mathlib.Core.Option.{some}
 use lib.ListN.{get_elem?}
 use Rattle.atomic_table.specs.Table.{State}
@@ -15,7 +15,8 @@ use Rattle.cn_yard.specs.Lists.{on, tokens_in}
 use Rattle.cn_floor.specs.declared.view.Opening.{Opening}
 use Rattle.cn_floor.specs.declared.view.Start.{Start}
 use Rattle.cn_floor.specs.declared.view.View.{View}
-use Rattle.cn_floor.specs.Views.{base, given_in, granted_in, levels_in, standing_in}
+use Rattle.cn_floor.specs.History.{Event, LeadsTo}
+use Rattle.cn_floor.specs.Views.{base, given_in, granted_in, levels_in}
 use Rattle.cn_floor.specs.Words.{clients_in, count_in, entered_in, word_count}
 
 -- The ledger of all that came, went and was given since the words were zero: what the carried words record, and what
@@ -25,7 +26,7 @@ ledger_of t carried words views = record {
   entered = entered_in t words;
   count = count_in t words;
   on = λ u. sum_by (λ v. length (on v.tokens u)) views;
-  standing = λ u c. sum_by (standing_in u c) views;
+  standing = λ u c. sum_by (λ v. count_by (λ e. e.1 == c) (on v.tokens u)) views;
   given = λ end n. once_below (count_in t carried end) n + sum_by (given_in end n) views;
   granted = λ c i v name.
       when ((0 == c) && (nat_lt v (count_in t carried (Exit i)) && (name_of t.width i v == name))) 1
@@ -44,6 +45,12 @@ pub record IsStart (start : Start) : Type 0 where
   pub quota : start.quota ≤ MOST_CLIENTS
   pub carried : IsCarried start.network.table start.words
   pub few : base start ≤ MOST_CARRIED
+
+-- this ledger is that of some history since the floor began
+abbrev pub IsReached : Start → Ledger → Type 0
+IsReached start l =
+    (history : List Event)
+    × LeadsTo start.network.table history (ledger_of start.network.table start.words start.words []) l
 
 -- what each view is by itself
 pub record IsAccounted (network : Network) (v : View) : Type 0 where
@@ -78,6 +85,8 @@ pub record KeepsRule (start : Start) (s : FloorState) : Type 0 where
   pub lanes : slice_index s.words 0 ≡ 0
   -- the ledger is sound
   pub sound : IsSound start.network.table (ledger_of start.network.table start.words s.words s.views)
+  -- and some history of the floor led to it
+  pub reached : IsReached start (ledger_of start.network.table start.words s.words s.views)
   -- each entry's word has the entries of all views, above the carried ones
   pub entered : (u : ℕ) → u < start.network.table.entries
       → entered_in start.network.table s.words u

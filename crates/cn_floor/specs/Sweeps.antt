@@ -4,7 +4,6 @@ use Rattle.cn_spec.specs.Step.{name_of}
 use Rattle.cn_wiring.specs.declared.end.End.{End}
 use Rattle.cn_wiring.specs.declared.end.End.TheVariants.{Balancer, Exit}
 use Rattle.cn_wiring.specs.Table.{Table, end_of, output_wire}
-use Rattle.cn_ledger.specs.Events.{Leaves, Passes}
 use Rattle.cn_ledger.specs.Ledger.{Ledger}
 use Rattle.cn_yard.specs.Deals.{IsCleared, IsDealt}
 use Rattle.cn_yard.specs.Lists.{Yard, on}
@@ -13,6 +12,7 @@ use Rattle.cn_floor.specs.declared.view.Start.{Start}
 use Rattle.cn_floor.specs.declared.view.Sweep.{Sweep}
 use Rattle.cn_floor.specs.declared.view.Sweep.TheVariants.{On, Out}
 use Rattle.cn_floor.specs.declared.view.View.{View}
+use Rattle.cn_floor.specs.History.{GoesFrom}
 use Rattle.cn_floor.specs.Lane.{LaneValue}
 use Rattle.cn_floor.specs.Steps.{IsAtomicStep}
 use Rattle.cn_floor.specs.Views.{after_step, base, no_start, own_count}
@@ -26,11 +26,6 @@ after_steps end n (e ∷ rest) v = after_steps end (n + 1) rest (after_step e.0 
 -- those of a wire, in one step
 abbrev pub after_sweep : ℕ → End → ℕ → View → View
 after_sweep wire end n v = record (after_steps end n (on v.tokens wire) v) { steps = v.steps + 1 }
-
--- a client goes from a wire by its end
-abbrev pub GoesFrom : Table → Ledger → Ledger → ℕ → ℕ → End → Type 0
-GoesFrom t old new client wire (Balancer b) = Passes t old new client wire b
-GoesFrom t old new client wire (Exit i) = Leaves t old new client wire i
 
 -- clients go from a wire by its end one after the other, with the numbers from n on: so many events in turn
 unfoldable pub GoInTurn : Table → ℕ → End → ℕ → List (ℕ × ℕ) → Ledger → Ledger → Type 0

@@ -36,10 +36,6 @@ empty_view start quota = record {
 abbrev pub on_in : ℕ → View → ℕ
 on_in u v = length (on v.tokens u)
 
--- how many of these are client c
-abbrev pub standing_in : ℕ → ℕ → View → ℕ
-standing_in u c v = count_by (λ e. e.1 == c) (on v.tokens u)
-
 -- how often the lane was given number n at an end: a passage's at a balancer, a visit's at an exit
 abbrev pub given_in : End → ℕ → View → ℕ
 given_in (Balancer b) n v = count_by (λ p. (b == p.balancer) && (p.number == n)) v.passages

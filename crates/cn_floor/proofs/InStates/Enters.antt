@@ -4,11 +4,12 @@ use Rattle.cn_floor.proofs.Common.{Allows, HoldsAt, IsAccounted, IsAtomicStep, I
 use Rattle.atomic_table.specs.Table.{stepped}
 use Rattle.cn_spec.specs.Sums.{times}
 use Rattle.cn_ledger.specs.Events.{Enters, one_at}
+use Rattle.cn_floor.specs.History.{Enter}
 use Rattle.cn_floor.specs.Plays.{Coming, ComesIn}
 use Rattle.cn_floor.proofs.InStates.Bounds.{few-came}
 use Rattle.cn_floor.proofs.InStates.Accounts.{accounted-after-enter}
 use Rattle.cn_floor.proofs.InStates.Fresh.{fresh-grown, names_below}
-use Rattle.cn_floor.proofs.InStates.Kept.{one-step}
+use Rattle.cn_floor.proofs.InStates.Kept.{one-step, reached-by}
 use Rattle.cn_floor.proofs.InStates.Ledgers.{enters}
 use Rattle.cn_floor.proofs.InStates.Totals.{total-set}
 use Rattle.cn_floor.proofs.InStates.Raised.{entered-raised, entered-word, lanes-raised, raised}
@@ -60,6 +61,7 @@ module _ (start : Start) (id token client entry : ℕ) (v : View) (s : State (Un
       words = length-set s.words (1 + entry) (get_or s.words (1 + entry) 0 + 1) ∙ kept.rule.words;
       lanes = lanes-raised s.words (1 + entry) (omega arith) kept.rule.lanes;
       sound = sound-enters start.network.table (ledger_of start.network.table start.words s.words s.views) (ledger_of start.network.table start.words after.words after.views) client entry came_in kept.rule.sound;
+      reached = reached-by start (Enter client entry) (ledger_of start.network.table start.words s.words s.views) (ledger_of start.network.table start.words after.words after.views) kept.rule.reached came_in;
       entered = λ u l.
           let more = total-set (λ (x : View). times u x.entries) s.views id v w here in
           omega (arith, entered-raised start.network.table s.words kept.rule.words entry low u, kept.rule.entered u l, times-last u entry v.entries);

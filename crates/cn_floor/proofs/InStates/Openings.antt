@@ -3,6 +3,7 @@ use Rattle.std.proofs.Common.{◌≡◌, ℕ, zero, suc, ◌+◌, ◌*◌, ◌�
 use Rattle.cn_floor.proofs.Common.{Balancer, End, Exit, HoldsAt, IsAccounted, IsFresh, IsSound, IsStart, Start, Table, View, base, clients_in, count_in, end_word, entered_in, get_elem?, given_in, granted_in, le-ltb, ledger_of, length-replicate, name_of, on_in, once_below, some, standing_in, sum-below-zero, sum_by-cons, tokens_in, when, word_count}
 use mathlib.Core.Option.{some-injective, some-ne-none}
 use Rattle.atomic_table.specs.Table.{opening}
+use Rattle.cn_floor.specs.History.{LeadsTo}
 use Rattle.cn_floor.specs.Rule.{IsCarried}
 use Rattle.cn_floor.specs.Views.{empty_view, levels_in}
 use Rattle.cn_spec.proofs.CallerLemmas.{times-nil, zero_at}
@@ -118,12 +119,14 @@ module _ (start : Start) (quota : ℕ) where
 
 -- a floor may begin with words that it may carry
 pub begins : (start : Start) → IsStart start → HoldsAt start (opening start.words [] (empty_view start start.quota))
+unfolding LeadsTo
 begins start is = record {
   began = is;
   rule = record {
     words = is.carried.words;
     lanes = is.carried.lanes;
     sound = subst (IsSound start.network.table) (ledger-new start start.quota start.words) is.carried.sound;
+    reached = ([], ledger-new start start.quota start.words);
     entered = λ u l. omega (arith, times-nil u);
     accounted = λ id v e. account-at id v e;
     fresh = λ id v e. fresh-at id v e;

@@ -5,13 +5,13 @@ use Rattle.std.proofs.lemmas.List.Elements.{All-push}
 use Rattle.atomic_table.specs.Table.{stepped}
 use Rattle.cn_wiring.specs.Table.{is_end}
 use Rattle.cn_ledger.specs.Moves.{IsMoveOf}
+use Rattle.cn_floor.specs.History.{GoesFrom, Step}
 use Rattle.cn_floor.specs.Plays.{Going, GoesOn}
 use Rattle.cn_floor.specs.Steps.{answer_at}
-use Rattle.cn_floor.specs.Sweeps.{GoesFrom}
 use Rattle.cn_floor.proofs.InStates.Bounds.{count-few, few-came, name-later}
 use Rattle.cn_floor.proofs.InStates.Accounts.{accounted-after_step}
 use Rattle.cn_floor.proofs.InStates.Fresh.{fresh-grown}
-use Rattle.cn_floor.proofs.InStates.Kept.{one-step}
+use Rattle.cn_floor.proofs.InStates.Kept.{one-step, reached-by}
 use Rattle.cn_floor.proofs.InStates.Ledgers.{Lands, leaves, passes}
 use Rattle.cn_floor.proofs.InStates.Sole.{sole}
 use Rattle.cn_floor.proofs.InStates.Totals.{total-set}
@@ -124,6 +124,7 @@ module _ (start : Start) (id token client wire : ℕ) (end : End) (v : View) (s 
       words = length-set s.words (end_word t end) (get_or s.words (end_word t end) 0 + 1) ∙ kept.rule.words;
       lanes = lanes-raised s.words (end_word t end) (one-end t end) kept.rule.lanes;
       sound = sound-by end now went;
+      reached = reached-by start (Step client wire) was now kept.rule.reached (subst (GoesFrom t was now client wire) (sym ends) went);
       entered = λ u l.
           let more = total-set (λ (x : View). times u x.entries) s.views id v then here in
           let same : times u then.entries ≡ times u v.entries = ap (λ (es : List ℕ). times u es) (quota-same end n).1 in

@@ -4,7 +4,8 @@ use Rattle.cn_floor.proofs.Common.{Allows, Balancer, End, Exit, HoldsAt, IsThere
 use Rattle.std.proofs.lemmas.List.{set-get_or, set-set, get_or-set_same}
 use Rattle.std.proofs.lemmas.Nat.{mod_below}
 use Rattle.cn_yard.proofs.CallerLemmas.{first-there, once-gone, once-moved, rest-on}
-use Rattle.cn_floor.specs.Sweeps.{AllGoOn, GoInTurn, GoesFrom, Sweeping, after_steps}
+use Rattle.cn_floor.specs.History.{GoesFrom}
+use Rattle.cn_floor.specs.Sweeps.{AllGoOn, GoInTurn, Sweeping, after_steps}
 use Rattle.cn_floor.proofs.InStates.Bounds.{count-few, few-came, name-later}
 use Rattle.cn_floor.proofs.InStates.Kept.{counted-alike, kept-recounted, ledger-alike, one-step}
 use Rattle.cn_floor.proofs.Lists.{lists_after, made_at, made-beyond}

@@ -7,7 +7,7 @@ ghost use Rattle.cn_ledger.specs.Laws.{GrantsOnce, NamesDiffer};
 ghost use Rattle.cn_ledger.specs.Ledger.{IsBounded, IsTight};
 ghost use Rattle.cn_floor.specs.Ends.{NobodyInside};
 ghost use Rattle.cn_floor.specs.Laws.{HasFewWords, HasWalked, HoldsLowNames, InEachState, InEachView, NamesOnce, NumbersDiffer, TakesItsSteps, VisitsGoOn, entered_at, ledger_at};
-ghost use Rattle.cn_floor.specs.Rule.{IsStart};
+ghost use Rattle.cn_floor.specs.Rule.{IsReached, IsStart};
 ghost use Rattle.cn_floor.specs.Views.{base};
 
 use super::Floor;
@@ -40,6 +40,12 @@ impl<'a> Floor<'a> {
     {
         self.start_laws();
     }
+
+    /// Some history led to each state: events, in each of which a client comes in, passes a balancer or leaves with a
+    /// name, made its ledger of that with which the floor began, one after the other.
+    pub fn each_ledger_is_reached(&self)
+        ensures { InEachState self.now.start (λ start s. IsReached start (ledger_at start s)) }
+    {}
 
     /// No two passages of any lanes have one balancer and number, and no two grants one exit and visit.
     pub fn numbers_differ(&self)
