@@ -66,9 +66,9 @@ impl<'a> ClosedFloor<'a> {
         put_holders(self.grants.as_slice(), holders);
     }
 
-    /// That it was closed.
-    pub fn receipt(&self) -> Receipts
-        ensures { result ≡ self.now ∷ [] }
+    /// That it was closed. It is given up for that: so each closed floor has one receipt at most.
+    pub fn receipt(self) -> Receipts
+        ensures { result ≡ self.entry ∷ [] }
     {
         Receipts::of_one(&self.lane, &self.table, &self.stride)
     }

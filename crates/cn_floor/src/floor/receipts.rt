@@ -13,8 +13,8 @@ use std::snapshot::Snapshot;
 /// Which floors were closed, one after another: what each began with, what its lanes did, and the words at its end. It
 /// has no bytes.
 ///
-/// Only [`super::ClosedFloor::receipt`] puts a floor in, and nothing copies receipts. So a function that must return
-/// those of a run cannot be proved unless floors were walked on and closed.
+/// Only [`super::ClosedFloor::receipt`] puts a floor in, which it takes, and nothing copies receipts. So a function
+/// that must return those of a run cannot be proved unless as many floors were walked on and closed.
 #[derive(Drop)]
 pub struct Receipts {
     floors: Snapshot<Floors>,
