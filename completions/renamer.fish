@@ -8,18 +8,21 @@ complete -c renamer -n "not __fish_seen_subcommand_from $jobs" -s V -l version -
 
 complete -c renamer -n "not __fish_seen_subcommand_from $jobs" -a run -d 'Read a batch, print the names of its clients'
 complete -c renamer -n "not __fish_seen_subcommand_from $jobs" -a replay -d 'Read a schedule, print its answers'
-complete -c renamer -n "not __fish_seen_subcommand_from $jobs" -a check -d 'Read a grant list, say whether it is tight'
+complete -c renamer -n "not __fish_seen_subcommand_from $jobs" -a check -d 'Read grants, say whether names are tight'
 complete -c renamer -n "not __fish_seen_subcommand_from $jobs" -a show -d 'Print where each wire of a network ends'
 complete -c renamer -n "not __fish_seen_subcommand_from $jobs" -a help -d 'Print help'
 complete -c renamer -n '__fish_seen_subcommand_from help' -a 'run replay check show'
 
 complete -c renamer -n '__fish_seen_subcommand_from run replay show' -l network -x -a 'bitonic periodic tree' \
     -d 'The kind of network'
-complete -c renamer -n '__fish_seen_subcommand_from run replay check show' -l width -x -a '2 4 8 16 32 64 128 256' \
+complete -c renamer -n '__fish_seen_subcommand_from run replay show' -l width -x -a '2 4 8 16 32 64 128 256' \
     -d 'The width of the network'
+complete -c renamer -n '__fish_seen_subcommand_from check' -l width -x -a '2 4 8 16 32 64 128 256' \
+    -d 'By what the names are divided for the counts'
 complete -c renamer -n '__fish_seen_subcommand_from run' -l workers -x -a '(seq 64)' \
     -d 'How many workers share out the clients'
 complete -c renamer -n '__fish_seen_subcommand_from run' -l hand -x -a '(seq 64)' \
-    -d 'How many tokens in hand each worker has'
-complete -c renamer -n '__fish_seen_subcommand_from run' -l form -x -a 'report grants' -d 'What is written'
+    -d 'How many clients each worker walks at a time'
+complete -c renamer -n '__fish_seen_subcommand_from run' -l form -x -a 'report grants' \
+    -d 'What is written: report (exits and names) or grants (CSV for check)'
 complete -c renamer -n '__fish_seen_subcommand_from run' -l carry -d 'Keep the counters from epoch to epoch'

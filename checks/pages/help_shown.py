@@ -77,6 +77,8 @@ class Reader:
         elif self.lead.startswith("Causes;"):
             self.shown.causes, self.lead = lines, ""
         elif lines[0] == "Status:":
+            # A status may go on in the next line.
+            lines = re.sub(r"\n {3,}", " ", "\n".join(lines)).splitlines()
             found = [re.fullmatch(r" +(\d+) +(.*)", line) for line in lines[1:]]
             self.shown.statuses += [(int(line.group(1)), line.group(2)) for line in found if line]
             self.shown.unknown += [f"no status: {line}" for line, is_one in zip(lines[1:], found) if not is_one]

@@ -44,8 +44,9 @@ def phrases_of_help(job):
     records = rf"at most {limit['MOST_RECORDS']} records\b"
     numbers, header = r"numbers below 2\^64", r"count from 0: the header is record 0\b"
     width = rf"width of the network: {widths()}$"
+    tight = r"tight: 0 to k-1 in each epoch, each once$"
     return {
-        "renamer": [],
+        "renamer": [r"each epoch from 0 to k-1, by counting networks$", tight.replace("$", r"\b")],
         "run": [
             numbers,
             r"Entries are 0 to W-1\b",
@@ -56,9 +57,17 @@ def phrases_of_help(job):
             header,
             width,
             rf"How many workers [^:]*: 1 to {limit['MOST_WORKERS']}\s+\[default: 1\]",
-            rf"How many tokens in hand [^:]*: 1 to {limit['MOST_HAND']}\s+\[default: 1\]",
+            rf"How many clients each worker [^:]*: 1 to {limit['MOST_HAND']}\s+\[default: 1\]",
         ],
-        "check": [numbers, records, r"have the names 0 to k-1\b", r"remainders 0, 1, 2 and 3\b", header, width],
+        "check": [
+            tight,
+            numbers,
+            records,
+            r"have the names 0 to k-1\b",
+            r"remainders 0, 1, 2 and 3\b",
+            header,
+            rf"names are divided for the counts: {widths()}$",
+        ],
         "replay": [numbers, epoch, records, header, width],
         "show": [r"the two outputs of balancer 0, then those of balancer 1\b", width],
     }[job]
@@ -66,6 +75,8 @@ def phrases_of_help(job):
 
 # The forms of phrases of the manual page that have no limit.
 MANUAL = [
+    r"each epoch from 0 to k-1, by counting networks\b",
+    r"tight: 0 to k-1 in each epoch, each once\.",
     r"identities are below 2\^64",
     r"get the names 0 to k-1\b",
     r"its two outputs",
@@ -97,7 +108,7 @@ def phrases_of_manual():
         rf'^RENAMER 1 "\d{{4}}-\d\d-\d\d" "renamer {re.escape(VERSION.read_text().strip())}"',
         rf"width of the network: {widths()}\.",
         rf"How many workers [^:]*: 1 to {limit['MOST_WORKERS']}\. By default 1\.",
-        rf"How many tokens in hand [^:]*: 1 to {limit['MOST_HAND']}\. By default 1\.",
+        rf"How many clients each worker [^:]*: 1 to {limit['MOST_HAND']}\. By default 1\.",
         rf"numbers below 2\^64 in 1 to {limit['MOST_DIGITS']} decimal digits",
         rf"After the header come at most {records} records\.",
         rf"epoch has at most {clients} clients, and no client twice",
@@ -110,7 +121,7 @@ STATUSES = [
     r"done\b.*|the list is tight",
     r"the (input|batch|schedule|list) is refused\.?",
     r"the command line is refused\.?",
-    r"not finished: no memory, (no random numbers, )?(or )?a write (that )?failed\b.*",
+    r"not finished: no memory, (no arguments (or random numbers )?from the system, )?(or )?a write (that )?failed\b.*",
     r"the (grant )?list is not tight\.?",
 ]
 # The statuses that each job can end with.
@@ -163,8 +174,8 @@ def fault_lines():
         "renamer: flaw: Gap epoch E name M",
         "renamer: no such network WORD; allowed: bitonic, periodic or tree",
         f"renamer: no such width WORD; allowed: {widths()}",
-        f"renamer: workers out of range: 1 to {limit['MOST_WORKERS']}",
-        f"renamer: hand out of range: 1 to {limit['MOST_HAND']}",
+        f"renamer: no such number of workers WORD; allowed: 1 to {limit['MOST_WORKERS']}",
+        f"renamer: no such hand WORD; allowed: 1 to {limit['MOST_HAND']}",
         "renamer: no such form WORD; allowed: report or grants",
         "renamer: a word with control characters: WORD",
         "renamer: memory",

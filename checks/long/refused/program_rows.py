@@ -138,7 +138,7 @@ def refused_rows():
     tree = ["--network", "tree", "--width", "4"]
     gap = "epoch,client,name\n1,10,0\n1,11,1\n1,12,3\n"
     return [
-        ("words", ["run", *tree, "--hand", "65"], "", 2, "hand out of range: 1 to 64"),
+        ("words", ["run", *tree, "--hand", "65"], "", 2, 'no such hand "65"; allowed: 1 to 64'),
         ("a batch", ["run", *tree], "epoch,client,entry\n1,17,2\n", 1, "record 1: EntryRange"),
         ("a schedule", ["replay", *tree], "op,client,wire\nleave,7,0\n", 1, "record 1: Op"),
         ("a list of grants", ["check", "--width", "4"], gap, 4, "flaw: Gap epoch 1 name 2"),

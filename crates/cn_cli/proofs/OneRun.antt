@@ -1,6 +1,6 @@
 -- Options name one run at most.
-use Rattle.std.proofs.Common.{◌≡◌, ◌<◌, ◌^◌, ◌↔◌, ℕ, List, Result, Ok, Err, MatchResult, codes, arith, lit<, subst}
-use Rattle.std.specs.Prelude.{IsErr, IsErrOf}
+use Rattle.std.proofs.Common.{◌≡◌, ◌<◌, ◌^◌, ◌↔◌, ℕ, List, Result, Err, codes, arith, lit<, subst}
+use Rattle.std.specs.Prelude.{IsErrOf}
 use Rattle.clap.specs.Words.{Row}
 use Rattle.cn_spec.specs.Workers.{HandFits, WorkersFit}
 use Rattle.cn_spec.specs.declared.limits.TheConstants.{MOST_HAND, MOST_WORKERS}
@@ -31,8 +31,3 @@ refused-numbers given workers hand answer Workers gives_workers gives_hand few s
 refused-numbers given workers hand answer Hand gives_workers gives_hand few small is settings names within =
     let same = one_number given (codes "hand") settings.hand hand (names.hand, small-hand settings.hand within.2) gives_hand in
     (small.0 is).1 (subst HandFits same within.2)
-
--- an error is an answer wherever nothing is asked for
-pub refused : {T E : Type 0} (Is : T → Type 0) (Unless : E → Type 0) (Nothing : Type 0) (r : Result T E) → IsErr r → Nothing → MatchResult r Is (λ e. Unless e → Nothing)
-refused Is Unless Nothing (Ok x) is nothing = cc
-refused Is Unless Nothing (Err e) is nothing = λ unless. nothing

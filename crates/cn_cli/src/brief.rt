@@ -16,12 +16,12 @@ pub(crate) struct Brief {
 
 pub(crate) const RENAMER: Brief = Brief {
     usage: "renamer <COMMAND> [OPTIONS] < FILE",
-    about: "Tight renaming by counting networks",
+    about: "Numbers the clients of each epoch from 0 to k-1, by counting networks",
     end: "\
 A batch of two clients, who get the names 0 and 1:
 
-    $ printf 'epoch,client,entry\\n1,17,1\\n1,5,1\\n' |
-        renamer run --network bitonic --width 2
+    $ printf 'epoch,client\\n1,17\\n1,5\\n' |
+        renamer run --network tree --width 2
 
 `renamer COMMAND -h` lists the options of a command. `--help` has its formats,
 an example with its output, and the statuses.",
@@ -45,7 +45,7 @@ example with its output, and the statuses.",
 
 pub(crate) const CHECK: Brief = Brief {
     usage: "renamer check --width <W> < FILE",
-    about: "Reads a grant list, and prints how many names of each epoch fall to each exit",
+    about: "Reads a list of grants, and says whether its names are tight: 0 to k-1 in each epoch, each once",
     end: "\
 The file is CSV with the header `epoch,client,name`. `--help` has the formats,
 an example with its output, and the statuses.",

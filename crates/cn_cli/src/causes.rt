@@ -10,7 +10,8 @@ pub(crate) fn batch_causes(alloc: Global) -> Result<String, AllocError> {
         "\
 Causes; of several the first is given:
 
-  Read            the input cannot be read
+  Read            the input cannot be read: a folder, closed, not
+                  blocking, or its device fails
   Header          record 0 is not `epoch,client,entry` or `epoch,client`
   FieldCount      the record has not as many fields as the header
   EpochNumber     the epoch is no number below 2^64 in 1 to 20 digits
@@ -30,7 +31,8 @@ pub(crate) fn schedule_causes(alloc: Global) -> Result<String, AllocError> {
         "\
 Causes; of several the first is given:
 
-  Read            the input cannot be read
+  Read            the input cannot be read: a folder, closed, not
+                  blocking, or its device fails
   Header          record 0 is not `op,client,wire`
   FieldCount      the record has not three fields
   Op              the first field is not enter, step or turn
@@ -47,11 +49,12 @@ pub(crate) fn grant_causes(alloc: Global) -> Result<String, AllocError> {
         "\
 Causes; of several the first is given:
 
-  Read             the input cannot be read
+  Read             the input cannot be read: a folder, closed, not
+                   blocking, or its device fails
   Form             record 0 is not `epoch,client,name`; or the record is not
-                   three numbers below 2^64 in 1 to 20 digits, its epoch is
-                   below that of the record before, or the list has {MOST_RECORDS}
-                   records already
+                   three numbers below 2^64 in 1 to 20 digits, or its epoch
+                   is below that of the record before;
+                   or the list has {MOST_RECORDS} records already
   DuplicateClient  the client has a name in this epoch already
   DuplicateName    the name is given in this epoch already
   Gap              nobody in the epoch has the name, which is below its number

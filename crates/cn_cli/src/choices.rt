@@ -15,6 +15,7 @@ ghost use Rattle.cn_cli.specs.declared.options.Form.{Form};
 use crate::options::{Form, OptionFault, Options};
 use clap::ArgMatches;
 use cn_nets::{Net, NetFault, Widths};
+use cn_spec::limits::{MOST_HAND, MOST_WORKERS};
 use cn_wiring::{Kind, is_width};
 use std::alloc::{AllocError, Global};
 use thiserror::Error;
@@ -34,9 +35,12 @@ pub(crate) enum ChoiceFault<'a> {
     /// The network is not built.
     #[error("{0}")]
     Net(NetFault),
-    /// They name numbers outside of their limits.
-    #[error("{0}")]
-    Options(OptionFault),
+    /// This word for a number of workers is of none that is allowed.
+    #[error("renamer: no such number of workers {:?}; allowed: 1 to {}", .0, MOST_WORKERS)]
+    Workers(&'a str),
+    /// This word for a hand is of none that is allowed.
+    #[error("renamer: no such hand {:?}; allowed: 1 to {}", .0, MOST_HAND)]
+    Hand(&'a str),
     /// This word for a form is of none.
     #[error("renamer: no such form {:?}; allowed: {} or {}", .0, Form::Report.word(), Form::Grants.word())]
     Form(&'a str),
@@ -50,14 +54,6 @@ impl From<NetFault> for ChoiceFault<'_> {
 
     fn from(fault: NetFault) -> Self {
         ChoiceFault::Net(fault)
-    }
-}
-
-impl From<OptionFault> for ChoiceFault<'_> {
-    ghost from_gives = { λ fault given. given ≡ choice.Options fault };
-
-    fn from(fault: OptionFault) -> Self {
-        ChoiceFault::Options(fault)
     }
 }
 
@@ -189,6 +185,16 @@ pub(crate) fn chosen_net<'a>(
     }
 }
 
+/// The fault of options of a run, with the word that it refuses.
+fn refused<'a>(options: &ArgMatches<'a>, fault: OptionFault) -> ChoiceFault<'a>
+    ensures { result ≢ choice.Memory }
+{
+    match fault {
+        OptionFault::Workers => ChoiceFault::Workers(word_of(options, "workers")),
+        OptionFault::Hand => ChoiceFault::Hand(word_of(options, "hand")),
+    }
+}
+
 /// The options of a run.
 pub(crate) fn chosen_options<'a>(
     alloc: Global,
@@ -200,18 +206,17 @@ pub(crate) fn chosen_options<'a>(
 {
     let net = chosen_net(alloc, options)?;
     let Some(workers) = chosen_number(alloc, options, "workers")? else {
-        return Err(ChoiceFault::Options(OptionFault::Workers));
+        return Err(refused(options, OptionFault::Workers));
     };
     let Some(hand) = chosen_number(alloc, options, "hand")? else {
-        return Err(ChoiceFault::Options(OptionFault::Hand));
+        return Err(refused(options, OptionFault::Hand));
     };
     let Some(form) = value_of(options, "form").and_then(form_named) else {
         return Err(ChoiceFault::Form(word_of(options, "form")));
     };
-    let run = Options::new(net, workers, hand, form)?;
-    if has_flag(options, "carry") {
-        Ok(run.carried())
-    } else {
-        Ok(run)
+    match Options::new(net, workers, hand, form) {
+        Ok(run) if has_flag(options, "carry") => Ok(run.carried()),
+        Ok(run) => Ok(run),
+        Err(fault) => Err(refused(options, fault)),
     }
 }

@@ -91,7 +91,7 @@ fn network_command<'a>(
 fn run_command<'a>(alloc: Global, help: &'a HelpTexts) -> Draft<'a>
     ensures { IfOk result (λ command. app_of command ≡ run_words) }
 {
-    let forms = "What is written: report or grants";
+    let forms = "What is written: report (exits and names) or grants (CSV for check)";
     let carry = "Keep the counters of the network from epoch to epoch";
     let command = network_command(alloc, "run", brief::RUN, &help.run, help);
     let command = with_option(command, alloc, "workers", "K", Some("1"), &help.workers);
@@ -104,7 +104,7 @@ fn check_command<'a>(alloc: Global, help: &'a HelpTexts) -> Draft<'a>
     ensures { IfOk result (λ command. app_of command ≡ check_words) }
 {
     let command = Ok(described_command(alloc, "check", brief::CHECK, &help.check));
-    with_option(command, alloc, "width", "W", None, &help.width)
+    with_option(command, alloc, "width", "W", None, &help.divisor)
 }
 
 /// The program's name and version. It has no subcommand yet, of which one has to be given.

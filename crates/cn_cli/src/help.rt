@@ -14,6 +14,7 @@ pub(crate) struct HelpTexts {
     pub(crate) check: String,
     /// Of the options of subcommands.
     pub(crate) width: String,
+    pub(crate) divisor: String,
     pub(crate) workers: String,
     pub(crate) hand: String,
 }
@@ -26,10 +27,13 @@ impl HelpTexts {
             replay: replay_help(alloc)?,
             check: check_help(alloc)?,
             width: format!(in alloc; "The width of the network: {}", Widths)?,
+            divisor: format!(in alloc; "By what the names are divided for the counts: {}", Widths)?,
             workers: format!(in alloc;
                 "How many workers share out the clients: 1 to {MOST_WORKERS}"
             )?,
-            hand: format!(in alloc; "How many tokens in hand each worker has: 1 to {MOST_HAND}")?,
+            hand: format!(in alloc;
+                "How many clients each worker walks at a time: 1 to {MOST_HAND}"
+            )?,
         })
     }
 }
@@ -45,9 +49,9 @@ Input is CSV on standard input, under one of these headers:
 
 A batch, and a report of it:
 
-    $ printf 'epoch,client,entry\\n1,17,1\\n1,5,1\\n' |
-        renamer run --network bitonic --width 2
-    network bitonic width 2 balancers 1 depth 1
+    $ printf 'epoch,client\\n1,17\\n1,5\\n' |
+        renamer run --network tree --width 2
+    network tree width 2 balancers 1 depth 1
     epoch 1 clients 2
     exit 0 count 1
     exit 1 count 1
@@ -61,7 +65,8 @@ Status:
   0  done
   1  the input is refused
   2  the command line is refused
-  3  not finished: no memory, no random numbers, or a write failed
+  3  not finished: no memory, no arguments or random numbers from the system,
+     or a write failed
   4  the grant list is not tight";
 
 // ---- run
@@ -142,7 +147,8 @@ Status:
   0  done
   1  the batch is refused
   2  the command line is refused
-  3  not finished: no memory, no random numbers, or a write failed";
+  3  not finished: no memory, no arguments or random numbers from the system,
+     or a write failed";
 
 // ---- replay
 
@@ -209,7 +215,8 @@ Status:
   0  done, also if commands are refused
   1  the schedule is refused
   2  the command line is refused
-  3  not finished: no memory, no random numbers, or a write failed";
+  3  not finished: no memory, no arguments or random numbers from the system,
+     or a write failed";
 
 // ---- check
 
@@ -263,7 +270,7 @@ Status:
   0  the list is tight
   1  the list is refused
   2  the command line is refused
-  3  not finished: no memory, or a write failed
+  3  not finished: no memory, no arguments from the system, or a write failed
   4  the list is not tight";
 
 // ---- show
@@ -288,4 +295,4 @@ the two outputs of balancer 0, then those of balancer 1, and so on.
 Status:
   0  done
   2  the command line is refused
-  3  not finished: no memory, or a write failed";
+  3  not finished: no memory, no arguments from the system, or a write failed";

@@ -6,7 +6,7 @@ mod causes;
 mod choices;
 mod command_line;
 mod help;
-mod operand;
+mod hint;
 mod options;
 mod words;
 

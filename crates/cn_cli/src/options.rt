@@ -78,10 +78,10 @@ impl Model for Options {
 #[derive(Clone, Copy, Debug, PartialEq, Eq, Error)]
 pub enum OptionFault {
     /// There are no workers, or more than [`MOST_WORKERS`].
-    #[error("renamer: workers out of range: 1 to {most}", most = MOST_WORKERS)]
+    #[error("renamer: no such number of workers; allowed: 1 to {most}", most = MOST_WORKERS)]
     Workers,
     /// A worker would have no token in hand, or more than [`MOST_HAND`].
-    #[error("renamer: hand out of range: 1 to {most}", most = MOST_HAND)]
+    #[error("renamer: no such hand; allowed: 1 to {most}", most = MOST_HAND)]
     Hand,
 }
 

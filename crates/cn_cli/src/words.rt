@@ -10,7 +10,7 @@ ghost use Rattle.cn_cli.specs.declared.words.WordsFault.TheVariants.{Memory};
 use crate::choices::{ChoiceFault, chosen_net, chosen_options, chosen_width};
 use crate::command_line::command;
 use crate::help::HelpTexts;
-use crate::operand::with_hint;
+use crate::hint::with_hint;
 use crate::options::Options;
 use clap::error::ErrorKind;
 use clap::{ArgMatches, Command};

@@ -1,0 +1,72 @@
+//! What a refusal by clap says beside clap's own text.
+
+use std::alloc::{AllocError, Global};
+
+/// What clap says of a word that nothing takes begins so. After it come the word and a quote.
+const UNEXPECTED: &str = "error: unexpected argument '";
+
+/// What clap says if options are missing begins so.
+const MISSING: &str = "error: the following required arguments were not provided:";
+
+/// The word that clap did not expect, by its text.
+fn unexpected_in(text: &str) -> Option<&str> {
+    let (word, _) = text.strip_prefix(UNEXPECTED)?.split_once('\'')?;
+    Some(word)
+}
+
+/// What a job does, and how it is called with the options that it wants.
+fn call_of(job: &str) -> Option<&'static str> {
+    match job {
+        "run" => Some("To number a batch: renamer run --network tree --width 2 < FILE"),
+        "replay" => Some("To replay a schedule: renamer replay --network tree --width 2 < FILE"),
+        "check" => Some("To check a list of grants: renamer check --width 2 < FILE"),
+        "show" => Some("To show a network: renamer show --network tree --width 2"),
+        _ => None,
+    }
+}
+
+/// What may be meant by a word that clap did not expect after a job.
+fn meant_by(alloc: Global, job: &str, word: &str) -> Result<Option<String>, AllocError> {
+    let hint = match word {
+        "help" => format!(in alloc; "For the help of {job}: renamer help {job}")?,
+        "-v" | "-V" | "--version" => String::from_str(alloc, "For the version: renamer --version")?,
+        "-n" => String::from_str(alloc, "-n is written --network")?,
+        "-w" => String::from_str(alloc, "-w is written --width")?,
+        // Nothing is read for a wiring.
+        _ if job == "show" => return Ok(None),
+        "-" => String::from_str(alloc, "renamer reads standard input anyway: leave - out")?,
+        _ if word.starts_with('-') => return Ok(None),
+        _ => format!(in alloc; "renamer reads standard input: renamer {job} .. < {word}")?,
+    };
+    Ok(Some(hint))
+}
+
+/// What a refusal of this job may say beside clap's text.
+fn hint_of(alloc: Global, job: &str, text: &str) -> Result<Option<String>, AllocError> {
+    match (unexpected_in(text), call_of(job)) {
+        (Some(word), _) => meant_by(alloc, job, word),
+        (None, Some(call)) if text.starts_with(MISSING) => {
+            Ok(Some(String::from_str(alloc, call)?))
+        }
+        _ => Ok(None),
+    }
+}
+
+/// The text of a refusal by clap, and a line more if something is known that was meant. clap shows words as they are,
+/// so one with control characters, which no job has, is shown in place of its text.
+pub(crate) fn with_hint(
+    alloc: Global,
+    words: &[String],
+    text: String,
+) -> Result<String, AllocError> {
+    if let Some(word) = words.iter().find(|word| word.contains(char::is_control)) {
+        return format!(in alloc; "renamer: a word with control characters: {word:?}\n");
+    }
+    let Some(job) = words.get(1) else {
+        return Ok(text);
+    };
+    match hint_of(alloc, job, &text)? {
+        Some(hint) => format!(in alloc; "{text}\n{hint}\n"),
+        None => Ok(text),
+    }
+}
