@@ -1,12 +1,14 @@
-"""What is not ours and may stand in the sources of the program and of the library, and how often: see no_other_word."""
-import functools
+"""What may stand in the sources of the program and of the library, and how often: see no_other_word."""
+import re
 
 ANY = 1_000_000
 # The crates of the kit that any crate may use, and those that one may.
 KIT_OF_ALL = {"clap", "csv", "indexmap", "itoa", "thiserror"}
 KIT_OF = {"cn_floor": {"atomic_table"}, "renamer_c": {"counted_slot"}}
-KIT = KIT_OF_ALL.union(*KIT_OF.values(), {"core", "std"})
-# The paths of each file: nothing that threads share, and no wait. Of a path that ends in `::` all that is below.
+LIBRARIES = KIT_OF_ALL.union(*KIT_OF.values(), {"core", "std"})
+# Modules of std that a `use` may bring in: paths go on by their names.
+MODULES = {name: f"std::{name}" for name in ("env", "fmt", "io", "mem", "thread")}
+# The paths of any crate: nothing that threads share, and no wait. Of a path that ends in `::` all that is below.
 PATHS = {
     "clap::", "csv::", "indexmap::", "itoa::", "thiserror::", "std::fmt::",
     "std::alloc::AllocError", "std::alloc::Allocator", "std::alloc::Global", "std::collections::BTreeSet",
@@ -16,60 +18,69 @@ PATHS = {
     "std::marker::Model", "std::marker::PhantomData", "std::mem", "std::mem::replace", "std::mem::swap",
     "std::random::RandomSource", "std::sync::Wait", "std::thread::Threads",
 }
-FLOOR, LIBRARY = "cn_floor/src/floor/", "renamer_c/src/"
-ARC, CLOSED, SNAPSHOT = "std::sync::Arc", "atomic_table::Closed", "std::snapshot::Snapshot"
-COUNT = "std::sync::atomic::AtomicU64"
-# What a file, or the files of a folder, may have beside these, and how often at most: paths; and words, some with the
-# dot or the colons before them, which are counted in all of the crate. So a floor has one table and these steps on it,
-# lanes these places, a network and a floor these owners, and ghost data is made here only.
+# What is counted in each crate, after a dot or colons: a step on what threads share, an owner more of it, a floor that
+# opens, and a lane that is split off.
+STEP = re.compile(r"""(\.|::)(
+    fetch_\w+ | compare_exchange\w* | exchange | load | load_new_seat | store | swap | swap_new_seat | peek | park\w*
+    | wake\w* | turn | split_seat | join_seat
+    | \w*clone\w* | concat | cycle | extend_from_slice | fill | make_mut | repeat\w* | resize\w* | strong_count
+    | to_owned | to_vec | open\w* | split | split_off)$""", re.X)
+# Types that are shared: a type that has another name by them is counted as they are.
+SHARED = {"Arc", "AtomicU64", "Counted", "Snapshot", "Table"}
+# What a crate may have beside PATHS, and how often at most: paths, words with a dot or colons before them, functions of
+# a type, and words as they are. What one row has stands in no other crate. So a floor has one table and these steps on
+# it, lanes these places, a network and a floor these owners, and ghost data is made here only.
 MOST = {
-    # The floor's table, its kinds of steps, and the steps.
-    FLOOR: {"atomic_table::Seat": ANY},
-    FLOOR + "plays.rt": {f"atomic_table::{name}": times
-                         for name, times in (("Join", 3), ("Play", 7), ("Split", 3), ("TableRule", 2))},
-    FLOOR + "counters.rt": {"atomic_table::Table": 2, ".shared": 6, ".fetch_add": 4, ".join_seat": 1, ".split_seat": 1,
-                            CLOSED: ANY, SNAPSHOT: ANY, SNAPSHOT + "::of": 2},
-    FLOOR + "counters/loading.rt": {".shared": 4, ".load": 2, ".join_seat": 1, ".split_seat": 1},
-    FLOOR + "counters/spreading.rt": {"atomic_table::Table": 2, "atomic_table::Table::of_words": 2, ".shared": 4},
-    FLOOR + "sharing.rt": {".split_seat": 1},
-    # Its network, which several may own.
-    FLOOR + "network_ref.rt": {ARC: ANY, ARC + "::try_clone": 1, ".clone": 0, "::clone": 0, "::share": 0,
-                               "::shared": 1},
-    FLOOR + "words.rt": {ARC: ANY, ".share": 2, "::shared": 1},
-    FLOOR + "opening.rt": {ARC: ANY, ".copy": 1},
-    # Its close, and the receipts.
-    FLOOR + "closing.rt": {".share_network": 2, SNAPSHOT: ANY, SNAPSHOT + "::of": 1},
-    FLOOR + "closed_floor.rt": {CLOSED: ANY, SNAPSHOT: ANY, "of_one": 1},
-    FLOOR + "quiet.rt": {SNAPSHOT: ANY},
-    FLOOR + "reading.rt": {CLOSED: ANY},
-    FLOOR + "receipts.rt": {CLOSED: ANY, SNAPSHOT: ANY, SNAPSHOT + "::of": 6, "of_one": 1},
-    "cn_floor/src/view.rt": {SNAPSHOT: ANY},
-    # Threads.
-    "cn_walk/src/forking.rt": {"std::thread": ANY, "std::thread::join": ANY},
-    "cn_report/src/reading/batch/readers.rt": {"std::thread::join_mut": ANY},
-    "cn_renamer/src/epochs.rt": {"std::thread::join_mut": ANY},
+    "cn_floor": {
+        # The table, its kinds of steps, and the steps: four adds, two loads, a split and a join of seats.
+        "atomic_table::Closed": ANY, "atomic_table::Join": 1, "atomic_table::Play": 1, "atomic_table::Seat": ANY,
+        "atomic_table::Split": 1, "atomic_table::Table": 2, "atomic_table::TableRule": 1, "Table": 6, "Play": 7,
+        "Join": 3, "Split": 3, "table_of": 3, "Counters::new": 1, ".shared": 10, ".fetch_add": 4, ".load": 2,
+        ".split_seat": 3, ".join_seat": 2,
+        # Lanes that are split off, and floors that open.
+        ".split": 1, ".split_off": 1, "::open_words": 5,
+        # The network, which several may own.
+        "std::sync::Arc": ANY, "Arc": 9, "::try_clone": 1, "::shared": 2, ".share": 2, ".share_network": 2,
+        # Ghost data, and the receipts.
+        "std::snapshot::Snapshot": ANY, "Snapshot": 27, "Snapshot::of": 9, "of_one": 2,
+    },
+    "cn_walk": {"std::thread": ANY, "std::thread::join": 1, ".split": 1, "::open": 1, "::open_after": 1,
+                "::open_on": 1},
+    "cn_renamer": {"std::thread::join_mut": 1, "join_mut": 2, ".split": 1},
+    "cn_report": {"std::thread::join_mut": 1, "join_mut": 2, "::open": 1, ".open_epoch": 2, "::swap": 1, ".resize": 1,
+                  ".extend_from_slice": 1},
+    "cn_bitonic": {".to_vec": 1},
+    "cn_periodic": {".to_vec": 1},
+    "cn_core": {".fill": 2},
+    "cn_exit": {".fill": 1},
+    "cn_yard": {".resize": 2},
+    "cn_epoch": {".turn": 1},
     # What the program gets from its system.
-    "renamer/src/main.rt": {"HostRuntime": 2, "Input": 1, "Print": 1, "std::env": ANY, "std::env::Env": ANY,
-                            "std::env::args": 1, "std::io::IsTerminal": ANY, "std::io::writer": 1,
-                            "std::process::ExitCode": ANY, "std::process::ExitCode::from": 1},
-    # The library's places for lanes that were handed back, their count, who goes there, and who owns a floor.
-    LIBRARY: {f"counted_slot::{name}": ANY
-              for name in ("Fits", "FREE", "MARKED", "MOST_READERS", "ONE_READER", "PRESENT", "TAKEN")},
-    LIBRARY + "place_row.rt": {"counted_slot::Counted": 2, "counted_slot::Counted::new": 1, ".turn": 4, ".load": 4},
-    LIBRARY + "rows.rt": {"counted_slot::Counted": 9, "counted_slot::Counted::new": 1, ".turn": 2, ".load": 2,
-                          ".leave": 1},
-    LIBRARY + "places.rt": {ARC: ANY, ARC + "::new": 1, ARC + "::try_clone": 1},
-    LIBRARY + "floor_with_places.rt": {"counted_slot::Counted": 2, COUNT: 2, COUNT + "::new": 1,
-                                       "std::sync::atomic::Ordering::SeqCst": 5, ".fetch_add": 1, ".fetch_sub": 2,
-                                       ".load": 1, ".hand_back": 1},
-    LIBRARY + "floor_share.rt": {ARC: ANY, ARC + "::get_mut": 2, ".clone": 0, "::clone": 0, "with_places": 2},
-    LIBRARY + "held_lane.rt": {ARC: ANY, ARC + "::new": 2, ARC + "::try_clone": 1, ".hand_back": 1, ".share": 1,
-                               "with_places": 2},
-    LIBRARY + "held_lane/returning.rt": {ARC: ANY, ARC + "::try_unwrap": 1, ".hand_back": 2, ".take_back": 1,
-                                         "with_places": 4},
-    LIBRARY + "handle.rt": {".take_back": 1, "std::ptr::null_mut": ANY, "unsafe": 2, "*mut": 4},
-    LIBRARY + "joining.rt": {".hand_back": 1, ".take_back": 1},
-    LIBRARY + "loose.rt": {"unsafe": 3, "*mut": 1},
+    "renamer": {"HostRuntime": 2, "Input": 1, "Print": 1, "std::env": ANY, "std::env::Env": ANY, "std::env::args": 1,
+                "std::io::IsTerminal": ANY, "std::io::writer": 1, "std::process::ExitCode": ANY,
+                "std::process::ExitCode::from": 1},
+    "renamer_c": {
+        # Places for lanes that were handed back, and how many are.
+        **{f"counted_slot::{name}": ANY for name in ("Counted", "Fits", "FREE", "MARKED", "MOST_READERS", "ONE_READER",
+                                                     "PRESENT", "TAKEN")},
+        "Counted": 15, "Counted::new": 2, "OnePlace": 11, ".turn": 6, "no_rows": 3, "free_row": 3,
+        "std::sync::atomic::AtomicU64": 1, "AtomicU64": 3, "std::sync::atomic::Ordering::SeqCst": 1, ".load": 7,
+        ".fetch_add": 1, ".fetch_sub": 2,
+        # Who goes there, and who owns a floor or a row.
+        "std::sync::Arc": ANY, "Arc": 14, "FloorShare": 10, "::try_clone": 2, ".share": 1, ".again": 4, ".near": 4,
+        ".own_place": 2, "with_places": 7, ".hand_back": 4, ".take_back": 3,
+        # Lanes that are split off, and floors that open.
+        ".split": 1, ".split_off": 1, "::open": 1, "::open_after": 2, "::open_shared": 1, "::open_shared_apart": 1,
+        "std::ptr::null_mut": ANY, "unsafe": 5, "*mut": 5,
+    },
+}
+# What stands so often, no more and no less, in the texts of a crate, or of a file of the library in C.
+TEXTS = {
+    "renamer_c/": {"const ROWS: u32 = 26;": 1, "for _ in 0..ROWS {": 1},
+    "../library": {"--redefine-sym renamer_free=": 1, "--redefine-sym renamer_free_quiet=": 1, "redefine-sym": 2},
+    "../bindings/c/explain.c": {"static": 0},
+    "../bindings/c/free.c": {"static": 0},
+    "../bindings/c/heap.c": {"static": 2, "static char nothing;": 1, "static struct got got(": 1},
 }
 # The crates of which functions may be proved by hand: such a proof may give ghost data any value.
 BY_HAND = {"renamer_c"}
@@ -77,22 +88,18 @@ BY_HAND = {"renamer_c"}
 # std's prelude.
 NOWHERE = ("extern", "forever", "macro_rules", "static", "unsafe", "*mut", "*const", "CondvarTimeouts", "Eprint",
            "HostRuntime", "Input", "LibcRuntime", "Lock", "Print", "WaitMethods")
-# What no path by another module of ours reaches.
-BY_THEIR_PATH = {"Arc", "Counted", "Seat", "Snapshot", "Table", "thread"}
-# What may follow the part of a table that is shared: the steps that are counted, and what contracts say of it.
-OF_A_TABLE = {(".", name) for name in ("fetch_add", "join_seat", "key", "load", "split_seat", "table_id")}
 MACROS = {"format", "matches", "prove", "unreachable", "vec", "write", "writeln"}
 ATTRIBUTES = {"cold", "derive", "error", "inline", "repr", "tactic"}
+COUNTED = {*NOWHERE, *(what for row in MOST.values() for what in row)}
 
 
-def anywhere(path):
-    """Whether each file may name a path."""
-    return path in PATHS or path.startswith(tuple(below for below in PATHS if below.endswith("::")))
+def is_path(what):
+    """Whether it leads to std or a crate of the kit."""
+    return what.partition("::")[0] in LIBRARIES and "::" in what
 
 
-@functools.cache
-def counted_in(place):
-    """The words that a crate has only where MOST says so."""
-    crate = place.partition("/")[0] + "/"
-    listed = (what for where, row in MOST.items() if where.startswith(crate) for what in row if "::" not in what[1:])
-    return dict.fromkeys((*NOWHERE, *listed), 0)
+def most(crate, what, aliases):
+    """How often a crate may have a path, or a word with what stands before it."""
+    anywhere = what in PATHS or what.startswith(tuple(below for below in PATHS if below.endswith("::")))
+    is_counted = what in COUNTED or what in aliases or STEP.match(what) or is_path(what) and not anywhere
+    return MOST.get(crate, {}).get(what, 0 if is_counted else ANY)

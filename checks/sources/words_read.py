@@ -1,5 +1,5 @@
-"""Reads a source as the compiler does, without comments, texts and `ghost use`, and finds what may not stand there by
-words_allowed.py."""
+"""Reads a source as the compiler does, without comments, texts and what is ghost: its words, and its paths to std and to
+crates of the kit."""
 import collections
 import functools
 import re
@@ -12,11 +12,21 @@ READ = re.compile(r"""
     | (?P<word>'?[A-Za-z_]\w*'* | :: | \S)
 """, re.S | re.X)
 NAME = re.compile(r"[A-Za-z_]\w*$")
-# After these no path goes on.
-KEYWORDS = {"as", "break", "const", "dyn", "else", "for", "if", "impl", "in", "let", "match", "move", "mut", "ref",
-            "return", "unsafe", "use", "where", "while"}
 # What exports a function to C, up to its name, with " for a text.
 EXPORT = ["#", "[", "unsafe", "(", "no_mangle", ")", "]", "pub", "extern", '"', "fn"]
+# The keywords after which stands antt: names that are used, or a clause or an item in braces, with `by` in others.
+GHOST = {"ensures", "ghost", "requires"}
+USED = re.compile(r"\s+use\s[^;]*;")
+BEGUN = re.compile(r"\*?\s*(\w+\s*[=:]?\s*)?\{")
+BRACES = re.compile(r"[{}]")
+MORE = re.compile(r"\s*by\s*\{")
+# By what antt would hide more from this reader than from the compiler: a comment, and a text of more than one sign.
+SIGN = re.compile(r'"\\?[^"{}\n]"')
+HIDES = re.compile(r'--|\{-|//|/\*|"')
+
+
+class Hidden(Exception):
+    """What a source has that could hide more of it."""
 
 
 def end_of_comment(text, at):
@@ -29,6 +39,29 @@ def end_of_comment(text, at):
     return len(text)
 
 
+def end_of_braces(text, at):
+    """Where the braces end that began before."""
+    depth = 1
+    for found in BRACES.finditer(text, at):
+        depth += 1 if found.group() == "{" else -1
+        if depth == 0:
+            return found.end()
+    return len(text)
+
+
+def end_of_ghost(text, at):
+    """Where what is ghost ends, whose keyword ends there."""
+    used, begun = USED.match(text, at), BEGUN.match(text, at)
+    if not used and not begun:
+        raise Hidden("a ghost item without braces")
+    end = used.end() if used else end_of_braces(text, begun.end())
+    while more := not used and MORE.match(text, end):
+        end = end_of_braces(text, more.end())
+    if hides := HIDES.search(SIGN.sub("", text[at:end])):
+        raise Hidden(f"{hides.group()} in what is ghost")
+    return end
+
+
 @functools.cache
 def words_of(text):
     """The words and signs of a source, with " for a text."""
@@ -36,135 +69,75 @@ def words_of(text):
     while at < len(text):
         found = READ.match(text, at)
         at = end_of_comment(text, at) if found["comment"] else found.end()
-        if found["text"] or found["word"]:
+        if found["word"] in GHOST:
+            at = end_of_ghost(text, at)
+        elif found["text"] or found["word"]:
             words.append(found["word"] or '"')
-        if words[-2:] == ["ghost", "use"]:
-            at = text.index(";", at)
-            words[-2:] = []
         if words[-len(EXPORT) :] == EXPORT:
             words[-len(EXPORT) :] = ["pub", "fn"]
     return tuple(words)
 
 
-@functools.cache
-def named_after(keyword, text):
-    """The names of the items of a kind, as modules or types of another name."""
-    words = words_of(text)
-    return {name for before, name in zip(words, words[1:]) if before == keyword and NAME.match(name)}
+def leaves(words, at, before):
+    """The paths that go on there from what stands before them, and where they end."""
+    if words[at] == "{":
+        found, at = [], at + 1
+        while words[at] != "}":
+            below, at = leaves(words, at, before)
+            found += below
+            at += words[at] == ","
+        return found, at + 1
+    path = before if words[at] == "self" else f"{before}::{words[at]}"
+    return leaves(words, at + 2, path) if words[at + 1] == "::" and words[at + 2] != "<" else ([path], at + 1)
 
 
-class Source:
-    """What a source names that may not stand there."""
-
-    def __init__(self, place, text, ours, aliases):
-        self.place, self.ours, self.aliases = place, ours, aliases
-        self.words = words_of(text)
-        self.rows = [row for where, row in allowed.MOST.items() if place.startswith(where)]
-        self.counted = allowed.counted_in(place)
-        # The path of each name that a use brought in.
-        self.meant = {}
-        self.times = collections.Counter()
-        self.wrong = []
-
-    def refuse(self, what):
-        self.wrong.append(f"{self.place}: {what}")
-
-    def judge(self, path):
-        """A path: what is not ours is listed, and is not reached by a module of ours that uses it."""
-        name = "::".join(path)
-        if path[0] in self.ours:
-            of_modules = {name for module, name in zip(path, path[1:]) if not module[0].isupper()}
-            if "*" in path or allowed.BY_THEIR_PATH & of_modules or self.aliases & set(path[:-1]):
-                self.refuse(name)
-            return
-        self.times[name] += 1
-        if not any(name in row for row in self.rows) and not allowed.anywhere(name):
-            self.refuse(name)
-
-    def tree(self, at, before):
-        """The paths of a use with the names that they get, and where it ends."""
-        path, name, found = list(before), None, []
-        while (word := self.words[at]) not in (";", ",", "}"):
-            if word == "{":
-                at += 1
-                while self.words[at] != "}":
-                    below, at = self.tree(at, path)
-                    found += below
-                    at += self.words[at] == ","
-                return found, at + 1
-            if word == "as":
-                at += 1
-                name = self.words[at]
-            elif word != "::" and (word != "self" or not path):
-                path.append(word)
+def paths_in(words):
+    """The paths in it to std and to crates of the kit, also by a module of std that a `use` brought in."""
+    words, at = (*words, ";", ";", ";"), 0
+    while at < len(words):
+        head = words[at] if words[at] in allowed.LIBRARIES else allowed.MODULES.get(words[at])
+        if head and words[at + 1] == "::":
+            found, at = leaves(words, at + 2, head)
+            yield from found
+        else:
             at += 1
-        return [(path, name or path[-1])], at
-
-    def use(self, at):
-        """A use: what is not ours keeps its name, and is not passed on; nothing gets the name of a crate of the kit."""
-        is_public = self.words[at - 1] in ("pub", ")")
-        paths, end = self.tree(at + 1, [])
-        for path, name in paths:
-            self.judge(path)
-            self.meant[name] = path
-            is_theirs = path[0] not in self.ours
-            if is_theirs and (is_public or name != path[-1]) or name in allowed.KIT and path != [name]:
-                self.refuse(f"{'::'.join(path)}, passed on or renamed")
-        return end
-
-    def path(self, at):
-        """A path in code."""
-        path = [self.words[at]]
-        if path[0] in self.aliases and self.words[at + 1 : at + 2] == ("::",):
-            self.refuse(f"{path[0]}::")
-        while self.words[at + 1 : at + 2] == ("::",) and NAME.match(self.words[at + 2]):
-            at += 2
-            path.append(self.words[at])
-        if path[0] in self.meant or len(path) > 1 and not path[0][0].isupper():
-            self.judge(self.meant.get(path[0], path[:1]) + path[1:])
-        return at + 1
-
-    def paths(self):
-        """Judges each path."""
-        at = 0
-        while at < len(self.words):
-            is_first = self.words[at - 1] != "::" or not NAME.match(self.words[at - 2])
-            if self.words[at] == "use":
-                at = self.use(at)
-            elif NAME.match(self.words[at]) and is_first:
-                at = self.path(at)
-            else:
-                at += 1
-
-    def word(self, at):
-        """Judges a word by those around it, and counts it."""
-        before, word, after = self.words[at - 1], self.words[at], self.words[at + 1 : at + 2] or ("",)
-        self.times[word + after[0] if word == "*" else word] += 1
-        if before in (".", "::"):
-            self.times[before + word] += 1
-        if word == "::" and (not NAME.match(before) or before in KEYWORDS):
-            self.refuse(f"{before} ::")
-        if word == "mod" and after[0] in allowed.KIT:
-            self.refuse(f"mod {after[0]}")
-        if before + word == ".shared" and self.words[at + 1 : at + 3] not in allowed.OF_A_TABLE:
-            self.refuse(f".shared{''.join(self.words[at + 1 : at + 3])}")
-        if word == "!" and NAME.match(before) and after[0] in ("(", "[", "{") and before not in allowed.MACROS:
-            self.refuse(f"{before}!")
-        if word == "[" and "#" in (before, self.words[at - 2] * (before == "!")) and after[0] not in allowed.ATTRIBUTES:
-            self.refuse(f"#[{after[0]}]")
-
-    def read(self):
-        """All that may not stand there."""
-        for at in range(len(self.words)):
-            self.word(at)
-        self.paths()
-        most = collections.ChainMap(*self.rows, self.counted)
-        for name, times in self.times.items():
-            if times > most.get(name, times):
-                self.refuse(f"{name} stands {times} times")
-        return self.wrong
 
 
 @functools.cache
-def wrong_in(place, text, ours, aliases):
-    return Source(place, text, ours, aliases).read()
+def counts_of(text):
+    """How often each word stands in a source, also with the dot or the colons before it and the type before these, and
+    each path."""
+    words = words_of(text)
+    times = collections.Counter(paths_in(words))
+    for at, word in enumerate(words):
+        before, first = words[at - 1] if at else "", words[at - 2] if at > 1 else ""
+        times[word] += 1
+        if before in (".", "::", "*"):
+            times[before + word] += 1
+        if before == "::" and first[:1].isupper():
+            times[f"{first}::{word}"] += 1
+    return times
+
+
+@functools.cache
+def aliases_in(text):
+    """The names that a source gives to types with a word that is shared."""
+    words = (*words_of(text), ";")
+    return {words[at + 1] for at, word in enumerate(words)
+            if word == "type" and allowed.SHARED & set(words[at : words.index(";", at)])}
+
+
+@functools.cache
+def refused_in(text):
+    """What may stand in no source: a macro or an attribute that is not listed, and another name for what is used."""
+    words, wrong, is_use = words_of(text), [], False
+    for at, word in enumerate(words):
+        before, after = words[at - 1] if at else "", words[at + 1] if at + 1 < len(words) else ""
+        is_use = word == "use" or is_use and word != ";"
+        if is_use and word in ("as", "*"):
+            wrong.append(f"{before} {word} {after}")
+        if word == "!" and NAME.match(before) and after and after in "([{" and before not in allowed.MACROS:
+            wrong.append(f"{before}!")
+        if word == "[" and "#" in (before, words[at - 2] if before == "!" else "") and after not in allowed.ATTRIBUTES:
+            wrong.append(f"#[{after}]")
+    return wrong
