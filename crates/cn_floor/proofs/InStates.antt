@@ -11,6 +11,7 @@ pub mod Bounds
 pub mod Walked
 pub mod Sole
 pub mod Fresh
+pub mod Reached
 pub mod Kept
 pub mod Enters
 pub mod Steps

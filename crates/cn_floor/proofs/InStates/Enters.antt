@@ -9,8 +9,9 @@ use Rattle.cn_floor.specs.Plays.{Coming, ComesIn}
 use Rattle.cn_floor.proofs.InStates.Bounds.{few-came}
 use Rattle.cn_floor.proofs.InStates.Accounts.{accounted-after-enter}
 use Rattle.cn_floor.proofs.InStates.Fresh.{fresh-grown, names_below}
-use Rattle.cn_floor.proofs.InStates.Kept.{one-step, reached-by}
+use Rattle.cn_floor.proofs.InStates.Kept.{one-step}
 use Rattle.cn_floor.proofs.InStates.Ledgers.{enters}
+use Rattle.cn_floor.proofs.InStates.Reached.{reached-by}
 use Rattle.cn_floor.proofs.InStates.Totals.{total-set}
 use Rattle.cn_floor.proofs.InStates.Raised.{entered-raised, entered-word, lanes-raised, raised}
 use Rattle.cn_spec.proofs.CallerLemmas.{sum-below-plus, times-append, times-nil}

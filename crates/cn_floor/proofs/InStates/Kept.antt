@@ -1,7 +1,6 @@
 -- The rule is kept where views change and what they add up to does not.
-use Rattle.std.proofs.Common.{◌≡◌, ℕ, ◌+◌, ◌&&◌, List, ◌∷◌, length, set, sum_by, subst, refl, arith, eqb, ltb, ⊎_elim}
+use Rattle.std.proofs.Common.{◌≡◌, ℕ, ◌+◌, ◌&&◌, List, length, set, sum_by, subst, refl, arith, eqb, ltb, ⊎_elim}
 use Rattle.cn_floor.proofs.Common.{Balancer, End, Exit, HoldsAt, IsAccounted, IsAtomicStep, IsFresh, IsSound, Ledger, Start, State, Table, View, at_set, base, clients_in, count_in, entered_in, get_elem?, given_in, granted_in, ledger_of, name_of, on_in, once_below, some, standing_in, times, when}
-use Rattle.cn_floor.specs.History.{Event, Happens, LeadsTo}
 use Rattle.cn_floor.specs.Rule.{IsReached, KeepsRule}
 use Rattle.cn_floor.proofs.InStates.Places.{get-here}
 use Rattle.cn_floor.proofs.InStates.Totals.{total-set}
@@ -25,11 +24,6 @@ ledger-alike t carried words old new same = λ x. record {
   given = λ end n. once_below (count_in t carried end) n + same.given end n x;
   granted = λ c i v name. when (eqb 0 c && (ltb v (count_in t carried (Exit i)) && eqb (name_of t.width i v) name)) 1 + same.granted c i v name x;
 }
-
--- a history goes on by an event
-pub reached-by : (start : Start) (event : Event) (old new : Ledger) → IsReached start old → Happens start.network.table event old new → IsReached start new
-unfolding LeadsTo
-reached-by start event old new (history, leads) happens = (event ∷ history, (old, leads, happens))
 
 pub kept_alike : (start : Start) (s : State (Unit {0}) View) (new : List View) → HoldsAt start s → AddUpAlike (base start) s.views new
     → ((id : ℕ) (v : View) → get_elem? new id ≡ some v → IsAccounted start.network v)

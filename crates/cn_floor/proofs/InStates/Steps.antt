@@ -11,12 +11,13 @@ use Rattle.cn_floor.specs.Steps.{answer_at}
 use Rattle.cn_floor.proofs.InStates.Bounds.{count-few, few-came, name-later}
 use Rattle.cn_floor.proofs.InStates.Accounts.{accounted-after_step}
 use Rattle.cn_floor.proofs.InStates.Fresh.{fresh-grown}
-use Rattle.cn_floor.proofs.InStates.Kept.{one-step, reached-by}
+use Rattle.cn_floor.proofs.InStates.Kept.{one-step}
 use Rattle.cn_floor.proofs.InStates.Ledgers.{Lands, leaves, passes}
+use Rattle.cn_floor.proofs.InStates.Reached.{reached-by, sound-goes}
 use Rattle.cn_floor.proofs.InStates.Sole.{sole}
 use Rattle.cn_floor.proofs.InStates.Totals.{total-set}
 use Rattle.cn_floor.proofs.InStates.Raised.{count-raised, count-word, entered-kept, lanes-raised, one-end, raised}
-use Rattle.cn_ledger.proofs.CallerLemmas.{bounded, sound-leaves, sound-passes}
+use Rattle.cn_ledger.proofs.CallerLemmas.{bounded}
 
 pub end-self : (end : End) → is_end end end ≡ true
 end-self (Balancer b) = eq-eqb b b refl
@@ -74,9 +75,8 @@ module _ (start : Start) (id token client wire : ℕ) (end : End) (v : View) (s 
   pub went : GoesFrom t was now client wire end
   went = went-at end refl
 
-  sound-by : (e : End) (new : Ledger) → GoesFrom t was new client wire e → IsSound t new
-  sound-by (Balancer b) new ev = sound-passes t was new client wire b ev kept.rule.sound
-  sound-by (Exit i) new ev = sound-leaves t kept.began.network.formed was new client wire i ev kept.rule.sound
+  sound-now : IsSound t now
+  sound-now = sound-goes t kept.began.network.formed end was now client wire went kept.rule.sound
 
   quota-same : (e : End) (m : ℕ) → ((after_step token client e m v).quota ≡ v.quota) × ((after_step token client e m v).entries ≡ v.entries)
   quota-same (Balancer b) m = (refl, refl)
@@ -90,12 +90,11 @@ module _ (start : Start) (id token client wire : ℕ) (end : End) (v : View) (s 
   name-low i q =
       let low : i < t.width = subst (Stands t) q stands in
       let net = kept.began.network in
-      let now_sound = sound-by end now went in
       let risen : count_in t next.words end ≡ n + 1 = count-raised t s.words kept.rule.words end end stands ∙ ap (λ b. n + cond b 1 0) (end-self end) in
       let there_at : count_in t next.words (Exit i) ≡ n + 1 = ap (λ (e : End). count_in t next.words e) (sym q) ∙ risen in
-      let given : now.given (Exit i) n ≡ once_below (count_in t next.words (Exit i)) n = now_sound.numbered (Exit i) n low in
+      let given : now.given (Exit i) n ≡ once_below (count_in t next.words (Exit i)) n = sound-now.numbered (Exit i) n low in
       let one : ◌≡◌ {A = ℕ} (once_below (count_in t next.words (Exit i)) n) 1 = ap {B = ℕ} (λ b. cond b 1 0) (lt-ltb n (count_in t next.words (Exit i)) (omega arith)) in
-      (bounded t net.formed net.counts now now_sound).visits i n low (omega arith)
+      (bounded t net.formed net.counts now sound-now).visits i n low (omega arith)
 
   fresh-after_step : v.loads ≡ [] → (e : End) → e ≡ end → IsFresh start next.words (after_step token client e n v)
   fresh-after_step idle (Balancer b) q =
@@ -123,7 +122,7 @@ module _ (start : Start) (id token client wire : ℕ) (end : End) (v : View) (s 
     rule = record {
       words = length-set s.words (end_word t end) (get_or s.words (end_word t end) 0 + 1) ∙ kept.rule.words;
       lanes = lanes-raised s.words (end_word t end) (one-end t end) kept.rule.lanes;
-      sound = sound-by end now went;
+      sound = sound-now;
       reached = reached-by start (Step client wire) was now kept.rule.reached (subst (GoesFrom t was now client wire) (sym ends) went);
       entered = λ u l.
           let more = total-set (λ (x : View). times u x.entries) s.views id v then here in

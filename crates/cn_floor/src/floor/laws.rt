@@ -4,7 +4,7 @@
 ghost use Rattle.std.specs.Prelude.{◌+◌, ◌≤◌};
 ghost use Rattle.cn_spec.specs.declared.limits.TheConstants.{MOST_CARRIED, MOST_CLIENTS};
 ghost use Rattle.cn_ledger.specs.Laws.{GrantsOnce, NamesDiffer};
-ghost use Rattle.cn_ledger.specs.Ledger.{IsBounded, IsTight};
+ghost use Rattle.cn_ledger.specs.Ledger.{IsBounded, IsSound, IsTight, Ledger};
 ghost use Rattle.cn_floor.specs.Ends.{NobodyInside};
 ghost use Rattle.cn_floor.specs.Laws.{HasFewWords, HasWalked, HoldsLowNames, InEachState, InEachView, NamesOnce, NumbersDiffer, TakesItsSteps, VisitsGoOn, entered_at, ledger_at};
 ghost use Rattle.cn_floor.specs.Rule.{IsReached, IsStart};
@@ -42,10 +42,15 @@ impl<'a> Floor<'a> {
     }
 
     /// Some history led to each state: events, in each of which a client comes in, passes a balancer or leaves with a
-    /// name, made its ledger of that with which the floor began, one after the other.
+    /// name, made its ledger of that with which the floor began, one after the other. Each ledger to which a history
+    /// leads is sound.
     pub fn each_ledger_is_reached(&self)
-        ensures { InEachState self.now.start (λ start s. IsReached start (ledger_at start s)) }
-    {}
+        ensures reached { InEachState self.now.start (λ start s. IsReached start (ledger_at start s)) }
+        ensures sound { (ledger : Ledger) → IsReached self.now.start ledger
+            → IsSound self.now.start.network.table ledger }
+    {
+        self.start_laws();
+    }
 
     /// No two passages of any lanes have one balancer and number, and no two grants one exit and visit.
     pub fn numbers_differ(&self)
