@@ -13,7 +13,7 @@ OUTPUTS = ("file", "full", "broken", "closed")
 ERRORS = ("file", "full", "closed")
 INPUTS = ("file", "folder", "closed", "terminal")
 # What a case may limit.
-LIMITS = ("growths", "bytes", "writes")
+LIMITS = ("growths", "bytes", "writes", "error_writes")
 
 
 class NoCase(Exception):
@@ -30,14 +30,17 @@ class Case:
     # How many threads it is to ask for, if that is said, and whether it gets none.
     threads: int | None = None
     refused: bool = False
-    # How many growths of memory it may ask for, with how many bytes in all, and how many writes of its output, if that
-    # is said; and how many of its growths, each refused in a run of its own, it may do without.
+    # How many growths of memory it may ask for, with how many bytes in all, and how many writes of its output and of
+    # its errors, if that is said; and how many of its growths, each refused in a run of its own, it may do without.
     growths: int | None = None
     bytes: int | None = None
     writes: int | None = None
+    error_writes: int | None = None
     spares: int | None = None
     # How large the stack of each of its threads may be, in kilobytes, if that is said.
     stack: int | None = None
+    # Whether its first read and its first write are interrupted.
+    interrupted: bool = False
     by_script: bool = False
     input: str = "file"
     output: str = "file"
@@ -127,6 +130,8 @@ class Reader:
         elif mark == "threads":
             count, _, refused = rest.partition(" ")
             case.threads, case.refused = int(count), refused == "refused"
+        elif (mark, rest) == ("interrupted", ""):
+            case.interrupted = True
         elif mark == "example":
             case.given += (ROOT / "examples" / rest).read_bytes()
         elif mark == "version" and not rest:

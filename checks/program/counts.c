@@ -1,6 +1,7 @@
 // Is loaded before a program: counts in the file COUNTS what the program asks for, as words of 64 bits: threads, growths
-// of memory, their bytes, and writes of its standard output. Where THREADS_REFUSED is set, it gets no thread. Where
-// GROWTH_REFUSED is set, the growth of this number is refused.
+// of memory, their bytes, and writes of its standard output and of its errors. Where THREADS_REFUSED is set, it gets
+// no thread. Where GROWTH_REFUSED is set, the growth of this number is refused. Where INTERRUPTED is set, the first read
+// of standard input and the first write of standard output are interrupted.
 #define _GNU_SOURCE
 #include <dlfcn.h>
 #include <errno.h>
@@ -12,13 +13,14 @@
 #include <unistd.h>
 
 typedef int Create(pthread_t *, const pthread_attr_t *, void *(*)(void *), void *);
+typedef ssize_t Read(int, void *, size_t);
 typedef ssize_t Write(int, const void *, size_t);
 
 extern void *__libc_malloc(size_t);
 extern void *__libc_realloc(void *, size_t);
 
 struct counts {
-    atomic_ulong threads, growths, bytes, writes;
+    atomic_ulong threads, growths, bytes, writes, error_writes;
 };
 
 static struct counts *counts;
@@ -59,10 +61,28 @@ void *realloc(void *block, size_t size) {
     return is_refused(size) ? NULL : __libc_realloc(block, size);
 }
 
+// Whether a call on a stream is interrupted.
+static int is_interrupted(int stream) {
+    static atomic_int was_interrupted[2];
+    if (stream < 0 || stream > 1 || !getenv("INTERRUPTED") || atomic_exchange(&was_interrupted[stream], 1)) return 0;
+    errno = EINTR;
+    return 1;
+}
+
+ssize_t read(int stream, void *bytes, size_t size) {
+    Read *next = (Read *)dlsym(RTLD_NEXT, "read");
+    return is_interrupted(stream) ? -1 : next(stream, bytes, size);
+}
+
 ssize_t write(int stream, const void *bytes, size_t size) {
     Write *next = (Write *)dlsym(RTLD_NEXT, "write");
     if (stream == STDOUT_FILENO) atomic_fetch_add(&counts->writes, 1);
-    return next(stream, bytes, size);
+    if (stream == STDERR_FILENO) atomic_fetch_add(&counts->error_writes, 1);
+    return is_interrupted(stream) ? -1 : next(stream, bytes, size);
+}
+
+ssize_t __read(int stream, void *bytes, size_t size) {
+    return read(stream, bytes, size);
 }
 
 ssize_t __write(int stream, const void *bytes, size_t size) {

@@ -14,7 +14,7 @@ use crate::replaying::ReplayFault;
 use crate::runtime::RuntimeFault;
 use crate::serve_fault::ServeFault;
 use std::alloc::AllocError;
-use std::io::{self, Write};
+use std::io::{self, Cursor, Write};
 use thiserror::Error;
 
 /// The first fault that the program met. Its text is what the program prints.
@@ -111,11 +111,25 @@ impl From<io::Error> for Fault {
     }
 }
 
-/// Writes what is printed of a fault: its text and a line feed. A refusal's text ends its own lines.
+/// Room for the line of a fault. None is half as long.
+const ROOM: usize = 160;
+
+/// Writes the text of a fault and a line feed. The line is made first, so that one write has all of it, and the lines
+/// of programs that share their standard error do not mix.
+fn write_line<E: Write>(errors: &mut E, fault: &Fault) -> io::Result<()> {
+    let mut line = Cursor::new([0; ROOM]);
+    let made = writeln!(line, "{fault}");
+    match line.get_ref().get(..line.position() as usize) {
+        Some(line) if made.is_ok() => errors.write_all(line),
+        _ => writeln!(errors, "{fault}"),
+    }
+}
+
+/// Writes what is printed of a fault. A refusal's text ends its own lines.
 fn write_fault<E: Write>(errors: &mut E, fault: &Fault) -> io::Result<()> {
     match fault {
         Fault::Refused(text) => errors.write_all(text.as_bytes()),
-        _ => writeln!(errors, "{fault}"),
+        _ => write_line(errors, fault),
     }
 }
 

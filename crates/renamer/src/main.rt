@@ -1,6 +1,9 @@
 //! The program: its arguments, its streams and its exit status.
 #![tactic(auto)]
 
+mod retried;
+
+use crate::retried::Retried;
 use cn_renamer::{Fault, Job, end, parse_words, run};
 use std::alloc::Global;
 use std::env::{self, Env};
@@ -49,8 +52,8 @@ fn run_words(
         rt,
         rt.alloc(),
         words_of(rt)?,
-        &mut rt.reader(),
-        &mut io::writer(rt),
+        &mut Retried::new(rt.reader()),
+        &mut Retried::new(io::writer(rt)),
         rt,
     )
 }

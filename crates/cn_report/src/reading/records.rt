@@ -32,8 +32,8 @@ fn fault_of(error: Error) -> RecordFault
     }
 }
 
-/// A reader of records of any length, with no header set aside. It is boxed, for it holds a buffer of 8 KB, of which
-/// the frame of each caller would have a copy.
+/// A reader of records of any length, with no header set aside. Its header is set, and empty: else it would keep the
+/// first record twice. It is boxed, for it holds a buffer of 8 KB, of which the frame of each caller would have a copy.
 ///
 /// # Errors
 /// `AllocError` if there is no memory for it.
@@ -45,11 +45,13 @@ pub(crate) fn open_records<R: Read + Drop>(
     ensures opened { IfOk result (λ records.
         IfSome (R.remaining reader) (λ text. HasRead R.remaining records.value text [])) }
 {
-    let records = ReaderBuilder::new()
-        .has_headers(false)
+    let mut records = ReaderBuilder::new()
         .flexible(true)
         .from_reader(alloc, reader);
-    Ok(Box::new(alloc, records)?)
+    match records.set_byte_headers(ByteRecord::new(alloc)) {
+        Ok(()) => Ok(Box::new(alloc, records)?),
+        Err(_) => Err(AllocError),
+    }
 }
 
 /// Reads the next record into `fields`, and returns whether there was one.
