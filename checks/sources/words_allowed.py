@@ -25,6 +25,8 @@ STEP = re.compile(r"""(\.|::)(
     | wake\w* | turn | split_seat | join_seat
     | \w*clone\w* | concat | cycle | extend_from_slice | fill | make_mut | repeat\w* | resize\w* | strong_count
     | to_owned | to_vec | open\w* | split | split_off)$""", re.X)
+# A call of the library, by its crate: it stands where it is made, and no other calls it.
+CALL = re.compile(r"renamer_c renamer_\w+$")
 # Types that are shared: a type that has another name by them is counted as they are.
 SHARED = {"Arc", "AtomicU64", "Counted", "Snapshot", "Table"}
 # What a crate may have beside PATHS, and how often at most: paths, words with a dot or colons before them, functions of
@@ -102,4 +104,4 @@ def most(crate, what, aliases):
     """How often a crate may have a path, or a word with what stands before it."""
     anywhere = what in PATHS or what.startswith(tuple(below for below in PATHS if below.endswith("::")))
     is_counted = what in COUNTED or what in aliases or STEP.match(what) or is_path(what) and not anywhere
-    return MOST.get(crate, {}).get(what, 0 if is_counted else ANY)
+    return MOST.get(crate, {}).get(what, 0 if is_counted else 1 if CALL.match(f"{crate} {what}") else ANY)

@@ -9,7 +9,7 @@ import words_allowed as allowed
 READ = re.compile(r"""
     \s+ | //[^\n]* | (?P<comment>/\*)
     | (?P<text>[bc]?r(?P<marks>\#*)".*?"(?P=marks) | [bc]?"(?:\\.|[^"\\])*" | b?'(?:\\(?:x\w\w|u\{\w+\}|.)|[^\\'\n])')
-    | (?P<word>'?[A-Za-z_]\w*'* | :: | \S)
+    | (?P<word>'?[A-Za-z_]\w* | :: | \S)
 """, re.S | re.X)
 NAME = re.compile(r"[A-Za-z_]\w*$")
 # What exports a function to C, up to its name, with " for a text.
