@@ -29,6 +29,7 @@ pub record OnlyPassed (old new : View) : Type 0 where
   pub start : new.start ≡ old.start
   pub quota : new.quota ≡ old.quota
   pub entries : new.entries ≡ old.entries
+  pub came : new.came ≡ old.came
   pub wires : length new.tokens ≡ length old.tokens
   pub grants : new.grants ≡ old.grants
   pub seen : new.seen ≡ old.seen

@@ -1,6 +1,7 @@
 -- Clients of a list who come in by one entry and pass the ends of wires together.
-use Rattle.std.specs.Prelude.{◌≡◌, ◌≢◌, ℕ, zero, suc, ◌+◌, ◌-◌, ◌*◌, ◌<◌, ◌++◌, ◌==◌, [], ◌∷◌, List, count_by, length, replicate, slice_index}
+use Rattle.std.specs.Prelude.{◌≡◌, ◌≢◌, ℕ, zero, suc, ◌+◌, ◌-◌, ◌*◌, ◌<◌, ◌++◌, ◌==◌, [], ◌∷◌, List, count_by, length, map, replicate, slice_index, take}
 use Rattle.cn_spec.specs.Sums.{times}
+use Rattle.cn_ledger.specs.declared.client.Client.{Client}
 use Rattle.cn_yard.specs.Deals.{every_second}
 use Rattle.cn_yard.specs.Lists.{on}
 use Rattle.cn_floor.specs.declared.floor.listed.Group.{Group}
@@ -34,11 +35,16 @@ pub record AreTheirs (tokens : List (ℕ × ℕ)) (grants : List Grant) : Type 0
   pub as_many : length grants ≡ length tokens
   pub as_often : (client : ℕ) → count_by (λ g. g.client == client) grants ≡ count_by (λ e. e.1 == client) tokens
 
+-- the clients of a list, who all come by one entry
+abbrev pub by_one_entry : ℕ → List ℕ → List Client
+by_one_entry entry clients = map (λ id. record { id = id; entry = entry }) clients
+
 -- what the first k clients of a list, who came in by an entry, made of a view with nobody inside
 pub record CameIn (v w : View) (clients : List ℕ) (entry k : ℕ) : Type 0 where
   pub start : w.start ≡ v.start
   pub quota : w.quota + k ≡ v.quota
   pub entries : w.entries ≡ v.entries ++ replicate (k) entry
+  pub came : w.came ≡ v.came ++ by_one_entry entry (take k clients)
   pub seen : w.seen ≡ v.seen
   pub loads : w.loads ≡ v.loads
   pub grants : w.grants ≡ v.grants
@@ -51,6 +57,7 @@ pub record HaveLeft (v w : View) (wire : ℕ) (tokens : List (ℕ × ℕ)) : Typ
   pub start : w.start ≡ v.start
   pub quota : w.quota ≡ v.quota
   pub entries : w.entries ≡ v.entries
+  pub came : w.came ≡ v.came
   pub seen : w.seen ≡ v.seen
   pub loads : w.loads ≡ v.loads
   pub wires : length w.tokens ≡ length v.tokens
@@ -75,6 +82,7 @@ pub record AreNamed (old new : LaneValue) (clients : List ℕ) (entry : ℕ) : T
   pub walked : WalkTogether old.home.start clients entry old.view new.view
   pub quota : new.view.quota + length clients ≡ old.view.quota
   pub entries : new.view.entries ≡ old.view.entries ++ replicate (length clients) entry
+  pub came : new.view.came ≡ old.view.came ++ by_one_entry entry clients
   pub seen : new.view.seen ≡ old.view.seen
   pub grants : (more : List Grant) × (new.view.grants ≡ old.view.grants ++ more) × (length more ≡ length clients)
       × ((client : ℕ) → count_by (λ g. g.client == client) more ≡ times client clients)

@@ -34,6 +34,7 @@ pub record IsNamed (old new : LaneValue) (client entry name : ℕ) : Type 0 wher
   pub walked : WalksThrough old.home.start client entry exit visit old.view new.view
   pub quota : new.view.quota + 1 ≡ old.view.quota
   pub entries : new.view.entries ≡ old.view.entries ++ entry ∷ []
+  pub came : new.view.came ≡ old.view.came ++ record { id = client; entry = entry } ∷ []
   pub grants : new.view.grants
       ≡ old.view.grants ++ record { client = client; exit = exit; visit = visit; name = name } ∷ []
   pub seen : new.view.seen ≡ old.view.seen

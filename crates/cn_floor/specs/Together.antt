@@ -13,6 +13,7 @@ abbrev pub both_of : View → View → View
 both_of v w = record v {
   quota = v.quota + w.quota;
   entries = v.entries ++ w.entries;
+  came = v.came ++ w.came;
   tokens = map (λ u. on v.tokens u ++ on w.tokens u) (range_with_len 0 (length v.tokens));
   passages = v.passages ++ w.passages;
   grants = v.grants ++ w.grants;

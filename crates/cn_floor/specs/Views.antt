@@ -22,6 +22,7 @@ empty_view start quota = record {
   start = start;
   quota = quota;
   entries = [];
+  came = [];
   tokens = replicate (length start.network.table.ends) [];
   passages = [];
   grants = [];
@@ -62,6 +63,7 @@ abbrev pub after_enter : ℕ → ℕ → ℕ → View → View
 after_enter token client entry v = record v {
   quota = v.quota - 1;
   entries = v.entries ++ entry ∷ [];
+  came = v.came ++ record { id = client; entry = entry } ∷ [];
   tokens = map (λ u. on v.tokens u ++ last_on token client entry u) (range_with_len 0 (length v.tokens));
   steps = v.steps + 1;
 }
@@ -118,6 +120,7 @@ abbrev pub after_join : View → View → View
 after_join v w = record v {
   quota = v.quota + w.quota;
   entries = v.entries ++ w.entries;
+  came = v.came ++ w.came;
   passages = v.passages ++ w.passages;
   grants = v.grants ++ w.grants;
   seen = max v.seen w.seen;

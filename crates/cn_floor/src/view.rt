@@ -1,5 +1,6 @@
 //! What lanes have done, as the rule of a floor sees it.
 
+use cn_ledger::Client;
 use cn_wiring::Counting;
 use cn_yard::Token;
 use std::collections::LinkedList;
@@ -67,6 +68,8 @@ pub struct View {
     pub quota: u64,
     /// The entry of each client that it let in.
     pub entries: LinkedList<u32>,
+    /// These clients, each with its entry, in the same order.
+    pub came: LinkedList<Client>,
     /// Its tokens, wire by wire, each with its client.
     pub tokens: LinkedList<LinkedList<(Token, u64)>>,
     /// The passages that its steps made.

@@ -41,6 +41,7 @@ walks-alone a b token client wire to was is passed home room = record {
   quota = omega (arith, passed.quota);
   room = omega (arith, room);
   entries = passed.entries ∙ sym (append-nil a.view.entries);
+  came = passed.came ∙ sym (append-nil a.view.came);
   seen = passed.seen;
   grants = (
     [],

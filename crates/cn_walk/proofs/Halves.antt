@@ -25,8 +25,9 @@ put_last : {X : Type 0} (a b xs ys : List X) → b ≡ [] → (a ++ xs) ++ (b ++
 put_last a b xs ys none =
     ap (λ (zs : List _). (a ++ xs) ++ (zs ++ ys)) none ∙ append_assoc a xs ys ∙ ap (λ (zs : List _). zs ++ (xs ++ ys)) (sym (append-nil a)) ∙ ap (λ (zs : List _). (a ++ zs) ++ (xs ++ ys)) (sym none)
 
-pub both-walked : (a b c d : LaneValue) (xs ys : List Client) → b.view.entries ≡ [] → b.view.grants ≡ [] → WalksAll a c xs → WalksAll b d ys → WalksAll (together a b) (together c d) (xs ++ ys)
-both-walked a b c d xs ys no_entries no_grants p q =
+pub both-walked : (a b c d : LaneValue) (xs ys : List Client) → HasNothing b → WalksAll a c xs → WalksAll b d ys
+    → WalksAll (together a b) (together c d) (xs ++ ys)
+both-walked a b c d xs ys none p q =
     let (more, grants, for) = p.grants in
     let (later, grants2, for2) = q.grants in
     let entry : Client → ℕ = λ k. k.entry in
@@ -35,12 +36,13 @@ both-walked a b c d xs ys no_entries no_grants p q =
       home = p.home;
       out = p.out;
       quota = omega (arith, p.quota, q.quota, length-both xs ys);
-      room = omega (arith, p.room, length-both xs ys, many, for2.as_many, ap length no_grants);
-      entries = (λ i. p.entries i ++ q.entries i) ∙ put_last a.view.entries b.view.entries (map entry xs) (map entry ys) no_entries ∙ ap (λ (es : List ℕ). (a.view.entries ++ b.view.entries) ++ es) (sym (map-append entry xs ys));
+      room = omega (arith, p.room, length-both xs ys, many, for2.as_many, ap length none.grants);
+      entries = (λ i. p.entries i ++ q.entries i) ∙ put_last a.view.entries b.view.entries (map entry xs) (map entry ys) none.entries ∙ ap (λ (es : List ℕ). (a.view.entries ++ b.view.entries) ++ es) (sym (map-append entry xs ys));
+      came = (λ i. p.came i ++ q.came i) ∙ put_last a.view.came b.view.came xs ys none.came;
       seen = λ i. max (p.seen i) (q.seen i);
       grants = (
         more ++ later,
-        (λ i. grants i ++ grants2 i) ∙ put_last a.view.grants b.view.grants more later no_grants,
+        (λ i. grants i ++ grants2 i) ∙ put_last a.view.grants b.view.grants more later none.grants,
         record {
           as_many = omega (arith, length-both more later, length-both xs ys, for.as_many, for2.as_many);
           as_often = λ id.
@@ -77,13 +79,13 @@ none_after k w from middle to (Halves' at p left q right) after same (m, low, hi
 
 -- a lane for which more is reserved, of which some is split off, and the one that is split off
 pub reserved-nothing : (n : ℕ) (a b : LaneValue) → HasNothing a → b ≡ with_room n a → HasNothing b
-reserved-nothing n a b is same = subst HasNothing (sym same) (record { inside = is.inside; entries = is.entries; grants = is.grants })
+reserved-nothing n a b is same = subst HasNothing (sym same) (record { inside = is.inside; entries = is.entries; came = is.came; grants = is.grants })
 
 pub left-nothing : (q : ℕ) (a b : LaneValue) → HasNothing a → b ≡ record a { view = after_look (after_split q a.view) } → HasNothing b
-left-nothing q a b is same = subst HasNothing (sym same) (record { inside = is.inside; entries = is.entries; grants = is.grants })
+left-nothing q a b is same = subst HasNothing (sym same) (record { inside = is.inside; entries = is.entries; came = is.came; grants = is.grants })
 
 pub right-nothing : (q : ℕ) (a b : LaneValue) → b ≡ record (empty_lane a.home q) { view = after_look (split_off q a.view) } → HasNothing b
-right-nothing q a b same = subst HasNothing (sym same) (record { inside = nobody-in (length a.home.start.network.table.ends); entries = refl; grants = refl })
+right-nothing q a b same = subst HasNothing (sym same) (record { inside = nobody-in (length a.home.start.network.table.ends); entries = refl; came = refl; grants = refl })
 
 -- two halves that are ready
 pub both-ready : (home : FloorValue) (n at : ℕ) (left right : Lanes) → at ≤ n → n ≤ (whole left).room → AreReady home at left → AreReady home (n - at) right → IsReady home n (together (whole left) (whole right))
@@ -95,6 +97,7 @@ both-ready home n at left right h room a b =
       nothing = record {
         inside = x.nothing.inside;
         entries = λ i. x.nothing.entries i ++ y.nothing.entries i;
+        came = λ i. x.nothing.came i ++ y.nothing.came i;
         grants = λ i. x.nothing.grants i ++ y.nothing.grants i;
       };
       quota = omega (arith, x.quota, y.quota);

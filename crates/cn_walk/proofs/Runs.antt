@@ -34,7 +34,7 @@ all-first k w some =
 -- a lane that is new has done nothing
 pub new-nothing : (home : FloorValue) (q : ℕ) (yard : Yard) (a : LaneValue) → a ≡ record (empty_lane home q) { yard = yard } → IsIdle home.start.network yard.lists → HasNothing a
 new-nothing home q yard a is idle =
-    subst HasNothing (sym is) (record { inside = ap tokens_in idle ∙ nobody-in (length home.start.network.table.ends); entries = refl; grants = refl })
+    subst HasNothing (sym is) (record { inside = ap tokens_in idle ∙ nobody-in (length home.start.network.table.ends); entries = refl; came = refl; grants = refl })
 
 -- a lane that has as many grants as the floor may let in misses nothing
 pub none-missing : (start : Start) (v : View) (entered : ℕ) → IsMissing start v entered → length v.grants ≡ start.quota → ⊥
@@ -46,20 +46,22 @@ module _ (q : QuietValue) (clients : List Client) (quiet : IsClosedFloor q.start
   abbrev t : Table
   t = q.start.network.table
 
-  run_at : q.did.entries ≡ map (λ (c : Client). c.entry) clients → AreFor clients q.did.grants → IsRunAfter (words_before q.start) clients q
-  run_at entries theirs =
+  run_at : q.did.entries ≡ map (λ (c : Client). c.entry) clients → q.did.came ≡ clients → AreFor clients q.did.grants
+      → IsRunAfter (words_before q.start) clients q
+  run_at entries came theirs =
       let many : length q.did.grants ≡ length clients = theirs.as_many in
       record {
         over = refl;
         after = refl;
+        let_in = came;
         came = omega (arith, quiet.came, many);
         counts = quiet.shares ∙ ap (λ (k : ℕ). shares_after (base q.start) k t.width) many;
         passes = λ f full is.
             map-same (λ b. get_or q.words (1 + t.entries + b) 0 - get_or q.start.words (1 + t.entries + b) 0) (λ b. sum_at t (Balancer b) f - count_in t q.start.words (Balancer b)) 0 t.balancers
             (λ b l h.
             let low : b < t.balancers = omega arith in
-            let came : Agree t.entries f (entered_in t q.words) = λ u less. omega (arith, is u less, quiet.entered u less, ap (λ (es : List ℕ). times u es) entries) in
-            let now : get_or q.words (1 + t.entries + b) 0 ≡ sum_at t (Balancer b) f = sym (count-word t q.words (Balancer b) low) ∙ quiet.tight.passes f full came b low in
+            let all : Agree t.entries f (entered_in t q.words) = λ u less. omega (arith, is u less, quiet.entered u less, ap (λ (es : List ℕ). times u es) entries) in
+            let now : get_or q.words (1 + t.entries + b) 0 ≡ sum_at t (Balancer b) f = sym (count-word t q.words (Balancer b) low) ∙ quiet.tight.passes f full all b low in
             let was : get_or q.start.words (1 + t.entries + b) 0 ≡ count_in t q.start.words (Balancer b) = sym (count-word t q.start.words (Balancer b) low) in
             λ x. now x - was x);
         names = subst (λ (n : ℕ). IsEachBelow n (map (λ (g : Grant). g.name) q.did.grants)) many quiet.names;
@@ -68,18 +70,22 @@ module _ (q : QuietValue) (clients : List Client) (quiet : IsClosedFloor q.start
       }
 
 -- where the lane had nothing, its grants are those of the walk
-pub all-theirs : (a b : LaneValue) (clients : List Client) → HasNothing a → WalksAll a b clients → (b.view.entries ≡ map (λ (c : Client). c.entry) clients) × AreFor clients b.view.grants
+pub all-theirs : (a b : LaneValue) (clients : List Client) → HasNothing a → WalksAll a b clients
+    → (b.view.entries ≡ map (λ (c : Client). c.entry) clients) × (b.view.came ≡ clients) × AreFor clients b.view.grants
 all-theirs a b clients none is =
     let (more, grants, for) = is.grants in
-    let same : b.view.grants ≡ more = grants ∙ ap (λ (gs : List Grant). gs ++ more) none.grants in
-    (is.entries ∙ ap (λ (es : List ℕ). es ++ map (λ (c : Client). c.entry) clients) none.entries, subst (λ (gs : List Grant). AreFor clients gs) (sym same) for)
+    let same : b.view.grants ≡ more = grants ∙ ap (λ (gs : List Grant). gs ++ more) none.grants in (
+      is.entries ∙ ap (λ (es : List ℕ). es ++ map (λ (c : Client). c.entry) clients) none.entries,
+      is.came ∙ ap (λ (cs : List Client). cs ++ clients) none.came,
+      subst (λ (gs : List Grant). AreFor clients gs) (sym same) for,
+    )
 
 -- a floor that its lane closes, after a walk
 pub ran : (q : QuietValue) (start : Start) (a b : LaneValue) (clients : List Client) → q.start ≡ start → IsClosedFloor q.start q.did q.words → q.did ≡ b.view → HasNothing a → WalksAll a b clients → IsRunAfter (words_before start) clients q
 ran q start a b clients same quiet did none is =
-    let (entries, theirs) = all-theirs a b clients none is in
+    let (entries, came, theirs) = all-theirs a b clients none is in
     subst (λ (s : Start). IsRunAfter (words_before s) clients q) same
-    (run_at q clients quiet (ap (λ (v : View). v.entries) did ∙ entries) (subst (λ (v : View). AreFor clients v.grants) (sym did) theirs))
+    (run_at q clients quiet (ap (λ (v : View). v.entries) did ∙ entries) (ap (λ (v : View). v.came) did ∙ came) (subst (λ (v : View). AreFor clients v.grants) (sym did) theirs))
 
 -- after words that are all 0 it is a floor on which nobody else walked
 pub from-zero : (network : Network) (clients : List Client) (q : QuietValue) → IsRunAfter (zero_words network) clients q → IsRun network clients q
@@ -90,6 +96,7 @@ from-zero network clients q is =
     let k : ℕ = length clients in
     record {
       over = is.over;
+      let_in = is.let_in;
       counts = is.counts
           ∙ (ap (λ (m : ℕ). shares_after m k t.width) nobody ∙ first-shares k t.width);
       passes = λ f full from.

@@ -148,6 +148,7 @@ module _ (a b : LaneValue) (wire n : ℕ) (answer : Sweep) (formed : IsWellForme
           quota = omega (arith, ap (λ (x : View). x.quota) view, like.quota);
           room = omega (arith, is.room);
           entries = ap (λ (x : View). x.entries) view ∙ like.entries ∙ sym (append-nil v.entries);
+          came = ap (λ (x : View). x.came) view ∙ like.came ∙ sym (append-nil v.came);
           seen = ap (λ (x : View). x.seen) view ∙ like.seen;
           grants = granted e ends stands view;
         },

@@ -24,6 +24,7 @@ stays a = record {
   quota = omega arith;
   room = omega arith;
   entries = sym (append-nil a.view.entries);
+  came = sym (append-nil a.view.came);
   seen = refl;
   grants = ([], sym (append-nil a.view.grants), λ f. omega arith);
 }
@@ -44,6 +45,7 @@ walks-on a b c xs ys p q =
       room = omega (arith, p.room, q.room, length-both xs ys);
       entries = q.entries ∙ ap (λ (es : List ℕ). es ++ map entry ys) p.entries ∙ append_assoc a.view.entries (map entry xs) (map entry ys)
           ∙ ap (λ (es : List ℕ). a.view.entries ++ es) (sym (map-append entry xs ys));
+      came = q.came ∙ ap (λ (cs : List Client). cs ++ ys) p.came ∙ append_assoc a.view.came xs ys;
       seen = q.seen ∙ p.seen;
       grants = (
         more ++ later,
@@ -82,6 +84,7 @@ comes a b token client entry formed held some low is =
       quota = omega (arith, some, ap (λ (v : View). v.quota) is.view);
       room = omega (arith, is.room);
       entries = ap (λ (v : View). v.entries) is.view;
+      came = ap (λ (v : View). v.came) is.view;
       seen = ap (λ (v : View). v.seen) is.view;
       grants = (
         [],
@@ -161,6 +164,7 @@ walked a b xs w out before after =
       quota = w.quota;
       room = w.room;
       entries = w.entries;
+      came = w.came;
       seen = w.seen;
       grants = (
         more,

@@ -32,6 +32,7 @@ IsOne (Halves' at p left q right) = ⊥
 pub record HasNothing (lane : LaneValue) : Type 0 where
   pub inside : tokens_in lane.yard.lists ≡ 0
   pub entries : lane.view.entries ≡ []
+  pub came : lane.view.came ≡ []
   pub grants : lane.view.grants ≡ []
 
 -- and has quota and room for so many clients

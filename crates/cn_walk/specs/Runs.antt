@@ -45,6 +45,8 @@ IsRefused entries clients workers hand Memory = MayRun entries clients workers h
 pub record IsRunAfter (before : WordsValue) (clients : List Client) (quiet : QuietValue) : Type 0 where
   pub over : quiet.start.network ≡ before.network
   pub after : quiet.start.words ≡ before.words
+  -- its lane let them in, each by its own entry
+  pub let_in : quiet.did.came ≡ clients
   -- they came after the clients of the words
   pub came : clients_in before.network.table quiet.words ≡ client_count before + length clients
   -- each exit let out its share of all minus its share of those that came before
@@ -68,6 +70,8 @@ pub record IsRunAfter (before : WordsValue) (clients : List Client) (quiet : Qui
 -- a floor over the network on which these clients walked, and nobody else
 pub record IsRun (network : Network) (clients : List Client) (quiet : QuietValue) : Type 0 where
   pub over : quiet.start.network ≡ network
+  -- its lane let them in, each by its own entry
+  pub let_in : quiet.did.came ≡ clients
   -- each exit let out its share of them
   pub counts : counts_by_exit quiet.start quiet.words ≡ shares (length clients) network.table.width
   -- each balancer passed what the full flow of their entries brings there

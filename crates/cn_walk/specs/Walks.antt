@@ -22,6 +22,7 @@ pub record WalksAll (old new : LaneValue) (clients : List Client) : Type 0 where
   pub quota : new.view.quota + length clients ≡ old.view.quota
   pub room : new.room ≡ old.room - length clients
   pub entries : new.view.entries ≡ old.view.entries ++ map (λ c. c.entry) clients
+  pub came : new.view.came ≡ old.view.came ++ clients
   pub seen : new.view.seen ≡ old.view.seen
   pub grants : (more : List Grant) × (new.view.grants ≡ old.view.grants ++ more) × AreFor clients more
 
@@ -60,6 +61,7 @@ pub record Walks (old new : LaneValue) (clients : List Client) : Type 0 where
   pub quota : new.view.quota + length clients ≡ old.view.quota
   pub room : new.room ≡ old.room - length clients
   pub entries : new.view.entries ≡ old.view.entries ++ map (λ c. c.entry) clients
+  pub came : new.view.came ≡ old.view.came ++ clients
   pub seen : new.view.seen ≡ old.view.seen
   pub grants : (more : List Grant) × (new.view.grants ≡ old.view.grants ++ more)
       × ((f : ℕ → ℕ)

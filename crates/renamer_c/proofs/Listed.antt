@@ -33,6 +33,7 @@ together a b ids entry out room is =
       quota = omega (arith, is.quota, long);
       room = omega (arith, is.room, long);
       entries = is.entries ∙ ap (λ (es : List ℕ). a.view.entries ++ es) (sym (entries_by entry ids));
+      came = is.came;
       seen = is.seen;
       grants = (most, grew, record { as_many = many ∙ sym long; as_often = λ id. often id ∙ sym (times-by entry id ids) });
     }
@@ -50,6 +51,7 @@ more a b c xs ys was is =
       room = omega (arith, was.room, is.room, length-append xs ys);
       entries = is.entries ∙ ap (λ (es : List ℕ). es ++ map at ys) was.entries ∙ append_assoc a.view.entries (map at xs) (map at ys)
           ∙ ap (λ (es : List ℕ). a.view.entries ++ es) (sym (map-append at xs ys));
+      came = is.came ∙ ap (λ (cs : List Client). cs ++ ys) was.came ∙ append_assoc a.view.came xs ys;
       seen = is.seen ∙ was.seen;
       grants = (
         some ++ most,
@@ -103,6 +105,7 @@ with-more-room a b clients less is =
         quota = is.walked.quota;
         room = omega (arith, less, long, is.walked.room);
         entries = is.walked.entries;
+        came = is.walked.came;
         seen = is.walked.seen;
         grants = is.walked.grants;
       };

@@ -121,6 +121,7 @@ module _ (start : Start) (formed : IsWellFormed start.network.table) (v : View) 
     start = refl;
     quota = refl;
     entries = refl;
+    came = refl;
     wires = length-map-range_with_len (λ u. without token (on v.tokens u) ++ last_on token client to u) 0 (length v.tokens);
     grants = refl;
     seen = refl;
@@ -133,6 +134,7 @@ passed-more u v w p q = record {
   start = q.start ∙ p.start;
   quota = q.quota ∙ p.quota;
   entries = q.entries ∙ p.entries;
+  came = q.came ∙ p.came;
   wires = q.wires ∙ p.wires;
   grants = q.grants ∙ p.grants;
   seen = q.seen ∙ p.seen;

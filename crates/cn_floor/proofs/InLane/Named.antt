@@ -50,6 +50,7 @@ passed-only start token client [] wire v to w (_, same) =
       start = ap (λ (x : View). x.start) same;
       quota = ap (λ (x : View). x.quota) same;
       entries = ap (λ (x : View). x.entries) same;
+      came = ap (λ (x : View). x.came) same;
       wires = ap (λ (x : View). length x.tokens) same;
       grants = ap (λ (x : View). x.grants) same;
       seen = ap (λ (x : View). x.seen) same;
@@ -62,6 +63,7 @@ passed-only start token client (n ∷ rest) wire v to w (b, ends, by, on) =
       start = only.start;
       quota = only.quota;
       entries = only.entries;
+      came = only.came;
       wires = only.wires ∙ length-map-range_with_len (λ u. without token (get_or v.tokens u []) ++ last_on token client (output_wire v.start.network.table b (n % 2)) u) 0 (length v.tokens);
       grants = only.grants;
       seen = only.seen;
@@ -73,6 +75,7 @@ pub record Grew (v w : View) (client entry exit visit : ℕ) : Type 0 where
   pub start : w.start ≡ v.start
   pub quota : w.quota ≡ v.quota - 1
   pub entries : w.entries ≡ v.entries ++ entry ∷ []
+  pub came : w.came ≡ v.came ++ record { id = client; entry = entry } ∷ []
   pub grants : w.grants ≡ v.grants ++ record { client = client; exit = exit; visit = visit; name = name_of v.start.network.table.width exit visit - base v.start } ∷ []
   pub seen : w.seen ≡ v.seen
   pub loads : w.loads ≡ v.loads
@@ -87,6 +90,7 @@ grew start client entry exit visit v w is =
       start = ap (λ (x : View). x.start) is.after ∙ begun;
       quota = ap (λ (x : View). x.quota) is.after ∙ only.quota ∙ ap (λ (x : View). x.quota) came;
       entries = ap (λ (x : View). x.entries) is.after ∙ only.entries ∙ ap (λ (x : View). x.entries) came;
+      came = ap (λ (x : View). x.came) is.after ∙ only.came ∙ ap (λ (x : View). x.came) came;
       grants = ap (λ (x : View). x.grants) is.after
           ∙ (λ i. had i ++ record { client = client; exit = exit; visit = visit; name = name_of (begun i).network.table.width exit visit - base (begun i) } ∷ []);
       seen = ap (λ (x : View). x.seen) is.after ∙ only.seen ∙ ap (λ (x : View). x.seen) came;

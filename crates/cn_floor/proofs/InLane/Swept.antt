@@ -18,16 +18,17 @@ pub record IsKin (v w : View) : Type 0 where
   pub start : w.start ≡ v.start
   pub quota : w.quota ≡ v.quota
   pub entries : w.entries ≡ v.entries
+  pub came : w.came ≡ v.came
   pub seen : w.seen ≡ v.seen
   pub loads : w.loads ≡ v.loads
 
 kin : (end : End) (n token client : ℕ) (v : View) → IsKin v (after_step token client end n v)
-kin (Balancer b) n token client v = record { start = refl; quota = refl; entries = refl; seen = refl; loads = refl }
-kin (Exit i) n token client v = record { start = refl; quota = refl; entries = refl; seen = refl; loads = refl }
+kin (Balancer b) n token client v = record { start = refl; quota = refl; entries = refl; came = refl; seen = refl; loads = refl }
+kin (Exit i) n token client v = record { start = refl; quota = refl; entries = refl; came = refl; seen = refl; loads = refl }
 
 pub kin-by : (end : End) (n : ℕ) (tokens : List (ℕ × ℕ)) (v : View) → IsKin v (after_steps end n tokens v)
 unfolding after_steps
-kin-by end n [] v = record { start = refl; quota = refl; entries = refl; seen = refl; loads = refl }
+kin-by end n [] v = record { start = refl; quota = refl; entries = refl; came = refl; seen = refl; loads = refl }
 kin-by end n (e ∷ rest) v =
     let one = kin end n e.0 e.1 v in
     let more = kin-by end (n + 1) rest (after_step e.0 e.1 end n v) in
@@ -35,6 +36,7 @@ kin-by end n (e ∷ rest) v =
       start = more.start ∙ one.start;
       quota = more.quota ∙ one.quota;
       entries = more.entries ∙ one.entries;
+      came = more.came ∙ one.came;
       seen = more.seen ∙ one.seen;
       loads = more.loads ∙ one.loads;
     }

@@ -1,12 +1,13 @@
 -- The clients of a list come in together, by one entry.
-use Rattle.std.proofs.Common.{◌≡◌, ℕ, zero, suc, ◌+◌, ◌*◌, ◌<◌, ◌≤◌, ◌==◌, inl, inr, eqb, List, [], ◌∷◌, ◌++◌, count_by, sum_by, take, length, replicate, refl, sym, ap, ◌∙◌, subst, arith, cond, append-nil}
+use Rattle.std.proofs.Common.{◌≡◌, ℕ, zero, suc, ◌+◌, ◌*◌, ◌<◌, ◌≤◌, ◌==◌, inl, inr, eqb, List, [], ◌∷◌, ◌++◌, count_by, map, sum_by, take, length, replicate, refl, sym, ap, ◌∙◌, subst, arith, cond, append-nil}
 use Rattle.std.specs.Prelude.{slice_index, false, Bool}
 use Rattle.std.proofs.Math.Seq.{take-length}
 use Rattle.cn_floor.proofs.Common.{View, after_enter, append_assoc, cases_eq, cases_lt, eq-eqb, get_or_past, last_on, length-map-range_with_len, ne_eqb, on, sum-below-one, sum-below-same, sum_by-append, sum_by-cons, times_in, when}
-use Rattle.std.proofs.lemmas.List.{take_more, replicate-append-replicate}
+use Rattle.std.proofs.lemmas.List.{map-append, take_more, replicate-append-replicate}
 use Rattle.cn_spec.specs.Sums.{times}
+use Rattle.cn_ledger.specs.declared.client.Client.{Client}
 use Rattle.cn_floor.specs.EntersAll.{after_enter_all, after_enters}
-use Rattle.cn_floor.specs.Listed.{CameIn, HaveLeft, placed}
+use Rattle.cn_floor.specs.Listed.{CameIn, HaveLeft, by_one_entry, placed}
 use Rattle.cn_floor.proofs.Lists.{made_at, made-beyond}
 use Rattle.cn_floor.proofs.AtClose.Rises.{all-empty}
 use Rattle.cn_floor.proofs.InLane.Yards.{nobody-there}
@@ -18,6 +19,7 @@ none-came v clients entry out = record {
   start = refl;
   quota = omega arith;
   entries = sym (append-nil v.entries);
+  came = sym (append-nil v.came);
   seen = refl;
   loads = refl;
   grants = refl;
@@ -26,9 +28,9 @@ none-came v clients entry out = record {
   others = λ u other. out u;
 }
 
-pub came-more : (v w : View) (clients : List ℕ) (entry k : ℕ) → CameIn v w clients entry k → entry < length w.tokens → 0 < w.quota
+pub came-more : (v w : View) (clients : List ℕ) (entry k : ℕ) → CameIn v w clients entry k → entry < length w.tokens → 0 < w.quota → k < length clients
     → CameIn v (after_enter k (slice_index clients k) entry w) clients entry (suc k)
-came-more v w clients entry k is inside some =
+came-more v w clients entry k is inside some less =
     let client : ℕ = slice_index clients k in
     let make : ℕ → List (ℕ × ℕ) = λ u. on w.tokens u ++ last_on k client entry u in
     let at : k ≡ 0 + 1 * k = omega arith in
@@ -39,11 +41,16 @@ came-more v w clients entry k is inside some =
           ∙ sym ((λ i. get_or_past w.tokens u [] l i ++ (let away : last_on k client entry u ≡ [] = rw (ne_eqb entry u (λ e. omega (arith, e, l, inside))) refl in away i)))
     ] in
     let here : last_on k client entry entry ≡ (k, client) ∷ [] = rw (eq-eqb entry entry refl) refl in
+    let by : ℕ → Client = λ id. record { id = id; entry = entry } in
+    let next : suc k ≡ k + 1 = omega arith in
+    let taken : take (suc k) clients ≡ take k clients ++ client ∷ [] = ap (λ (j : ℕ). take j clients) next ∙ take_more clients k 0 less in
     record {
       start = is.start;
       quota = omega (arith, is.quota, some);
       entries = ap (λ (es : List ℕ). es ++ entry ∷ []) is.entries ∙ append_assoc v.entries (replicate k entry) (entry ∷ [])
           ∙ ap (λ (es : List ℕ). v.entries ++ es) (replicate-append-replicate k 1 entry ∙ ap (λ (n : ℕ). replicate n entry) (let one : k + 1 ≡ suc k = omega arith in one));
+      came = ap (λ (cs : List Client). cs ++ by client ∷ []) is.came ∙ append_assoc v.came (by_one_entry entry (take k clients)) (by client ∷ [])
+          ∙ ap (λ (cs : List Client). v.came ++ cs) (sym (map-append by (take k clients) (client ∷ [])) ∙ ap (map by) (sym taken));
       seen = is.seen;
       loads = is.loads;
       grants = is.grants;
@@ -53,28 +60,30 @@ came-more v w clients entry k is inside some =
     }
 
 -- so many more of them, one after the other
-came-on : (v w : View) (clients : List ℕ) (entry k n : ℕ) → CameIn v w clients entry k → entry < length v.tokens → k + n ≤ v.quota
+came-on : (v w : View) (clients : List ℕ) (entry k n : ℕ) → CameIn v w clients entry k → entry < length v.tokens → k + n ≤ v.quota → k + n ≤ length clients
     → CameIn v (after_enters clients entry k n w) clients entry (k + n)
 unfolding after_enters
-came-on v w clients entry k zero is inside enough =
+came-on v w clients entry k zero is inside enough within =
     let all : k ≡ k + 0 = omega arith in
     subst (λ (j : ℕ). CameIn v w clients entry j) all is
-came-on v w clients entry k (suc n) is inside enough =
+came-on v w clients entry k (suc n) is inside enough within =
     let all : suc k + n ≡ k + suc n = omega arith in
     subst (λ (j : ℕ). CameIn v (after_enters clients entry (suc k) n (after_enter k (slice_index clients k) entry w)) clients entry j) all
     (came-on v (after_enter k (slice_index clients k) entry w) clients entry (suc k) n
-    (came-more v w clients entry k is (omega (arith, inside, is.wires)) (omega (arith, enough, is.quota))) inside (omega (arith, enough)))
+    (came-more v w clients entry k is (omega (arith, inside, is.wires)) (omega (arith, enough, is.quota)) (omega (arith, within)))
+    inside (omega (arith, enough)) (omega (arith, within)))
 
 -- all of a list come in by one step
 pub all-came-in : (v : View) (clients : List ℕ) (entry : ℕ) → ((u : ℕ) → on v.tokens u ≡ []) → entry < length v.tokens → length clients ≤ v.quota
     → CameIn v (after_enter_all clients entry v) clients entry (length clients)
 all-came-in v clients entry out inside enough =
-    let is = came-on v v clients entry 0 (length clients) (none-came v clients entry out) inside (omega (arith, enough)) in
+    let is = came-on v v clients entry 0 (length clients) (none-came v clients entry out) inside (omega (arith, enough)) (omega arith) in
     let all : 0 + length clients ≡ length clients = omega arith in
     record {
       start = is.start;
       quota = omega (arith, is.quota);
       entries = is.entries ∙ ap (λ (k : ℕ). v.entries ++ replicate k entry) all;
+      came = is.came ∙ ap (λ (k : ℕ). v.came ++ by_one_entry entry (take k clients)) all;
       seen = is.seen;
       loads = is.loads;
       grants = is.grants;

@@ -36,6 +36,7 @@ nobody-left v wire none = record {
   start = refl;
   quota = refl;
   entries = refl;
+  came = refl;
   seen = refl;
   loads = refl;
   wires = refl;
@@ -80,6 +81,7 @@ module _ (start : Start) (wire i : ℕ) (formed : IsWellFormed start.network.tab
           start = like.start;
           quota = like.quota;
           entries = like.entries;
+          came = like.came;
           seen = like.seen;
           loads = like.loads;
           wires = all.may.wires ∙ sym may.wires;
@@ -140,6 +142,7 @@ left-both start wire b formed low ends stands n v mid w may some above in_state 
       start = two.start ∙ one.start ∙ like.start;
       quota = two.quota ∙ one.quota ∙ like.quota;
       entries = two.entries ∙ one.entries ∙ like.entries;
+      came = two.came ∙ one.came ∙ like.came;
       seen = two.seen ∙ one.seen ∙ like.seen;
       loads = two.loads ∙ one.loads ∙ like.loads;
       wires = two.wires ∙ one.wires ∙ is.wires ∙ sym may.wires;

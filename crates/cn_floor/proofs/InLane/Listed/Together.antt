@@ -48,7 +48,7 @@ module _ (start : Start) (wire b n : ℕ) (v w : View) (go : GoTogether start wi
   pub kin-so : IsKin v w
   kin-so =
       let like = kin-by (Balancer b) n (on v.tokens wire) v in
-      subst (λ (x : View). IsKin v x) (sym go.went) (record { start = like.start; quota = like.quota; entries = like.entries; seen = like.seen; loads = like.loads })
+      subst (λ (x : View). IsKin v x) (sym go.went) (record { start = like.start; quota = like.quota; entries = like.entries; came = like.came; seen = like.seen; loads = like.loads })
 
   pub grants-so : w.grants ≡ v.grants
   grants-so = ap (λ (x : View). x.grants) go.went ∙ grants-kept b n (on v.tokens wire) v

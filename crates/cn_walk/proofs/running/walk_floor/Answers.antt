@@ -20,7 +20,7 @@ unreachable-requires-in-Err-LanesMissing g c =
     let k : ℕ = length c.args.clients.now in
     let ready = subst (λ (n : ℕ). AreReady c.args.floor n c.in-Some.lanes) (all-first k c.args.crew.workers (search rules)) c.in-Some.ensures.ready in
     let none = (whole-ready c.args.floor k c.in-Some.lanes ready).nothing in
-    let theirs = (all-theirs (whole c.in-Some.lanes) c.walk_lanes-lane.result c.args.clients.now none c.walk_lanes-lane.ensures.walked).1 in
+    let theirs = (all-theirs (whole c.in-Some.lanes) c.walk_lanes-lane.result c.args.clients.now none c.walk_lanes-lane.ensures.walked).2 in
     let why = subst (λ (f : CloseFault). IsCloseRefused c.args.floor c.walk_lanes-lane.result f) c.in-Err-LanesMissing.field-0-is c.in-Err-LanesMissing.ensures.refused in
     none-missing c.args.floor.start c.walk_lanes-lane.result.view c.in-Err-LanesMissing._entered why.3
     (omega (arith, theirs.as_many, c.requires.quota))

@@ -95,6 +95,7 @@ returns-clause-ok c =
       walked = walked;
       quota = omega (arith, is.quota, was.quota, ap (λ (x : View). x.quota) view, c.if-quota-eq0, c.quota.ensures);
       entries = is.entries ∙ (λ x. (view x).entries ++ c.args.entry ∷ []);
+      came = is.came ∙ (λ x. (view x).came ++ record { id = c.args.client; entry = c.args.entry } ∷ []);
       grants = grants;
       seen = is.seen ∙ ap (λ (x : View). x.seen) view;
       low = subst (λ (g : Grant). g.name < old.home.start.quota) last low;

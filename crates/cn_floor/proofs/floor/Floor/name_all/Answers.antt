@@ -1,8 +1,9 @@
 use Rattle.std.proofs.Common.{◌≡◌, ℕ, ◌+◌, ◌==◌, List, [], ◌++◌, count_by, length, replicate, arith, sym, ap, ◌∙◌, subst, length-append}
+use Rattle.std.proofs.Math.Seq.{take-length}
 use Rattle.std.proofs.lemmas.List.{nil_from_length}
 use Rattle.cn_floor.proofs.Common.{FloorValue, LaneValue, Lists, Network, Start, StoodInState, View, lane_of, on, tokens_in}
 use Rattle.cn_yard.proofs.CallerLemmas.{nobody-on}
-use Rattle.cn_floor.specs.Listed.{WalkTogether}
+use Rattle.cn_floor.specs.Listed.{WalkTogether, by_one_entry}
 use Rattle.cn_floor.proofs.AtClose.Rises.{all-empty}
 use Rattle.cn_floor.proofs.InLane.Listed.Groups.{placed-many}
 use Rattle.cn_floor.proofs.InLane.Listed.CameIn.{all-clients, came-once, nobody-stands}
@@ -93,6 +94,7 @@ returns-clause-ok c =
           (walk-together c.args.self.now.start clients c.args.entry v w x c.come_in.ensures.step c.pass_all.ensures.swept);
       quota = omega (arith, came.quota, left.quota, ap (λ (y : View). y.quota) view);
       entries = left.entries ∙ came.entries ∙ (λ i. (view i).entries ++ replicate k c.args.entry);
+      came = left.came ∙ came.came ∙ (λ i. (view i).came ++ by_one_entry c.args.entry (take-length clients i));
       seen = left.seen ∙ came.seen ∙ ap (λ (y : View). y.seen) view;
       grants = (
         more,

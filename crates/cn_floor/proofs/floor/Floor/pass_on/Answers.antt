@@ -77,7 +77,7 @@ unfolding PassesOn
 loop-balancer-init g c = record {
   table = refl;
   no_slot = c.requires.slots.0;
-  passed = record { start = refl; quota = refl; entries = refl; wires = refl; grants = refl; seen = refl; loads = refl };
+  passed = record { start = refl; quota = refl; entries = refl; came = refl; wires = refl; grants = refl; seen = refl; loads = refl };
   alone = c.requires.alone;
   onward = omega arith;
   by = ([], (refl, refl));
