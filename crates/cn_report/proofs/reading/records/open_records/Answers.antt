@@ -1,12 +1,20 @@
-use Rattle.cn_report.proofs.Common.{◌∙◌, ap}
-use Rattle.csv.specs.Reading.{reader_config, reader_state, source_of}
+use Rattle.cn_report.proofs.Common.{◌≡◌, ◌∙◌, ap, ℕ, List, Option, IfSome, [], option_map}
+use Rattle.csv.specs.Reading.{ChangesHeaders, default_config, reader_config, reader_state, source_of, strip_bom}
+use Rattle.csv.specs.declared.parser.State.TheVariants as st
+use Rattle.csv.specs.declared.reader.Reader.{Reader}
+use Rattle.cn_report.specs.Reading.Records.{HasRead}
 use Rattle.cn_report.proofs.ReadingLemmas.RecordLists.{opened}
 use Rattle.cn_report.proofs.reading.records.open_records.Goals as goal
+
+-- a reader whose header is set has read as much as before
+opened-named : {R : Type 0} (rem : R → Option (List ℕ)) (made named : Reader R) (known : Option (List ℕ)) → ChangesHeaders made named
+    → reader_config made ≡ default_config → reader_state made ≡ st.StartRecord → source_of rem made ≡ option_map strip_bom known
+    → IfSome known (λ text. HasRead rem named text [])
+opened-named rem made named known same config state source =
+    opened rem named known (ap reader_config same ∙ config) (ap reader_state same ∙ state) (ap (source_of rem) same ∙ source)
 
 pub returns-in_ok-new-in-Ok-clause-opened : goal.returns-in_ok-new-in-Ok-clause-opened
 returns-in_ok-new-in-Ok-clause-opened g c =
     let made = c.from_reader-records.ensures in
-    let same = c.in-Ok.ensures.same in
     let config = rw c.flexible.ensures at made.config in
-    let source = ap (source_of g.R.Read.remaining) same ∙ made.source in
-    rw c.in_ok-new-in-Ok.ensures.ok (opened g.R.Read.remaining c.set_byte_headers.new.self (g.R.Read.remaining c.args.reader) (ap reader_config same ∙ config ∙ c.new.ensures.config) (ap reader_state same ∙ made.state) source)
+    rw c.in_ok-new-in-Ok.ensures.ok (opened-named g.R.Read.remaining c.from_reader-records.result c.set_byte_headers.new.self (g.R.Read.remaining c.args.reader) c.in-Ok.ensures.same (config ∙ c.new.ensures.config) made.state made.source)
