@@ -12,7 +12,6 @@ READ = [
     ("case a\nthreads 20 refused\n", {"threads": 20, "refused": True}),
     ("case a\ngrowths 5\nbytes 60\nwrites 7\nspares 2\n", {"growths": 5, "bytes": 60, "writes": 7, "spares": 2}),
     ("case a\nby the script\n", {"by_script": True}),
-    ("case a\nclients in any order\n", {"any_order": True}),
     ("case a\n< a b\n<\n<- c\\xff\\r\n", {"given": b"a b\n\nc\xff\r"}),
     ("case a\n<* 2 x\\ny\n", {"given": b"x\ny\nx\ny\n"}),
     ("case a\n<# 3 1,&\n<+ 2 &,&\n", {"given": b"1,0\n1,1\n1,2\n1,1\n2,2\n"}),
