@@ -5,9 +5,9 @@ Carry: the full batch, 16 epochs of 65,536 clients, on bitonic 64 by one worker 
 epochs of one client, as grants. Times do not show a ratio near 1, so the instructions are counted, by valgrind's
 callgrind; the times are of 60 runs each.
 
-Workers: half a million clients in epochs of each size of EPOCHS, as grants, on the tree of width 2 and on bitonic 64,
-with hands of 1 and 64, by the clock, three runs each. Of all these a row has the one whose ratio is the greatest. The
-last rows have the epochs of 65,536 clients on bitonic 64 by hand 1.
+Workers: one epoch of each size of EPOCHS, nine runs, and half a million clients in epochs of this size, three runs, as
+grants, on the networks and with the hands of FORMS, by the clock and in processor time. Of all these a row has the one
+whose ratio is the greatest. The last row has the epochs of 65,536 clients on bitonic 64 by hand 1, by the clock.
 """
 import collections
 import itertools
@@ -15,8 +15,10 @@ import re
 
 import measure
 
-EPOCHS = (1, 2, 63, 64, 127, 128, 129, 1_000, 4_096, 10_000, 65_536)
+EPOCHS = (1, 2, 63, 64, 65, 128, 1_000, 8_191, 8_192, 10_000, 16_383, 16_384, 16_385, 65_536, 262_144)
 WORKERS = (2, 4, 16, 64)
+# A network, and how many clients a worker has in hand.
+FORMS = (("tree", 2, 1), ("tree", 64, 64), ("bitonic", 64, 1), ("bitonic", 64, 64))
 
 
 def instructions(bench, words, path):
@@ -43,33 +45,33 @@ def beside_no_carry(bench):
         yield bench.compare(f"{name}, times", [(job, path) for job in pair], bench.size(60, 3))
 
 
-def by_workers(bench, words, path, compared):
-    """The ratio of each number of workers to one, after their outputs were compared, if these are to be."""
-    jobs = [[*words, "--workers", str(count)] for count in (1, *WORKERS)]
-    if compared:
-        # Which client has which name is open, so the lines may differ, but not how many digits they have.
-        bench.agree(jobs, path, seen=len)
-    one, *others = bench.in_turn([(job, path) for job in jobs], 3)
-    return {count: measure.ratio("", (spent, one), "clock") for count, spent in zip(WORKERS, others)}
+def batches(bench):
+    """One epoch of each size, and many: what they are called, the file, and how many runs are made."""
+    for clients, many in itertools.product(EPOCHS, (False, True)):
+        count = min(524_288 if many else clients, bench.size(524_288, 8_192))
+        records = (f"{at // clients},{bench.chance.getrandbits(64)}" for at in range(count))
+        path = bench.write("batch", "epoch,client", records)
+        yield f"{'epochs' if many else 'one epoch'} of {clients}", path, 3 if many else bench.size(9, 3)
 
 
 def beside_one(bench):
-    """Several workers, beside one."""
+    """Several workers, beside one. Their number settles only how long it takes, so their outputs are the same."""
     found = collections.defaultdict(dict)
-    for clients in EPOCHS:
-        records = (f"{at // clients},{bench.chance.getrandbits(64)}" for at in range(bench.size(524_288, 8_192)))
-        path = bench.write("batch", "epoch,client", records)
-        for (network, width), hand, carry in itertools.product((("tree", 2), ("bitonic", 64)), (1, 64), (False, True)):
+    for batch, path, rounds in batches(bench):
+        for (network, width, hand), carry in itertools.product(FORMS, (False, True)):
             words = bench.ours(network, width, "--hand", hand, "--form", "grants", *["--carry"] * carry)
-            for count, row in by_workers(bench, words, path, carry and hand == 64).items():
-                found[count, carry][f"epochs of {clients}, {network} {width}, hand {hand}"] = row
-    for (count, carry), rows in sorted(found.items()):
+            jobs = [[*words, "--workers", str(count)] for count in (1, *WORKERS)]
+            bench.agree(jobs, path)
+            one, *others = bench.in_turn([(job, path) for job in jobs], rounds)
+            for (count, spent), by in itertools.product(zip(WORKERS, others), ("clock", "processor")):
+                row = measure.ratio("", (spent, one), by)
+                found[count, carry, by][f"{batch}, {network} {width}, hand {hand}"] = row
+    for (count, carry, by), rows in sorted(found.items()):
         worst = max(rows, key=lambda name: rows[name].value)
-        name = f"{count} to one, the most of all epochs{', carried' * carry}"
+        name = f"{count} to one, the most of all epochs{', carried' * carry}{', processor time' * (by == 'processor')}"
         yield measure.Row(name, rows[worst].value, f"{worst}: {rows[worst].detail}")
-    for carry in (False, True):
-        row = found[4, carry][f"epochs of {EPOCHS[-1]}, bitonic 64, hand 1"]
-        yield measure.Row(f"4 to one, epochs of {EPOCHS[-1]}{', carried' * carry}", row.value, row.detail)
+    row = found[4, False, "clock"]["epochs of 65536, bitonic 64, hand 1"]
+    yield measure.Row("4 to one, epochs of 65536", row.value, row.detail)
 
 
 def rows(bench):

@@ -51,7 +51,6 @@ class Case:
     # Whether a stream may have any bytes but none.
     open_output: bool = False
     open_errors: bool = False
-    any_order: bool = False
     # What stands in a line of an open output, what in none, and whole lines of open errors.
     texts: list = dataclasses.field(default_factory=list)
     unwanted_texts: list = dataclasses.field(default_factory=list)
@@ -138,8 +137,6 @@ class Reader:
             case.wanted_output += f"renamer {(ROOT / 'VERSION').read_text().strip()}\n".encode()
         elif (mark, rest) == ("by", "the script"):
             case.by_script = True
-        elif (mark, rest) == ("clients", "in any order"):
-            case.any_order = True
         else:
             return self.stream(mark, rest)
         return True

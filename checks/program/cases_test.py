@@ -14,7 +14,6 @@ READ = [
     ("case a\nerror_writes 1\n", {"error_writes": 1}),
     ("case a\nby the script\n", {"by_script": True}),
     ("case a\ninterrupted\n", {"interrupted": True}),
-    ("case a\nclients in any order\n", {"any_order": True}),
     ("case a\n< a b\n<\n<- c\\xff\\r\n", {"given": b"a b\n\nc\xff\r"}),
     ("case a\n<* 2 x\\ny\n", {"given": b"x\ny\nx\ny\n"}),
     ("case a\n<# 3 1,&\n<+ 2 &,&\n", {"given": b"1,0\n1,1\n1,2\n1,1\n2,2\n"}),

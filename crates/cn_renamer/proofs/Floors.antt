@@ -19,6 +19,7 @@ use Rattle.cn_report.specs.declared.reading.batch.BatchEpoch.{BatchEpoch}
 use Rattle.cn_report.specs.Writing.EpochRecords.{AreRecordsOf}
 use Rattle.cn_renamer.specs.Floors.{AreOfRunner, HaveWalked, IsOfFloor, WalkedOn, runner_after}
 use Rattle.cn_renamer.specs.Headline.{AreServed, ids_of}
+use Rattle.cn_renamer.specs.Running.{alone}
 use Rattle.cn_renamer.proofs.Served.{IsMadeOf, made-of}
 
 -- ---- one after another
@@ -79,15 +80,16 @@ walked-both crew one other runner first second fs gs xs ys a b sole = record {
       (λ i. a.in_order both.0 both.1 i ++ b.in_order both.2 both.3 i) ∙ sym (flat_map-append ids_of first second);
 }
 
--- without carry others have that began as they did
-pub beside : (crew one other : Crew) (words : WordsValue) (epochs first second : List BatchEpoch) (fs gs : List QuietValue) (xs ys : List ℕ) → epochs ≡ first ++ second → 2 ≤ crew.workers
-    → HaveWalked one (record { words = words; carries = false }) first fs xs → HaveWalked other (record { words = words; carries = false }) second gs ys
-    → HaveWalked crew (record { words = words; carries = false }) epochs (fs ++ gs) (xs ++ ys)
-beside crew one other words epochs first second fs gs xs ys both many a b =
+-- without carry others have that began as they did, each epoch by one worker; in as many hands, so have both
+pub beside : (crew one other : Crew) (words : WordsValue) (epochs first second : List BatchEpoch) (fs gs : List QuietValue) (xs ys : List ℕ) → epochs ≡ first ++ second
+    → one.hand ≡ crew.hand → other.hand ≡ crew.hand
+    → HaveWalked (alone one) (record { words = words; carries = false }) first fs xs → HaveWalked (alone other) (record { words = words; carries = false }) second gs ys
+    → HaveWalked (alone crew) (record { words = words; carries = false }) epochs (fs ++ gs) (xs ++ ys)
+beside crew one other words epochs first second fs gs xs ys both left right a b =
     let runner : RunnerValue = record { words = words; carries = false } in
-    subst (λ (es : List BatchEpoch). HaveWalked crew runner es (fs ++ gs) (xs ++ ys)) (sym both)
-    (walked-both crew one other runner first second fs gs xs ys a (subst (λ (r : RunnerValue). HaveWalked other r second gs ys) (sym (stays words fs)) b)
-    (λ worker hand. absurd (omega (arith, many, worker))))
+    subst (λ (es : List BatchEpoch). HaveWalked (alone crew) runner es (fs ++ gs) (xs ++ ys)) (sym both)
+    (walked-both (alone crew) (alone one) (alone other) runner first second fs gs xs ys a (subst (λ (r : RunnerValue). HaveWalked (alone other) r second gs ys) (sym (stays words fs)) b)
+    (λ worker hand. (refl, left ∙ hand, refl, right ∙ hand)))
 
 one-held : (epoch : BatchEpoch) (floors : List QuietValue) (lists : List (List ℕ)) (holders : List ℕ) → AllZip WalkedOn (epoch ∷ []) floors
     → AllZip (λ (f : QuietValue) (list : List ℕ). ListsHolders f.did.grants list) floors lists → holders ≡ flat_map (λ (list : List ℕ). list) lists

@@ -23,13 +23,12 @@ abbrev pub IsBuiltFor : Job → Type 0
 IsBuiltFor (job.Check width) = IsWidth width
 IsBuiltFor other = Unit {0}
 
--- the text of a job, by the bytes that its reader has left, if they are known; of a run by one worker with one client
--- in hand the names follow the order of the batch
+-- the text of a job, by the bytes that its reader has left, if they are known; of a run with one client in hand the names
+-- follow the order of the batch, by any number of workers
 abbrev pub IsTextOf : Job → Option (List ℕ) → List ℕ → Type 0
 IsTextOf (job.Run options) known text =
     IsRunOfKnown options.net options.form options.carry known text
-    × (options.workers ≡ 1 → options.hand ≡ 1
-    → IsRunInOrderOfKnown options.net options.form options.carry known text)
+    × (options.hand ≡ 1 → IsRunInOrderOfKnown options.net options.form options.carry known text)
 IsTextOf (job.Replay net) known text = IsReplayOfKnown net known text
 IsTextOf (job.Check width) known text = IsCheckOfKnown width known text
 IsTextOf (job.Show net) known text = IsWiringOf net text

@@ -1,5 +1,5 @@
 -- Which epochs may be run, and by whom.
-use Rattle.std.specs.Prelude.{◌≡◌, ℕ, ◌<◌, ◌≤◌, ◌*◌, ◌/◌, All, List, length, max, min, nat_lt, if◌then◌else◌}
+use Rattle.std.specs.Prelude.{◌≡◌, ℕ, ◌<◌, ◌≤◌, ◌*◌, ◌/◌, All, List, Option, Some, None, length, max, min}
 use Rattle.cn_spec.specs.declared.limits.TheConstants.{MOST_RECORDS}
 use Rattle.cn_report.specs.Reading.Batch.{MayCome, clients_of_epochs}
 use Rattle.cn_report.specs.declared.reading.batch.BatchEpoch.{BatchEpoch}
@@ -15,17 +15,23 @@ pub record MayRunAll (entries : ℕ) (epochs : List BatchEpoch) (places : ℕ) :
   pub few : places ≤ MOST_RECORDS
   pub all : places ≡ clients_of_epochs epochs
 
--- the crew that the options ask for
-abbrev pub crew_of : Settings → Crew
-crew_of options = record { first = 0; workers = options.workers; hand = options.hand }
+-- how many walk each epoch of a run: at a gate all workers that are asked for, and without one only one
+abbrev pub walkers : {G : Type 0} → Option G → ℕ → ℕ
+walkers (Some gate) asked = asked
+walkers None asked = 1
 
--- who of a crew run an epoch of so many clients, one of so many that run one after another: if there are others, no
--- more workers than its clients pay for, and one at least; else all
-abbrev pub crew_for : Crew → ℕ → ℕ → Crew
-crew_for crew epochs clients =
-    if nat_lt 1 epochs
-    then record crew { workers = min (max (clients / CLIENTS_FOR_A_THREAD) 1) crew.workers }
-    else crew
+-- those who walk each epoch, by the options
+abbrev pub crew_of : {G : Type 0} → Option G → Settings → Crew
+crew_of gate options = record { first = 0; workers = walkers gate options.workers; hand = options.hand }
+
+-- one worker of a crew
+abbrev pub alone : Crew → Crew
+alone crew = record crew { workers = 1 }
+
+-- how many of the workers that are asked for pay, if so many epochs with so many clients in all may run beside one
+-- another: no more than one for each epoch and one for each 8,192 clients, and one at least
+abbrev pub workers_that_pay : ℕ → ℕ → ℕ → ℕ
+workers_that_pay asked epochs clients = max (min asked (min epochs (clients / CLIENTS_FOR_A_THREAD))) 1
 
 -- how many of so many clients are those of half a crew, of an odd one of the smaller half
 abbrev pub clients_of_half : Crew → ℕ → ℕ

@@ -1,41 +1,33 @@
-//! The epochs of a batch, run by many workers: one after another, or beside one another.
+//! The epochs of a batch: run one after another, each by many workers, or beside one another, each by one.
 
 ghost use Rattle.std.specs.Prelude.{◌≡◌, ◌+◌, ◌<◌, ◌≤◌, [], ◌∷◌, ℕ, IfOk, false, length, take};
 ghost use Rattle.cn_spec.specs.declared.limits.TheConstants.{MOST_CARRIED, MOST_RECORDS};
 ghost use Rattle.cn_floor.specs.Carried.{client_count};
 ghost use Rattle.cn_report.specs.Reading.Batch.{MayCome, clients_of_epochs};
 ghost use Rattle.cn_renamer.specs.Floors.{HaveWalked, new_runner, runner_after};
-ghost use Rattle.cn_renamer.specs.Running.{MayRunAll, clients_of_half, crew_for, crew_of};
+ghost use Rattle.cn_renamer.specs.Running.{MayRunAll, alone, clients_of_half, crew_of, workers_that_pay};
 ghost use Rattle.cn_walk.specs.Crew.{IsCrew};
 ghost use denote.Param.Send.{IsSync};
 
 use cn_cli::Options;
 use cn_report::BatchEpoch;
-use cn_walk::{Crew, Gate, Receipts, RunFault, Runner};
+use cn_walk::{Crew, Gate, OpenGate, Receipts, RunFault, Runner};
 use cn_wiring::Counting;
 use std::alloc::{AllocError, Global};
 use std::sync::Wait;
 use std::thread::{Threads, join_mut};
 
 /// How many clients of a worker pay for its thread: fewer are walked in less time than a thread takes to start.
-const CLIENTS_FOR_A_THREAD: usize = 8192;
+pub const CLIENTS_FOR_A_THREAD: usize = 8192;
 
-/// Who of a crew run an epoch of so many clients, one of so many that run one after another: if there are others, no
-/// more workers than its clients pay for, and one at least; else all.
-fn crew_for(crew: Crew, epochs: usize, clients: usize) -> Crew
-    requires { IsCrew crew }
-    ensures crew { IsCrew result }
-    ensures paid { result ≡ crew_for crew epochs clients }
-    ensures one { crew.workers ≡ 1 → result.workers ≡ 1 }
-    ensures hand { result.hand ≡ crew.hand }
+/// How many of the workers that are asked for pay, if so many epochs, which have so many clients in all, may run beside
+/// one another, each by one worker: no more than one for each epoch and one for each [`CLIENTS_FOR_A_THREAD`] clients,
+/// and one at least.
+pub fn workers_that_pay(asked: u32, epochs: usize, clients: usize) -> u32
+    ensures { result ≡ workers_that_pay asked epochs clients }
 {
-    if epochs > 1 {
-        let paid = (clients / CLIENTS_FOR_A_THREAD).max(1);
-        let workers = paid.min(crew.workers as usize) as u32;
-        Crew { workers, ..crew }
-    } else {
-        crew
-    }
+    let paid = epochs.min(clients / CLIENTS_FOR_A_THREAD);
+    paid.min(asked as usize).max(1) as u32
 }
 
 /// Runs the next epoch of a batch by a crew, and writes who has which name: the runner for the epoch after it, and the
@@ -91,9 +83,8 @@ fn run_in_turn<'n, G: Gate + Sync, R: Threads + Wait + Sync>(
     let mut at = 0;
     for epoch in epochs {
         let end = at + epoch.clients.len();
-        let workers = crew_for(crew, epochs.len(), end - at);
         let own = &mut holders[at..end];
-        let (next, receipt) = serve_epoch(rt, alloc, runner, epoch, workers, gate, own)?;
+        let (next, receipt) = serve_epoch(rt, alloc, runner, epoch, crew, gate, own)?;
         runner = next;
         receipts = receipts.and(receipt);
         at = end;
@@ -133,28 +124,31 @@ fn cut(epochs: &[BatchEpoch], crew: Crew, clients: usize) -> (usize, usize)
     (at, before)
 }
 
-/// Runs epochs that carry nothing by a crew, and writes who has which name: two parts of the epochs beside each other,
-/// each by a part of the crew, and so on in each. One worker runs its epochs one after another, and one epoch is run by
-/// the whole crew. If no thread can be had the parts are run one after the other. The receipts are of their floors.
-fn run_beside<G: Gate + Sync, R: Threads + Wait + Sync>(
+/// Runs epochs, each by one worker, and writes who has which name. If they carry nothing and several workers of the crew
+/// pay, two parts of the epochs run beside each other, each by a part of these workers, and so on in each; else the epochs
+/// run one after another. If no thread can be had the parts are run so too. The receipts are of their floors.
+fn run_beside<R: Threads + Wait + Sync>(
     rt: &R,
     alloc: Global,
     network: &Counting,
+    carries: bool,
     epochs: &[BatchEpoch],
     crew: Crew,
-    gate: &G,
     holders: &mut [u64],
 ) -> Result<Receipts, AllocError>
     requires epochs { MayRunAll network.now.table.entries epochs.now (length holders.old) }
     requires crew { IsCrew crew }
     ensures { IfOk result (λ floors.
-        HaveWalked crew (new_runner false network.now) epochs.now floors holders.new) }
+        HaveWalked (alone crew) (new_runner carries network.now) epochs.now floors holders.new) }
 {
-    if epochs.len() < 2 || crew.workers < 2 {
-        let runner = Runner::new(alloc, network, false)?;
-        return run_in_turn(rt, alloc, runner, epochs, crew, gate, holders);
-    }
     let clients = holders.len();
+    let workers = workers_that_pay(crew.workers, epochs.len(), clients);
+    if carries || workers < 2 {
+        let runner = Runner::new(alloc, network, carries)?;
+        let alone = Crew { workers: 1, ..crew };
+        return run_in_turn(rt, alloc, runner, epochs, alone, &OpenGate, holders);
+    }
+    let crew = Crew { workers, ..crew };
     let (at, reached) = cut(epochs, crew, clients);
     let (crew, others) = crew.split(reached, clients);
     let (first, second) = epochs.split_at(at);
@@ -162,35 +156,33 @@ fn run_beside<G: Gate + Sync, R: Threads + Wait + Sync>(
     let (one, other) = join_mut(
         rt,
         &mut ||
-            requires { IsSync R.row × IsSync G.row × IsCrew crew
-                × MayRunAll network.now.table.entries first.now (length front.now) }
+            requires { IsSync R.row × IsCrew crew × MayRunAll network.now.table.entries first.now (length front.now) }
             ensures { IfOk result (λ floors.
-                HaveWalked crew (new_runner false network.entry.now) first.entry.now floors front.exit.now) }
-        { run_beside(rt, alloc, network, first, crew, gate, front) },
+                HaveWalked (alone crew) (new_runner false network.entry.now) first.entry.now floors front.exit.now) }
+        { run_beside(rt, alloc, network, false, first, crew, front) },
         &mut ||
-            requires { IsSync R.row × IsSync G.row × IsCrew others
-                × MayRunAll network.now.table.entries second.now (length back.now) }
+            requires { IsSync R.row × IsCrew others × MayRunAll network.now.table.entries second.now (length back.now) }
             ensures { IfOk result (λ floors.
-                HaveWalked others (new_runner false network.entry.now) second.entry.now floors back.exit.now) }
-        { run_beside(rt, alloc, network, second, others, gate, back) },
+                HaveWalked (alone others) (new_runner false network.entry.now) second.entry.now floors back.exit.now) }
+        { run_beside(rt, alloc, network, false, second, others, back) },
     );
     let (floors, others) = (one?, other?);
     Ok(floors.and(others))
 }
 
 /// Runs the epochs of a batch on a network, as the options say: who has which name, epoch after epoch, each by rising
-/// name; and the receipts of the floors on which they were named. Epochs that carry counters run one after another,
-/// others beside one another.
+/// name; and the receipts of the floors on which they were named. At a gate the epochs run one after another, each by all
+/// workers that the options ask for; without one each is run by one worker, and as many run beside one another as pay.
 pub(crate) fn run_epochs<G: Gate + Sync, R: Threads + Wait + Sync>(
     rt: &R,
     alloc: Global,
     network: &Counting,
     options: &Options,
     epochs: &[BatchEpoch],
-    gate: &G,
+    gate: Option<&G>,
 ) -> Result<(Vec<u64>, Receipts), AllocError>
     requires may { MayRunAll network.now.table.entries epochs.now (clients_of_epochs epochs.now) }
-    ensures walked { IfOk result (λ r. HaveWalked (crew_of options.now)
+    ensures walked { IfOk result (λ r. HaveWalked (crew_of gate.entry options.now)
         (new_runner options.now.carry network.now) epochs.now r.1 r.0.items) }
     ensures many { IfOk result (λ r. clients_of_epochs epochs.now ≡ length r.0.items) }
 {
@@ -200,11 +192,13 @@ pub(crate) fn run_epochs<G: Gate + Sync, R: Threads + Wait + Sync>(
         workers: options.workers(),
         hand: options.hand(),
     };
-    let receipts = if options.carries() {
-        let runner = Runner::new(alloc, network, true)?;
-        run_in_turn(rt, alloc, runner, epochs, crew, gate, &mut holders)?
-    } else {
-        run_beside(rt, alloc, network, epochs, crew, gate, &mut holders)?
+    let carries = options.carries();
+    let receipts = match gate {
+        Some(gate) => {
+            let runner = Runner::new(alloc, network, carries)?;
+            run_in_turn(rt, alloc, runner, epochs, crew, gate, &mut holders)?
+        }
+        None => run_beside(rt, alloc, network, carries, epochs, crew, &mut holders)?,
     };
     Ok((holders, receipts))
 }

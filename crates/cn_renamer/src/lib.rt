@@ -19,6 +19,7 @@ pub use cn_cli::{Form, Job, OptionFault, Options, WordsFault, parse_words};
 pub use cn_nets::{Net, NetFault};
 pub use cn_report::{BatchCause, BatchFault, Flaw, ScheduleCause, ScheduleFault};
 pub use cn_walk::Receipts;
+pub use epochs::{CLIENTS_FOR_A_THREAD, workers_that_pay};
 pub use fault::{Fault, end};
 pub use output_fault::OutputFault;
 pub use performing::{perform, run};

@@ -43,7 +43,8 @@ pub fn perform<I: Read + Drop, W: Write, S: RandomSource, R: Threads + Wait + Sy
     match job {
         Job::Run(options) => {
             let state = RandomState::new(source)?;
-            serve_with_receipts(rt, alloc, reader, writer, &options, state, &OpenGate)?;
+            let gate = None::<&OpenGate>;
+            serve_with_receipts(rt, alloc, reader, writer, &options, state, gate)?;
             Ok(())
         }
         Job::Replay(net) => {

@@ -10,6 +10,7 @@ ghost use Rattle.cn_report.specs.Writing.EpochRecords.{AreRecordsOf};
 ghost use Rattle.cn_report.specs.Writing.Written.{First, HasWritten, Whole, written_by};
 ghost use Rattle.cn_renamer.specs.Floors.{IsRunOnFloorsOfKnown};
 ghost use Rattle.cn_renamer.specs.Headline.{IsRunInOrderOfKnown, IsRunOfKnown, text_in};
+ghost use Rattle.cn_renamer.specs.Running.{walkers};
 ghost use Rattle.cn_renamer.specs.Serve.{IsServeFault, until_serve};
 
 use crate::epochs::run_epochs;
@@ -83,12 +84,8 @@ fn write_epochs<W: Write>(
 /// many epochs and grants there are; or the grant list, which `check` takes
 /// ([`crate::laws::written_grants_are_accepted`]).
 ///
-/// As many workers run them as the options have, each with so many clients in hand, each epoch as
-/// [`cn_walk::Runner::run`] does. If the options carry counters, the epochs run one after another, each of several by
-/// one worker for each 8,192 of its clients, so far as there are workers, and by one at least. Else each has a floor of
-/// its own, and they run beside one another: with several workers and epochs these are cut in two parts, and the
-/// workers by the clients of each, and so on in each part, so that a worker has epochs that it runs one after another,
-/// or an epoch several workers. With several workers two threads read the batch.
+/// The epochs run one after another, each as [`cn_walk::Runner::run`] does, by as many workers as the options have, each
+/// with so many clients in hand. With several workers two threads read the batch.
 ///
 /// **The headline.** Of each epoch of k clients exit i of w has the count ceiling((k - i) / w), and the clients have
 /// the names 0 to k-1, each once (Aspnes, Herlihy, Shavit, *Counting Networks*, JACM 1994, section 2; renaming by
@@ -127,13 +124,19 @@ pub fn serve<I: Read + Drop, W: Write, G: Gate + Sync, R: Threads + Wait + Sync>
         HasWritten W.contents Is (written_by until_serve result) writer.old writer.new }
     ensures refused { IfErr result (IsServeFault options.now.net (I.remaining reader)) }
 {
-    let _receipts = serve_with_receipts(rt, alloc, reader, writer, options, state, gate)?;
+    let _receipts = serve_with_receipts(rt, alloc, reader, writer, options, state, Some(gate))?;
     Ok(())
 }
 
-/// Serves a batch for the program: does what [`serve`], which is for callers, says, and returns the receipts of the
+/// Serves a batch at a gate, as [`serve`] does, or without one, as the program does; and returns the receipts of the
 /// floors: what it has written has of each epoch the counts by exit of a closed floor on which the clients of the epoch
 /// walked, and nobody else, and the names that they were granted there.
+///
+/// Without a gate each epoch is walked by one worker: several that share an epoch's words wait for one another longer than
+/// they gain. So with one client in hand names follow the order of the batch by any number of workers. Epochs that carry
+/// counters run one after another. Else each has a floor of its own, and they run beside one another, by as many of the
+/// options' workers as pay ([`crate::workers_that_pay`]): these epochs are cut in two parts, and the workers by the
+/// clients of each, and so on in each part.
 ///
 /// # Errors
 /// Those of [`serve`].
@@ -144,11 +147,11 @@ pub fn serve_with_receipts<I: Read + Drop, W: Write, G: Gate + Sync, R: Threads 
     writer: &mut W,
     options: &Options,
     state: RandomState,
-    gate: &G,
+    gate: Option<&G>,
 ) -> Result<Receipts, ServeFault>
     ensures headline { let Is = IsRunOfKnown options.now.net options.now.form options.now.carry (I.remaining reader) in
         HasWritten W.contents Is (written_by until_serve result) writer.old writer.new }
-    ensures in_order { options.now.workers ≡ 1 → options.now.hand ≡ 1
+    ensures in_order { walkers gate.entry options.now.workers ≡ 1 → options.now.hand ≡ 1
         → let Is = IsRunInOrderOfKnown options.now.net options.now.form options.now.carry (I.remaining reader) in
         HasWritten W.contents Is (written_by until_serve result) writer.old writer.new }
     ensures floors { IfOk result (λ floors. let net = options.now.net in

@@ -11,7 +11,7 @@ split-requires-clause-part g t c =
     let epochs = c.args.epochs.now in
     let all = c.requires.epochs.all in (
       omega (arith, all, c.cut-at.ensures.clients, sum_by-take-le (λ (e : BatchEpoch). length e.clients.items) epochs c.cut-at.result.0),
-      omega (arith, all, some-client epochs (omega (arith, c.if-epochs-lt2.false)) c.requires.epochs.some),
+      omega (arith, all, some-client epochs (omega (arith, c.workers_that_pay-workers.ensures, c.if-workers-lt2.false)) c.requires.epochs.some),
     )
 
 pub join_mut-one-requires-after_bounds : goal.join_mut-one-requires-after_bounds
@@ -32,5 +32,7 @@ join_mut-one-requires-after_bounds g t c κs within =
 pub returns : goal.returns
 returns g t c =
     let both = c.split_at.ensures.by_index.0 in
-    let many = c.if-crew-lt2.false in
-    search (rules, beside)
+    let hands = c.split.ensures.hand in
+    let left = hands.0 in
+    let right = hands.1 in
+    rw c.if-carries.false (search (rules, beside))

@@ -38,16 +38,16 @@ loop-epoch-preserved g c =
     let more : clients_of_epochs (take i epochs) + length epoch.clients.items ≡ clients_of_epochs (take (i + 1) epochs) =
     sym (sum_by_push (λ (e : BatchEpoch). length e.clients.items) (take i epochs) epoch) ∙ ap clients_of_epochs front in
     let all = sum_by-take-le (λ (e : BatchEpoch). length e.clients.items) epochs (i + 1) in
-    let one : HaveWalked c.crew_for-workers.result (runner_after runner receipts) (epoch ∷ []) receipt own =
-    subst (λ (r : RunnerValue). HaveWalked c.crew_for-workers.result r (epoch ∷ []) receipt own) before.runner c.in_ok-next.ensures.walked in
-    let many : length own ≡ length epoch.clients.items = many-held c.crew_for-workers.result (runner_after runner receipts) epoch receipt own one in
+    let one : HaveWalked c.args.crew (runner_after runner receipts) (epoch ∷ []) receipt own =
+    subst (λ (r : RunnerValue). HaveWalked c.args.crew r (epoch ∷ []) receipt own) before.runner c.in_ok-next.ensures.walked in
+    let many : length own ≡ length epoch.clients.items = many-held c.args.crew (runner_after runner receipts) epoch receipt own one in
     let fits : at + length own ≤ length old = omega (arith, before.at, before.places, more, many, all) in
     let put : List ℕ = put_mid at (at + c.len.result - at) old own in
     let written : take (at + c.len.result) put ≡ take at old ++ own =
     take-put_mid at (at + c.len.result - at) old own (at + c.len.result) (omega (arith, c.len.ensures, many)) (omega (arith, fits)) in
     let both : HaveWalked c.args.crew runner (take i epochs ++ epoch ∷ []) (receipts ++ receipt) (take at old ++ own) =
-    walked-both c.args.crew c.args.crew c.crew_for-workers.result runner (take i epochs) (epoch ∷ []) receipts receipt (take at old) own before.walked one
-    (λ worker hand. (worker, hand, c.crew_for-workers.ensures.one worker, c.crew_for-workers.ensures.hand ∙ hand)) in
+    walked-both c.args.crew c.args.crew c.args.crew runner (take i epochs) (epoch ∷ []) receipts receipt (take at old) own before.walked one
+    (λ worker hand. (worker, hand, worker, hand)) in
     record {
       runner = c.in_ok-next.ensures.next
           ∙ ap (λ (r : RunnerValue). runner_after r receipt) before.runner

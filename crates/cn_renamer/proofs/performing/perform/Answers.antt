@@ -1,3 +1,4 @@
+use Rattle.std.proofs.Common.{refl}
 use Rattle.std.proofs.lemmas.Result.{err_from_is_err_and}
 use Rattle.cn_report.specs.Writing.Written.{Whole}
 use Rattle.cn_renamer.specs.Serve.{until_serve}
@@ -17,9 +18,9 @@ returns-in_err-serve_with_receipts-in-Run-clause-written g c =
     let fault = err_from_is_err_and c.from_residual-in_err-serve_with_receipts-in-Run.result c.from_residual-in_err-serve_with_receipts-in-Run.ensures.1 in
     let ran = c.in_err-serve_with_receipts-in-Run.ensures in
     rw (c.in-Run.is, fault.1, fault.2) (
-    run-as-asked g.W.Write.contents c.args.writer.now c.serve_with_receipts.new.writer c.in-Run.options (g.I.Read.remaining c.args.reader) (until_serve c.in_err-serve_with_receipts-in-Run.field-0.0) ran.headline ran.in_order)
+    run-as-asked g.W.Write.contents c.args.writer.now c.serve_with_receipts.new.writer c.in-Run.options (g.I.Read.remaining c.args.reader) (until_serve c.in_err-serve_with_receipts-in-Run.field-0.0) ran.headline (ran.in_order refl))
 
 pub returns-in_ok-serve_with_receipts-in-Run-clause-written : goal.returns-in_ok-serve_with_receipts-in-Run-clause-written
 returns-in_ok-serve_with_receipts-in-Run-clause-written g c =
     let ran = c.in_ok-serve_with_receipts-in-Run.ensures in
-    rw c.in-Run.is (run-as-asked g.W.Write.contents c.args.writer.now c.serve_with_receipts.new.writer c.in-Run.options (g.I.Read.remaining c.args.reader) Whole ran.headline ran.in_order)
+    rw c.in-Run.is (run-as-asked g.W.Write.contents c.args.writer.now c.serve_with_receipts.new.writer c.in-Run.options (g.I.Read.remaining c.args.reader) Whole ran.headline (ran.in_order refl))

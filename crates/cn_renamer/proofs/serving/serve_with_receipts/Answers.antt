@@ -41,12 +41,12 @@ returns-in_err-write_epochs g c =
     let epochs : List BatchEpoch = c.in_ok-batch.batch.epochs.items in
     let holders : List ℕ = c.in_ok-holders.holders.items in
     let floors : List QuietValue = c.in_ok-holders.receipts in
-    let walked : HaveWalked (crew_of options) (new_runner options.carry network) epochs floors holders = rw c.deref.ensures.value at c.in_ok-holders.ensures.walked in
+    let walked : HaveWalked (crew_of c.args.gate options) (new_runner options.carry network) epochs floors holders = rw c.deref.ensures.value at c.in_ok-holders.ensures.walked in
     let writes : (records : List EpochRecord) → AreRecordsOf options.carry network.table.width 0 epochs records holders
     → HasWritten g.W.Write.contents (λ text. text ≡ text_in options.form network records) (First c.in_err-write_epochs.field-0.0.written) c.args.writer.now c.write_epochs.new.writer =
     rw (c.deref-2.ensures.value, c.deref-3.ensures.value) at c.in_err-write_epochs.ensures in
     let all = run-written g.W.Write.contents c.args.writer.now c.write_epochs.new.writer options.net options.form options.carry network built (g.I.Read.remaining c.args.reader) epochs
-    c.in_ok-batch.ensures.answer c.in_ok-batch.ensures.fits (crew_of options) floors holders walked (First c.in_err-write_epochs.field-0.0.written) writes in
+    c.in_ok-batch.ensures.answer c.in_ok-batch.ensures.fits (crew_of c.args.gate options) floors holders walked (First c.in_err-write_epochs.field-0.0.written) writes in
     rw (fault.1, fault.2) (record {
       headline = all (λ bytes text. IsRunOf options.net options.form options.carry bytes text) (λ bytes text on order. on.run);
       in_order = λ worker hand. all (λ bytes text. IsRunInOrder options.net options.form options.carry bytes text) (λ bytes text on order. record { run = on.run; ordered = order worker hand });
@@ -62,12 +62,12 @@ returns g c =
     let epochs : List BatchEpoch = c.in_ok-batch.batch.epochs.items in
     let holders : List ℕ = c.in_ok-holders.holders.items in
     let floors : List QuietValue = c.in_ok-holders.receipts in
-    let walked : HaveWalked (crew_of options) (new_runner options.carry network) epochs floors holders = rw c.deref.ensures.value at c.in_ok-holders.ensures.walked in
+    let walked : HaveWalked (crew_of c.args.gate options) (new_runner options.carry network) epochs floors holders = rw c.deref.ensures.value at c.in_ok-holders.ensures.walked in
     let writes : (records : List EpochRecord) → AreRecordsOf options.carry network.table.width 0 epochs records holders
     → HasWritten g.W.Write.contents (λ text. text ≡ text_in options.form network records) Whole c.args.writer.now c.write_epochs.new.writer =
     rw (c.deref-2.ensures.value, c.deref-3.ensures.value) at c.in_ok-write_epochs.ensures in
     let all = run-written g.W.Write.contents c.args.writer.now c.write_epochs.new.writer options.net options.form options.carry network built (g.I.Read.remaining c.args.reader) epochs
-    c.in_ok-batch.ensures.answer c.in_ok-batch.ensures.fits (crew_of options) floors holders walked Whole writes in
+    c.in_ok-batch.ensures.answer c.in_ok-batch.ensures.fits (crew_of c.args.gate options) floors holders walked Whole writes in
     record {
       headline = all (λ bytes text. IsRunOf options.net options.form options.carry bytes text) (λ bytes text on order. on.run);
       in_order = λ worker hand. all (λ bytes text. IsRunInOrder options.net options.form options.carry bytes text) (λ bytes text on order. record { run = on.run; ordered = order worker hand });
