@@ -23,8 +23,8 @@ abbrev pub IsBuiltFor : Job → Type 0
 IsBuiltFor (job.Check width) = IsWidth width
 IsBuiltFor other = Unit {0}
 
--- the text of a job, by the bytes that its reader has left, if they are known; of a run with one client in hand the names
--- follow the order of the batch, by any number of workers
+-- the text of a job, by the bytes that its reader has left, if they are known; of a run with one client in hand the
+-- names follow the order of the batch, by any number of workers
 abbrev pub IsTextOf : Job → Option (List ℕ) → List ℕ → Type 0
 IsTextOf (job.Run options) known text =
     IsRunOfKnown options.net options.form options.carry known text

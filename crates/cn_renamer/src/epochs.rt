@@ -124,9 +124,9 @@ fn cut(epochs: &[BatchEpoch], crew: Crew, clients: usize) -> (usize, usize)
     (at, before)
 }
 
-/// Runs epochs, each by one worker, and writes who has which name. If they carry nothing and several workers of the crew
-/// pay, two parts of the epochs run beside each other, each by a part of these workers, and so on in each; else the epochs
-/// run one after another. If no thread can be had the parts are run so too. The receipts are of their floors.
+/// Runs epochs, each by one worker, and writes who has which name. If they carry nothing and several workers of the
+/// crew pay, two parts of the epochs run beside each other, each by a part of these workers, and so on in each; else
+/// they run one after another. If no thread can be had the parts are run so too. The receipts are of their floors.
 fn run_beside<R: Threads + Wait + Sync>(
     rt: &R,
     alloc: Global,
@@ -171,8 +171,9 @@ fn run_beside<R: Threads + Wait + Sync>(
 }
 
 /// Runs the epochs of a batch on a network, as the options say: who has which name, epoch after epoch, each by rising
-/// name; and the receipts of the floors on which they were named. At a gate the epochs run one after another, each by all
-/// workers that the options ask for; without one each is run by one worker, and as many run beside one another as pay.
+/// name; and the receipts of the floors on which they were named. At a gate the epochs run one after another, each by
+/// all workers that the options ask for; without one each is run by one worker, and as many run beside one another as
+/// pay.
 pub(crate) fn run_epochs<G: Gate + Sync, R: Threads + Wait + Sync>(
     rt: &R,
     alloc: Global,

@@ -84,8 +84,8 @@ fn write_epochs<W: Write>(
 /// many epochs and grants there are; or the grant list, which `check` takes
 /// ([`crate::laws::written_grants_are_accepted`]).
 ///
-/// The epochs run one after another, each as [`cn_walk::Runner::run`] does, by as many workers as the options have, each
-/// with so many clients in hand. With several workers two threads read the batch.
+/// The epochs run one after another, each as [`cn_walk::Runner::run`] does, by as many workers as the options have,
+/// each with so many clients in hand. With several workers two threads read the batch.
 ///
 /// **The headline.** Of each epoch of k clients exit i of w has the count ceiling((k - i) / w), and the clients have
 /// the names 0 to k-1, each once (Aspnes, Herlihy, Shavit, *Counting Networks*, JACM 1994, section 2; renaming by
@@ -132,11 +132,11 @@ pub fn serve<I: Read + Drop, W: Write, G: Gate + Sync, R: Threads + Wait + Sync>
 /// floors: what it has written has of each epoch the counts by exit of a closed floor on which the clients of the epoch
 /// walked, and nobody else, and the names that they were granted there.
 ///
-/// Without a gate each epoch is walked by one worker: several that share an epoch's words wait for one another longer than
-/// they gain. So with one client in hand names follow the order of the batch by any number of workers. Epochs that carry
-/// counters run one after another. Else each has a floor of its own, and they run beside one another, by as many of the
-/// options' workers as pay ([`crate::workers_that_pay`]): these epochs are cut in two parts, and the workers by the
-/// clients of each, and so on in each part.
+/// Without a gate each epoch is walked by one worker: several that share an epoch's words wait for one another longer
+/// than they gain. So with one client in hand names follow the order of the batch by any number of workers. Epochs that
+/// carry counters run one after another. Else each has a floor of its own, and they run beside one another, by as many
+/// of the options' workers as pay ([`crate::workers_that_pay`]): these epochs are cut in two parts, and the workers by
+/// the clients of each, and so on in each part.
 ///
 /// # Errors
 /// Those of [`serve`].
