@@ -125,9 +125,8 @@ fn cut(epochs: &[BatchEpoch], crew: Crew, clients: usize) -> (usize, usize)
 }
 
 /// Runs epochs, each by one worker, and writes who has which name. If they carry nothing and several workers of the
-/// crew pay, two parts of the epochs run beside each other, each by a part of these workers, and so on in each. Else
-/// the epochs run one after another. If no thread can be had the parts are run so too. The receipts are of their
-/// floors.
+/// crew pay, two parts of the epochs run beside each other, each by a part of these workers, and so on in each; else
+/// they run one after another. If no thread can be had the parts are run so too. The receipts are of their floors.
 fn run_beside<R: Threads + Wait + Sync>(
     rt: &R,
     alloc: Global,

@@ -121,7 +121,7 @@ fn meeting_gate(rt: HostRuntime) {
     assert_eq!(rt; [two, eight], [wanted, wanted]);
 }
 
-/// A number of workers, two clients for each as a batch, and how its report on bitonic 4 begins, or all of it.
+/// A number of workers, two clients for each as a batch, and how its report on bitonic 4 begins.
 type Row = (u32, &'static [u8], &'static [u8]);
 
 const TWO: Row = (
@@ -150,28 +150,6 @@ const EIGHT: Row = (
       exit 3 count 4\n",
 );
 
-/// Each of the two runs an epoch of its own.
-const TWO_EPOCHS: Row = (
-    2,
-    b"epoch,client,entry\n1,0,0\n1,1,1\n2,2,2\n2,3,3\n",
-    b"network bitonic width 4 balancers 6 depth 3\n\
-      epoch 1 clients 2\n\
-      exit 0 count 1\n\
-      exit 1 count 1\n\
-      exit 2 count 0\n\
-      exit 3 count 0\n\
-      name 0 client 0\n\
-      name 1 client 1\n\
-      epoch 2 clients 2\n\
-      exit 0 count 1\n\
-      exit 1 count 1\n\
-      exit 2 count 0\n\
-      exit 3 count 0\n\
-      name 0 client 2\n\
-      name 1 client 3\n\
-      end epochs 2 grants 4\n",
-);
-
 /// Whether the workers of a run of a batch meet, and its report begins so.
 fn meet_in_a_batch<R: Threads + Wait + Sync>(
     rt: &R,
@@ -194,8 +172,7 @@ fn meeting_gate_of_a_batch(rt: HostRuntime) -> Result<(), Fail> {
     let (alloc, state) = (rt.alloc(), RandomState::new(&rt)?);
     let two = meet_in_a_batch(&rt, alloc, state, &TWO);
     let eight = meet_in_a_batch(&rt, alloc, state, &EIGHT);
-    let by_epochs = meet_in_a_batch(&rt, alloc, state, &TWO_EPOCHS);
     let wanted = Some(([true, true], true));
-    assert_eq!(rt; [two, eight, by_epochs], [wanted, wanted, wanted]);
+    assert_eq!(rt; [two, eight], [wanted, wanted]);
     Ok(())
 }
