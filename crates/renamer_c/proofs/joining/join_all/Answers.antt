@@ -1,4 +1,4 @@
-use Rattle.std.proofs.Common.{◌≡◌, ◌+◌, ℕ, suc, refl, arith}
+use Rattle.std.proofs.Common.{◌≡◌, ◌+◌, suc, refl, arith}
 use Rattle.renamer_c.specs.Handles.{lane_in}
 use Rattle.renamer_c.proofs.joining.join_all.Goals as goal
 
