@@ -1,12 +1,11 @@
 -- What a lane with its share of its floor keeps.
 use Rattle.std.specs.Arc.{arc_value}
-use Rattle.std.specs.Prelude.{◌≡◌, Some, IfSome}
-use Rattle.renamer_c.specs.Placing.{IsNearOf, IsPlaceOf}
+use Rattle.std.specs.Prelude.{◌≡◌, Some}
+use Rattle.renamer_c.specs.Placing.{IsPlaceOf}
 use Rattle.renamer_c.specs.declared.held_lane.HeldLane.TheInside.{Inside}
 
--- its floor is there, and is that of the lane, as its place is, and where it looks for others, and its quota is known
+-- its floor is there, and is that of the lane, as its place is, and its quota is known
 pub record IsHeldLane (h : Inside) : Type 0 where
   pub own : arc_value h.floor ≡ Some h.lane.home
   pub most : h.most ≡ h.lane.home.start.quota
   pub place : IsPlaceOf h.lane.home h.place
-  pub near : IfSome h.near (IsNearOf h.lane.home)

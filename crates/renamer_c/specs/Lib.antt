@@ -1,10 +1,10 @@
 pub mod Calls
-pub mod Ended
 pub mod Handles
 pub mod Holding
 pub mod InsideFloorRecord
 pub mod InsideFloorWithPlaces
 pub mod InsideHeldLane
+pub mod Joining
 pub mod Lends
 pub mod Looking
 pub mod Many

@@ -1,11 +1,11 @@
--- Places for lanes that are handed back.
+-- Places for lanes that are handed back, and what was seen of them, or done there.
 use Rattle.std.specs.Arc.{arc_value}
-use Rattle.std.specs.Prelude.{◌≡◌, ◌≢◌, ◌⊎◌, ℕ, ◌%◌, ◌<◌, All, List, length}
-use Rattle.cn_floor.specs.Lane.{FloorValue}
-use Rattle.renamer_c.specs.declared.place_row.Miss.{Miss}
-use Rattle.renamer_c.specs.declared.places.Near.{Near}
+use Rattle.std.specs.Prelude.{◌≡◌, ◌≢◌, ◌⊎◌, ℕ, ◌*◌, ◌^◌, ◌%◌, ◌<◌, All, List, length}
+use Rattle.cn_floor.specs.Lane.{FloorValue, LaneValue}
 use Rattle.renamer_c.specs.declared.places.Place.{Place}
 use Rattle.renamer_c.specs.declared.places.Places.{Places}
+use Rattle.renamer_c.specs.declared.turns.Put.{Put}
+use Rattle.renamer_c.specs.declared.turns.Unturned.{Unturned}
 
 -- each place is for lanes of this floor
 abbrev pub AreTagsOf : FloorValue → List FloorValue → Type 0
@@ -17,20 +17,24 @@ IsRowOf floor p = AreTagsOf floor (arc_value p.row).items
 
 -- a place in such a row
 abbrev pub IsPlaceOf : FloorValue → Place → Type 0
-IsPlaceOf floor p = IsRowOf floor p.places × (p.at < length (arc_value p.places.row).items)
+IsPlaceOf floor p = IsRowOf floor p.places × (p.spot.place < length (arc_value p.places.row).items)
 
--- where a lane of this floor looks for a place
-abbrev pub IsNearOf : FloorValue → Near → Type 0
-IsNearOf floor n = IsRowOf floor n.places
+-- how many places the row with this number has
+abbrev pub row_size : ℕ → ℕ
+row_size at = 16 * 2 ^ at
 
 -- the state of a place by its word: the low half, where nobody reads
 abbrev pub state_by_word : ℕ → ℕ
 state_by_word word = word % 4294967296
 
 -- a place was not in this state when it was looked at, or another thread turned it then
-abbrev pub IsNotIn : ℕ → Miss → Type 0
-IsNotIn state m = (state_by_word m.seen ≢ state) ⊎ (m.found ≢ m.seen)
+abbrev pub IsUnturned : ℕ → Unturned → Type 0
+IsUnturned state u = (state_by_word u.seen ≢ state) ⊎ (u.found ≢ u.seen)
 
--- by its word a place has a lane that was handed back
-abbrev pub HasPut : ℕ → Type 0
-HasPut word = state_by_word word ≡ 1
+-- the same of the place with this number
+abbrev pub IsNotIn : ℕ → ℕ → Unturned → Type 0
+IsNotIn at state u = (u.at ≡ at) × IsUnturned state u
+
+-- this lane was put into a place, whose word then says that it has one
+abbrev pub IsPut : LaneValue → Put → Type 0
+IsPut lane p = (p.lane.value ≡ lane) × (state_by_word p.word ≡ 1)

@@ -2,11 +2,11 @@
 
 mod by_entry;
 mod last_lane;
-mod returning;
+pub(crate) mod returning;
 mod single_steps;
 
 ghost use Rattle.std.specs.Arc.{arc_value};
-ghost use Rattle.std.specs.Prelude.{◌≡◌, ◌≤◌, Some, IfErr, IfOk, IfSome, OnErr, OnOk};
+ghost use Rattle.std.specs.Prelude.{◌≡◌, ◌≤◌, Some, IfErr, IfOk, OnErr, OnOk};
 ghost use Rattle.cn_spec.specs.declared.limits.TheConstants.{MOST_CARRIED, MOST_CLIENTS, MOST_ROOM};
 ghost use Rattle.cn_floor.specs.Carried.{client_count, start_after};
 ghost use Rattle.cn_floor.specs.Lane.{empty_lane, with_room};
@@ -14,13 +14,12 @@ ghost use Rattle.cn_floor.specs.Named.{IsNamed};
 ghost use Rattle.cn_floor.specs.Steps.{IsAnswer, StoodInState};
 ghost use Rattle.cn_floor.specs.Views.{after_entered, base};
 ghost use Rattle.renamer_c.specs.Calls.{IsOpened, IsSplit, LieApart};
-ghost use Rattle.renamer_c.specs.Placing.{IsNearOf, IsPlaceOf};
+ghost use Rattle.renamer_c.specs.Placing.{IsPlaceOf};
 ghost use Rattle.renamer_c.specs.Questions.{number_asked};
 ghost use Rattle.renamer_c.specs.Refusals.{NotNamed, NotReserved};
 
-use crate::floor_share::{FloorShare, floor_of, with_places};
-use crate::floor_with_places::FloorWithPlaces;
-use crate::places::{Near, Place};
+use crate::floor_with_places::{FloorShare, FloorWithPlaces, floor_of, with_places};
+use crate::places::{Place, Spot};
 use crate::question::Question;
 use crate::refusal::Refusal;
 use cn_floor::{Floor, Lane, LaneFault, OpenFault, Words};
@@ -36,10 +35,11 @@ pub struct HeldLane {
     lane: Lane,
     /// How many clients the floor may let in.
     most: u64,
-    /// Its place, to which it is handed back.
+    /// Its place, to which it is handed back, and its box there.
     place: Place,
-    /// Where it found a place last, its own or another lane's.
-    near: Option<Near>,
+    boxed: Box<Option<Lane>>,
+    /// Where it found a place last, its own or another lane's, and looks first the next time.
+    hint: Spot,
 }
 
 impl Model for HeldLane {
@@ -77,11 +77,17 @@ fn floor_over(
 
 impl HeldLane {
     /// A lane with its share of its floor.
-    fn of(floor: FloorShare, lane: Lane, most: u64, place: Place, near: Option<Near>) -> HeldLane
+    fn of(
+        floor: FloorShare,
+        lane: Lane,
+        most: u64,
+        place: Place,
+        boxed: Box<Option<Lane>>,
+        hint: Spot,
+    ) -> HeldLane
         requires own { arc_value floor ≡ Some lane.home }
         requires most { most ≡ lane.home.start.quota }
         requires place { IsPlaceOf lane.home place }
-        requires near { IfSome near (IsNearOf lane.home) }
         ensures { result ≡ lane }
     {
         HeldLane {
@@ -89,7 +95,8 @@ impl HeldLane {
             lane,
             most,
             place,
-            near,
+            boxed,
+            hint,
         }
     }
 
@@ -111,12 +118,15 @@ impl HeldLane {
         let Ok(floor) = FloorWithPlaces::new(alloc, floor) else {
             return Err(Refusal::Memory);
         };
-        let mut near = None;
-        let Ok(place) = floor.own_place(alloc, &mut near) else {
+        let Ok(boxed) = Box::new(alloc, None) else {
+            return Err(Refusal::Memory);
+        };
+        let mut hint = Spot { row: 0, place: 0 };
+        let Ok(place) = floor.claim_place(alloc, &mut hint) else {
             return Err(Refusal::Memory);
         };
         match Arc::new(alloc, Some(floor)) {
-            Ok(floor) => Ok(HeldLane::of(floor, lane, most, place, near)),
+            Ok(floor) => Ok(HeldLane::of(floor, lane, most, place, boxed, hint)),
             Err(_) => Err(Refusal::Memory),
         }
     }
@@ -166,17 +176,18 @@ impl HeldLane {
         }
     }
 
-    /// Another share of the floor, and a place for another lane.
+    /// Another share of the floor, and a place for another lane, with a box.
     ///
     /// # Errors
     /// `AllocError` if they get no memory.
-    fn share(&mut self, alloc: Global) -> Result<(FloorShare, Place), AllocError>
+    fn share(&mut self, alloc: Global) -> Result<(FloorShare, Place, Box<Option<Lane>>), AllocError>
         ensures kept { self.new ≡ self.old }
         ensures floor { IfOk result (λ r. arc_value r.0 ≡ Some self.old.home) }
         ensures place { IfOk result (λ r. IsPlaceOf self.old.home r.1) }
     {
-        let place = with_places(&self.floor).own_place(alloc, &mut self.near)?;
-        Ok((Arc::try_clone(&self.floor)?, place))
+        let boxed = Box::new(alloc, None)?;
+        let place = with_places(&self.floor).claim_place(alloc, &mut self.hint)?;
+        Ok((Arc::try_clone(&self.floor)?, place, boxed))
     }
 
     /// Splits off a lane with some of the quota.
@@ -189,11 +200,11 @@ impl HeldLane {
         ensures err { OnErr result (self.new ≡ self.old) }
         ensures memory { IfErr result (λ r. r ≡ Refusal.Memory) }
     {
-        let Ok((floor, place)) = self.share(alloc) else {
+        let Ok((floor, place, boxed)) = self.share(alloc) else {
             return Err(Refusal::Memory);
         };
         match floor_of(&floor).split_off(&mut self.lane, quota) {
-            Ok(other) => Ok(HeldLane::of(floor, other, self.most, place, None)),
+            Ok(other) => Ok(HeldLane::of(floor, other, self.most, place, boxed, self.hint)),
             Err(_) => Err(Refusal::Memory),
         }
     }
@@ -264,17 +275,6 @@ impl HeldLane {
             Ok((floor, lane)) => HeldLane::first(alloc, floor, lane, quota),
             Err(_) => Err(Refusal::Memory),
         }
-    }
-
-    /// Lets the lane go, and what it has of its floor.
-    fn let_go(self) {
-        let HeldLane {
-            floor: _floor,
-            lane: _lane,
-            most: _most,
-            place: _place,
-            near: _near,
-        } = self;
     }
 }
 

@@ -1,13 +1,16 @@
 //! Calls that hand lanes back to their floor, and take them into others.
 
-ghost use Rattle.std.specs.Prelude.{◌≡◌, ◌<◌, None, IfErr, OnErr, OnOk};
+ghost use Rattle.std.specs.Prelude.{◌≡◌, ◌<◌, None, IfErr, IfOk, OnErr, OnOk};
 ghost use Rattle.renamer_c.specs.Handles.{lane_in};
+ghost use Rattle.renamer_c.specs.Joining.{AreAllIn, StopsWith, refusal_of};
 ghost use Rattle.renamer_c.specs.Refusals.{IsRefusal, NotHandedBack, NotJoined, NotJoinedAll};
 ghost use Rattle.renamer_c.specs.Returns.{HandsBack, Joins, JoinsAll};
 ghost use Rattle.renamer_c.specs.declared.refusal.TheConstants.{DONE};
 
 use crate::handle::Handle;
-use crate::refusal::{DONE, Refusal};
+use crate::held_lane::returning::JoinStop;
+use crate::looking::NoneBack;
+use crate::refusal::DONE;
 use std::alloc::Global;
 
 /// Hands a lane back to its floor, for other lanes to take in.
@@ -35,10 +38,11 @@ pub extern "C" fn renamer_hand_back(alloc: Global, lane: &mut Handle) -> u32
 ///
 /// # Errors
 /// The first that stands: `Nothing`, `NothingBack`, `Memory`. Then nothing has changed.
-fn join_one(alloc: Global, lane: &mut Handle) -> Result<(), Refusal>
+fn join_one(alloc: Global, lane: &mut Handle) -> Result<(), JoinStop>
     ensures joined { OnOk result (Joins (lane_in lane.old.held) (lane_in lane.new.held)) }
     ensures kept { OnErr result (lane.new.held ≡ lane.old.held) }
-    ensures refused { IfErr result (NotJoined (lane_in lane.old.held)) }
+    ensures stop { IfErr result (StopsWith (lane_in lane.old.held)) }
+    ensures refused { IfErr result (λ s. NotJoined (lane_in lane.old.held) (refusal_of s)) }
 {
     let (other, other_place) = lane.take_back()?;
     let Ok((held, boxed)) = lane.take_lane(alloc) else {
@@ -49,9 +53,9 @@ fn join_one(alloc: Global, lane: &mut Handle) -> Result<(), Refusal>
             lane.put_lane(held, boxed);
             Ok(())
         }
-        Err((refusal, held, _)) => {
+        Err((held, stop)) => {
             lane.put_lane(held, boxed);
-            Err(refusal)
+            Err(stop)
         }
     }
 }
@@ -65,12 +69,33 @@ pub extern "C" fn renamer_join(alloc: Global, lane: &mut Handle) -> u32
 {
     match join_one(alloc, lane) {
         Ok(()) => DONE,
-        Err(refusal) => refusal.status(),
+        Err(stop) => stop.refusal().status(),
     }
 }
 
 /// How many lanes one call takes in at most: for centuries.
 const MOST_JOINS: u64 = u64::MAX;
+
+/// Takes in lanes of the same floor that were handed back, one after another, until none is back. Returns what was seen
+/// then, or nothing if lanes came back for centuries.
+///
+/// # Errors
+/// The first that stands, after those that were taken in: `Nothing`, `Memory`.
+fn join_all(alloc: Global, lane: &mut Handle) -> Result<Option<NoneBack>, JoinStop>
+    ensures joined { JoinsAll (lane_in lane.old.held) (lane_in lane.new.held) }
+    ensures ok { IfOk result (AreAllIn (lane_in lane.old.held) (lane_in lane.new.held)) }
+    ensures stop { IfErr result (StopsWith (lane_in lane.new.held)) }
+    ensures refused { IfErr result (λ s. NotJoinedAll (lane_in lane.new.held) (refusal_of s)) }
+{
+    for at in 0..MOST_JOINS {
+        match join_one(alloc, lane) {
+            Ok(()) => {}
+            Err(JoinStop::NothingBack(none)) => return Ok(Some(none)),
+            Err(stop) => return Err(stop),
+        }
+    }
+    Ok(None)
+}
 
 /// Takes in lanes of the same floor that were handed back, one after another, until none is back.
 #[unsafe(no_mangle)]
@@ -78,12 +103,8 @@ pub extern "C" fn renamer_join_all(alloc: Global, lane: &mut Handle) -> u32
     ensures joined { JoinsAll (lane_in lane.old.held) (lane_in lane.new.held) }
     ensures refused { 0 < result → IsRefusal (NotJoinedAll (lane_in lane.new.held)) result }
 {
-    for _ in 0..MOST_JOINS {
-        match join_one(alloc, lane) {
-            Ok(()) => {}
-            Err(Refusal::NothingBack) => return DONE,
-            Err(refusal) => return refusal.status(),
-        }
+    match join_all(alloc, lane) {
+        Ok(_) => DONE,
+        Err(stop) => stop.refusal().status(),
     }
-    DONE
 }

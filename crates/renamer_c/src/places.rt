@@ -1,15 +1,51 @@
 //! Places for lanes that are handed back: each lane has one of its own from its split on.
 
 ghost use Rattle.std.specs.Arc.{arc_value};
-ghost use Rattle.std.specs.Prelude.{◌≡◌, IfErr, IfOk, IfSome, length};
-ghost use Rattle.renamer_c.specs.Placing.{HasPut, IsNearOf, IsNotIn, IsPlaceOf, IsRowOf};
+ghost use Rattle.std.specs.Prelude.{◌≡◌, ◌<◌, IfErr, IfOk, IfSome, IsSomeAnd, length};
+ghost use Rattle.renamer_c.specs.Placing.{AreTagsOf, IsNotIn, IsPlaceOf, IsPut, IsRowOf, IsUnturned};
 ghost use Rattle.renamer_c.specs.Returns.{IsBack};
 
-use crate::place_row::{Miss, OnePlace, Seen, free_at, free_row, own_from, put_at, take_round};
+use crate::loose::Loose;
+use crate::turns::{OnePlace, Put, Unturned, free, turn_from};
 use cn_floor::{Floor, Lane};
-use counted_slot::{Fits, MARKED};
+use counted_slot::{Counted, Fits, MARKED};
 use std::alloc::{AllocError, Global};
 use std::sync::Arc;
+
+/// A lane that was handed back, in a box that was made for it. It stands there as a pointer, of which a `&` shows
+/// nothing, since places are shared by threads, and a lane is not.
+pub(crate) struct Returned {
+    boxed: Loose<Option<Lane>, Global>,
+}
+
+impl Returned {
+    pub(crate) fn of(boxed: Box<Option<Lane>>) -> Returned
+        ensures { result.boxed.value ≡ boxed.value }
+    {
+        Returned {
+            boxed: Loose::of(boxed),
+        }
+    }
+
+    pub(crate) fn into_boxed(self) -> Box<Option<Lane>>
+        ensures { result.value ≡ self.boxed.value }
+    {
+        let Returned { boxed } = self;
+        boxed.into_box()
+    }
+}
+
+impl Drop for Returned {
+    fn drop(self) {
+        drop(self.into_boxed());
+    }
+}
+
+impl Fits for Returned {
+    type Tag = Floor<'static>;
+
+    ghost fits = { λ floor r. IsSomeAnd r.boxed.value (IsBack floor) };
+}
 
 /// A row of places that lanes share.
 #[derive(Drop)]
@@ -23,20 +59,6 @@ impl Fits for Places {
     ghost fits = { λ floor places. IsRowOf floor places };
 }
 
-/// A lane's own place, and the box in which the lane will stand there.
-pub(crate) struct Place {
-    places: Places,
-    at: usize,
-    boxed: Box<Option<Lane>>,
-}
-
-/// Where a lane found a place last, its own or another's, and looks first the next time.
-#[derive(Drop)]
-pub(crate) struct Near {
-    pub(crate) places: Places,
-    at: usize,
-}
-
 impl Places {
     /// Free places for lanes of a floor, so many.
     ///
@@ -47,9 +69,13 @@ impl Places {
         floor: &Floor<'static>,
         many: usize,
     ) -> Result<Places, AllocError>
-        ensures { IfOk result (λ places. IsRowOf floor.now places) }
+        ensures row { IfOk result (IsRowOf floor.now) }
+        ensures many { IfOk result (λ places. length (arc_value places.row).items ≡ many) }
     {
-        let row = free_row(alloc, floor, many)?;
+        let mut row = Vec::new(alloc);
+        for at in 0..many {
+            row.push(Counted::new(None, floor))?;
+        }
         Ok(Places {
             row: Arc::new(alloc, row)?,
         })
@@ -59,139 +85,72 @@ impl Places {
     ///
     /// # Errors
     /// `AllocError` if they have too many owners.
-    pub(crate) fn again(&self) -> Result<Places, AllocError>
+    pub(crate) fn another_owner(&self) -> Result<Places, AllocError>
         ensures { IfOk result (λ places. arc_value places.row ≡ arc_value self.now.row) }
     {
         Ok(Places {
             row: Arc::try_clone(&self.row)?,
         })
     }
-
-    /// Takes one of them with this box, for its taker's lane: the first that is free from this one on and round.
-    ///
-    /// # Errors
-    /// The box, if no place is free.
-    pub(crate) fn own(
-        self,
-        from: usize,
-        floor: &Floor<'static>,
-        boxed: Box<Option<Lane>>,
-    ) -> Result<Place, Box<Option<Lane>>>
-        requires { IsRowOf floor.now self }
-        ensures { IfOk result (IsPlaceOf floor.now) }
-    {
-        let _ = floor;
-        match own_from(&self.row, from) {
-            Some(at) => Ok(Place {
-                places: self,
-                at,
-                boxed,
-            }),
-            None => Err(boxed),
-        }
-    }
-
-    /// Takes the first lane that was handed back to one of them, with its place, from this place on and round.
-    ///
-    /// # Errors
-    /// What was seen, if no lane is there.
-    pub(crate) fn take(self, from: usize, floor: &Floor<'static>) -> Result<(Lane, Place), Seen>
-        requires { IsRowOf floor.now self }
-        ensures ok { IfOk result (λ r. IsBack floor.now r.0 × IsPlaceOf floor.now r.1) }
-        ensures err { IfErr result (λ all. all.places ≡ length (arc_value self.row).items) }
-    {
-        let (at, lane, boxed) = take_round(&self.row, from, floor)?;
-        let place = Place {
-            places: self,
-            at,
-            boxed,
-        };
-        Ok((lane, place))
-    }
 }
 
-impl Near {
-    /// Takes a free place near, with this box, for its taker's lane.
-    ///
-    /// # Errors
-    /// The box, if no place is free there.
-    pub(crate) fn own(
-        &mut self,
-        floor: &Floor<'static>,
-        boxed: Box<Option<Lane>>,
-    ) -> Result<Place, Box<Option<Lane>>>
-        requires { IsNearOf floor.now self.old }
-        ensures place { IfOk result (IsPlaceOf floor.now) }
-        ensures near { IsNearOf floor.now self.new }
-    {
-        let Ok(places) = self.places.again() else {
-            return Err(boxed);
-        };
-        let place = places.own(self.at, floor, boxed)?;
-        self.at = place.at;
-        Ok(place)
-    }
+/// The number of a row, and of a place there.
+#[derive(Clone, Copy)]
+pub(crate) struct Spot {
+    pub(crate) row: usize,
+    pub(crate) place: usize,
+}
 
-    /// Takes a lane that was handed back near, with its place.
-    pub(crate) fn take(&mut self, floor: &Floor<'static>) -> Option<(Lane, Place)>
-        requires { IsNearOf floor.now self.old }
-        ensures taken { IfSome result (λ r. IsBack floor.now r.0 × IsPlaceOf floor.now r.1) }
-        ensures near { IsNearOf floor.now self.new }
-    {
-        let Ok(places) = self.places.again() else {
-            return None;
-        };
-        let Ok((lane, place)) = places.take(self.at, floor) else {
-            return None;
-        };
-        self.at = place.at;
-        Some((lane, place))
-    }
+/// A lane's own place.
+pub(crate) struct Place {
+    places: Places,
+    spot: Spot,
 }
 
 impl Place {
-    /// Where it is, for the next search.
-    pub(crate) fn near(&self) -> Option<Near>
-        ensures { IfSome result (λ near. arc_value near.places.row ≡ arc_value self.now.places.row) }
+    /// The place here, of this row.
+    pub(crate) fn of(places: Places, spot: Spot) -> Place
+        ensures { (result.places ≡ places) × (result.spot ≡ spot) }
     {
-        match self.places.again() {
-            Ok(places) => Some(Near {
-                places,
-                at: self.at,
-            }),
-            Err(_) => None,
-        }
+        Place { places, spot }
     }
 
-    /// Hands a lane back to it. Returns its word, by which the lane is there.
+    /// Where it is.
+    pub(crate) fn spot(&self) -> Spot
+        ensures { result ≡ self.now.spot }
+    {
+        self.spot
+    }
+
+    /// Puts a lane there, in this box: by a load, a compare-exchange and a store, whatever other threads do.
     ///
     /// # Errors
-    /// If it was not its owner's own, which no call makes it.
-    pub(crate) fn hand_back(self, floor: &Floor<'static>, lane: Lane) -> Result<u64, Miss>
+    /// If the place was not its owner's own, which no call makes it.
+    pub(crate) fn put(
+        self,
+        floor: &Floor<'static>,
+        lane: Lane,
+        boxed: Box<Option<Lane>>,
+    ) -> Result<Put, Unturned>
         requires place { IsPlaceOf floor.now self }
         requires lane { IsBack floor.now lane }
-        ensures ok { IfOk result HasPut }
-        ensures err { IfErr result (IsNotIn MARKED) }
+        ensures ok { IfOk result (IsPut lane) }
+        ensures err { IfErr result (IsNotIn self.spot.place 2) }
     {
-        let Place { places, at, boxed } = self;
-        put_at(&places.row[at], floor, lane, boxed)
-    }
-
-    /// Lets the place go, for the lane of another split.
-    fn free(self) {
-        let Place {
-            places,
-            at,
-            boxed: _boxed,
-        } = self;
-        if let Some(place) = places.row.get(at) {
-            free_at(place);
+        let Place { places, spot } = self;
+        match turn_from(&places.row, spot.place, MARKED, floor) {
+            Ok(turned) => Ok(turned.put(lane, boxed)),
+            Err(other) => Err(other),
         }
     }
 }
 
 impl Drop for Place {
+    /// Lets the place go, for the lane of another split.
     fn drop(self) {
-        self.free();
+        let Place { places, spot } = self;
+        if spot.place < places.row.len() {
+            free(&places.row, spot.place);
+        }
     }
 }

@@ -10,7 +10,7 @@ ghost use Rattle.renamer_c.specs.Refusals.{NotNamedMany};
 
 use super::HeldLane;
 use crate::client::Client;
-use crate::floor_share::floor_of;
+use crate::floor_with_places::floor_of;
 use crate::refusal::Refusal;
 use cn_floor::{Floor, Lane};
 

@@ -7,7 +7,7 @@ ghost use Rattle.renamer_c.specs.Refusals.{NotClosed};
 
 use super::HeldLane;
 use crate::floor_record::FloorRecord;
-use crate::floor_share::{close, floor_of};
+use crate::floor_with_places::{close, floor_of};
 use crate::refusal::Refusal;
 use std::alloc::Global;
 
@@ -45,7 +45,8 @@ impl HeldLane {
             lane,
             most,
             place,
-            near,
+            boxed,
+            hint,
         } = self;
         match close(&mut floor, lane) {
             Ok(quiet) => {
@@ -53,7 +54,7 @@ impl HeldLane {
                 Ok(FloorRecord::of(quiet, counts, holders))
             }
             Err((refusal, lane)) => {
-                Err((refusal, HeldLane::of(floor, lane, most, place, near)))
+                Err((refusal, HeldLane::of(floor, lane, most, place, boxed, hint)))
             },
         }
     }

@@ -1,42 +1,40 @@
 //! Lanes that are handed back, and taken into others.
 
-ghost use Rattle.std.specs.Arc.{arc_value};
 ghost use Rattle.std.specs.Prelude.{◌≡◌, Some, IfErr, IfOk};
-ghost use Rattle.renamer_c.specs.Ended.{EndsSomewhere};
-ghost use Rattle.renamer_c.specs.Placing.{IsPlaceOf};
+ghost use Rattle.renamer_c.specs.Joining.{EndsSomewhere, StopsWith, refusal_of};
+ghost use Rattle.renamer_c.specs.Looking.{IsNoneBack, IsTakenOf};
 ghost use Rattle.renamer_c.specs.Refusals.{NotHandedBack, NotJoined};
 ghost use Rattle.renamer_c.specs.Returns.{IsBack, IsJoined};
 
 use super::HeldLane;
-use crate::floor_share::{FloorShare, floor_of, with_places};
-use crate::floor_with_places::FloorWithPlaces;
-use crate::place_row::Miss;
+use crate::floor_with_places::{Handed, floor_of, with_places};
+use crate::looking::NoneBack;
 use crate::places::Place;
 use crate::refusal::Refusal;
-use cn_floor::{JoinFault, Lane};
+use crate::taken::Taken;
 use std::sync::Arc;
 
-/// Where a lane went that was handed back, also by a join that could not take it in.
+/// Why a lane takes in no other.
 #[derive(Drop)]
-pub(crate) enum Handed {
-    /// To its place, whose word says so.
-    AtPlace(u64),
-    /// Nowhere, since its floor has no other lane, and goes too.
-    WithFloor(Option<FloorWithPlaces>),
-    /// Nowhere, since its place was not its own, which no call makes it.
-    Missed(Miss),
+pub(crate) enum JoinStop {
+    /// There is no lane.
+    Nothing,
+    /// No lane was back.
+    NothingBack(NoneBack),
+    /// The lane has no room for the grants of one that was back, which is handed back again.
+    Memory(Handed),
 }
 
-/// Puts a lane of the share's floor at its place.
-fn put_at_place(share: &FloorShare, place: Place, lane: Lane) -> Handed
-    requires floor { arc_value share.now ≡ Some lane.home }
-    requires place { IsPlaceOf lane.home place }
-    requires lane { IsBack lane.home lane }
-    ensures { EndsSomewhere result }
-{
-    match with_places(share).hand_back(place, lane) {
-        Ok(word) => Handed::AtPlace(word),
-        Err(miss) => Handed::Missed(miss),
+impl JoinStop {
+    /// The refusal.
+    pub(crate) fn refusal(&self) -> Refusal
+        ensures { result ≡ refusal_of self.now }
+    {
+        match self {
+            JoinStop::Nothing => Refusal::Nothing,
+            JoinStop::NothingBack(_) => Refusal::NothingBack,
+            JoinStop::Memory(_) => Refusal::Memory,
+        }
     }
 }
 
@@ -46,7 +44,7 @@ impl HeldLane {
     /// # Errors
     /// `StillWalking`, with the lane as it was.
     pub(crate) fn hand_back(self) -> Result<Handed, (Refusal, HeldLane)>
-        ensures ok { IfOk result (λ handed. IsBack self.home self × EndsSomewhere handed) }
+        ensures ok { IfOk result (λ handed. IsBack self.home self × EndsSomewhere self handed) }
         ensures err { IfErr result (λ r. r.1 ≡ self) }
         ensures refused { IfErr result (λ r. NotHandedBack (Some self) r.0) }
     {
@@ -58,27 +56,26 @@ impl HeldLane {
             lane,
             most: _most,
             place,
-            near: _near,
+            boxed,
+            hint: _hint,
         } = self;
         match Arc::try_unwrap(floor) {
-            Ok(floor) => Ok(Handed::WithFloor(floor)),
-            Err(floor) => Ok(put_at_place(&floor, place, lane)),
+            Ok(Some(floor)) => Ok(Handed::WithFloor(floor)),
+            Ok(None) => unreachable!(),
+            Err(floor) => Ok(with_places(&floor).hand_back(place, lane, boxed)),
         }
     }
 
     /// Takes a lane out of those of the floor that were handed back, with its place.
     ///
     /// # Errors
-    /// `NothingBack`.
-    pub(crate) fn take_back(&mut self) -> Result<(Lane, Place), Refusal>
+    /// What was seen, if no lane was back at one moment.
+    pub(crate) fn take_back(&mut self) -> Result<(Taken, Place), NoneBack>
         ensures kept { self.new ≡ self.old }
-        ensures ok { IfOk result (λ r. IsBack self.old.home r.0 × IsPlaceOf self.old.home r.1) }
-        ensures refused { IfErr result (NotJoined (Some self.old)) }
+        ensures ok { IfOk result (IsTakenOf self.old.home) }
+        ensures none { IfErr result IsNoneBack }
     {
-        match with_places(&self.floor).take_back(&mut self.near) {
-            Ok(back) => Ok(back),
-            Err(_) => Err(Refusal::NothingBack),
-        }
+        with_places(&self.floor).take_back(&mut self.hint)
     }
 
     /// Takes in a lane of the floor that was handed back.
@@ -87,30 +84,42 @@ impl HeldLane {
     /// `Memory`, with the lane as it was, and where the other went, which is handed back again.
     pub(crate) fn join(
         self,
-        other: Lane,
+        other: Taken,
         other_place: Place,
-    ) -> Result<HeldLane, (Refusal, HeldLane, Handed)>
-        requires back { IsBack self.home other }
-        requires place { IsPlaceOf self.home other_place }
-        ensures ok { IfOk result (λ r. IsJoined self r other) }
-        ensures err { IfErr result (λ r. (r.1 ≡ self) × EndsSomewhere r.2) }
-        ensures refused { IfErr result (λ r. NotJoined (Some self) r.0) }
+    ) -> Result<HeldLane, (HeldLane, JoinStop)>
+        requires { IsTakenOf self.home (other, other_place) }
+        ensures ok { IfOk result (λ r. IsJoined self r other.lane) }
+        ensures err { IfErr result (λ r. r.0 ≡ self) }
+        ensures stop { IfErr result (λ r. StopsWith (Some self) r.1) }
+        ensures refused { IfErr result (λ r. NotJoined (Some self) (refusal_of r.1)) }
     {
         let HeldLane {
             floor,
             lane,
             most,
             place,
-            near,
+            boxed,
+            hint,
         } = self;
-        match floor_of(&floor).join(lane, other) {
-            Ok(lane) => Ok(HeldLane::of(floor, lane, most, place, near)),
-            Err((JoinFault::Memory, lane, other)) => {
-                let handed = put_at_place(&floor, other_place, other);
-                let lane = HeldLane::of(floor, lane, most, place, near);
-                Err((Refusal::Memory, lane, handed))
+        match other.join(floor_of(&floor), lane) {
+            Ok(lane) => Ok(HeldLane::of(floor, lane, most, place, boxed, hint)),
+            Err((lane, other)) => {
+                let handed = other.put_back(with_places(&floor), other_place);
+                let lane = HeldLane::of(floor, lane, most, place, boxed, hint);
+                Err((lane, JoinStop::Memory(handed)))
             }
-            Err((JoinFault::StillWalking, _, _)) => unreachable!(),
         }
+    }
+
+    /// Lets the lane go, and what it has of its floor.
+    pub(super) fn let_go(self) {
+        let HeldLane {
+            floor: _floor,
+            lane: _lane,
+            most: _most,
+            place: _place,
+            boxed: _boxed,
+            hint: _hint,
+        } = self;
     }
 }

@@ -7,7 +7,7 @@ ghost use Rattle.renamer_c.specs.Refusals.{NoLowestWire, NobodyOn, NotEntered};
 ghost use Rattle.renamer_c.specs.Sweepings.{IsSwept};
 
 use super::HeldLane;
-use crate::floor_share::floor_of;
+use crate::floor_with_places::floor_of;
 use crate::moved::{Moved, Swept, moved_of, swept_of};
 use crate::refusal::Refusal;
 use cn_floor::LaneFault;
