@@ -36,6 +36,8 @@ WORDS = {
     "fuzz.c": {None: ["1", "2000000"], "others": ["2", "200000"]},
     "many_lanes.c": {None: ["1000"], "others": ["100"]},
     "lane_after_lane.c": {None: ["100000"], "others": ["2000"]},
+    "lanes_at_once.c": {None: ["200001"], "others": ["2000"]},
+    "one_for_each.c": {None: ["20000"], "others": ["200"]},
 }
 VALGRIND = ["valgrind", "-q", "--leak-check=full", "--error-exitcode=9"]
 # So long may a command run, which takes a minute or two if nothing else runs.
@@ -90,6 +92,8 @@ PROGRAMS = (
     Program(C / "tests" / "rounds.c", GROWTHS),
     Program(C / "tests" / "many_lanes.c"),
     Program(C / "tests" / "lane_after_lane.c", GROWTHS),
+    Program(C / "tests" / "lanes_at_once.c"),
+    Program(C / "tests" / "one_for_each.c"),
     Program(C / "tests" / "objects.cpp"),
     FUZZ,
 )

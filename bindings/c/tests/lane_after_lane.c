@@ -1,7 +1,7 @@
 /*
  * Lanes that come and go one after another, 100,000 of them: each names a client and is handed back, which takes no memory
  * and is never refused. They take no more memory than one if they are joined, and the floor is closed by all of them
- * also if none is joined before the end.
+ * also if none is joined before the end. No split takes more growths of memory than the first.
  */
 #include "growths.h"
 #include "judge.h"
@@ -31,8 +31,32 @@ static void one_after_another(int count, int are_joined) {
     close_floor(&lane, (uint64_t)count);
 }
 
+/* How many growths a split takes. */
+static long growths_of_split(renamer_lane *lane, renamer_lane *other) {
+    long asked = growths_asked();
+    CHECK(renamer_split(lane, 0, other) == RENAMER_DONE);
+    return growths_asked() - asked;
+}
+
+/* Lanes one after another, of which each splits off one more, and is itself a lane that was split off just now. */
+static void as_the_first(int count) {
+    renamer_lane lane = RENAMER_NO_LANE_YET, other = RENAMER_NO_LANE_YET, third = RENAMER_NO_LANE_YET;
+    CHECK(renamer_open(&lane, RENAMER_TREE, 64, 0) == RENAMER_DONE);
+    long first = growths_of_split(&lane, &other);
+    renamer_free(&other);
+    CHECK(renamer_join(&lane) == RENAMER_DONE);
+    for (int round = 0; round < count; round++) {
+        CHECK(growths_of_split(&lane, &other) <= first && growths_of_split(&other, &third) <= first);
+        renamer_free(&third);
+        renamer_free(&other);
+        CHECK(renamer_join(&lane) == RENAMER_DONE && renamer_join(&lane) == RENAMER_DONE);
+    }
+    close_floor(&lane, 0);
+}
+
 int main(int count, char **words) {
     int lanes = count > 1 ? atoi(words[1]) : 100000;
+    as_the_first(lanes);
     one_after_another(lanes, 1);
     one_after_another(lanes, 0);
     CHECK(growths_live() == 0);
