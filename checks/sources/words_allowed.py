@@ -65,14 +65,16 @@ MOST = {
                 "std::process::ExitCode::from": 1},
     "renamer_c": {
         # Places for lanes that were handed back, and how many are.
-        **{f"counted_slot::{name}": ANY for name in ("Counted", "Fits", "FREE", "MARKED", "MOST_READERS", "ONE_READER",
-                                                     "PRESENT", "TAKEN")},
-        "Counted": 15, "Counted::new": 2, "OnePlace": 11, ".turn": 6, "no_rows": 3, "free_row": 3,
-        "std::sync::atomic::AtomicU64": 1, "AtomicU64": 3, "std::sync::atomic::Ordering::SeqCst": 1, ".load": 7,
-        ".fetch_add": 1, ".fetch_sub": 2,
+        **{f"counted_slot::{name}": ANY for name in ("Claim", "Counted", "Fits", "FREE", "MARKED", "MOST_READERS",
+                                                     "ONE_READER", "PRESENT", "TAKEN")},
+        "Counted": 8, "Counted::new": 2, "OnePlace": 6, "RowSlot": 13, ".turn": 3, "turn_at": 3, "no_rows": 3,
+        "std::sync::atomic::AtomicU64": ANY, "AtomicU64": 5, "std::sync::atomic::Ordering::SeqCst": 2,
+        ".load": 3, ".fetch_add": 1, ".fetch_sub": 1, ".repeated": 1,
+        # What was put there is ghost data.
+        "std::snapshot::Snapshot": ANY, "Snapshot": 3, "Snapshot::of": 1,
         # Who goes there, and who owns a floor or a row.
-        "std::sync::Arc": ANY, "Arc": 14, "FloorShare": 10, "::try_clone": 2, ".share": 1, ".again": 4, ".near": 4,
-        ".own_place": 2, "with_places": 7, ".hand_back": 4, ".take_back": 3,
+        "std::sync::Arc": ANY, "Arc": 14, "FloorShare": 8, "::try_clone": 2, ".share": 1, ".another_owner": 1,
+        "with_places": 8, ".hand_back": 4, ".take_back": 3,
         # Lanes that are split off, and floors that open.
         ".split": 1, ".split_off": 1, "::open": 1, "::open_after": 2, "::open_shared": 1, "::open_shared_apart": 1,
         "std::ptr::null_mut": ANY, "unsafe": 5, "*mut": 5,
@@ -80,7 +82,7 @@ MOST = {
 }
 # What stands so often, no more and no less, in the texts of a crate, or of a file of the library in C.
 TEXTS = {
-    "renamer_c/": {"const ROWS: u32 = 26;": 1, "for _ in 0..ROWS {": 1},
+    "renamer_c/": {"const ROWS: usize = 26;": 1, "for at in 0..ROWS {": 1},
     "../library": {"--redefine-sym renamer_free=": 1, "--redefine-sym renamer_free_quiet=": 1, "redefine-sym": 2},
     "../bindings/c/explain.c": {"static": 0},
     "../bindings/c/free.c": {"static": 0},
