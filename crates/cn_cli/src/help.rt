@@ -121,16 +121,16 @@ Output with `--form grants`, a grant list for `renamer check`:
     1,23,3
     1,42,4
 
-The clients of an epoch are shared out among K workers. Each worker brings in
-its next clients until it has H tokens in hand, walks them all out, and goes on
-so. With one worker the batch and H settle the output. By one worker with one
-token in hand (the defaults) names follow the order of the batch, and a run can
-be repeated byte for byte. With several workers it is open which client gets
-which name.
+One worker walks each epoch, and several workers walk epochs side by side, as
+many workers as the clients repay. A worker brings in its next clients until it
+has H tokens in hand, walks them all out, and goes on so. The batch and H settle
+the output, whatever K is. With one token in hand (the default) names follow the
+order of the batch.
 
-With `--carry` the network's counters are not cleared between epochs. The k
-clients of an epoch after m earlier ones have the names 0 to k-1 as ever, and
-each exit has its share of m + k clients less its share of m.
+With `--carry` epochs run one after another, by one worker, and the network's
+counters are not cleared between them. The k clients of an epoch after m earlier
+ones have the names 0 to k-1 as ever, and each exit has its share of m + k
+clients less its share of m.
 
 A run prints nothing before its last epoch has ended. Then either form is
 written in pieces.
