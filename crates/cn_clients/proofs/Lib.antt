@@ -2,3 +2,4 @@ mod Naming
 mod FilledSlots
 mod Ranges
 mod Inverses
+mod Marking

@@ -1,3 +1,4 @@
 pub mod Naming
 pub mod Slots
 pub mod Tables
+pub mod Marks

@@ -5,9 +5,11 @@
 mod filled;
 mod slots;
 mod tables;
+mod takers;
 mod two_threads;
 
 pub use filled::Filled;
 pub use slots::fill_by_two;
 pub use tables::{NameTable, table_of};
+pub use takers::mark_by_two;
 pub use two_threads::{Named, name_by_two};

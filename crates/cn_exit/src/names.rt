@@ -1,9 +1,7 @@
 //! The names that exits give out.
 
-ghost use Rattle.std.specs.Prelude.{◌≡◌, ℕ, ◌<◌, ◌≤◌};
+ghost use Rattle.std.specs.Prelude.{◌≡◌, ℕ, ◌<◌, ◌≤◌, ◌^◌};
 ghost use Rattle.cn_spec.specs.Step as step;
-
-use cn_spec::limits::{MOST_ARRIVALS, MOST_ENDS};
 
 /// Where a name is given out.
 #[derive(Clone, Copy, Debug, PartialEq, Eq)]
@@ -17,12 +15,10 @@ pub struct Place {
 /// The name that `exit` of `width` gives out at this visit of it: `exit + width * visit`. Exits and visits count from
 /// 0.
 ///
-/// `width` is at most [`MOST_ENDS`], `exit` below it, and `visit` at most [`MOST_ARRIVALS`]. Aspnes, Herlihy, Shavit
-/// 1994, section 2.
+/// The name is below 2^64, as each is of a `width` of at most [`cn_spec::limits::MOST_ENDS`], an `exit` below it and a
+/// `visit` of at most [`cn_spec::limits::MOST_ARRIVALS`]. Aspnes, Herlihy, Shavit 1994, section 2.
 pub fn name_of(width: u32, exit: u32, visit: u64) -> u64
-    requires width { width ≤ MOST_ENDS }
-    requires exit { exit < width }
-    requires visit { visit ≤ MOST_ARRIVALS }
+    requires fits { step.name_of width exit visit < 2 ^ 64 }
     ensures { result ≡ step.name_of width exit visit }
 {
     u64::from(exit) + u64::from(width) * visit

@@ -7,3 +7,4 @@ pub mod Alone
 pub mod Named
 pub mod Listed
 pub mod InTurn
+pub mod Taken

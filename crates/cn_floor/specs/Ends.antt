@@ -47,9 +47,9 @@ pub record QuietValue : Type 0 where
   pub did : View
   pub words : List ℕ
 
--- its words
+-- its words, which lie as those with which it began
 abbrev pub words_after : QuietValue → WordsValue
-words_after quiet = record { network = quiet.start.network; words = quiet.words }
+words_after quiet = record { network = quiet.start.network; words = quiet.words; stride = quiet.start.stride }
 
 -- the one lane has all that came in, and nobody is inside
 pub record IsClosedFloor (start : Start) (v : View) (words : List ℕ) : Type 0 where

@@ -4,6 +4,7 @@ use Rattle.cn_spec.specs.declared.limits.TheConstants.{MOST_CLIENTS}
 use Rattle.cn_yard.specs.Lists.{tokens_in}
 use Rattle.cn_floor.specs.declared.floor.lane.Lane.TheInside.{Inside}
 use Rattle.cn_floor.specs.Lane.{LaneValue}
+use Rattle.cn_floor.specs.Rule.{FitsLanes}
 
 -- a lane as contracts see it
 abbrev pub lane_of : Inside → LaneValue
@@ -22,6 +23,7 @@ pub record IsLane (l : Inside) : Type 0 where
   pub wires : length l.yard.lists ≡ length l.seat.me.0.start.network.table.ends
   pub grants : l.grants.items ≡ l.seat.me.0.grants
   pub quota : l.quota ≡ l.seat.me.0.quota
+  pub small : FitsLanes l.seat.me.0.start
   pub few : tokens_in l.yard.lists + l.quota ≤ MOST_CLIENTS
   -- each token inside and each for which there is room can be granted its name
   pub room : length l.grants.items + tokens_in l.yard.lists + l.room ≤ vec_capacity l.grants

@@ -27,3 +27,5 @@ pub mod Alone
 pub mod Together
 pub mod Named
 pub mod Listed
+pub mod Taking
+pub mod InsideTaker

@@ -3,6 +3,7 @@ use Rattle.std.specs.Prelude.{◌≡◌, ℕ, ◌+◌, ◌-◌, ◌<◌, ◌++�
 use Rattle.cn_wiring.specs.declared.end.End.TheVariants.{Exit}
 use Rattle.cn_wiring.specs.Table.{end_of}
 use Rattle.cn_ledger.specs.Events.{Enters}
+use Rattle.cn_floor.specs.declared.view.Grant.{Grant}
 use Rattle.cn_floor.specs.declared.view.Start.{Start}
 use Rattle.cn_floor.specs.declared.view.View.{View}
 use Rattle.cn_floor.specs.Lane.{LaneValue}
@@ -25,6 +26,21 @@ pub record WalksThrough (start : Start) (client entry exit visit : ℕ) (v w : V
   pub ends : end_of start.network.table wire ≡ Exit exit
   pub leaves : IsLetBy start before w client (Exit exit) visit
   pub after : w ≡ after_step token client (Exit exit) visit before
+
+-- a client walked through by itself, and got this grant
+pub record IsGranted (start : Start) (client entry : ℕ) (grant : Grant) (v w : View) : Type 0 where
+  pub walked : WalksThrough start client entry grant.exit grant.visit v w
+  pub who : grant.client ≡ client
+  pub begun : w.start ≡ v.start
+  pub quota : w.quota + 1 ≡ v.quota
+  pub entries : w.entries ≡ v.entries ++ entry ∷ []
+  pub came : w.came ≡ v.came ++ record { id = client; entry = entry } ∷ []
+  pub grants : w.grants ≡ v.grants ++ grant ∷ []
+  pub seen : w.seen ≡ v.seen
+  pub loads : w.loads ≡ v.loads
+  -- the name is below what the floor may let in, and the view stands in some state
+  pub low : grant.name < start.quota
+  pub in_state : StoodInState start w
 
 -- a lane named one client more
 pub record IsNamed (old new : LaneValue) (client entry name : ℕ) : Type 0 where

@@ -1,6 +1,5 @@
 -- What each kind of atomic step says of the lane's view before and after.
 use Rattle.std.specs.Prelude.{◌≡◌, ℕ, ◌+◌, ◌-◌, ◌≤◌, ◌++◌, ◌∷◌, [], length, sum}
-use Rattle.cn_spec.specs.declared.limits.TheConstants.{MOST_CLIENTS}
 use Rattle.cn_wiring.specs.declared.end.End.{End}
 use Rattle.cn_wiring.specs.declared.end.End.TheVariants.{Exit}
 use Rattle.cn_ledger.specs.Moves.{IsMoveOf}
@@ -68,4 +67,4 @@ Loads start v n w = (w ≡ after_load start n v) × IsLoad start v n × StoodInS
 -- a look, in a state in which the lane has its view
 abbrev pub Looks : Start → View → View → Type 0
 Looks start v w =
-    (w ≡ after_look v) × StoodInState start w × (tokens_in v.tokens + v.quota ≤ MOST_CLIENTS)
+    (w ≡ after_look v) × StoodInState start w × (tokens_in v.tokens + length v.grants + v.quota ≤ start.quota)

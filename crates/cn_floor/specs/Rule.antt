@@ -6,6 +6,7 @@ use Rattle.atomic_table.specs.Table.{State}
 use Rattle.cn_spec.specs.Step.{name_of}
 use Rattle.cn_spec.specs.Sums.{when, times, once_below, sum_below}
 use Rattle.cn_spec.specs.declared.limits.TheConstants.{MOST_CARRIED, MOST_CLIENTS}
+use Rattle.cn_spec.specs.declared.limits.TheConstants.{MOST_TAKEN}
 use Rattle.cn_wiring.specs.declared.end.End.TheVariants.{Exit}
 use Rattle.cn_wiring.specs.Levels.{IsLevel}
 use Rattle.cn_wiring.specs.Network.{Network, IsNetwork}
@@ -42,8 +43,13 @@ pub record IsCarried (t : Table) (carried : List ℕ) : Type 0 where
 -- what a floor may begin with
 pub record IsStart (start : Start) : Type 0 where
   pub network : IsNetwork start.network
-  pub quota : start.quota ≤ MOST_CLIENTS
+  pub quota : start.quota ≤ MOST_TAKEN
   pub carried : IsCarried start.network.table start.words
+  pub few : base start ≤ MOST_TAKEN
+
+-- what a floor begins with whose lanes keep lists
+pub record FitsLanes (start : Start) : Type 0 where
+  pub quota : start.quota ≤ MOST_CLIENTS
   pub few : base start ≤ MOST_CARRIED
 
 -- this ledger is that of some history since the floor began
@@ -103,4 +109,9 @@ pub record HoldsAt (start : Start) (s : FloorState) : Type 0 where
 
 -- what a floor begins with, by what its words are opened with
 abbrev pub start_of : Opening → Start
-start_of key = record { network = key.network.value; quota = key.quota; words = key.words.value.items }
+start_of key = record {
+  network = key.network.value;
+  quota = key.quota;
+  words = key.words.value.items;
+  stride = key.stride;
+}

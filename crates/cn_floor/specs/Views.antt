@@ -137,6 +137,7 @@ no_start = record {
   };
   quota = 0;
   words = [];
+  stride = 1;
 }
 
 -- the view that is left where one was taken into another

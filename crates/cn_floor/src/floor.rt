@@ -19,6 +19,9 @@ mod shared_floor;
 mod sharing;
 mod stepping;
 mod sweeping;
+mod taker;
+mod taker_floor;
+mod taking;
 mod words;
 
 ghost use Rattle.std.specs.Prelude.{◌≡◌};
@@ -37,6 +40,8 @@ pub use receipts::Receipts;
 pub use shared_floor::SharedFloor;
 use std::alloc::Global;
 use std::marker::Model;
+pub use taker::Taker;
+pub use taker_floor::TakersMissing;
 pub use words::Words;
 
 /// A counting network on atomic words, which lanes share: one word for each entry, each balancer and each exit. A

@@ -8,8 +8,8 @@ mod view;
 
 pub use fault::{JoinFault, LaneFault, OpenFault, SplitFault};
 pub use floor::{
-    CloseFault, ClosedFloor, Floor, Lane, Leftovers, Quiet, Receipts, SharedFloor, Words,
-    pass_alone,
+    CloseFault, ClosedFloor, Floor, Lane, Leftovers, Quiet, Receipts, SharedFloor, Taker,
+    TakersMissing, Words, pass_alone,
 };
 pub use gate::{Gate, Moment, OpenGate};
 pub use view::{Grant, Opening, Passage, Start, Sweep, View};

@@ -58,6 +58,8 @@ pub struct Start {
     pub quota: u64,
     /// The words of earlier floors.
     pub words: LinkedList<u64>,
+    /// How far apart two neighbours lie in its table.
+    pub stride: usize,
 }
 
 /// What a lane has done. No value of it is made.

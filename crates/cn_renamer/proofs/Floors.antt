@@ -19,7 +19,7 @@ use Rattle.cn_report.specs.declared.reading.batch.BatchEpoch.{BatchEpoch}
 use Rattle.cn_report.specs.Writing.EpochRecords.{AreRecordsOf}
 use Rattle.cn_renamer.specs.Floors.{AreOfRunner, HaveWalked, IsOfFloor, WalkedOn, runner_after}
 use Rattle.cn_renamer.specs.Headline.{AreServed, ids_of}
-use Rattle.cn_renamer.specs.Running.{alone}
+use Rattle.cn_renamer.specs.Running.{of_one_worker}
 use Rattle.cn_renamer.proofs.Served.{IsMadeOf, made-of}
 
 -- ---- one after another
@@ -54,7 +54,7 @@ pub one-walked : (crew : Crew) (runner : RunnerValue) (epoch : BatchEpoch) (floo
     → (crew.workers ≡ 1 → crew.hand ≡ 1 → holders ≡ ids_of epoch) → HaveWalked crew runner (epoch ∷ []) (floor ∷ []) holders
 unfolding AreOfRunner
 one-walked crew runner epoch floor holders run lists order =
-    let began : words_before floor.start ≡ runner.words = λ i. record { network = run.over i; words = run.after i } in
+    let began : words_before floor.start ≡ runner.words = λ i. record { network = run.over i; words = run.after i; stride = run.stride i } in
     record {
       began = (began, tt);
       walked = (subst (λ (w : WordsValue). IsRunAfter w epoch.clients.items floor) (sym began) run, tt);
@@ -83,12 +83,12 @@ walked-both crew one other runner first second fs gs xs ys a b sole = record {
 -- without carry others have that began as they did, each epoch by one worker; in as many hands, so have both
 pub beside : (crew one other : Crew) (words : WordsValue) (epochs first second : List BatchEpoch) (fs gs : List QuietValue) (xs ys : List ℕ) → epochs ≡ first ++ second
     → one.hand ≡ crew.hand → other.hand ≡ crew.hand
-    → HaveWalked (alone one) (record { words = words; carries = false }) first fs xs → HaveWalked (alone other) (record { words = words; carries = false }) second gs ys
-    → HaveWalked (alone crew) (record { words = words; carries = false }) epochs (fs ++ gs) (xs ++ ys)
+    → HaveWalked (of_one_worker one) (record { words = words; carries = false }) first fs xs → HaveWalked (of_one_worker other) (record { words = words; carries = false }) second gs ys
+    → HaveWalked (of_one_worker crew) (record { words = words; carries = false }) epochs (fs ++ gs) (xs ++ ys)
 beside crew one other words epochs first second fs gs xs ys both left right a b =
     let runner : RunnerValue = record { words = words; carries = false } in
-    subst (λ (es : List BatchEpoch). HaveWalked (alone crew) runner es (fs ++ gs) (xs ++ ys)) (sym both)
-    (walked-both (alone crew) (alone one) (alone other) runner first second fs gs xs ys a (subst (λ (r : RunnerValue). HaveWalked (alone other) r second gs ys) (sym (stays words fs)) b)
+    subst (λ (es : List BatchEpoch). HaveWalked (of_one_worker crew) runner es (fs ++ gs) (xs ++ ys)) (sym both)
+    (walked-both (of_one_worker crew) (of_one_worker one) (of_one_worker other) runner first second fs gs xs ys a (subst (λ (r : RunnerValue). HaveWalked (of_one_worker other) r second gs ys) (sym (stays words fs)) b)
     (λ worker hand. (refl, left ∙ hand, refl, right ∙ hand)))
 
 one-held : (epoch : BatchEpoch) (floors : List QuietValue) (lists : List (List ℕ)) (holders : List ℕ) → AllZip WalkedOn (epoch ∷ []) floors

@@ -25,8 +25,8 @@ abbrev pub crew_of : {G : Type 0} → Option G → Settings → Crew
 crew_of gate options = record { first = 0; workers = walkers gate options.workers; hand = options.hand }
 
 -- one worker of a crew
-abbrev pub alone : Crew → Crew
-alone crew = record crew { workers = 1 }
+abbrev pub of_one_worker : Crew → Crew
+of_one_worker crew = record crew { workers = 1 }
 
 -- how many of the workers that are asked for pay, if so many epochs with so many clients in all may run beside one
 -- another: no more than one for each epoch and one for each 8,192 clients, and one at least

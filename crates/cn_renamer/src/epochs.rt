@@ -5,7 +5,7 @@ ghost use Rattle.cn_spec.specs.declared.limits.TheConstants.{MOST_CARRIED, MOST_
 ghost use Rattle.cn_floor.specs.Carried.{client_count};
 ghost use Rattle.cn_report.specs.Reading.Batch.{MayCome, clients_of_epochs};
 ghost use Rattle.cn_renamer.specs.Floors.{HaveWalked, new_runner, runner_after};
-ghost use Rattle.cn_renamer.specs.Running.{MayRunAll, alone, clients_of_half, crew_of, workers_that_pay};
+ghost use Rattle.cn_renamer.specs.Running.{MayRunAll, clients_of_half, crew_of, of_one_worker, workers_that_pay};
 ghost use Rattle.cn_walk.specs.Crew.{IsCrew};
 ghost use denote.Param.Send.{IsSync};
 
@@ -139,14 +139,14 @@ fn run_beside<R: Threads + Wait + Sync>(
     requires epochs { MayRunAll network.now.table.entries epochs.now (length holders.old) }
     requires crew { IsCrew crew }
     ensures { IfOk result (λ floors.
-        HaveWalked (alone crew) (new_runner carries network.now) epochs.now floors holders.new) }
+        HaveWalked (of_one_worker crew) (new_runner carries network.now) epochs.now floors holders.new) }
 {
     let clients = holders.len();
     let workers = workers_that_pay(crew.workers, epochs.len(), clients);
     if carries || workers < 2 {
         let runner = Runner::new(alloc, network, carries)?;
-        let alone = Crew { workers: 1, ..crew };
-        return run_in_turn(rt, alloc, runner, epochs, alone, &OpenGate, holders);
+        let one_worker = Crew { workers: 1, ..crew };
+        return run_in_turn(rt, alloc, runner, epochs, one_worker, &OpenGate, holders);
     }
     let crew = Crew { workers, ..crew };
     let (at, reached) = cut(epochs, crew, clients);
@@ -157,13 +157,13 @@ fn run_beside<R: Threads + Wait + Sync>(
         rt,
         &mut ||
             requires { IsSync R.row × IsCrew crew × MayRunAll network.now.table.entries first.now (length front.now) }
-            ensures { IfOk result (λ floors.
-                HaveWalked (alone crew) (new_runner false network.entry.now) first.entry.now floors front.exit.now) }
+            ensures { IfOk result (λ floors. HaveWalked (of_one_worker crew) (new_runner false network.entry.now)
+                first.entry.now floors front.exit.now) }
         { run_beside(rt, alloc, network, false, first, crew, front) },
         &mut ||
             requires { IsSync R.row × IsCrew others × MayRunAll network.now.table.entries second.now (length back.now) }
-            ensures { IfOk result (λ floors.
-                HaveWalked (alone others) (new_runner false network.entry.now) second.entry.now floors back.exit.now) }
+            ensures { IfOk result (λ floors. HaveWalked (of_one_worker others) (new_runner false network.entry.now)
+                second.entry.now floors back.exit.now) }
         { run_beside(rt, alloc, network, false, second, others, back) },
     );
     let (floors, others) = (one?, other?);

@@ -15,6 +15,10 @@ pub const MOST_CLIENTS: u64 = 262_144;
 /// The most clients that may have come before an epoch that goes on from the counts of earlier ones.
 pub const MOST_CARRIED: u64 = 2_147_483_648;
 
+/// The most names that a floor gives to takers, which keep no list of them, and the most clients that may have come
+/// before it.
+pub const MOST_TAKEN: u64 = 4_611_686_018_427_387_904;
+
 /// The most records of a batch, a schedule or a grant list, its header aside.
 pub const MOST_RECORDS: u64 = 1_048_576;
 

@@ -3,7 +3,7 @@
 ghost use Rattle.std.specs.Prelude.{◌≡◌};
 
 use cn_tree::tree;
-use cn_walk::{Floor, Lane};
+use cn_walk::{Floor, Lane, Words};
 use cn_wiring::Counting;
 use std::alloc::Global;
 use std::sync::Arc;
@@ -34,7 +34,8 @@ impl Pool {
     /// A pool of this many names on a tree of width 4.
     fn open(alloc: Global, quota: u64) -> Option<Pool> {
         let network = Arc::new(alloc, tree(alloc, 4).ok()?).ok()?;
-        let (floor, lane) = Floor::open_shared(alloc, &network, quota).ok()?;
+        let words = Words::zero_shared(alloc, &network).ok()?;
+        let (floor, lane) = Floor::open_words(alloc, words, quota).ok()?;
         Some(Pool {
             network,
             floor,

@@ -7,6 +7,8 @@ mod clients;
 #[cfg(test)]
 mod held;
 #[cfg(test)]
+mod marks;
+#[cfg(test)]
 mod named;
 #[cfg(test)]
 mod slots;

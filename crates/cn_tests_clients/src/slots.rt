@@ -14,10 +14,10 @@ use std::thread::Threads;
 const CLIENTS: u64 = 2000;
 
 /// How many slots there are.
-const SLOTS: usize = 2100;
+pub(crate) const SLOTS: usize = 2100;
 
 /// Slots that nobody filled.
-fn empty_slots(alloc: Global) -> Option<Vec<OnceLock<u64>>> {
+pub(crate) fn empty_slots(alloc: Global) -> Option<Vec<OnceLock<u64>>> {
     let mut slots = Vec::with_capacity(alloc, SLOTS).ok()?;
     for _ in 0..SLOTS {
         slots.push(OnceLock::new()).ok()?;
@@ -26,7 +26,7 @@ fn empty_slots(alloc: Global) -> Option<Vec<OnceLock<u64>>> {
 }
 
 /// Whether each slot that was filled holds its client.
-fn are_held(filled: &Vec<Filled<'_>>) -> bool {
+pub(crate) fn are_held(filled: &Vec<Filled<'_>>) -> bool {
     let mut all = true;
     for one in filled {
         all &= one.read() == one.client;

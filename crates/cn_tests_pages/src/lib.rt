@@ -8,6 +8,7 @@ pub mod of_core;
 pub mod of_embedding;
 pub mod of_epoch;
 pub mod of_exit;
+pub mod of_floor;
 pub mod of_ledger;
 pub mod of_names;
 pub mod of_nets;

@@ -128,7 +128,8 @@ fn twice_apart(alloc: Global) -> Option<[Said; 2]> {
 }
 
 fn twice_apart_on(alloc: Global, network: &Counting) -> Option<[Said; 2]> {
-    match Floor::open_apart(alloc, network, 1) {
+    let words = Words::zero(alloc, network).ok()?.apart();
+    match Floor::open_words(alloc, words, 1) {
         Ok((floor, lane)) => and_next(alloc, seven(floor, lane)),
         Err(_) => None,
     }

@@ -33,6 +33,8 @@ mod stalls;
 #[cfg(test)]
 mod sweeps;
 #[cfg(test)]
+mod takers;
+#[cfg(test)]
 mod threads;
 #[cfg(test)]
 mod two_lanes;

@@ -53,6 +53,7 @@ module _ (q : QuietValue) (clients : List Client) (quiet : IsClosedFloor q.start
       record {
         over = refl;
         after = refl;
+        stride = refl;
         let_in = came;
         came = omega (arith, quiet.came, many);
         counts = quiet.shares ∙ ap (λ (k : ℕ). shares_after (base q.start) k t.width) many;

@@ -45,6 +45,8 @@ IsRefused entries clients workers hand Memory = MayRun entries clients workers h
 pub record IsRunAfter (before : WordsValue) (clients : List Client) (quiet : QuietValue) : Type 0 where
   pub over : quiet.start.network ≡ before.network
   pub after : quiet.start.words ≡ before.words
+  -- its words lay as far apart as theirs
+  pub stride : quiet.start.stride ≡ before.stride
   -- its lane let them in, each by its own entry
   pub let_in : quiet.did.came ≡ clients
   -- they came after the clients of the words

@@ -8,6 +8,7 @@ use Rattle.cn_ledger.specs.declared.moved.Moved.{Moved}
 use Rattle.cn_floor.specs.declared.floor.lane.Lane.TheInside.{Inside}
 use Rattle.cn_floor.specs.InsideLane.{IsLane}
 use Rattle.cn_floor.specs.Lane.{PutsOn, StepsOn}
+use Rattle.cn_floor.specs.Rule.{FitsLanes}
 use Rattle.cn_floor.specs.Steps.{answer_at}
 use Rattle.cn_floor.proofs.Lists.{made}
 
@@ -36,6 +37,7 @@ module _ (old new : Inside) (token client : ℕ) (kept : IsLane old) (no_slot : 
     wires = yard.wires ∙ kept.wires ∙ ap (λ (w : View). length w.start.network.table.ends) (sym view);
     grants = ap (λ g. g.items) grants ∙ kept.grants ∙ ap (λ (w : View). w.grants) (sym view);
     quota = quota ∙ ap (λ (k : ℕ). k - 1) kept.quota ∙ ap (λ (w : View). w.quota) (sym view);
+    small = subst FitsLanes (ap (λ (w : View). w.start) (sym view)) kept.small;
     few = omega (arith, kept.few, yard.tokens);
     room = rw grants (omega (arith, kept.room, yard.tokens));
     spare = omega (arith, kept.spare, yard.spare);
@@ -54,6 +56,7 @@ module _ (old new : Inside) (token client : ℕ) (kept : IsLane old) (no_slot : 
     wires = yard.wires ∙ kept.wires ∙ ap (λ (w : View). length w.start.network.table.ends) (sym view);
     grants = ap (λ g. g.items) grants ∙ kept.grants ∙ ap (λ (w : View). w.grants) (sym view);
     quota = quota ∙ kept.quota ∙ ap (λ (w : View). w.quota) (sym view);
+    small = subst FitsLanes (ap (λ (w : View). w.start) (sym view)) kept.small;
     few = omega (arith, kept.few, yard.tokens);
     room = rw grants (omega (arith, kept.room, yard.tokens));
     spare = omega (arith, kept.spare, yard.spare);
@@ -73,6 +76,7 @@ module _ (old new : Inside) (token client : ℕ) (kept : IsLane old) (no_slot : 
     wires = yard.wires ∙ kept.wires ∙ ap (λ (w : View). length w.start.network.table.ends) (sym view);
     grants = grants ∙ (λ x. kept.grants x ++ record { client = client; exit = i; visit = n; name = named x } ∷ []) ∙ ap (λ (w : View). w.grants) (sym view);
     quota = quota ∙ kept.quota ∙ ap (λ (w : View). w.quota) (sym view);
+    small = subst FitsLanes (ap (λ (w : View). w.start) (sym view)) kept.small;
     few = omega (arith, kept.few, yard.tokens);
     room = omega (arith, kept.room, yard.tokens, ap (λ gs. length gs) grants, length_push old.grants.items (record { client = client; exit = i; visit = n; name = name }));
     spare = omega (arith, kept.spare, yard.spare);
@@ -113,6 +117,7 @@ lane-with-way l grants kept items room = record {
   wires = kept.wires;
   grants = items ∙ kept.grants;
   quota = kept.quota;
+  small = kept.small;
   few = kept.few;
   room = room;
   spare = kept.spare;

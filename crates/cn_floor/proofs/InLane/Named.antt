@@ -1,8 +1,11 @@
 -- A client that walks through by itself.
-use Rattle.std.proofs.Common.{◌≡◌, ℕ, ◌-◌, ◌%◌, ◌<◌, ◌++◌, ◌∷◌, inl, inr, All, List, [], get_or, length, replicate, refl, sym, ap, ◌∙◌, arith}
-use Rattle.cn_floor.proofs.Common.{Balancer, Exit, IsAlone, IsAtomicStep, IsStart, Ledger, Start, StoodInState, View, after_enter, after_step, base, cases_lt, last_on, length-map-range_with_len, name_of, on, output_wire, without}
+use Rattle.std.proofs.Common.{◌≡◌, ℕ, ◌+◌, ◌-◌, ◌%◌, ◌^◌, ◌<◌, ◌≤◌, ◌++◌, ◌∷◌, inl, inr, All, List, [], get_or, length, replicate, refl, sym, subst, ap, ◌∙◌, arith}
+use Rattle.std.proofs.Math.Nat.{mul-le-mul_left}
+use Rattle.std.proofs.Math.Seq.{get_or-append_seam}
+use Rattle.cn_floor.proofs.Common.{Balancer, Exit, Grant, IsAlone, IsAtomicStep, IsStart, Ledger, Start, StoodInState, View, after_enter, after_step, base, cases_lt, last_on, length-map-range_with_len, length_push, name_of, on, output_wire, without}
 use Rattle.cn_floor.specs.Alone.{OnlyPassed, PassesOn}
-use Rattle.cn_floor.specs.Named.{WalksThrough}
+use Rattle.cn_floor.specs.Named.{IsGranted, WalksThrough}
+use Rattle.cn_floor.specs.Rule.{FitsLanes}
 use Rattle.cn_floor.proofs.Lists.{made_at, made-beyond}
 use Rattle.cn_floor.proofs.AtClose.Rises.{all-empty}
 use Rattle.cn_floor.proofs.InStates.Bounds.{few-came}
@@ -96,3 +99,52 @@ grew start client entry exit visit v w is =
       seen = ap (λ (x : View). x.seen) is.after ∙ only.seen ∙ ap (λ (x : View). x.seen) came;
       loads = ap (λ (x : View). x.loads) is.after ∙ only.loads ∙ ap (λ (x : View). x.loads) came;
     }
+
+-- the name of a visit is a number of 64 bits where no more can come than lanes let in
+pub name-small : (start : Start) (i n : ℕ) → IsStart start → FitsLanes start → i < start.network.table.width → n ≤ base start + start.quota
+    → name_of start.network.table.width i n < 2 ^ 64
+name-small start i n began small low few =
+    let narrow = began.network.formed.width in
+    let most : n ≤ 4294967296 = omega (arith, few, small.few, small.quota) in
+    omega (arith, mul-le-mul_left start.network.table.width most, narrow, low)
+
+-- its grant, and that the name is a number of 64 bits
+module _ (start : Start) (client entry exit visit : ℕ) (v w : View) (began : IsStart start) (of : v.start ≡ start) (is : WalksThrough start client entry exit visit v w) (some-quota : 0 < v.quota) where
+  abbrev name : ℕ
+  name = name_of start.network.table.width exit visit - base start
+
+  abbrev grant : Grant
+  grant = record { client = client; exit = exit; visit = visit; name = name }
+
+  more : w.grants ≡ v.grants ++ grant ∷ []
+  more = (grew start client entry exit visit v w is).grants
+      ∙ (λ i. v.grants ++ record { client = client; exit = exit; visit = visit; name = name_of (of i).network.table.width exit visit - base (of i) } ∷ [])
+
+  stood : StoodInState start w
+  stood = state-after _ _ _ _ is.leaves.step
+
+  pub name-low : name_of start.network.table.width exit visit - base start < start.quota
+  name-low =
+      let some : length v.grants < length w.grants = omega (arith, ap (λ (gs : List Grant). length gs) more, length_push v.grants grant) in
+      let last : get_or w.grants (length v.grants) grant ≡ grant = ap (λ (gs : List Grant). get_or gs (length v.grants) grant) more ∙ get_or-append_seam v.grants grant [] grant in
+      subst (λ (g : Grant). g.name < start.quota) last (names-low start w began stood (length v.grants) grant some)
+
+  pub name-fits : name_of start.network.table.width exit visit < 2 ^ 64
+  name-fits = omega (arith, name-low, began.quota, began.few)
+
+  pub granted : IsGranted start client entry (record { client = client; exit = exit; visit = visit; name = name_of start.network.table.width exit visit - base start }) v w
+  granted =
+      let all = grew start client entry exit visit v w is in
+      record {
+        walked = is;
+        who = refl;
+        begun = all.start;
+        quota = omega (arith, all.quota, some-quota);
+        entries = all.entries;
+        came = all.came;
+        grants = more;
+        seen = all.seen;
+        loads = all.loads;
+        low = name-low;
+        in_state = stood;
+      }

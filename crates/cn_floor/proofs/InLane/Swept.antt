@@ -8,6 +8,7 @@ use Rattle.cn_yard.proofs.CallerLemmas.{once-gone, others-on, rest-on}
 use Rattle.cn_floor.specs.declared.floor.lane.Lane.TheInside.{Inside}
 use Rattle.cn_floor.specs.declared.view.Sweep.{Sweep}
 use Rattle.cn_floor.specs.InsideLane.{IsLane}
+use Rattle.cn_floor.specs.Rule.{FitsLanes}
 use Rattle.cn_floor.specs.Sweeps.{PutsAll, SweepsOn, after_steps, grants_out, sweep_at}
 use Rattle.cn_floor.proofs.Lists.{made}
 use Rattle.cn_floor.proofs.InLane.Outs.{grants-many}
@@ -169,6 +170,7 @@ module _ (old new : Inside) (wire n : ℕ) (kept : IsLane old) (no_slot : new.se
         wires = dealt.wires ∙ kept.wires ∙ ap (λ (s : Start). length s.network.table.ends) (sym like.start) ∙ ap (λ (w : View). length w.start.network.table.ends) (sym view);
         grants = ap (λ g. g.items) grants ∙ kept.grants ∙ sym (grants-kept b n tokens v) ∙ ap (λ (w : View). w.grants) (sym view);
         quota = quota ∙ kept.quota ∙ sym like.quota ∙ ap (λ (w : View). w.quota) (sym view);
+        small = subst FitsLanes (sym like.start ∙ ap (λ (w : View). w.start) (sym view)) kept.small;
         few = omega (arith, kept.few, dealt.tokens);
         room = rw grants (omega (arith, kept.room, dealt.tokens));
         spare = omega (arith, kept.spare, dealt.spare);
@@ -190,6 +192,7 @@ module _ (old new : Inside) (wire n : ℕ) (kept : IsLane old) (no_slot : new.se
         wires = all.wires ∙ kept.wires ∙ ap (λ (s : Start). length s.network.table.ends) (sym like.start) ∙ ap (λ (w : View). length w.start.network.table.ends) (sym view);
         grants = grants ∙ (λ x. kept.grants x ++ grants_out (wide x) (came x) i n (there x)) ∙ sym (grants-left i n tokens v) ∙ ap (λ (w : View). w.grants) (sym view);
         quota = quota ∙ kept.quota ∙ sym like.quota ∙ ap (λ (w : View). w.quota) (sym view);
+        small = subst FitsLanes (sym like.start ∙ ap (λ (w : View). w.start) (sym view)) kept.small;
         few = omega (arith, kept.few, all.tokens);
         room = omega (arith, kept.room, all.tokens, many, capacity, room, grants-many width less i n (on old.yard.lists wire));
         spare = omega (arith, kept.spare, all.spare, room);

@@ -198,7 +198,7 @@ looks start slots id i word me is first same no_slot s kept homes at fits =
         subst (λ (z : Start). Looks z v w) (sym same) (
           refl,
           (record { words = s.words; homes = s.homes; views = set s.views id w }, record { id = id; here = get-here s.views id v w at; kept = after.rule }),
-          omega (arith, f.all, kept.rule.quotas, kept.began.quota),
+          omega (arith, f.all, kept.rule.quotas),
         ),
       ),
     )

@@ -1,9 +1,10 @@
 //! A closed floor, before anybody asks what has risen.
 
-ghost use Rattle.std.specs.Prelude.{◌≡◌, IfOk, [], ◌∷◌, length, map};
+ghost use Rattle.std.specs.Prelude.{◌≡◌, ◌+◌, ◌≤◌, IfOk, [], ◌∷◌, length, map};
 ghost use Rattle.cn_spec.specs.Step.{IsEachBelow};
-ghost use Rattle.cn_floor.specs.Carried.{words_before};
-ghost use Rattle.cn_floor.specs.Ends.{IsClosedFloor, ListsHolders};
+ghost use Rattle.cn_spec.specs.declared.limits.TheConstants.{MOST_CARRIED, MOST_CLIENTS};
+ghost use Rattle.cn_floor.specs.Carried.{client_count, words_before};
+ghost use Rattle.cn_floor.specs.Ends.{IsClosedFloor, ListsHolders, words_after};
 ghost use Rattle.cn_floor.specs.Words.{word_count};
 
 use super::lane::Lane;
@@ -50,7 +51,8 @@ impl<'a> ClosedFloor<'a> {
     ///
     /// It does nothing: its contract is the law.
     pub fn closed_laws(&self)
-        ensures { IsClosedFloor self.now.start self.now.did self.now.words }
+        ensures closed { IsClosedFloor self.now.start self.now.did self.now.words }
+        ensures few { client_count (words_after self.now) ≤ MOST_CARRIED + MOST_CLIENTS }
     {
         // Opens what each closed floor keeps.
         let _ = &self.grants;

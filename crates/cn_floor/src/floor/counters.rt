@@ -76,10 +76,11 @@ impl Counters {
         words: &Vec<u64>,
         stride: usize,
     ) -> Result<(Counters, Seat<(), View>), AllocError>
-        requires began { IsStart (record { network = network.now; quota = quota; words = words.now.items }) }
+        requires began { IsStart
+            (record { network = network.now; quota = quota; words = words.now.items; stride = stride }) }
         requires stride { IsStride stride }
         ensures start { IfOk result (λ r. r.0.start
-            ≡ record { network = network.now; quota = quota; words = words.now.items }) }
+            ≡ record { network = network.now; quota = quota; words = words.now.items; stride = stride }) }
         ensures seat { IfOk result (λ r. (r.1.table_id ≡ r.0.table)
             × (r.1.me ≡ (empty_view r.0.start quota, []))) }
         ensures spaced { IfOk result (λ r. r.0.table.words ≡ stride * word_count network.now.table) }

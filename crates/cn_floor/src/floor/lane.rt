@@ -2,6 +2,7 @@
 
 ghost use Rattle.std.specs.Prelude.{◌≡◌, ℕ, ◌+◌, ◌<◌, ◌≤◌, ◌^◌, ◌↔◌, None, Some, [], max, length, vec_capacity, IfSome, IsSome, IsTrue, OnErr, OnOk};
 ghost use Rattle.cn_spec.specs.declared.limits.TheConstants.{MOST_CLIENTS, MOST_ROOM};
+ghost use Rattle.cn_floor.specs.Rule.{FitsLanes};
 ghost use Rattle.cn_yard.specs.Lists.{IsLowest, IsThere, next_after, first_of, on, standing, times_in, tokens_in};
 
 use crate::view::{Grant, View};
@@ -81,14 +82,16 @@ impl Lane {
     }
 
     /// What holds of each lane: its yard has the tokens of its view, wire by wire, and it has a wire for each of the
-    /// network; those inside and its quota are at most [`MOST_CLIENTS`] together; no token stands there twice, and one
-    /// that does stands on one wire, for one client.
+    /// network; its floor began with a quota of at most [`MOST_CLIENTS`], after at most
+    /// [`cn_spec::limits::MOST_CARRIED`] clients; those inside and its quota are at most [`MOST_CLIENTS`] together; no
+    /// token stands there twice, and one that does stands on one wire, for one client.
     ///
     /// It does nothing: its contract is the law.
     pub fn lane_laws(&self)
         ensures start { self.now.view.start ≡ self.now.home.start }
         ensures tokens { self.now.yard.lists ≡ self.now.view.tokens }
         ensures wires { length self.now.yard.lists ≡ length self.now.home.start.network.table.ends }
+        ensures small { FitsLanes self.now.home.start }
         ensures few { tokens_in self.now.yard.lists + self.now.view.quota ≤ MOST_CLIENTS }
         ensures once { (token : ℕ) → times_in self.now.yard.lists token ≤ 1 }
         ensures there { (token client wire : ℕ)

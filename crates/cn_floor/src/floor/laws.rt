@@ -2,19 +2,20 @@
 //! speak of each state that keeps the floor's rule, and each step of a lane is from such a state to such a state.
 
 ghost use Rattle.std.specs.Prelude.{◌+◌, ◌≤◌};
-ghost use Rattle.cn_spec.specs.declared.limits.TheConstants.{MOST_CARRIED, MOST_CLIENTS};
 ghost use Rattle.cn_ledger.specs.Laws.{GrantsOnce, NamesDiffer};
 ghost use Rattle.cn_ledger.specs.Ledger.{IsBounded, IsSound, IsTight, Ledger};
 ghost use Rattle.cn_floor.specs.Ends.{NobodyInside};
 ghost use Rattle.cn_floor.specs.Laws.{HasFewWords, HasWalked, HoldsLowNames, InEachState, InEachView, NamesOnce, NumbersDiffer, TakesItsSteps, VisitsGoOn, entered_at, ledger_at};
 ghost use Rattle.cn_floor.specs.Rule.{IsReached, IsStart};
 ghost use Rattle.cn_floor.specs.Views.{base};
+ghost use Rattle.cn_spec.specs.declared.limits.TheConstants.{MOST_TAKEN};
 
 use super::Floor;
 
 impl<'a> Floor<'a> {
-    /// What a floor began with: a counting network, a quota of at most [`cn_spec::limits::MOST_CLIENTS`], and the words
-    /// of a sound ledger with nobody inside, which count at most [`cn_spec::limits::MOST_CARRIED`] clients.
+    /// What a floor began with: a counting network, a quota of at most [`cn_spec::limits::MOST_TAKEN`], and the words
+    /// of a sound ledger with nobody inside, which count at most as many clients. A floor with lanes began with less of
+    /// both ([`super::Lane::lane_laws`]).
     pub fn start_laws(&self)
         ensures { IsStart self.now.start }
     {
@@ -65,11 +66,11 @@ impl<'a> Floor<'a> {
     }
 
     /// No count wraps: each is at most the number that ever came, and that is at most those before and the quota, which
-    /// are few.
+    /// are few; on a floor with lanes fewer still ([`super::Lane::lane_laws`]).
     pub fn words_are_few(&self)
         ensures counts { InEachState self.now.start HasFewWords }
         ensures came { InEachState self.now.start (λ start s. entered_at start s ≤ base start + start.quota) }
-        ensures few { InEachState self.now.start (λ start s. base start + start.quota ≤ MOST_CARRIED + MOST_CLIENTS) }
+        ensures few { InEachState self.now.start (λ start s. base start + start.quota ≤ MOST_TAKEN + MOST_TAKEN) }
     {
         self.start_laws();
     }

@@ -76,7 +76,10 @@ impl<'a> Leftovers<'a> {
     /// The same yard, with the words of a closed floor over the same network in place of its own. It takes no memory.
     pub fn go_on_from(self, closed: &ClosedFloor<'_>) -> Leftovers<'a>
         requires { closed.now.start.network ≡ self.words.network }
-        ensures { result ≡ record { words = words_after closed.now; spare = self.entry.spare } }
+        ensures { result ≡ record {
+          words = record (words_after closed.now) { stride = self.entry.words.stride };
+          spare = self.entry.spare;
+        } }
     {
         let Leftovers { words, yard } = self;
         Leftovers {

@@ -1,9 +1,9 @@
 //! The clients of a list, named by one call: all who stand on a wire pass its end together, and where they stand is in
 //! locals.
 
-ghost use Rattle.std.specs.Prelude.{◌≡◌, ℕ, ◌+◌, ◌<◌, ◌≤◌, ◌↔◌, ◌++◌, [], List, length, vec_capacity, IsErrOf, OnErr, OnOk};
+ghost use Rattle.std.specs.Prelude.{◌≡◌, ℕ, ◌+◌, ◌<◌, ◌≤◌, ◌↔◌, ◌^◌, ◌++◌, [], List, length, vec_capacity, IsErrOf, OnErr, OnOk};
 ghost use Rattle.cn_spec.specs.Step as step;
-ghost use Rattle.cn_spec.specs.declared.limits.TheConstants.{MOST_ARRIVALS, MOST_ENDS, MOST_ROOM};
+ghost use Rattle.cn_spec.specs.declared.limits.TheConstants.{MOST_ROOM};
 ghost use Rattle.cn_wiring.specs.Table.{Stands, end_of};
 ghost use Rattle.cn_yard.specs.Lists.{on, times_in, tokens_in};
 ghost use Rattle.cn_floor.specs.EntersAll.{ComeTogether};
@@ -82,9 +82,9 @@ fn grant_all(
 )
     requires group { (tokens : List (ℕ × ℕ)) × Stand clients.now group tokens }
     requires room { length grants.old.items + group.count ≤ vec_capacity grants.old }
-    requires exits { (width ≤ MOST_ENDS) × (exit < width) }
-    requires visits { first + group.count ≤ MOST_ARRIVALS }
-    requires names { base ≤ step.name_of width exit first }
+    requires exit { exit < width }
+    requires low { base ≤ step.name_of width exit first }
+    requires high { step.name_of width exit (first + group.count) < 2 ^ 64 }
     ensures granted { grants.new.items ≡ grants.old.items
         ++ grants_out width base exit first (placed clients.now group.first group.stride group.count) }
     ensures capacity { vec_capacity grants.new ≡ vec_capacity grants.old }
@@ -118,7 +118,7 @@ impl<'a> Floor<'a> {
 
     /// Lets the clients of a list in by one entry, in one atomic step, by a view with nobody inside. Each one's token
     /// has the number of its place in the list.
-    fn come_in(&self, seat: &mut Seat<(), View>, clients: &[u64], entry: u32)
+    pub(super) fn come_in(&self, seat: &mut Seat<(), View>, clients: &[u64], entry: u32)
         requires own { (seat.old.table_id ≡ self.now.table)
             × (seat.old.me.0.start ≡ self.now.start) }
         requires slots { (seat.old.me.1 ≡ []) × (seat.old.me.0.loads ≡ []) }
@@ -136,7 +136,7 @@ impl<'a> Floor<'a> {
 
     /// Lets all tokens of a wire, as many as `tokens`, go by its end in one atomic step: the end, and the number of the
     /// first.
-    fn let_by(
+    pub(super) fn let_by(
         &self,
         network: &Counting,
         seat: &mut Seat<(), View>,

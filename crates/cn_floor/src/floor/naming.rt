@@ -5,7 +5,7 @@ ghost use Rattle.cn_wiring.specs.declared.end.End.TheVariants.{Exit};
 ghost use Rattle.cn_wiring.specs.Table.{end_of};
 ghost use Rattle.cn_yard.specs.Lists.{on, tokens_in};
 ghost use Rattle.cn_floor.specs.Alone.{GoesAlone, IsAlone, OnlyPassed, PassesOn};
-ghost use Rattle.cn_floor.specs.Named.{IsNamed, WalksThrough};
+ghost use Rattle.cn_floor.specs.Named.{IsGranted, IsNamed, WalksThrough};
 
 use super::Floor;
 use super::lane::{Lane, make_way};
@@ -50,17 +50,34 @@ impl<'a> Floor<'a> {
         let Ok(()) = make_way(&mut lane.grants, 1, &lane.yard, lane.room) else {
             return Err(LaneFault::Memory);
         };
-        let (exit, visit) = self.walk_through(&mut lane.seat, client, entry as u32);
-        let name = name_of(network.width(), exit, visit) - self.base;
-        lane.grants.push_reserved(Grant {
+        let grant = self.grant_one(&mut lane.seat, client, entry as u32);
+        lane.grants.push_reserved(grant);
+        lane.quota -= 1;
+        lane.room = lane.room.saturating_sub(1);
+        Ok(grant.name)
+    }
+
+    /// Lets a client in by an entry and walks it out, by a view with nobody inside: its grant.
+    pub(super) fn grant_one(&self, seat: &mut Seat<(), View>, client: u64, entry: u32) -> Grant
+        requires own { (seat.old.table_id ≡ self.now.table)
+            × (seat.old.me.0.start ≡ self.now.start) }
+        requires slots { (seat.old.me.1 ≡ []) × (seat.old.me.0.loads ≡ []) }
+        requires wires { length seat.old.me.0.tokens ≡ length self.now.start.network.table.ends }
+        requires out { (wire : ℕ) → on seat.old.me.0.tokens wire ≡ [] }
+        requires entry { entry < self.now.start.network.table.entries }
+        requires quota { 0 < seat.old.me.0.quota }
+        ensures seat { (seat.new.table_id ≡ seat.old.table_id) × (seat.new.me.1 ≡ []) }
+        ensures granted { IsGranted self.now.start client entry result seat.old.me.0 seat.new.me.0 }
+        ensures gone { seat.new.me.0.tokens ≡ replicate (length seat.old.me.0.tokens) [] }
+    {
+        self.start_laws();
+        let (exit, visit) = self.walk_through(seat, client, entry);
+        Grant {
             client,
             exit,
             visit,
-            name,
-        });
-        lane.quota -= 1;
-        lane.room = lane.room.saturating_sub(1);
-        Ok(name)
+            name: name_of(self.network().width(), exit, visit) - self.base,
+        }
     }
 
     /// Lets a client in by an entry and walks it out, by a view with nobody inside: the exit by which it left, and its

@@ -1,31 +1,30 @@
 //! How a floor begins.
 
-ghost use Rattle.std.specs.Arc.{arc_value};
-ghost use Rattle.std.specs.Prelude.{◌≡◌, ◌+◌, ◌*◌, ◌<◌, ◌≤◌, ◌↔◌, length, replicate, IfErr, IfOk, IfSome, IsErrOf};
+ghost use Rattle.std.specs.Prelude.{◌≡◌, ◌+◌, ◌*◌, ◌<◌, ◌≤◌, ◌↔◌, [], length, replicate, IfErr, IfOk, IfSome, IsErrOf};
 ghost use Rattle.cn_spec.specs.declared.limits.TheConstants.{MOST_CARRIED, MOST_CLIENTS};
 ghost use Rattle.cn_wiring.specs.Network.{IsNetwork};
 ghost use Rattle.cn_yard.specs.Lists.{empty, tokens_in};
-ghost use Rattle.cn_floor.specs.Carried.{client_count, start_after};
+ghost use Rattle.cn_floor.specs.Carried.{client_count, start_after, zero_words};
 ghost use Rattle.cn_floor.specs.InsideLeftovers.{spare_in};
 ghost use Rattle.cn_floor.specs.Lane.{IsIdle, empty_lane};
 ghost use Rattle.cn_floor.specs.Rule.{IsCarried};
-ghost use Rattle.cn_floor.specs.Spacing.{stride_of};
-ghost use Rattle.cn_floor.specs.Views.{base};
+ghost use Rattle.cn_floor.specs.Views.{base, empty_view};
 ghost use Rattle.cn_floor.specs.Words.{clients_in, word_count};
-ghost use Rattle.cn_floor.specs.declared.floor.counters.TheConstants.{MOST_STRIDE};
+ghost use Rattle.cn_spec.specs.declared.limits.TheConstants.{MOST_TAKEN};
 
 use super::Floor;
 use super::counters::Counters;
 use super::lane::Lane;
 use super::leftovers::Leftovers;
 use super::network_ref::NetworkRef;
-use super::words::{Spacing, Words};
+use super::words::Words;
 use crate::fault::OpenFault;
+use crate::view::View;
+use atomic_table::Seat;
 use cn_spec::limits::MOST_CLIENTS;
 use cn_wiring::Counting;
 use cn_yard::Yard;
 use std::alloc::{AllocError, Global};
-use std::sync::Arc;
 
 /// A word of 0 for the lanes, and one for each entry, balancer and exit.
 ///
@@ -85,7 +84,7 @@ fn spare_yard(alloc: Global, network: &Counting, spare: Option<Yard>) -> Yard
 
 impl<'a> Floor<'a> {
     /// A floor over the network, with one lane that has the whole quota: as many clients may come in. It is
-    /// [`Floor::open_after`] of words that are all 0.
+    /// [`Floor::open_words`] of [`Words::zero`].
     ///
     /// # Errors
     /// The first that stands: `Quota` (more than [`MOST_CLIENTS`]), `Memory`.
@@ -99,92 +98,16 @@ impl<'a> Floor<'a> {
         ensures zero { IfOk result (λ r. r.0.start.words
             ≡ replicate (word_count network.now.table) 0) }
         ensures base { IfOk result (λ r. base r.0.start ≡ 0) }
+        ensures start { IfOk result (λ r. r.0.start ≡ start_after (zero_words network.now) quota) }
         ensures lane { IfOk result (λ r. r.1 ≡ empty_lane r.0 quota) }
         ensures spaced { IfOk result (λ r. r.0.table.words ≡ word_count network.now.table) }
         ensures quota { IsErrOf result OpenFault.Quota ↔ (MOST_CLIENTS < quota) }
     {
         quota_fits(quota)?;
-        let words = Words::zero(alloc, network)?;
-        Floor::open_words(alloc, words, Spacing::Packed, quota)
+        Floor::open_words(alloc, Words::zero(alloc, network)?, quota)
     }
 
-    /// A floor as [`Floor::open`] opens it, which shares the network with the caller by count: it borrows nothing, so a
-    /// struct can keep it, and a thread can take it along.
-    ///
-    /// # Errors
-    /// The first that stands: `Quota` (more than [`MOST_CLIENTS`]), `Memory`.
-    pub fn open_shared(
-        alloc: Global,
-        network: &Arc<Counting, Global>,
-        quota: u64,
-    ) -> Result<(Floor<'a>, Lane), OpenFault>
-        ensures floor { IfOk result (λ r. (r.0.start.network ≡ arc_value network.now)
-            × (r.0.start.quota ≡ quota)) }
-        ensures zero { IfOk result (λ r. r.0.start.words
-            ≡ replicate (word_count (arc_value network.now).table) 0) }
-        ensures base { IfOk result (λ r. base r.0.start ≡ 0) }
-        ensures lane { IfOk result (λ r. r.1 ≡ empty_lane r.0 quota) }
-        ensures spaced { IfOk result (λ r. r.0.table.words ≡ word_count (arc_value network.now).table) }
-        ensures quota { IsErrOf result OpenFault.Quota ↔ (MOST_CLIENTS < quota) }
-    {
-        quota_fits(quota)?;
-        let shared = Words::zero_shared(alloc, network)?;
-        Floor::open_words(alloc, shared, Spacing::Packed, quota)
-    }
-
-    /// A floor as [`Floor::open`] opens it, whose words lie 128 bytes apart in memory, with zeros between: two threads
-    /// that step on two of them never wait for one cache line. It takes 16 times the memory for its words. So does each
-    /// floor that goes on from it. For callers in Rattle; the library uses [`Floor::open_shared_apart`].
-    ///
-    /// # Errors
-    /// The first that stands: `Quota` (more than [`MOST_CLIENTS`]), `Memory`.
-    pub fn open_apart(
-        alloc: Global,
-        network: &'a Counting,
-        quota: u64,
-    ) -> Result<(Floor<'a>, Lane), OpenFault>
-        ensures floor { IfOk result (λ r. (r.0.start.network ≡ network.now)
-            × (r.0.start.quota ≡ quota)) }
-        ensures zero { IfOk result (λ r. r.0.start.words
-            ≡ replicate (word_count network.now.table) 0) }
-        ensures base { IfOk result (λ r. base r.0.start ≡ 0) }
-        ensures lane { IfOk result (λ r. r.1 ≡ empty_lane r.0 quota) }
-        ensures spaced { IfOk result (λ r. r.0.table.words
-            ≡ MOST_STRIDE * word_count network.now.table) }
-        ensures quota { IsErrOf result OpenFault.Quota ↔ (MOST_CLIENTS < quota) }
-    {
-        quota_fits(quota)?;
-        let words = Words::zero(alloc, network)?;
-        Floor::open_words(alloc, words, Spacing::Apart, quota)
-    }
-
-    /// A floor as [`Floor::open_shared`] opens it, whose words lie as those of [`Floor::open_apart`].
-    ///
-    /// # Errors
-    /// The first that stands: `Quota` (more than [`MOST_CLIENTS`]), `Memory`.
-    pub fn open_shared_apart(
-        alloc: Global,
-        network: &Arc<Counting, Global>,
-        quota: u64,
-    ) -> Result<(Floor<'a>, Lane), OpenFault>
-        ensures floor { IfOk result (λ r. (r.0.start.network ≡ arc_value network.now)
-            × (r.0.start.quota ≡ quota)) }
-        ensures zero { IfOk result (λ r. r.0.start.words
-            ≡ replicate (word_count (arc_value network.now).table) 0) }
-        ensures base { IfOk result (λ r. base r.0.start ≡ 0) }
-        ensures lane { IfOk result (λ r. r.1 ≡ empty_lane r.0 quota) }
-        ensures spaced { IfOk result (λ r. r.0.table.words
-            ≡ MOST_STRIDE * word_count (arc_value network.now).table) }
-        ensures quota { IsErrOf result OpenFault.Quota ↔ (MOST_CLIENTS < quota) }
-    {
-        quota_fits(quota)?;
-        let shared = Words::zero_shared(alloc, network)?;
-        Floor::open_words(alloc, shared, Spacing::Apart, quota)
-    }
-
-    /// A floor over the network of these words, which goes on from them: its numbers and visits begin with theirs, and
-    /// its names are those of its own clients. It has one lane with the whole quota. Over words that are all 0 it is
-    /// that of [`Floor::open`]. They count at most [`cn_spec::limits::MOST_CARRIED`] clients.
+    /// A floor as [`Floor::open_words`] opens it, over a copy of the words.
     ///
     /// # Errors
     /// The first that stands: `Quota` (more than [`MOST_CLIENTS`]), `Memory`.
@@ -196,15 +119,16 @@ impl<'a> Floor<'a> {
         requires few { client_count words.now ≤ MOST_CARRIED }
         ensures floor { IfOk result (λ r. r.0.start ≡ start_after words.now quota) }
         ensures lane { IfOk result (λ r. r.1 ≡ empty_lane r.0 quota) }
+        ensures spaced { IfOk result (λ r. r.0.table.words
+            ≡ words.now.stride * word_count words.now.network.table) }
         ensures quota { IsErrOf result OpenFault.Quota ↔ (MOST_CLIENTS < quota) }
     {
         quota_fits(quota)?;
-        let copy = words.copy(alloc)?;
-        Floor::open_words(alloc, copy, words.spacing, quota)
+        Floor::open_words(alloc, words.copy(alloc)?, quota)
     }
 
     /// A floor that goes on from what another left, and takes the words and the yard of that. Over leftovers of nobody
-    /// ([`Leftovers::new`]) it is that of [`Floor::open`], over those of a closed floor that of [`Floor::open_after`],
+    /// ([`Leftovers::new`]) it is that of [`Floor::open`], over those of a closed floor that of [`Floor::open_words`],
     /// and its lane may have spare records. They count at most [`cn_spec::limits::MOST_CARRIED`] clients, and the quota
     /// is at most [`MOST_CLIENTS`].
     ///
@@ -220,47 +144,49 @@ impl<'a> Floor<'a> {
         ensures lane { IfOk result (λ r. r.1 ≡ record (empty_lane r.0 quota) { yard = r.1.yard }) }
         ensures idle { IfOk result (λ r. IsIdle leftovers.entry.words.network r.1.yard.lists) }
         ensures spare { IfOk result (λ r. r.1.yard.spare ≡ leftovers.entry.spare) }
+        ensures spaced { IfOk result (λ r. r.0.table.words
+            ≡ leftovers.entry.words.stride * word_count leftovers.entry.words.network.table) }
         ensures back { IfErr result (λ back. back.words ≡ leftovers.entry.words) }
     {
         let (words, yard) = leftovers.into_parts();
         let yard = spare_yard(alloc, words.network(), yard);
-        let spacing = words.spacing;
-        match Floor::begin(alloc, words, spacing, quota, yard) {
+        match Floor::begin(alloc, words, quota, yard) {
             Ok(opened) => Ok(opened),
             Err(words) => Err(Leftovers { words, yard: None }),
         }
     }
 
-    /// A floor that goes on from these words, which lie so in it and in each that goes on from it.
+    /// A floor over the network of these words, which goes on from them: its numbers and visits begin with theirs, and
+    /// its names are those of its own clients. It has one lane with the whole quota. The words say who has the network
+    /// ([`Words::zero`] borrows it, [`Words::zero_shared`] shares it), who came before ([`crate::Quiet::into_words`]),
+    /// and how they lie in memory ([`Words::apart`]). They count at most [`cn_spec::limits::MOST_CARRIED`] clients.
     ///
     /// # Errors
-    /// `Memory`.
-    fn open_words(
+    /// The first that stands: `Quota` (more than [`MOST_CLIENTS`]), `Memory`.
+    pub fn open_words(
         alloc: Global,
         words: Words<'a>,
-        spacing: Spacing,
         quota: u64,
     ) -> Result<(Floor<'a>, Lane), OpenFault>
-        requires few { (client_count words ≤ MOST_CARRIED) × (quota ≤ MOST_CLIENTS) }
+        requires few { client_count words ≤ MOST_CARRIED }
         ensures floor { IfOk result (λ r. r.0.start ≡ start_after words.entry quota) }
         ensures lane { IfOk result (λ r. r.1 ≡ empty_lane r.0 quota) }
         ensures spaced { IfOk result (λ r. r.0.table.words
-            ≡ stride_of spacing * word_count words.entry.network.table) }
-        ensures memory { IfErr result (λ fault. fault ≡ OpenFault.Memory) }
+            ≡ words.entry.stride * word_count words.entry.network.table) }
+        ensures quota { IsErrOf result OpenFault.Quota ↔ (MOST_CLIENTS < quota) }
     {
+        quota_fits(quota)?;
         let yard = yard_for(alloc, words.network());
-        match Floor::begin(alloc, words, spacing, quota, yard) {
+        match Floor::begin(alloc, words, quota, yard) {
             Ok(opened) => Ok(opened),
             Err(_words) => Err(OpenFault::Memory),
         }
     }
 
-    /// A floor that goes on from these words, which lie so in it and in each that goes on from it, with this yard for
-    /// its lane. If it gets no memory the words come back.
+    /// A floor that goes on from these words, with this yard for its lane. If it gets no memory the words come back.
     fn begin(
         alloc: Global,
         words: Words<'a>,
-        spacing: Spacing,
         quota: u64,
         yard: Yard,
     ) -> Result<(Floor<'a>, Lane), Words<'a>>
@@ -269,27 +195,50 @@ impl<'a> Floor<'a> {
         ensures floor { IfOk result (λ r. r.0.start ≡ start_after words.entry quota) }
         ensures lane { IfOk result (λ r. r.1 ≡ record (empty_lane r.0 quota) { yard = yard }) }
         ensures spaced { IfOk result (λ r. r.0.table.words
-            ≡ stride_of spacing * word_count words.entry.network.table) }
+            ≡ words.entry.stride * word_count words.entry.network.table) }
         ensures back { IfErr result (λ back. back ≡ words.entry) }
     {
-        let stride = spacing.stride();
+        match Floor::lay(alloc, words, quota) {
+            Ok((floor, seat)) => {
+                let lane = Lane {
+                    seat,
+                    yard,
+                    grants: Vec::new(alloc),
+                    quota,
+                    room: 0,
+                };
+                Ok((floor, lane))
+            }
+            Err(words) => Err(words),
+        }
+    }
+
+    /// A floor that goes on from these words, and the one seat of its table, which has the whole quota. If it gets no
+    /// memory the words come back.
+    pub(super) fn lay(
+        alloc: Global,
+        words: Words<'a>,
+        quota: u64,
+    ) -> Result<(Floor<'a>, Seat<(), View>), Words<'a>>
+        requires few { (client_count words ≤ MOST_TAKEN) × (quota ≤ MOST_TAKEN) }
+        ensures floor { IfOk result (λ r. r.0.start ≡ start_after words.entry quota) }
+        ensures seat { IfOk result (λ r. (r.1.table_id ≡ r.0.table)
+            × (r.1.me ≡ (empty_view r.0.start quota, []))) }
+        ensures spaced { IfOk result (λ r. r.0.table.words
+            ≡ words.entry.stride * word_count words.entry.network.table) }
+        ensures back { IfErr result (λ back. back ≡ words.entry) }
+    {
+        let stride = words.spacing.stride();
         let made = Counters::new(alloc, words.network(), quota, &words.words, stride);
         let Ok((counters, seat)) = made else {
             return Err(words);
         };
-        let lane = Lane {
-            seat,
-            yard,
-            grants: Vec::new(alloc),
-            quota,
-            room: 0,
-        };
         let floor = Floor {
             alloc,
             base: words.clients,
-            before: words.spaced(spacing),
+            before: words,
             counters,
         };
-        Ok((floor, lane))
+        Ok((floor, seat))
     }
 }

@@ -1,7 +1,9 @@
 //! What a closed floor leaves.
 
-ghost use Rattle.std.specs.Prelude.{◌≡◌, length, IfOk};
-ghost use Rattle.cn_floor.specs.Ends.{HasRisen, IsClosedFloor, ListsHolders, counts_by_exit, passes_of};
+ghost use Rattle.std.specs.Prelude.{◌≡◌, ◌+◌, ◌≤◌, length, IfOk};
+ghost use Rattle.cn_spec.specs.declared.limits.TheConstants.{MOST_CARRIED, MOST_CLIENTS};
+ghost use Rattle.cn_floor.specs.Carried.{client_count};
+ghost use Rattle.cn_floor.specs.Ends.{HasRisen, IsClosedFloor, ListsHolders, counts_by_exit, passes_of, words_after};
 
 use super::closed_floor::put_holders;
 use super::lane::Lane;
@@ -39,7 +41,8 @@ impl<'a> Quiet<'a> {
     ///
     /// It does nothing: its contract is the law.
     pub fn quiet_laws(&self)
-        ensures { IsClosedFloor self.now.start self.now.did self.now.words }
+        ensures closed { IsClosedFloor self.now.start self.now.did self.now.words }
+        ensures few { client_count (words_after self.now) ≤ MOST_CARRIED + MOST_CLIENTS }
     {
         // Opens what each quiet floor keeps.
         let _ = &self.grants;
@@ -83,14 +86,14 @@ impl<'a> Quiet<'a> {
 
     /// The words of the floor, with which another may begin.
     pub fn words(&self) -> &Words<'a>
-        ensures { result.now ≡ record { network = self.now.start.network; words = self.now.words } }
+        ensures { result.now ≡ words_after self.now }
     {
         &self.words
     }
 
     /// The same words, without the floor's grants.
     pub fn into_words(self) -> Words<'a>
-        ensures { result ≡ record { network = self.entry.start.network; words = self.entry.words } }
+        ensures { result ≡ words_after self.entry }
     {
         let Quiet {
             alloc: _alloc,

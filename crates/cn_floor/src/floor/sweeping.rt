@@ -1,8 +1,7 @@
 //! All tokens of a wire, by one step.
 
-ghost use Rattle.std.specs.Prelude.{◌≡◌, ℕ, ◌+◌, ◌<◌, ◌≤◌, ◌++◌, length, vec_capacity};
+ghost use Rattle.std.specs.Prelude.{◌≡◌, ℕ, ◌+◌, ◌<◌, ◌≤◌, ◌^◌, ◌++◌, length, vec_capacity};
 ghost use Rattle.cn_spec.specs.Step as step;
-ghost use Rattle.cn_spec.specs.declared.limits.TheConstants.{MOST_ARRIVALS, MOST_ENDS};
 ghost use Rattle.cn_yard.specs.Deals.{Frees};
 ghost use Rattle.cn_yard.specs.Lists.{on};
 ghost use Rattle.cn_floor.specs.Sweeps.{SweepsOn, grants_out};
@@ -29,9 +28,9 @@ fn leave_all(
     requires wire { wire < length yard.old.lists }
     requires room { length grants.old.items + length (on yard.old.lists wire)
         ≤ vec_capacity grants.old }
-    requires exits { (width ≤ MOST_ENDS) × (exit < width) }
-    requires visits { first + length (on yard.old.lists wire) ≤ MOST_ARRIVALS }
-    requires names { base ≤ step.name_of width exit first }
+    requires exit { exit < width }
+    requires low { base ≤ step.name_of width exit first }
+    requires high { step.name_of width exit (first + length (on yard.old.lists wire)) < 2 ^ 64 }
     ensures freed { Frees (on yard.old.lists wire) yard.old yard.new }
     ensures granted { grants.new.items
         ≡ grants.old.items ++ grants_out width base exit first (on yard.old.lists wire) }

@@ -1,25 +1,28 @@
 //! The words of closed floors, and how words lie in memory.
 
 ghost use Rattle.std.specs.Arc.{arc_value};
+ghost use Rattle.std.specs.Mem.Slots.{slots_items, IsFull};
 ghost use Rattle.std.specs.Prelude.{◌≡◌, ◌<◌, None, length, IfOk, IfSome};
 ghost use Rattle.cn_wiring.specs.declared.end.End.TheVariants.{Balancer, Exit};
 ghost use Rattle.cn_floor.specs.Carried.{AreTight, IsClosed, client_count, zero_words};
 ghost use Rattle.cn_floor.specs.Ends.{words_after};
 ghost use Rattle.cn_floor.specs.Spacing.{stride_of};
-ghost use Rattle.cn_floor.specs.Spread.{IsStride};
+ghost use Rattle.cn_floor.specs.Spread.{IsSpaced, IsStride, words_in};
+ghost use Rattle.cn_floor.specs.declared.floor.counters.TheConstants.{MOST_STRIDE};
 ghost use Rattle.cn_floor.specs.Words.{IsDifference, NoneWent, count_in, entered_in};
 
 use super::closed_floor::ClosedFloor;
 use super::counters::MOST_STRIDE;
 use super::network_ref::NetworkRef;
-use super::reading::rise;
+use super::reading::{copy_words, rise};
 use super::zeros;
+use atomic_table::Closed;
 use cn_wiring::Counting;
 use std::alloc::{AllocError, Global};
 use std::marker::Model;
 use std::sync::Arc;
 
-/// How the words of a floor lie in memory. Of a floor contracts see by it only how many words its table has.
+/// How the words of a floor lie in memory.
 #[derive(Clone, Copy)]
 pub(super) enum Spacing {
     /// Side by side.
@@ -42,7 +45,8 @@ impl Spacing {
 }
 
 /// The words of closed floors over a network: how many clients came in by each entry, passed each balancer and left by
-/// each exit since each word was 0. Another floor may go on from them ([`super::Floor::open_after`]).
+/// each exit since each word was 0. Another floor may go on from them ([`super::Floor::open_words`]),
+/// in which they lie side by side, or apart ([`Words::apart`]).
 ///
 /// Only [`Words::zero`], [`Words::zero_shared`] and the close of a floor make them. No reader takes memory.
 pub struct Words<'a> {
@@ -107,22 +111,12 @@ impl<'a> Words<'a> {
         })
     }
 
-    /// The same words; those of a floor that goes on from them lie so.
-    pub(super) fn spaced(self, spacing: Spacing) -> Words<'a>
-        ensures { result ≡ self.entry }
+    /// The same words; those of a floor that goes on from them lie 128 bytes apart in memory, with zeros between.
+    pub fn apart(mut self) -> Words<'a>
+        ensures { result ≡ record self.entry { stride = MOST_STRIDE } }
     {
-        let Words {
-            network,
-            words,
-            clients,
-            spacing: _spacing,
-        } = self;
-        Words {
-            network,
-            words,
-            clients,
-            spacing,
-        }
+        self.spacing = Spacing::Apart;
+        self
     }
 
     /// Those of a floor that is closed, with the number of all their clients, and how they lay.
@@ -132,10 +126,12 @@ impl<'a> Words<'a> {
         clients: u64,
         spacing: Spacing,
     ) -> Words<'a>
-        requires closed { IsClosed (record { network = network; words = words.items }) }
+        requires closed { IsClosed
+            (record { network = network; words = words.items; stride = stride_of spacing }) }
         requires clients { clients
-            ≡ client_count (record { network = network; words = words.items }) }
-        ensures { result ≡ record { network = network.entry; words = words.items } }
+            ≡ client_count (record { network = network; words = words.items; stride = stride_of spacing }) }
+        ensures { result
+            ≡ record { network = network.entry; words = words.items; stride = stride_of spacing } }
     {
         Words {
             network,
@@ -145,10 +141,10 @@ impl<'a> Words<'a> {
         }
     }
 
-    /// These words, overwritten by those of a floor that is closed over the same network.
+    /// These words, overwritten by those of a floor that is closed over the same network. They lie as before.
     pub(super) fn overwritten(mut self, closed: &ClosedFloor<'_>) -> Words<'a>
         requires { closed.now.start.network ≡ self.network }
-        ensures { result ≡ words_after closed.now }
+        ensures { result ≡ record (words_after closed.now) { stride = self.entry.stride } }
     {
         self.words_laws();
         closed.closed_laws();
@@ -157,11 +153,32 @@ impl<'a> Words<'a> {
         self
     }
 
+    /// These words, overwritten by those of a closed table over the same network, with the number of all their clients.
+    /// They lie as before.
+    pub(super) fn filled(
+        mut self,
+        table: &Closed<(), Global>,
+        stride: usize,
+        clients: u64,
+    ) -> Words<'a>
+        requires spaced { IsSpaced stride (slots_items table.now.words) }
+        requires full { IsFull table.now.words }
+        requires places { length self.words ≡ length (words_in stride (slots_items table.now.words)) }
+        requires closed { IsClosed (record self { words = words_in stride (slots_items table.now.words) }) }
+        requires clients { clients
+            ≡ client_count (record self { words = words_in stride (slots_items table.now.words) }) }
+        ensures { result ≡ record self.entry { words = words_in stride (slots_items table.now.words) } }
+    {
+        copy_words(table, stride, &mut self.words);
+        self.clients = clients;
+        self
+    }
+
     /// The same words once more.
     ///
     /// # Errors
     /// `AllocError` if they get no memory.
-    pub(super) fn copy(&self, alloc: Global) -> Result<Words<'a>, AllocError>
+    pub fn copy(&self, alloc: Global) -> Result<Words<'a>, AllocError>
         ensures { IfOk result (λ words. words ≡ self.now) }
     {
         Ok(Words {

@@ -31,7 +31,7 @@ returns-in-Ok-clause-run g c =
     let ready = subst (λ (n : ℕ). AreReady c.args.floor n c.in-Some.lanes) (all-first k c.args.crew.workers (search rules)) c.in-Some.ensures.ready in
     let none = (whole-ready c.args.floor k c.in-Some.lanes ready).nothing in
     let quiet = c.in-Ok.ensures.closed in
-    ran c.in-Ok.closed c.args.floor.start (whole c.in-Some.lanes) c.walk_lanes-lane.result c.args.clients.now quiet.0 c.closed_laws.ensures quiet.1 none c.walk_lanes-lane.ensures.walked
+    ran c.in-Ok.closed c.args.floor.start (whole c.in-Some.lanes) c.walk_lanes-lane.result c.args.clients.now quiet.0 c.closed_laws.ensures.closed quiet.1 none c.walk_lanes-lane.ensures.walked
 
 pub returns-in-Ok-clause-in_order : goal.returns-in-Ok-clause-in_order
 returns-in-Ok-clause-in_order g c worker hand =

@@ -7,6 +7,7 @@ use Rattle.cn_floor.specs.Sweeps.{grants_out}
 use Rattle.cn_floor.proofs.InLane.Listed.Groups.{placed-many}
 use Rattle.cn_floor.proofs.InLane.Listed.Left.{nobody-left}
 use Rattle.cn_floor.proofs.InLane.Listed.Together.{GoTogether, above-first, above-second, dealt-so, first-stand, goes-on-by-itself, grants-by, grants-so, inside, kin-so, left-by, left-so, together}
+use Rattle.cn_floor.proofs.InLane.Taken.{names-fit}
 use Rattle.cn_floor.proofs.InLane.InTurn.{swept-both, swept-first, swept-none}
 use Rattle.cn_floor.proofs.floor.Floor.+pass_all.Goals as goal
 
@@ -162,12 +163,8 @@ module _ (t : ℕ) (c : goal.After-grant_all-arg-in-Exit-1 t) where
   by : AreLetBy start v c.let_by-end.new.seat.me.0 c.args.wire (Exit c.in-Exit.exit) c.let_by-end.result.1
   by = subst (λ (e : End). AreLetBy start v c.let_by-end.new.seat.me.0 c.args.wire e c.let_by-end.result.1) c.in-Exit.is c.let_by-end.ensures.by
 
-pub grant_all-requires-clause-visits : goal.grant_all-requires-clause-visits
-grant_all-requires-clause-visits t c =
-    omega (arith, (by t c).few, ap length c.requires.group.are ∙ placed-many c.args.clients.now c.args.group.now.first c.args.group.now.stride c.args.group.now.count, c.start_laws.ensures.few, c.start_laws.ensures.quota)
-
-pub grant_all-requires-clause-names : goal.grant_all-requires-clause-names
-grant_all-requires-clause-names t c =
+pub grant_all-requires-clause-low : goal.grant_all-requires-clause-low
+grant_all-requires-clause-low t c =
     subst (λ (x : ℕ × ℕ). x.0 ≤ step.name_of x.1 c.in-Exit.exit c.let_by-end.result.1) (λ i. (sym (begun t c) i, sym (width t c) i)) ((by t c).late c.in-Exit.exit refl)
 
 -- all of the group left by the exit
@@ -181,6 +178,25 @@ left t c =
     let g = c.args.group.now in
     let many : length (on v.tokens wire) ≡ g.count = ap length c.requires.group.are ∙ placed-many c.args.clients.now g.first g.stride g.count in
     subst (λ (e : End). GoTogether start wire e n v w) c.in-Exit.is (together start wire c.let_by-end.result.0 n v w c.start_laws.ensures c.requires.own.1 c.requires.wires c.requires.wire c.requires.once c.requires.above (omega (arith, many, c.if-group-eq0.false)) c.let_by-end.ensures.end c.let_by-end.ensures.stands c.let_by-end.ensures.went c.let_by-end.ensures.by)
+
+pub grant_all-requires-clause-high : goal.grant_all-requires-clause-high
+grant_all-requires-clause-high t c =
+    let start : Start = c.args.self.now.start in
+    let wire : ℕ = c.args.wire in
+    let v : View = c.args.seat.now.me.0 in
+    let w : View = c.let_by-end.new.seat.me.0 in
+    let n : ℕ = c.let_by-end.result.1 in
+    let i : ℕ = c.in-Exit.exit in
+    let g = c.args.group.now in
+    let many : length (on v.tokens wire) ≡ g.count = ap length c.requires.group.are ∙ placed-many c.args.clients.now g.first g.stride g.count in
+    let go : GoTogether start wire (Exit i) n v w =
+    subst (λ (e : End). GoTogether start wire e n v w) c.in-Exit.is (together start wire c.let_by-end.result.0 n v w c.start_laws.ensures c.requires.own.1 c.requires.wires c.requires.wire c.requires.once c.requires.above (omega (arith, many, c.if-group-eq0.false)) c.let_by-end.ensures.end c.let_by-end.ensures.stands c.let_by-end.ensures.went c.let_by-end.ensures.by) in
+    omega (
+      arith,
+      names-fit start wire i n v w c.start_laws.ensures go (omega (arith, c.start_laws.ensures.network.formed.width)),
+      ap (λ (m : ℕ). step.name_of start.network.table.width i (n + m)) many,
+      ap (λ (k : ℕ). step.name_of k i (n + g.count)) (width t c),
+    )
 
 pub returns-in-Exit-clause-swept : goal.returns-in-Exit-clause-swept
 returns-in-Exit-clause-swept t c =
@@ -236,11 +252,11 @@ deal-requires-clause-group t c = (_, c.requires.group)
 pub grant_all-requires-clause-group : goal.grant_all-requires-clause-group
 grant_all-requires-clause-group t c = (_, c.requires.group)
 
-pub grant_all-requires-clause-exits : goal.grant_all-requires-clause-exits
-grant_all-requires-clause-exits t c =
+pub grant_all-requires-clause-exit : goal.grant_all-requires-clause-exit
+grant_all-requires-clause-exit t c =
     let stands : Stands c.args.self.now.start.network.table (Exit c.in-Exit.exit) =
     subst (λ (e : End). Stands c.args.self.now.start.network.table e) c.in-Exit.is c.let_by-end.ensures.stands in
-    (omega (arith, c.width-width.ensures.value, c.width-width.ensures.network.formed.width), omega (arith, stands, width t c))
+    omega (arith, stands, width t c)
 
 pub returns-then-group-eq1-clause-seat : goal.returns-then-group-eq1-clause-seat
 returns-then-group-eq1-clause-seat t c = (c.pass_all.ensures.seat.0 ∙ c.let_by-end.ensures.seat.0, c.pass_all.ensures.seat.1)

@@ -3,6 +3,7 @@ use Rattle.cn_floor.proofs.Common.{FloorValue, IsClosed, LaneValue, Network, Sta
 use Rattle.cn_floor.specs.Carried.{words_before}
 use Rattle.cn_floor.specs.Closing.{IsMissing}
 use Rattle.cn_floor.specs.Ends.{IsClosedFloor}
+use Rattle.cn_floor.specs.Rule.{FitsLanes}
 use Rattle.cn_floor.proofs.AtClose.Closings.{inside-yard}
 use Rattle.cn_floor.proofs.AtClose.Rises.{all-empty}
 use Rattle.cn_floor.proofs.floor.Floor.end.Goals as goal
@@ -18,13 +19,14 @@ invariant_of-closed c =
     let lane : c.of-kept.result.value ≡ c.args.lane = c.of-kept.ensures in
     let view : v ≡ c.of-kept.result.value.view = ap (λ (l : LaneValue). l.view) (c.lane.view_is ∙ sym lane) in
     let about : start ≡ c.of-kept.result.value.home.start = ap (λ (h : FloorValue). h.start) (c.self.view_is ∙ sym c.requires.own ∙ ap (λ (l : LaneValue). l.home) (sym lane)) in
+    let small : FitsLanes start = subst FitsLanes (ap (λ (l : LaneValue). l.home.start) c.lane.view_is ∙ ap (λ (h : FloorValue). h.start) (c.requires.own ∙ sym c.self.view_is)) c.lane.invariant.small in
     let nobody : tokens_in c.lane.inside.yard.lists ≡ 0 = search rules in
     let out : tokens_in v.tokens ≡ 0 = inside-yard c.lane.inside.yard v c.lane.invariant.tokens ∙ nobody in
     let clients : c.clients_of-clients.result ≡ clients_in start.network.table ws = c.clients_of-clients.ensures ∙ ap (λ (n : Network). clients_in n.table ws) network in
     let granted : c.len-granted.result ≡ length v.grants = search rules in
     let came : clients_in start.network.table ws ≡ base start + length v.grants = omega (arith, e.granted, c.self.invariant.base, c.if-entered-granted.false) in
     let closed_floor : IsClosedFloor start v ws = e.closed_floor out came in
-    let closed : IsClosed (record { network = start.network; words = ws }) = record {
+    let closed : IsClosed (record { network = start.network; words = ws; stride = start.stride }) = record {
       network = began.network;
       carried = closed_floor.closed;
       few = omega (arith, e.few, began.few, began.quota);
@@ -35,8 +37,9 @@ invariant_of-closed c =
       none = c.close-table.ensures.whole.1;
       closed_floor = subst (λ (z : Start × View). IsClosedFloor z.0 z.1 ws) (λ i. (about i, view i)) closed_floor;
       network = c.requires.network ∙ ap (λ (h : FloorValue). h.start.network) (sym c.self.view_is) ∙ ap (λ (s : Start). s.network) about;
-      closed = subst (λ (s : Start). IsClosed (record { network = s.network; words = ws })) about closed;
+      closed = subst (λ (s : Start). IsClosed (record { network = s.network; words = ws; stride = s.stride })) about closed;
       clients = clients ∙ ap (λ (s : Start). clients_in s.network.table ws) about;
+      few = omega (arith, e.few, small.few, small.quota, ap (λ (s : Start). clients_in s.network.table ws) about);
       grants = c.lane.invariant.grants ∙ ap (λ (x : View). x.grants) view;
     }
 

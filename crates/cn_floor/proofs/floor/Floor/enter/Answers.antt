@@ -76,6 +76,7 @@ invariant_of-lane-in_default-admit c =
       wires = ap (λ (y : Yard). length y.lists) same ∙ was.wires;
       grants = c.make_way.ensures.items ∙ was.grants;
       quota = was.quota;
+      small = was.small;
       few = omega (arith, was.few, ap (λ (y : Yard). tokens_in y.lists) same);
       room = omega (arith, c.make_way.ensures.room, ap (λ (y : Yard). tokens_in y.lists) same);
       spare = omega (arith, was.spare, ap (λ (y : Yard). y.spare) same);

@@ -1,6 +1,7 @@
 use Rattle.std.proofs.Common.{◌≡◌, length, refl, ap, sym, ◌∙◌, subst}
 use Rattle.cn_floor.proofs.Common.{FloorValue, IsAnswer, LaneValue, Start, View, lane_of}
 use Rattle.cn_floor.specs.Together.{HaveDistinctNames, StoodAsOne, first_after, second_after}
+use Rattle.cn_floor.specs.Rule.{FitsLanes}
 use Rattle.cn_floor.proofs.floor.Floor.look_at_both.Goals as goal
 
 pub look_at_both-other_seat-requires-clause-own : goal.look_at_both-other_seat-requires-clause-own
@@ -51,6 +52,7 @@ invariant_of-lane c =
       wires = was.wires ∙ sym (ap (λ (x : View). length x.start.network.table.ends) is);
       grants = was.grants ∙ sym (ap (λ (x : View). x.grants) is);
       quota = was.quota ∙ sym (ap (λ (x : View). x.quota) is);
+      small = subst FitsLanes (sym (ap (λ (x : View). x.start) is)) was.small;
       few = was.few;
       room = was.room;
       spare = was.spare;
@@ -67,6 +69,7 @@ invariant_of-other c =
       wires = was.wires ∙ sym (ap (λ (x : View). length x.start.network.table.ends) is);
       grants = was.grants ∙ sym (ap (λ (x : View). x.grants) is);
       quota = was.quota ∙ sym (ap (λ (x : View). x.quota) is);
+      small = subst FitsLanes (sym (ap (λ (x : View). x.start) is)) was.small;
       few = was.few;
       room = was.room;
       spare = was.spare;

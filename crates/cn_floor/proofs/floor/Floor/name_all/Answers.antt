@@ -4,6 +4,7 @@ use Rattle.std.proofs.lemmas.List.{nil_from_length}
 use Rattle.cn_floor.proofs.Common.{FloorValue, LaneValue, Lists, Network, Start, StoodInState, View, lane_of, on, tokens_in}
 use Rattle.cn_yard.proofs.CallerLemmas.{nobody-on}
 use Rattle.cn_floor.specs.Listed.{WalkTogether, by_one_entry}
+use Rattle.cn_floor.specs.Rule.{FitsLanes}
 use Rattle.cn_floor.proofs.AtClose.Rises.{all-empty}
 use Rattle.cn_floor.proofs.InLane.Listed.Groups.{placed-many}
 use Rattle.cn_floor.proofs.InLane.Listed.CameIn.{all-clients, came-once, nobody-stands}
@@ -64,6 +65,7 @@ invariant_of-lane-2 c =
       wires = was.wires ∙ ap (λ (s : Start). length s.network.table.ends) (sym (left.start ∙ came.start));
       grants = c.pass_all.ensures.grants;
       quota = omega (arith, was.quota, came.quota, left.quota);
+      small = subst FitsLanes (sym (left.start ∙ came.start)) was.small;
       few = omega (arith, was.few);
       room = omega (arith, c.in-Ok.ensures.ok, c.saturating_sub-lane-inside.ensures, many, ap length c.make_way.ensures.items, ap length was.grants, c.pass_all.ensures.capacity);
       spare = omega (arith, was.spare, c.saturating_sub-lane-inside.ensures);

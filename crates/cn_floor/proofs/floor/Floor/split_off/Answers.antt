@@ -1,6 +1,7 @@
-use Rattle.std.proofs.Common.{◌≡◌, ℕ, ◌-◌, [], length, replicate, sym, ap, ◌∙◌, arith}
+use Rattle.std.proofs.Common.{◌≡◌, ℕ, ◌-◌, [], length, replicate, sym, ap, ◌∙◌, subst, arith}
 use Rattle.cn_floor.proofs.Common.{FloorValue, LaneValue, Network, Start, View, lane_of, length-replicate}
 use Rattle.cn_yard.specs.Lists.{empty}
+use Rattle.cn_floor.specs.Rule.{FitsLanes}
 use Rattle.cn_floor.proofs.floor.Floor.split_off.Goals as goal
 
 pub invariant_of-lane : goal.invariant_of-lane
@@ -15,6 +16,7 @@ invariant_of-lane c =
       wires = was.wires ∙ sym (ap (λ (x : View). length x.start.network.table.ends) view);
       grants = was.grants ∙ sym (ap (λ (x : View). x.grants) view);
       quota = (λ i. was.quota i - q) ∙ sym (ap (λ (x : View). x.quota) view);
+      small = subst FitsLanes (sym (ap (λ (x : View). x.start) view)) was.small;
       few = omega (arith, was.few);
       room = was.room;
       spare = was.spare;
@@ -35,6 +37,7 @@ invariant_of-result c =
           ∙ ap (λ (x : Network). length x.table.ends) network ∙ sym (ap (λ (x : View). length x.start.network.table.ends) view);
       grants = c.new.ensures.items ∙ sym (ap (λ (x : View). x.grants) view);
       quota = sym (ap (λ (x : View). x.quota) view);
+      small = subst FitsLanes (sym (ap (λ (x : View). x.start) view)) c.lane.invariant.small;
       few = omega (arith, c.yard_for-yard.ensures.nobody, c.lane.invariant.few, c.if-quota-lane.false);
       room = omega (arith, c.yard_for-yard.ensures.nobody, ap length c.new.ensures.items);
       spare = omega arith;

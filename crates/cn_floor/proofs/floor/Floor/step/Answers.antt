@@ -1,9 +1,11 @@
-use Rattle.std.proofs.Common.{◌≡◌, ℕ, ◌+◌, ◌*◌, ◌-◌, ◌%◌, List, Some, length, refl, arith, sym, ap, ◌∙◌, subst}
+use Rattle.std.proofs.Common.{◌≡◌, ℕ, ◌+◌, ◌*◌, ◌-◌, ◌%◌, ◌<◌, List, Some, length, refl, arith, sym, ap, ◌∙◌, subst}
 use Rattle.std.specs.Option.{IsSome}
 use Rattle.cn_floor.proofs.Common.{Balancer, End, Exit, FloorValue, IsLetBy, IsThere, LaneValue, Network, Stands, Start, View, after_step, base, end_of, lane_of, name_of, output_wire}
 use Rattle.cn_ledger.specs.declared.moved.Moved.TheVariants.{On, Out}
 use Rattle.cn_floor.proofs.InLane.Lanes.{lane-on, lane-out, steps-on}
 use Rattle.cn_yard.proofs.CallerLemmas.{there-alike}
+use Rattle.cn_floor.specs.Rule.{FitsLanes}
+use Rattle.cn_floor.proofs.InLane.Named.{name-small}
 use Rattle.cn_floor.proofs.floor.Floor.step.Goals as goal
 use Rattle.cn_yard.specs.Lists.{Moves, standing}
 
@@ -117,8 +119,21 @@ pub step-number-requires-clause-stands : goal.step-number-requires-clause-stands
 step-number-requires-clause-stands c =
     subst (λ (n : Network). Stands n.table c.end-end.result) (c.network-network.ensures.value ∙ ap (λ (h : FloorValue). h.start.network) (sym c.self.view_is)) c.end-end.ensures.there
 
-pub name_of-requires-clause-visit : goal.name_of-requires-clause-visit
-name_of-requires-clause-visit c = omega (arith, c.step-number.ensures.went.1.few, c.self.invariant.began.quota, c.self.invariant.began.few)
+pub name_of-requires : goal.name_of-requires
+name_of-requires c =
+    let start : Start = c.self.inside.counters.start in
+    let i : ℕ = c.in-Exit.exit in
+    let network : c.network-network.result.now ≡ start.network = c.network-network.ensures.value ∙ ap (λ (h : FloorValue). h.start.network) (sym c.self.view_is) in
+    let width : c.width.result ≡ start.network.table.width = c.width.ensures.value ∙ ap (λ (x : Network). x.table.width) network in
+    let small : FitsLanes start =
+    subst FitsLanes (ap (λ (l : LaneValue). l.home.start) c.lane.view_is ∙ ap (λ (h : FloorValue). h.start) c.requires.own ∙ sym (ap (λ (h : FloorValue). h.start) c.self.view_is)) c.lane.invariant.small in
+    let stands : i < start.network.table.width = subst (λ (x : Network × End). Stands x.0.table x.1) (λ k. (network k, c.in-Exit.is k)) c.end-end.ensures.there in
+    let few = c.step-number.ensures.went.1.few in
+    omega (
+      arith,
+      name-small start i c.step-number.result c.self.invariant.began small stands (omega (arith, few)),
+      ap (λ (k : ℕ). name_of k i c.step-number.result) width,
+    )
 
 pub move_to-requires : goal.move_to-requires
 move_to-requires c =

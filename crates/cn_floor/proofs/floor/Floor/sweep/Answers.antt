@@ -3,6 +3,8 @@ use Rattle.cn_floor.proofs.Common.{AreLetBy, Balancer, End, Exit, FloorValue, La
 use Rattle.cn_yard.specs.Deals.{IsDealt, out_of}
 use Rattle.cn_floor.specs.declared.view.Sweep.TheVariants.{On, Out}
 use Rattle.cn_floor.proofs.InLane.Swept.{cleared, kin-by, lane-dealt, lane-left, outs-are, some-inside, sweeps-on}
+use Rattle.cn_floor.specs.Rule.{FitsLanes}
+use Rattle.cn_floor.proofs.InLane.Named.{name-small}
 use Rattle.cn_floor.proofs.floor.Floor.sweep.Goals as goal
 
 pub deal-requires-clause-wires : goal.deal-requires-clause-wires
@@ -34,24 +36,31 @@ deal-requires-clause-distinct c =
 pub leave_all-requires-clause-wire : goal.leave_all-requires-clause-wire
 leave_all-requires-clause-wire c = some-inside c.lane.inside.yard.lists c.args.wire (rw (← c.lane.view_is) at c.requires.some)
 
-pub leave_all-requires-clause-exits : goal.leave_all-requires-clause-exits
-leave_all-requires-clause-exits c =
+pub leave_all-requires-clause-exit : goal.leave_all-requires-clause-exit
+leave_all-requires-clause-exit c =
     let stands : Stands c.network-network.result.now.table (Exit c.in-Exit.exit) =
     subst (λ (e : End). Stands c.network-network.result.now.table e) c.in-Exit.is c.end-end.ensures.there in
-    (omega (arith, c.width-width.ensures.value, c.width-width.ensures.network.formed.width), omega (arith, c.width-width.ensures.value, stands))
+    omega (arith, c.width-width.ensures.value, stands)
 
-pub leave_all-requires-clause-visits : goal.leave_all-requires-clause-visits
-leave_all-requires-clause-visits c =
+pub leave_all-requires-clause-high : goal.leave_all-requires-clause-high
+leave_all-requires-clause-high c =
+    let start : Start = c.self.inside.counters.start in
+    let i : ℕ = c.in-Exit.exit in
+    let network : c.network-network.result.now ≡ start.network = c.network-network.ensures.value ∙ ap (λ (h : FloorValue). h.start.network) (sym c.self.view_is) in
+    let width : c.width-width.result ≡ start.network.table.width = c.width-width.ensures.value ∙ ap (λ (x : Network). x.table.width) network in
+    let small : FitsLanes start =
+    subst FitsLanes (ap (λ (l : LaneValue). l.home.start) c.lane.view_is ∙ ap (λ (h : FloorValue). h.start) c.requires.own ∙ sym (ap (λ (h : FloorValue). h.start) c.self.view_is)) c.lane.invariant.small in
+    let stands : i < start.network.table.width = subst (λ (x : Network × End). Stands x.0.table x.1) (λ k. (network k, c.in-Exit.is k)) c.end-end.ensures.there in
+    let many : length (on c.lane.inside.yard.lists c.args.wire) ≡ length (on c.lane.inside.seat.me.0.tokens c.args.wire) = ap (λ (ls : Lists). length (on ls c.args.wire)) c.lane.invariant.tokens in
     omega (
       arith,
-      c.sweep-first.ensures.went.1.few,
-      c.self.invariant.began.quota,
-      c.self.invariant.began.few,
-      ap (λ (ls : Lists). length (on ls c.args.wire)) c.lane.invariant.tokens,
+      name-small start i (c.sweep-first.result + length (on c.lane.inside.seat.me.0.tokens c.args.wire)) c.self.invariant.began small stands c.sweep-first.ensures.went.1.few,
+      ap (λ (k : ℕ). name_of start.network.table.width i (c.sweep-first.result + k)) many,
+      ap (λ (k : ℕ). name_of k i (c.sweep-first.result + length (on c.lane.inside.yard.lists c.args.wire))) width,
     )
 
-pub leave_all-requires-clause-names : goal.leave_all-requires-clause-names
-leave_all-requires-clause-names c =
+pub leave_all-requires-clause-low : goal.leave_all-requires-clause-low
+leave_all-requires-clause-low c =
     let start : Start = c.self.inside.counters.start in
     let i : ℕ = c.in-Exit.exit in
     let n : ℕ = c.sweep-first.result in

@@ -3,6 +3,7 @@ use Rattle.cn_floor.proofs.Common.{FloorValue, Grant, LaneValue, Lists, StoodInS
 use Rattle.cn_yard.proofs.CallerLemmas.{nobody-on}
 use Rattle.cn_floor.specs.Views.{after_join, after_look}
 use Rattle.cn_floor.proofs.InLane.Lanes.{lane-with-way}
+use Rattle.cn_floor.specs.Rule.{FitsLanes}
 use Rattle.cn_floor.proofs.floor.Floor.take_in.Goals as goal
 
 pub make_way-requires-clause-room : goal.make_way-requires-clause-room
@@ -57,9 +58,14 @@ invariant_of-lane-2 c =
       wires = was.wires ∙ sym (ap (λ (x : View). length x.start.network.table.ends) is);
       grants = c.append.ensures.items ∙ (λ i. (c.make_way.ensures.items ∙ was.grants) i ++ theirs i) ∙ sym (ap (λ (x : View). x.grants) is);
       quota = (λ i. was.quota i + c.into_parts-seat.ensures.quota i) ∙ sym (ap (λ (x : View). x.quota) is);
+      small = subst FitsLanes (sym (ap (λ (x : View). x.start) is)) was.small;
       few = omega (
         arith,
+        was.small.quota,
         c.look.ensures.looks.2,
+        ap (λ (h : FloorValue). h.start.quota) c.self.view_is,
+        ap (λ (h : FloorValue). h.start.quota) c.requires.own.0,
+        ap (λ (l : LaneValue). l.home.start.quota) c.lane.view_is,
         ap (λ me. me.0.quota) c.join.ensures.1,
         ap (λ me. tokens_in me.0.tokens) c.join.ensures.1,
         ap tokens_in was.tokens,

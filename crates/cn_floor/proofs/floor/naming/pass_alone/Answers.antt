@@ -1,6 +1,7 @@
 use Rattle.std.proofs.Common.{◌≡◌, ℕ, ◌<◌, length, sym, ap, ◌∙◌, refl, subst, arith}
 use Rattle.cn_floor.proofs.Common.{Exit, FloorValue, IsAlone, LaneValue, Lists, Start, View, Yard, end_of, lane_of, on}
 use Rattle.cn_floor.specs.Alone.{PassesOn}
+use Rattle.cn_floor.specs.Rule.{FitsLanes}
 use Rattle.cn_floor.proofs.InLane.Alone.{alone-alike, alone-in, alone-moved, there-alone}
 use Rattle.cn_floor.proofs.InLane.Swept.{some-inside}
 use Rattle.cn_floor.proofs.InLane.Yards.{first-stands}
@@ -36,6 +37,7 @@ invariant_of-lane g c =
       wires = moves.wires ∙ held.wires ∙ ap (λ (s : Start). length s.network.table.ends) (sym passed.start);
       grants = held.grants ∙ sym passed.grants;
       quota = held.quota ∙ sym passed.quota;
+      small = subst FitsLanes (sym passed.start) held.small;
       few = omega (arith, held.few, moves.tokens);
       room = omega (arith, held.room, moves.tokens);
       spare = omega (arith, held.spare, moves.spare);

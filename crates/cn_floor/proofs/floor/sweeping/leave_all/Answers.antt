@@ -1,7 +1,8 @@
-use Rattle.std.proofs.Common.{◌≡◌, ℕ, ◌-◌, ◌++◌, ◌∷◌, [], sym, ◌∙◌, arith, rules}
+use Rattle.std.proofs.Common.{◌≡◌, ℕ, ◌+◌, ◌-◌, ◌≤◌, ◌++◌, ◌∷◌, [], length, length-append, sym, ap, ◌∙◌, arith, rules}
 use Rattle.cn_floor.proofs.Common.{name_of, on}
 use Rattle.cn_yard.proofs.CallerLemmas.{IsFirst, first-is, none-first}
 use Rattle.cn_floor.proofs.InLane.Outs.{client-is, has-many, leaves-on, leaving, left-all, one-less, some-left, stands}
+use Rattle.cn_floor.proofs.InLane.Taken.{name-rises}
 use Rattle.cn_floor.proofs.floor.sweeping.leave_all.Goals as goal
 
 pub loop-token-init : goal.loop-token-init
@@ -61,11 +62,12 @@ returns-clause-granted c =
     let none : on c.loop-token.yard.lists c.args.wire ≡ [] = none-first (on c.loop-token.yard.lists c.args.wire) (λ token is. c.in_default.not-Some token (c.first.ensures ∙ is)) in
     (left-all c.args.width c.args.base c.args.exit c.args.first c.args.wire c.args.yard.now c.loop-token.yard c.args.grants.now.items c.loop-token.grants.items c.loop-token.visit c.loop-token.invariant.so_far none).1
 
-pub name_of-requires-clause-width : goal.name_of-requires-clause-width
-name_of-requires-clause-width c = c.requires.exits.0
-
-pub name_of-requires-clause-exit : goal.name_of-requires-clause-exit
-name_of-requires-clause-exit c = c.requires.exits.1
+pub name_of-requires : goal.name_of-requires
+name_of-requires c =
+    let so_far = c.loop-token.invariant.so_far in
+    let low : c.loop-token.visit ≤ c.args.first + length (on c.args.yard.now.lists c.args.wire) =
+    omega (arith, so_far.visit_is, ap length so_far.whole, length-append so_far.done so_far.rest) in
+    omega (arith, c.requires.high, name-rises c.args.width c.args.exit _ _ low)
 
 pub returns-clause-capacity : goal.returns-clause-capacity
 returns-clause-capacity c = c.loop-token.invariant.capacity

@@ -1,7 +1,7 @@
-use Rattle.std.proofs.Common.{◌≡◌, ℕ, List, ap, sym, ◌∙◌, subst}
-use Rattle.cn_floor.proofs.Common.{IsClosed, Start, WordsValue, slots_items, word_count, words_in}
+use Rattle.std.proofs.Common.{◌≡◌, ℕ, List, arith, ap, sym, ◌∙◌, subst}
+use Rattle.cn_floor.proofs.Common.{IsClosed, Start, WordsValue, clients_in, slots_items, word_count, words_in}
 use Rattle.std.specs.Prelude.{IfSome}
-use Rattle.cn_floor.specs.Carried.{client_count, words_before}
+use Rattle.cn_floor.specs.Carried.{words_before}
 use Rattle.cn_floor.specs.Ends.{IsClosedFloor, QuietValue}
 use Rattle.cn_floor.specs.Words.{IsDifference, NoneWent}
 use Rattle.cn_floor.proofs.floor.closed_floor.ClosedFloor.quiet_in.Goals as goal
@@ -10,15 +10,21 @@ pub copy_words-requires-clause-places : goal.copy_words-requires-clause-places
 copy_words-requires-clause-places c =
     c.requires.room ∙ ap (λ (q : QuietValue). word_count q.start.network.table) (sym c.self.view_is) ∙ sym c.self.invariant.closed.carried.words
 
+-- they lie as those lay with which the floor began
+lies : (before : WordsValue) (quiet : QuietValue) (stride : ℕ) → stride ≡ before.stride → before ≡ words_before quiet.start → stride ≡ quiet.start.stride
+lies before quiet stride same began = same ∙ ap (λ (w : WordsValue). w.stride) began
+
 pub closed-requires-clause-closed : goal.closed-requires-clause-closed
 closed-requires-clause-closed c =
-    let copied = c.copy_words.ensures in
-    subst (λ (w : WordsValue). IsClosed w) (λ i. record { network = (sym c.self.invariant.network) i; words = (sym copied) i }) c.self.invariant.closed
+    let lie = lies c.args.before c.args.self _ (ap (λ (w : WordsValue). w.stride) c.before-2.view_is) c.requires.before ∙ ap (λ (q : QuietValue). q.start.stride) (sym c.self.view_is) in
+    subst (λ (w : WordsValue). IsClosed w)
+    (λ i. record { network = (sym c.self.invariant.network) i; words = (sym c.copy_words.ensures) i; stride = (sym lie) i })
+    c.self.invariant.closed
 
 pub closed-requires-clause-clients : goal.closed-requires-clause-clients
 closed-requires-clause-clients c =
     let copied = c.copy_words.ensures in
-    c.self.invariant.clients ∙ (λ i. client_count (record { network = (sym c.self.invariant.network) i; words = (sym copied) i }))
+    c.self.invariant.clients ∙ (λ i. clients_in ((sym c.self.invariant.network) i).table ((sym copied) i))
 
 pub invariant_of-result : goal.invariant_of-result
 invariant_of-result c =
@@ -29,6 +35,9 @@ invariant_of-result c =
     record {
       closed_floor = subst (λ (ws : List ℕ). IsClosedFloor start c.self.inside.lane.value.view ws) (sym (words ∙ copied)) c.self.invariant.closed_floor;
       network = ap (λ (w : WordsValue). w.network) c.closed.ensures ∙ c.self.invariant.network;
+      stride = ap (λ (w : WordsValue). w.stride) c.closed.ensures
+          ∙ lies c.args.before c.args.self _ (ap (λ (w : WordsValue). w.stride) c.before-2.view_is) c.requires.before ∙ ap (λ (q : QuietValue). q.start.stride) (sym c.self.view_is);
+      few = omega (arith, c.self.invariant.few, ap (λ (ws : List ℕ). clients_in start.network.table ws) (words ∙ copied));
       grants = c.self.invariant.grants;
       risen = subst (λ (ws : List ℕ). IfSome c.risen_to-risen.result (λ list. IsDifference start.words ws list.items)) (sym words)
           (subst (λ (b : WordsValue). IfSome c.risen_to-risen.result (λ list. IsDifference b.words c.copy_words.new.list.items list.items)) before c.risen_to-risen.ensures.some);

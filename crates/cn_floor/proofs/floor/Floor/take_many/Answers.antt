@@ -1,0 +1,93 @@
+use Rattle.std.proofs.Common.{◌≡◌, ℕ, ◌+◌, List, [], ◌++◌, length, replicate, arith, sym, ap, ◌∙◌, subst, length-append}
+use Rattle.std.proofs.Math.Seq.{take-length}
+use Rattle.cn_floor.proofs.Common.{FloorValue, Network, Start, StoodInState, View, length-replicate, on}
+use Rattle.cn_floor.specs.InsideTaker.{taker_of}
+use Rattle.cn_floor.specs.Listed.{WalkTogether, by_one_entry}
+use Rattle.cn_floor.specs.Taking.{TakerValue}
+use Rattle.cn_floor.proofs.InLane.Listed.Groups.{placed-many}
+use Rattle.cn_floor.proofs.InLane.Listed.CameIn.{came-once, nobody-stands}
+use Rattle.cn_floor.proofs.InLane.InTurn.{walk-together}
+use Rattle.cn_floor.proofs.floor.Floor.take_many.Goals as goal
+
+pub pass_names-requires-clause-once : goal.pass_names-requires-clause-once
+pass_names-requires-clause-once c =
+    let came = c.come_in.ensures.came in
+    let held : taker_of c.taker.inside ≡ c.args.taker.now = c.taker.view_is in
+    let begun : c.taker.inside.seat.me.0.start ≡ c.args.self.now.start = ap (λ (t : TakerValue). t.home.start) held ∙ ap (λ (h : FloorValue). h.start) c.requires.own in
+    came-once c.taker.inside.seat.me.0 c.come_in.new.seat.me.0 c.args.names.now c.args.entry (length c.args.names.now) came
+    (omega (
+      arith,
+      came.wires,
+      ap length c.taker.invariant.out,
+      length-replicate {A = List (ℕ × ℕ)} (length c.taker.inside.seat.me.0.start.network.table.ends) [],
+      ap (λ (s : Start). length s.network.table.ends) begun,
+      c.network.ensures.network.formed.wires,
+      c.if-entry-from.false,
+      c.from.ensures,
+      c.entries.ensures.value,
+      ap (λ (n : Network). n.table.entries) c.network.ensures.value,
+    ))
+
+pub pass_names-requires-clause-many : goal.pass_names-requires-clause-many
+pass_names-requires-clause-many c =
+    ap length c.come_in.ensures.came.there ∙ placed-many c.args.names.now 0 1 (length c.args.names.now)
+
+pub invariant_of-taker : goal.invariant_of-taker
+invariant_of-taker c =
+    let v : View = c.taker.inside.seat.me.0 in
+    let w : View = c.come_in.new.seat.me.0 in
+    let x : View = c.pass_names.new.seat.me.0 in
+    let clients : List ℕ = c.args.names.now in
+    let k : ℕ = length clients in
+    let was = c.taker.invariant in
+    let came = c.come_in.ensures.came in
+    let left = c.pass_names.ensures.left in
+    let (more, grew, theirs) = left.grants in
+    let many : length x.grants ≡ length v.grants + k =
+    ap length grew ∙ length-append w.grants more
+    ∙ (λ i. length (came.grants i) + (theirs.as_many ∙ ap length came.there ∙ placed-many clients 0 1 k) i) in
+    record {
+      no_slot = c.pass_names.ensures.seat.1;
+      idle = left.loads ∙ came.loads ∙ was.idle;
+      out = nobody-stands v w x clients c.args.entry k came left
+          ∙ (λ i. replicate ((ap length was.out ∙ length-replicate {A = List (ℕ × ℕ)} (length v.start.network.table.ends) []) i) [])
+          ∙ ap (λ (s : Start). replicate (length s.network.table.ends) []) (sym (left.start ∙ came.start));
+      quota = omega (arith, was.quota, came.quota, left.quota);
+      taken = omega (arith, was.taken, many);
+      few = omega (arith, was.few, c.if-taker-count.false);
+    }
+
+pub returns-clause-ok : goal.returns-clause-ok
+returns-clause-ok c =
+    let v : View = c.taker.inside.seat.me.0 in
+    let w : View = c.come_in.new.seat.me.0 in
+    let x : View = c.pass_names.new.seat.me.0 in
+    let clients : List ℕ = c.args.names.now in
+    let k : ℕ = length clients in
+    let old : TakerValue = c.args.taker.now in
+    let came = c.come_in.ensures.came in
+    let left = c.pass_names.ensures.left in
+    let held : taker_of c.taker.inside ≡ old = c.taker.view_is in
+    let view : v ≡ old.view = ap (λ (t : TakerValue). t.view) held in
+    let began : c.args.self.now.start ≡ old.home.start = sym (ap (λ (h : FloorValue). h.start) c.requires.own) in
+    let own : v.start ≡ old.home.start = ap (λ (t : TakerValue). t.home.start) held in
+    let stood : length (on w.tokens c.args.entry) ≡ k = ap length came.there ∙ placed-many clients 0 1 k in
+    let (more, grew, named) = c.pass_names.ensures.names in
+    record {
+      home = (λ i. record {
+        table = (c.pass_names.ensures.seat.0 ∙ c.come_in.ensures.seat.0) i;
+        start = (left.start ∙ came.start) i;
+      }) ∙ ap (λ (t : TakerValue). t.home) held;
+      walked = subst (λ (z : Start × View). WalkTogether z.0 clients c.args.entry z.1 x) (λ i. (began i, view i))
+          (walk-together c.args.self.now.start clients c.args.entry v w x c.come_in.ensures.step c.pass_names.ensures.swept);
+      quota = omega (arith, came.quota, left.quota, ap (λ (y : View). y.quota) view);
+      entries = left.entries ∙ came.entries ∙ (λ i. (view i).entries ++ replicate k c.args.entry);
+      came = left.came ∙ came.came ∙ (λ i. (view i).came ++ by_one_entry c.args.entry (take-length clients i));
+      seen = left.seen ∙ came.seen ∙ ap (λ (y : View). y.seen) view;
+      grants = (
+        more,
+        grew ∙ (λ i. (came.grants ∙ ap (λ (y : View). y.grants) view) i ++ more),
+        named,
+      );
+      in_state = λ some. subst (λ (s : Start). StoodInState s x) (came.start ∙ own) (left.in_state (omega (arith, some, stood)));
+    }
