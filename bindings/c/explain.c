@@ -12,8 +12,8 @@ const char *renamer_explain(uint32_t status) {
     case RENAMER_WIDTH: return "there is no network of this width: 2, 4, 8, 16, 32, 64, 128 or 256";
     case RENAMER_QUOTA: return "the quota is more than a floor takes: 262144 at most";
     case RENAMER_NO_SUCH_ENTRY: return "there is no such entry: a tree has only entry 0, others those below their width";
-    case RENAMER_QUOTA_SPENT: return "the lane may let in no more clients, or not so many: renamer_quota says how many";
-    case RENAMER_QUOTA_TOO_SMALL: return "the lane has less quota than is to be split off: renamer_quota says how much";
+    case RENAMER_QUOTA_SPENT: return "the lane or the taker has not so much quota left: renamer_quota says how much a lane has";
+    case RENAMER_QUOTA_TOO_SMALL: return "the lane has less quota than is to be split off, or the taker no two names";
     case RENAMER_STILL_WALKING: return "the lane has clients inside: let them out by renamer_step or renamer_sweep";
     case RENAMER_NOBODY_THERE: return "no client of the lane is there: renamer_lowest says on which wire one is";
     case RENAMER_LANES_MISSING: return "other lanes have quota, names or clients of the floor: hand them back and join them";

@@ -4,7 +4,8 @@
  * A floor is a counting network on atomic words. Threads name clients on it at once, without a lock: each client gets a
  * name, and no two clients of a floor get the same. Each name is below the number of clients that came in, and when
  * nobody is inside the names of k clients are 0 to k-1. A floor is for one epoch: it lets in at most
- * RENAMER_MOST_CLIENTS, and names are not given back one by one, but all at once by the next floor.
+ * RENAMER_MOST_CLIENTS, and names are not given back one by one, but all at once by the next floor. If a program needs
+ * names only, and need not ask who has which, it takes them: renamer_open_takes opens a floor whose names do not end.
  *
  *     renamer_lane lane = RENAMER_NO_LANE_YET;
  *     uint64_t name;
@@ -13,30 +14,30 @@
  *         printf("client 17 has name %llu\n", (unsigned long long)name);
  *     renamer_free(&lane);
  *
- * HANDLES. There are two kinds, a lane and a quiet floor. Each is a struct with one pointer, and one that is all zero
- * has nothing: it is none. Set a handle to zero before its first call, also before renamer_open: by RENAMER_NO_LANE_YET
- * where it is declared, or by `lane = RENAMER_NO_LANE;` later, as in a struct from malloc. Pass its address, and keep
- * one copy only: a handle may be moved to another place, also by memcpy, if the old place is not used any more, or is
- * set to none. A call that puts something into a handle frees what was there before. renamer_free and
- * renamer_free_quiet free all that a handle has; after them it is none.
+ * HANDLES. There are three kinds, a lane, a quiet floor and a taker. Each is a struct with one pointer, and one that is
+ * all zero has nothing: it is none. Set a handle to zero before its first call, also before renamer_open: by
+ * RENAMER_NO_LANE_YET where it is declared, or by `lane = RENAMER_NO_LANE;` later, as in a struct from malloc. Pass its
+ * address, and keep one copy only: a handle may be moved to another place, also by memcpy, if the old place is not used
+ * any more, or is set to none. A call that puts something into a handle frees what was there before. renamer_free,
+ * renamer_free_quiet and renamer_free_taker free all that a handle has; after them it is none.
  *
- * STATUSES. Calls take any numbers, any sizes and any handle, also one that is none, and all that take a handle return a
- * status, but for the two that free. A call that does not return RENAMER_DONE has changed no handle, no floor, and no
- * number or array of the caller's; only renamer_join_all may have taken in some lanes. Of several causes the first in
- * the order of the call's list is returned. A status is returned as a number of 32 bits and not as a renamer_status,
+ * STATUSES. Calls take any numbers, any sizes and any handle, also one that is none, and all that take a handle return
+ * a status, but for the three that free. A call that does not return RENAMER_DONE has changed no handle, no floor, and
+ * no number or array of the caller's; only renamer_join_all may have taken in some lanes. Of several causes the first
+ * in the order of the call's list is returned. A status is returned as a number of 32 bits and not as a renamer_status,
  * since C99 leaves the size of an enumeration to the compiler.
  *
- * THREADS. Calls on different handles may run at once in any threads, also on lanes of one floor. Calls on one handle
- * may not overlap, but for those that take it as `const`: they only ask, and write nothing to it, so any number of
- * threads may make them at once, while no other call on it is made. Nothing marks a handle as in use: what two calls do
- * that overlap on one handle is not defined. A handle may go to another thread by what orders memory: a start or a join
- * of a thread, a lock, an atomic. No call may be made from a signal handler, or in the child of a fork of a process
- * with threads. A fork copies floors: parent and child both give name 1, to two clients.
+ * THREADS. Calls on different handles may run at once in any threads, also on lanes or takers of one floor. Calls on
+ * one handle may not overlap, but for those that take it as `const`: they only ask, and write nothing to it, so any
+ * number of threads may make them at once, while no other call on it is made. Nothing marks a handle as in use: what
+ * two calls do that overlap on one handle is not defined. A handle may go to another thread by what orders memory: a
+ * start or a join of a thread, a lock, an atomic. No call may be made from a signal handler, or in the child of a fork
+ * of a process with threads. A fork copies floors: parent and child both give name 1, to two clients.
  *
  * WAITING. No call starts a thread, and in the library's own code no call waits for another thread, wherever that is
  * stopped. But malloc and free of the C library may make threads wait for one another. Calls that open, split, hand
  * back, join, close or free use them. Calls that name clients or let them in use them only if the lane has no room,
- * which renamer_reserve makes. Calls that step, sweep or only ask never use them.
+ * which renamer_reserve makes. Calls that step, sweep, take names or only ask never use them.
  *
  * THE CALLER'S SIDE. What no call can check is the caller's: no pointer is NULL but one that is freed, also not that of
  * an array of size 0; an array is as long as its size says; a number or an array that a call writes overlaps nothing
@@ -89,17 +90,26 @@ typedef struct renamer_quiet {
     void *at;
 } renamer_quiet;
 
+/* A taker of a floor, or none: a thread's own part of a floor whose names are only taken. */
+typedef struct renamer_taker {
+    void *at;
+} renamer_taker;
+
 /* Handles that are none: where they are declared, and to be assigned. */
 #ifdef __cplusplus
 #define RENAMER_NO_LANE_YET {}
 #define RENAMER_NO_QUIET_YET {}
+#define RENAMER_NO_TAKER_YET {}
 #define RENAMER_NO_LANE renamer_lane()
 #define RENAMER_NO_QUIET renamer_quiet()
+#define RENAMER_NO_TAKER renamer_taker()
 #else
 #define RENAMER_NO_LANE_YET {NULL}
 #define RENAMER_NO_QUIET_YET {NULL}
+#define RENAMER_NO_TAKER_YET {NULL}
 #define RENAMER_NO_LANE ((renamer_lane){NULL})
 #define RENAMER_NO_QUIET ((renamer_quiet){NULL})
+#define RENAMER_NO_TAKER ((renamer_taker){NULL})
 #endif
 
 /* A client that is to come in, and by which entry. */
@@ -152,8 +162,8 @@ typedef enum renamer_status {
     RENAMER_WIDTH = 4,           /* there is no network of this width */
     RENAMER_QUOTA = 5,           /* a floor takes no quota above RENAMER_MOST_CLIENTS */
     RENAMER_NO_SUCH_ENTRY = 6,   /* the network has no entry with this number */
-    RENAMER_QUOTA_SPENT = 7,     /* the lane may let in no more, or not so many */
-    RENAMER_QUOTA_TOO_SMALL = 8, /* the lane has less quota than is to be split off */
+    RENAMER_QUOTA_SPENT = 7,     /* the lane or the taker may let in no more, or not so many */
+    RENAMER_QUOTA_TOO_SMALL = 8, /* the lane or the taker has less quota than is to be split off */
     RENAMER_STILL_WALKING = 9,   /* the lane has clients inside */
     RENAMER_NOBODY_THERE = 10,   /* the lane has no client there */
     RENAMER_LANES_MISSING = 11,  /* other lanes of the floor have quota, grants or clients of it */
@@ -320,11 +330,46 @@ RENAMER_CALL uint32_t renamer_holders(const renamer_quiet *quiet, uint64_t *hold
    RENAMER_NONE, _CARRIED, _QUOTA, _MEMORY. One thread at a time. */
 RENAMER_CALL uint32_t renamer_open_after(renamer_lane *lane, const renamer_quiet *quiet, uint64_t quota);
 
+/* Opens a floor whose names are only taken, and gives its first taker. Such a floor knows no clients and keeps no list:
+   nobody can ask who has which name, and it has no end, since it has 2^62 names. A taker takes names, each by a walk of
+   one client, and takes no memory for that.
+
+   The words of the floor lie side by side in memory if apart is 0, and else 128 bytes apart: renamer_open_apart says
+   when that is of use.
+   RENAMER_KIND, _WIDTH, _MEMORY. One thread at a time. */
+RENAMER_CALL uint32_t renamer_open_takes(renamer_taker *taker, uint32_t kind, uint32_t width, uint32_t apart);
+
+/* Splits off another taker of the same floor, as for another thread. It gets 1,099,511,627,776 (2^40) names, or half of
+   those that are left to the first, if these are fewer: so the first taker of a floor can be split 4,194,303 times, and
+   each of the others gets that many names. They do not come back when a taker is freed. So keep it, and let another
+   thread go on with it; and if it ever has spent its names, put a new one into its place by this call.
+   RENAMER_NONE, _QUOTA_TOO_SMALL (no two names are left to the first), _MEMORY. One thread at a time. */
+RENAMER_CALL uint32_t renamer_split_taker(renamer_taker *taker, renamer_taker *other);
+
+/* Takes a name, by an entry. No two takes by takers of one floor get the same name, and each name is below the number
+   of takes that have begun. The names of k takes are 0 to k-1 once all have returned. A take that comes later may get a
+   lower name, and a thread that is stopped within a take keeps one name from all others. Names are never given back.
+
+   The call takes no memory, and waits for nobody. Any entry will do; renamer_name says which are best.
+   RENAMER_NONE, _NO_SUCH_ENTRY, _QUOTA_SPENT. One thread at a time. */
+RENAMER_CALL uint32_t renamer_take(renamer_taker *taker, uint64_t entry, uint64_t *name);
+
+/* Takes as many names as count says, by one entry, and writes them in no order that is said. All of them come in by one
+   atomic add, and all that are on a wire go on by one more: so a name costs the fewer adds the longer the list is.
+   RENAMER_NONE, _NO_SUCH_ENTRY, _QUOTA_SPENT. One thread at a time. */
+RENAMER_CALL uint32_t renamer_take_many(renamer_taker *taker, uint64_t entry, uint64_t *names, size_t count);
+
+/* Returns how many takes were begun by all takers of the floor, as far as this one can know: more than each name that
+   it took, no less than its earlier answers, and never more than were begun.
+   RENAMER_NONE. */
+RENAMER_CALL uint32_t renamer_takes_entered(const renamer_taker *taker, uint64_t *entered);
+
 /* Frees what the handle has, if it has something; for NULL it does nothing. A lane is handed back, unless clients are
    inside. Then its quota and names are lost with it, and its floor cannot be closed any more; the names of other lanes
-   stay as good as they were. One thread at a time. */
+   stay as good as they were. The names that a taker has not taken are nobody's then. One thread at a time. */
 void renamer_free(renamer_lane *lane);
 void renamer_free_quiet(renamer_quiet *quiet);
+void renamer_free_taker(renamer_taker *taker);
 
 #ifdef __GNUC__
 #pragma GCC visibility pop

@@ -1,5 +1,5 @@
 /*
- * renamer for C++11: lanes and closed floors as objects that free themselves. Header only, over renamer.h, which says
+ * renamer for C++11: lanes, closed floors and takers as objects that free themselves. Header only, over renamer.h, which says
  * what each call does; link the same archive.
  *
  *     renamer::lane lane;
@@ -10,9 +10,11 @@
  *
  * Calls that are `const` only ask: any number of threads may make them at once on one object. An object that was only
  * made, or was moved from, handed back or closed, has nothing, and its calls return status::none. Objects can be moved,
- * also to another thread, and not copied. A lane that goes out of scope is handed back to its floor. Only calls that
- * write a std::vector throw, if it gets no memory. Of these name_many makes a new list at each call; the call of
- * renamer.h writes into an array that is there.
+ * also to another thread, and not copied. A lane that goes out of scope is handed back to its floor.
+ *
+ * A call that writes a list takes a pointer and a count, and writes into the array that is there; the pointer may be
+ * null if the count is 0. Or it takes a std::vector, of which it makes a new one at each call. Only such calls throw, if
+ * a vector gets no memory.
  */
 #ifndef RENAMER_HPP
 #define RENAMER_HPP
@@ -21,6 +23,7 @@
 
 #include <cstddef>
 #include <cstdint>
+#include <type_traits>
 #include <vector>
 
 namespace renamer {
@@ -64,32 +67,62 @@ using grant = renamer_grant;
 using moved = renamer_moved;
 using swept = renamer_swept;
 
-/* A floor that is closed: how many left by each exit, and who has which name. */
-class quiet {
+namespace detail {
+
+/* An array as the calls of renamer.h take it: they want a pointer that is not null, also to no elements. */
+template <typename Element> class array {
   public:
-    quiet() noexcept = default;
-    quiet(const quiet &) = delete;
-    quiet &operator=(const quiet &) = delete;
-    quiet(quiet &&other) noexcept : handle(other.handle) { other.handle = RENAMER_NO_QUIET; }
-    quiet &operator=(quiet &&other) noexcept {
+    array(Element *at, std::size_t count) noexcept : nothing(), at(count ? at : &nothing) {}
+    array(const array &) = delete;
+    array &operator=(const array &) = delete;
+    operator Element *() const noexcept { return at; }
+
+  private:
+    typename std::remove_const<Element>::type nothing;
+    Element *at;
+};
+
+} // namespace detail
+
+/* What has a handle: it can be moved, and frees the handle at its end. */
+template <typename Handle, void (*Free)(Handle *)> class owner {
+  public:
+    owner() noexcept = default;
+    owner(const owner &) = delete;
+    owner &operator=(const owner &) = delete;
+    owner(owner &&other) noexcept : handle(other.handle) { other.handle = Handle(); }
+    owner &operator=(owner &&other) noexcept {
         if (this != &other) {
-            renamer_free_quiet(&handle);
+            Free(&handle);
             handle = other.handle;
-            other.handle = RENAMER_NO_QUIET;
+            other.handle = Handle();
         }
         return *this;
     }
-    ~quiet() { renamer_free_quiet(&handle); }
+    ~owner() { Free(&handle); }
 
+  protected:
+    Handle handle = {};
+};
+
+/* A floor that is closed: how many left by each exit, and who has which name. */
+class quiet : public owner<renamer_quiet, renamer_free_quiet> {
+  public:
     status exits(std::uint64_t &exits) const noexcept { return status(renamer_quiet_exits(&handle, &exits)); }
     status clients(std::uint64_t &clients) const noexcept { return status(renamer_quiet_clients(&handle, &clients)); }
 
-    /* counts[i] left by exit i. */
+    /* counts[i] left by exit i. The count is that of exits. */
+    status counts(std::uint64_t *counts, std::size_t count) const noexcept {
+        return status(renamer_counts(&handle, detail::array<std::uint64_t>(counts, count), count));
+    }
     status counts(std::vector<std::uint64_t> &counts) const {
         return list(renamer_quiet_exits, renamer_counts, counts);
     }
 
-    /* holders[n] is the client with name n. */
+    /* holders[n] is the client with name n. The count is that of clients. */
+    status holders(std::uint64_t *holders, std::size_t count) const noexcept {
+        return status(renamer_holders(&handle, detail::array<std::uint64_t>(holders, count), count));
+    }
     status holders(std::vector<std::uint64_t> &holders) const {
         return list(renamer_quiet_clients, renamer_holders, holders);
     }
@@ -103,34 +136,16 @@ class quiet {
         std::uint64_t length = 0;
         const status asked = status(size(&handle, &length));
         if (asked != status::done) return asked;
-        // One more than is copied: no pointer of a call is null.
-        std::vector<std::uint64_t> list(static_cast<std::size_t>(length) + 1);
-        const status copied = status(copy(&handle, list.data(), static_cast<std::size_t>(length)));
-        list.pop_back();
+        std::vector<std::uint64_t> list(static_cast<std::size_t>(length));
+        const status copied = status(copy(&handle, detail::array<std::uint64_t>(list.data(), list.size()), list.size()));
         if (copied == status::done) to.swap(list);
         return copied;
     }
-
-    renamer_quiet handle = RENAMER_NO_QUIET_YET;
 };
 
 /* A lane of a floor: a thread's own part of it, by which it lets clients in. */
-class lane {
+class lane : public owner<renamer_lane, renamer_free> {
   public:
-    lane() noexcept = default;
-    lane(const lane &) = delete;
-    lane &operator=(const lane &) = delete;
-    lane(lane &&other) noexcept : handle(other.handle) { other.handle = RENAMER_NO_LANE; }
-    lane &operator=(lane &&other) noexcept {
-        if (this != &other) {
-            renamer_free(&handle);
-            handle = other.handle;
-            other.handle = RENAMER_NO_LANE;
-        }
-        return *this;
-    }
-    ~lane() { renamer_free(&handle); }
-
     status open(kind kind, std::uint32_t width, std::uint64_t quota) noexcept {
         return status(renamer_open(&handle, static_cast<std::uint32_t>(kind), width, quota));
     }
@@ -149,14 +164,15 @@ class lane {
         return status(renamer_name(&handle, client, entry, &name));
     }
 
-    /* Names the clients of a list; their grants take the place of what the second list had. */
+    /* Names the clients of a list, and writes as many grants. */
+    status name_many(const client *clients, std::size_t count, grant *grants) noexcept {
+        const detail::array<const client> from(clients, count);
+        return status(renamer_name_many(&handle, from, count, detail::array<grant>(grants, count), count));
+    }
+    /* The same; the grants take the place of what the second list had. */
     status name_many(const std::vector<client> &clients, std::vector<grant> &grants) {
-        // One more than is written: no pointer of a call is null.
-        static const client nobody = {0, 0};
-        std::vector<grant> list(clients.size() + 1);
-        const client *first = clients.empty() ? &nobody : clients.data();
-        const status named = status(renamer_name_many(&handle, first, clients.size(), list.data(), clients.size()));
-        list.pop_back();
+        std::vector<grant> list(clients.size());
+        const status named = name_many(clients.data(), clients.size(), list.data());
         if (named == status::done) grants.swap(list);
         return named;
     }
@@ -175,14 +191,16 @@ class lane {
     status exits(std::uint64_t &exits) const noexcept { return status(renamer_exits(&handle, &exits)); }
     status grant_count(std::uint64_t &count) const noexcept { return status(renamer_grant_count(&handle, &count)); }
 
-    /* The lane's grants, in the order in which they were given. */
+    /* Some of the lane's grants, in the order in which they were given, from the first-th on; or all. */
+    status grants(std::uint64_t first, grant *grants, std::size_t count) const noexcept {
+        return status(renamer_grants(&handle, first, detail::array<grant>(grants, count), count));
+    }
     status grants(std::vector<grant> &grants) const {
         std::uint64_t count = 0;
         const status asked = grant_count(count);
         if (asked != status::done) return asked;
-        std::vector<grant> list(static_cast<std::size_t>(count) + 1);
-        const status copied = status(renamer_grants(&handle, 0, list.data(), static_cast<std::size_t>(count)));
-        list.pop_back();
+        std::vector<grant> list(static_cast<std::size_t>(count));
+        const status copied = this->grants(0, list.data(), list.size());
         if (copied == status::done) grants.swap(list);
         return copied;
     }
@@ -193,9 +211,29 @@ class lane {
     status join_all() noexcept { return status(renamer_join_all(&handle)); }
 
     status close(quiet &closed) noexcept { return status(renamer_close(&handle, &closed.handle)); }
+};
 
-  private:
-    renamer_lane handle = RENAMER_NO_LANE_YET;
+/* A taker of a floor whose names are only taken: a thread's own part of it. */
+class taker : public owner<renamer_taker, renamer_free_taker> {
+  public:
+    status open(kind kind, std::uint32_t width, bool apart = false) noexcept {
+        return status(renamer_open_takes(&handle, static_cast<std::uint32_t>(kind), width, apart));
+    }
+    status split(taker &other) noexcept { return status(renamer_split_taker(&handle, &other.handle)); }
+    status take(std::uint64_t entry, std::uint64_t &name) noexcept {
+        return status(renamer_take(&handle, entry, &name));
+    }
+
+    /* Takes a name for each place of an array, or of a list. */
+    status take_many(std::uint64_t entry, std::uint64_t *names, std::size_t count) noexcept {
+        return status(renamer_take_many(&handle, entry, names, count));
+    }
+    status take_many(std::uint64_t entry, std::vector<std::uint64_t> &names) noexcept {
+        std::uint64_t nowhere = 0; // no pointer of a call is null
+        return take_many(entry, names.empty() ? &nowhere : names.data(), names.size());
+    }
+
+    status entered(std::uint64_t &entered) const noexcept { return status(renamer_takes_entered(&handle, &entered)); }
 };
 
 } // namespace renamer

@@ -33,9 +33,9 @@ TEXTS = {
     "WIDTH": ("there is no network of this width: 2, 4, 8, 16, 32, 64, 128 or 256",) * 2,
     "QUOTA": ("the quota is more than a floor takes: 262144 at most",) * 2,
     "NO_SUCH_ENTRY": ("there is no such entry: a tree has only entry 0, others those below their width",) * 2,
-    "QUOTA_SPENT": ("the lane may let in no more clients, or not so many: renamer_quota says how many",
-                    "the quota of the lane is spent"),
-    "QUOTA_TOO_SMALL": ("the lane has less quota than is to be split off: renamer_quota says how much",
+    "QUOTA_SPENT": ("the lane or the taker has not so much quota left: renamer_quota says how much a lane has",
+                    "the quota of the lane or of the taker is spent"),
+    "QUOTA_TOO_SMALL": ("the lane has less quota than is to be split off, or the taker no two names",
                         "there is less quota than is to be split off"),
     "STILL_WALKING": ("the lane has clients inside: let them out by renamer_step or renamer_sweep",
                       "the lane has clients inside"),
@@ -68,7 +68,7 @@ def crate_code():
 def plain(name):
     """The name of a struct without the prefix of the library, by which no two structs differ: handles are one type."""
     name = re.sub(r"^(renamer_|raw)", "", name.lower())
-    return "handle" if name in ("lane", "quiet", "handle") else name
+    return "handle" if name in ("lane", "quiet", "taker", "handle") else name
 
 
 def pieces(text):

@@ -76,12 +76,16 @@ GROWTHS = (C / "tests" / "growths.c", WRAPPED)
 FUZZ = Program(C / "tests" / "fuzz.c", (C / "tests" / "model.c", *sorted((C / "tests").glob("calls_*.c")), *GROWTHS))
 EPOCHS = "".join(f"epoch {epoch}: {2 * epoch + 2} clients in the first rows\n" for epoch in (1, 2, 3))
 TABLE = Program(C / "examples" / "table.c", prints=EPOCHS)
+# What the examples print by which workers take names, in each language.
+WORKERS = "64 workers filled the rows 0 to 6399, each once\n"
 PROGRAMS = (
     Program(C / "tests" / "carried.c", is_long=True),
     Program(C / "tests" / "frozen.c", is_long=True),
     Program(C / "examples" / "pool.c", prints="622 workers have the numbers 0 to 621\n"),
     TABLE,
     Program(C / "examples" / "lanes.cpp", prints="3000 clients have the names 0 to 2999\n"),
+    Program(C / "examples" / "workers.c", prints=WORKERS),
+    Program(C / "examples" / "workers.cpp", prints=WORKERS),
     Program(C / "tests" / "names.c"),
     Program(C / "tests" / "statuses.c"),
     Program(C / "tests" / "handed.c"),
@@ -94,6 +98,9 @@ PROGRAMS = (
     Program(C / "tests" / "lane_after_lane.c", GROWTHS),
     Program(C / "tests" / "lanes_at_once.c"),
     Program(C / "tests" / "one_for_each.c"),
+    Program(C / "tests" / "takers.c", GROWTHS),
+    Program(C / "tests" / "refilled.c"),
+    Program(C / "tests" / "next_floor.c"),
     Program(C / "tests" / "objects.cpp"),
     FUZZ,
 )

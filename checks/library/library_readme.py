@@ -70,6 +70,17 @@ def run_compiled(shown, folder):
     return run([folder / "a.out"])
 
 
+def recipes_are_tried():
+    """Each program in C in docs/EMBEDDING.md stands in a test, word for word."""
+    tests = [path.read_text() for path in (ROOT / "bindings" / "c" / "tests").glob("*.c")]
+    recipes = re.findall(r"^```c\n(.*?)^```$", (ROOT / "docs" / "EMBEDDING.md").read_text(), re.M | re.S)
+    if not recipes:
+        raise Wrong("docs/EMBEDDING.md has no program in C")
+    for recipe in recipes:
+        if not any(recipe in test for test in tests):
+            raise Wrong(f"no test in bindings/c/tests has what begins {recipe[:60]!r}")
+
+
 def check(name, folder):
     """Raises Wrong unless the program of this name gives its clients the names from 0 on."""
     shown = PROGRAMS[name]

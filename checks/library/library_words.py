@@ -11,12 +11,13 @@ KEPT = {".bss": 1}
 # What is written as a program starts, and closed then.
 CLOSED = {".data.rel.ro", ".dynamic", ".got", ".got.plt", ".relro_padding"}
 # The calls that C has: a text for each status, and frees that do nothing if they get NULL.
-IN_C = {"renamer_explain", "renamer_free", "renamer_free_quiet"}
+IN_C = {"renamer_explain", "renamer_free", "renamer_free_quiet", "renamer_free_taker"}
 # The calls that add to words of the table, and those that begin or end a lane or a floor, which go to owners and
 # places. The others have no atomic instruction.
-ADD = {f"renamer_{name}" for name in ("enter", "name", "name_many", "step", "sweep")}
-BEGIN_OR_END = {f"renamer_{name}" for name in ("close", "free", "free_quiet", "hand_back", "join", "join_all", "open",
-                                               "open_after", "open_apart", "split")}
+ADD = {f"renamer_{name}" for name in ("enter", "name", "name_many", "step", "sweep", "take", "take_many")}
+BEGIN_OR_END = {f"renamer_{name}" for name in ("close", "free", "free_quiet", "free_taker", "hand_back", "join", "join_all",
+                                               "open", "open_after", "open_apart", "open_takes", "split",
+                                               "split_taker")}
 SECTION = re.compile(r"\] (\S+) +\w+ +\w+ \w+ (\w+) \w+ +\w*W\w* ")
 FUNCTION = re.compile(r"[0-9a-f]+ <(\S+)>:$")
 ADDS = re.compile(r"\tlock (?:xadd|add|inc)")

@@ -1,6 +1,6 @@
 /*
- * Calls that only ask write nothing: four threads ask one lane and one closed floor at once, while the handles and all
- * memory that the library took may only be read. A write ends the program by a signal.
+ * Calls that only ask write nothing: four threads ask one lane, one closed floor and one taker at once, while the
+ * handles and all memory that the library took may only be read. A write ends the program by a signal.
  */
 #define _DEFAULT_SOURCE
 #include "judge.h"
@@ -14,6 +14,7 @@ enum { BYTES = 1 << 22, HEAD = 16, NAMED = 60, INSIDE = 4, WIDTH = 4, THREADS = 
 static struct {
     renamer_lane lane;
     renamer_quiet quiet;
+    renamer_taker taker;
     size_t used;
     char bytes[BYTES];
 } *there;
@@ -75,11 +76,17 @@ static void ask_quiet(const renamer_quiet *quiet) {
     CHECK(renamer_holders(quiet, holders, 1) == RENAMER_SIZE);
 }
 
+static void ask_taker(const renamer_taker *taker) {
+    uint64_t entered;
+    CHECK(renamer_takes_entered(taker, &entered) == RENAMER_DONE && entered == NAMED);
+}
+
 static void *ask(void *argument) {
     (void)argument;
     for (int round = 0; round < ROUNDS; round++) {
         ask_lane(&there->lane);
         ask_quiet(&there->quiet);
+        ask_taker(&there->taker);
     }
     return NULL;
 }
@@ -92,6 +99,13 @@ static void open_and_name(renamer_lane *lane) {
         CHECK(renamer_name(lane, client, client % WIDTH, &name) == RENAMER_DONE && name == client);
 }
 
+/* Takes names on a floor over a bitonic network, together. */
+static void open_and_take(renamer_taker *taker) {
+    uint64_t names[NAMED];
+    CHECK(renamer_open_takes(taker, RENAMER_BITONIC, WIDTH, 0) == RENAMER_DONE);
+    CHECK(renamer_take_many(taker, 1, names, NAMED) == RENAMER_DONE);
+}
+
 int main(void) {
     pthread_t threads[THREADS];
     there = mmap(NULL, sizeof *there, PROT_READ | PROT_WRITE, MAP_PRIVATE | MAP_ANONYMOUS, -1, 0);
@@ -101,6 +115,7 @@ int main(void) {
     open_and_name(&there->lane);
     for (uint64_t client = 0; client < INSIDE; client++)
         CHECK(renamer_enter(&there->lane, NAMED + client, 1) == RENAMER_DONE);
+    open_and_take(&there->taker);
     CHECK(mprotect(there, sizeof *there, PROT_READ) == 0);
     for (int t = 0; t < THREADS; t++)
         CHECK(pthread_create(&threads[t], NULL, ask, NULL) == 0);
@@ -109,5 +124,6 @@ int main(void) {
     CHECK(mprotect(there, sizeof *there, PROT_READ | PROT_WRITE) == 0);
     renamer_free(&there->lane);
     renamer_free_quiet(&there->quiet);
+    renamer_free_taker(&there->taker);
     return 0;
 }

@@ -45,8 +45,14 @@ enum { LANES = 32, QUIETS = 8, STATUSES = RENAMER_LANES_THERE + 1, UNSET = 0xa5 
     X(counts, STATUS(NONE) | STATUS(SIZE))                                                                             \
     X(holders, STATUS(NONE) | STATUS(SIZE))                                                                            \
     X(open_after, STATUS(NONE) | STATUS(CARRIED) | STATUS(QUOTA) | STATUS(MEMORY))                                     \
+    X(open_takes, STATUS(KIND) | STATUS(WIDTH) | STATUS(MEMORY))                                                       \
+    X(split_taker, STATUS(NONE) | STATUS(QUOTA_TOO_SMALL) | STATUS(MEMORY))                                            \
+    X(take, STATUS(NONE) | STATUS(NO_SUCH_ENTRY) | STATUS(QUOTA_SPENT))                                                \
+    X(take_many, STATUS(NONE) | STATUS(NO_SUCH_ENTRY) | STATUS(QUOTA_SPENT))                                           \
+    X(takes_entered, STATUS(NONE))                                                                                     \
     X(free, 0)                                                                                                         \
-    X(free_quiet, 0)
+    X(free_quiet, 0)                                                                                                   \
+    X(free_taker, 0)
 
 #define NAMED(name, statuses) CALL_##name,
 enum call { CALLS(NAMED) CALL_COUNT };
@@ -127,6 +133,13 @@ void call_entered(void);
 void call_grants(void);
 void call_counts(void);
 void call_holders(void);
+void call_open_takes(void);
+void call_split_taker(void);
+void call_chain_of_takers(void);
+void call_take(void);
+void call_take_many(void);
+void call_takes_entered(void);
+void call_free_taker(void);
 /* One of those that ask a lane, or a closed floor, for a number. */
 void call_number(void);
 void call_quiet_number(void);
@@ -137,5 +150,6 @@ void call_all_of_lane(void);
 void call_many_back(void);
 void call_let_out(void);
 void call_free_all(void);
+void call_free_takers(void);
 
 #endif

@@ -1,5 +1,6 @@
-// The objects of renamer.hpp: each call once, moves, statuses, and lanes that are freed where their scope ends.
+// The objects of renamer.hpp: each call once, moves, statuses, and lanes and takers that are freed where their scope ends.
 #include "renamer.hpp"
+#include <algorithm>
 #include <cstdint>
 #include <cstdio>
 #include <cstdlib>
@@ -24,6 +25,8 @@ static_assert(!std::is_copy_constructible<renamer::lane>::value && !std::is_copy
 static_assert(!std::is_copy_constructible<renamer::quiet>::value && !std::is_copy_assignable<renamer::quiet>::value,
               "a closed floor is not copied");
 static_assert(std::is_nothrow_move_constructible<renamer::lane>::value, "a vector of lanes moves them");
+static_assert(!std::is_copy_constructible<renamer::taker>::value && !std::is_copy_assignable<renamer::taker>::value,
+              "a taker is not copied");
 
 // What a lane that only reads says.
 template <typename Ask> static std::uint64_t number(Ask ask, const renamer::lane &lane) {
@@ -57,6 +60,7 @@ static void walk(renamer::lane &lane) {
     const std::vector<renamer::client> clients = {{17, 0}, {5, 0}, {99, 1}};
     std::vector<renamer::grant> grants(1);
     CHECK(lane.name_many({}, grants) == status::done && grants.empty());
+    CHECK(lane.name_many(nullptr, 0, nullptr) == status::done && lane.grants(0, nullptr, 0) == status::done);
     CHECK(lane.reserve(5) == status::done);
     CHECK(lane.name_many(clients, grants) == status::done && grants.size() == 3);
     renamer::moved moved;
@@ -72,6 +76,10 @@ static void walk(renamer::lane &lane) {
     CHECK(number(&renamer::lane::inside, lane) == 0);
     CHECK(number(&renamer::lane::grant_count, lane) == 5);
     CHECK(lane.grants(grants) == status::done && grants.size() == 5);
+    renamer::grant last[2];
+    CHECK(lane.grants(3, last, 2) == status::done && last[1].client == grants[4].client);
+    CHECK(lane.grants(4, last, 2) == status::size);
+    CHECK(lane.name_many(clients.data(), 3, grants.data()) == status::quota_spent);
 }
 
 // Lanes that move, are freed and joined; the floor is closed, and another goes on from it.
@@ -99,6 +107,9 @@ static void close_and_go_on() {
     CHECK(moved_to.exits(number_of) == status::done && number_of == 4);
     CHECK(moved_to.counts(counts) == status::done && counts == std::vector<std::uint64_t>({2, 1, 1, 1}));
     CHECK(moved_to.holders(holders) == status::done && holders.size() == 5);
+    std::uint64_t to[5];
+    CHECK(moved_to.counts(to, 4) == status::done && to[0] == 2 && moved_to.counts(to, 5) == status::size);
+    CHECK(moved_to.holders(to, 5) == status::done && std::vector<std::uint64_t>(to, to + 5) == holders);
     const renamer::quiet &asked = moved_to;
     CHECK(asked.counts(counts) == status::done && asked.clients(number_of) == status::done && number_of == 5);
     renamer::lane next;
@@ -106,7 +117,28 @@ static void close_and_go_on() {
     CHECK(next.name(7, 0, number_of) == status::done && number_of == 0);
 }
 
+// Takers that move, and what they take.
+static void take() {
+    renamer::taker first, moved_to;
+    std::uint64_t name = 99, some[2] = {99, 99};
+    std::vector<std::uint64_t> names(5), nobody;
+    CHECK(first.take(0, name) == status::none && first.split(moved_to) == status::none);
+    CHECK(first.open(kind::tree, 3) == status::width && first.open(kind::bitonic, 4, true) == status::done);
+    CHECK(first.split(moved_to) == status::done);
+    first = std::move(moved_to);
+    CHECK(moved_to.entered(name) == status::none && moved_to.take_many(0, nobody) == status::none);
+    CHECK(first.take(4, name) == status::no_such_entry && name == 99);
+    CHECK(first.take(3, name) == status::done && name == 0);
+    CHECK(first.take_many(1, some, 2) == status::done && some[0] + some[1] == 3);
+    CHECK(first.take_many(1, names) == status::done && first.take_many(1, nobody) == status::done);
+    std::sort(names.begin(), names.end());
+    CHECK(names == std::vector<std::uint64_t>({3, 4, 5, 6, 7}));
+    const renamer::taker &asked = first;
+    CHECK(asked.entered(name) == status::done && name == 8);
+}
+
 int main() {
     refused();
     close_and_go_on();
+    take();
 }

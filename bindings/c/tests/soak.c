@@ -2,8 +2,10 @@
  * Eight threads or a hundred name 262,144 clients on each of many floors, over random networks that go on from random
  * counters: by names, by lists, and by single steps and sweeps, with lanes that are split off, handed back and taken in
  * while others walk. Before that all threads at once split off lanes with nothing, up to ten each, and hand them back.
- * Then one lane takes all in and closes the floor. Each name is judged when it is given, by how many came in so far; and
- * each floor by its names, by the grants of that lane, and by the counts and clients of the closed floor.
+ * Then one lane takes all in and closes the floor. Each name is judged when it is given, by how many came in so far,
+ * and each floor by its names, by the grants of that lane, and by the counts and clients of the closed floor. Beside
+ * each floor is one over the same network whose names are taken, as many, by single takes and lists; they are judged
+ * alike.
  *
  *     soak FLOORS SECONDS SEED
  *
@@ -11,7 +13,7 @@
  * wrong, and at the end how many were made, how many of them are wrong, and how often each call was made. When the
  * seconds are over it makes no more; the status is 0 only if all were made and none is wrong.
  */
-#include "ways.h"
+#include "takes.h"
 #include <string.h>
 #include <time.h>
 
@@ -112,12 +114,9 @@ static const char *open_after(renamer_lane *rest, uint32_t kind, uint32_t width,
     return status == RENAMER_DONE ? NULL : "the floor was not opened";
 }
 
-/* Runs so many threads on a floor, whose rest has the whole quota, and takes their lanes in. */
-static const char *run_threads(renamer_lane *rest, int threads_there, uint64_t *chance) {
-    const char *wrong = NULL;
-    uint64_t entries, first = 1;
-    if (renamer_entries(rest, &entries) != RENAMER_DONE)
-        return "renamer_entries was refused";
+/* Shares out the clients to so many threads. */
+static void share_out(int threads_there, uint64_t entries, uint64_t *chance) {
+    uint64_t first = 1;
     memset(named, 0, sizeof named);
     atomic_store(&came_in, 0);
     for (int t = 0; t < threads_there; t++) {
@@ -125,16 +124,52 @@ static const char *run_threads(renamer_lane *rest, int threads_there, uint64_t *
         uint64_t left = ALL + 1 - first, most = 1 + 2 * left / (uint64_t)(threads_there - t);
         uint64_t count = t == threads_there - 1 ? left : draw(chance) % most;
         thread->chance = draw(chance), thread->entries = entries, thread->first = first, thread->count = count;
-        thread->wrong = renamer_split(rest, count, &thread->lane) == RENAMER_DONE ? NULL : "renamer_split was refused";
+        thread->wrong = NULL;
         first += count;
     }
+}
+
+/* Runs so many threads to their ends. */
+static const char *run_all(int threads_there, void *(*run)(void *)) {
+    const char *wrong = NULL;
     for (int t = 0; t < threads_there; t++)
-        CHECK(pthread_create(&threads[t].id, NULL, name_all, &threads[t]) == 0);
+        CHECK(pthread_create(&threads[t].id, NULL, run, &threads[t]) == 0);
     for (int t = 0; t < threads_there; t++) {
         CHECK(pthread_join(threads[t].id, NULL) == 0);
         wrong = wrong ? wrong : threads[t].wrong;
     }
+    return wrong;
+}
+
+/* Runs so many threads on a floor, whose rest has the whole quota, and takes their lanes in. */
+static const char *run_threads(renamer_lane *rest, int threads_there, uint64_t *chance) {
+    const char *wrong;
+    uint64_t entries;
+    if (renamer_entries(rest, &entries) != RENAMER_DONE)
+        return "renamer_entries was refused";
+    share_out(threads_there, entries, chance);
+    for (int t = 0; t < threads_there; t++)
+        if (renamer_split(rest, threads[t].count, &threads[t].lane) != RENAMER_DONE)
+            return "renamer_split was refused";
+    wrong = run_all(threads_there, name_all);
     return !wrong && renamer_join_all(rest) != RENAMER_DONE ? "renamer_join_all was refused" : wrong;
+}
+
+/* The same of a floor whose names are taken, by takers that are split off its first one. */
+static const char *run_takers(int threads_there, uint32_t kind, uint32_t width, uint64_t *chance) {
+    renamer_taker first = RENAMER_NO_TAKER_YET;
+    const char *wrong = NULL;
+    if (renamer_open_takes(&first, kind, width, (uint32_t)(draw(chance) % 2)) != RENAMER_DONE)
+        return "renamer_open_takes was refused";
+    share_out(threads_there, kind == RENAMER_TREE ? 1 : width, chance);
+    for (int t = 0; t < threads_there && !wrong; t++)
+        if (renamer_split_taker(&first, &threads[t].taker) != RENAMER_DONE)
+            wrong = "renamer_split_taker was refused";
+    renamer_free_taker(&first);
+    wrong = wrong ? wrong : run_all(threads_there, take_all);
+    for (uint64_t name = 0; name < ALL && !wrong; name++)
+        wrong = named[name] ? NULL : "a name was not taken";
+    return wrong;
 }
 
 /* Judges what the lane was given that took all in: each client one name, and each name that of its exit and visit. */
@@ -188,15 +223,17 @@ static const char *run_floor(uint64_t seed) {
     wrong = wrong ? wrong : run_threads(&rest, count, &chance);
     wrong = wrong ? wrong : judge_grants(&rest, width, before);
     wrong = wrong ? wrong : judge_quiet(&rest, width, before);
+    wrong = wrong ? wrong : run_takers(count, kind, width, &chance);
     for (int t = 0; t < MOST_THREADS; t++)
-        renamer_free(&threads[t].lane);
+        renamer_free(&threads[t].lane), renamer_free_taker(&threads[t].taker);
     renamer_free(&rest);
     return wrong;
 }
 
 static void print_calls(void) {
     static const char *const calls[CALLS] = {"names",  "lists",      "names in lists", "enters",    "steps", "sweeps",
-                                             "splits", "lanes back", "lanes joined"};
+                                             "splits", "lanes back", "lanes joined", "takes",
+                                             "lists of takes", "takers split off"};
     for (int call = 0; call < CALLS; call++) {
         uint64_t all = 0;
         for (int t = 0; t < MOST_THREADS; t++)

@@ -10,11 +10,12 @@
 enum { ALL = RENAMER_MOST_CLIENTS, MOST_PART = 128, RECENT = 16 };
 
 /* How often what was done. */
-enum { NAMES, LISTS, LISTED, ENTERS, STEPS, SWEEPS, SPLITS, BACK, JOINS, CALLS };
+enum { NAMES, LISTS, LISTED, ENTERS, STEPS, SWEEPS, SPLITS, BACK, JOINS, TAKES, TAKE_LISTS, TAKERS, CALLS };
 
 struct thread {
     pthread_t id;
     renamer_lane lane;
+    renamer_taker taker;
     uint64_t chance, entries, first, count, did[CALLS];
     /* Some wires on which clients of the thread stood. */
     uint64_t wires[RECENT];

@@ -20,7 +20,7 @@ pub enum Error {
     Quota = 5,
     /// The network has no entry with this number.
     NoSuchEntry = 6,
-    /// The lane may let in no more clients, or not so many.
+    /// The lane or the taker may let in no more clients, or not so many.
     QuotaSpent = 7,
     /// There is less quota than is to be split off.
     QuotaTooSmall = 8,
@@ -74,7 +74,7 @@ impl fmt::Display for Error {
             Error::NoSuchEntry => {
                 out.write_str("there is no such entry: a tree has only entry 0, others those below their width")
             }
-            Error::QuotaSpent => out.write_str("the quota of the lane is spent"),
+            Error::QuotaSpent => out.write_str("the quota of the lane or of the taker is spent"),
             Error::QuotaTooSmall => out.write_str("there is less quota than is to be split off"),
             Error::StillWalking => out.write_str("the lane has clients inside"),
             Error::NobodyThere => out.write_str("no client of the lane is there"),

@@ -136,7 +136,8 @@ impl Floor {
             .collect()
     }
 
-    /// Takes in all lanes that were dropped or handed back: their quota is the floor's again.
+    /// Takes in lanes that were dropped or handed back, one after another, until it finds none back: their quota is the
+    /// floor's again. While other threads go on splitting off and handing back lanes it may go on too.
     ///
     /// # Errors
     /// [`Error::Memory`]. Then some may be taken in, and it can be called again.

@@ -198,7 +198,8 @@ impl Lane {
         self.raw.join()
     }
 
-    /// Takes in lanes of the same floor that were handed back, until none is back.
+    /// Takes in lanes as [`Lane::join`] does, one after another, and is done once it finds none back. While other threads
+    /// go on splitting off and handing back lanes it may go on too.
     ///
     /// # Errors
     /// [`Error::Memory`]. Then some may be taken in, and it can be called again.
@@ -233,6 +234,9 @@ impl Lane {
     }
 
     /// Makes room for so many clients more, at most 1,048,576: they come in and get their names without further memory.
+    ///
+    /// It is for a lane that must not be refused for memory later, and for one that lets clients in by [`Lane::enter`]. A
+    /// lane that names clients only by [`Lane::name`] needs no room: it names them faster without.
     ///
     /// # Errors
     /// [`Error::Memory`], also if it is more than that.

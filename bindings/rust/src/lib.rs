@@ -26,7 +26,8 @@
 //! ```
 //!
 //! Names are given once: a floor lets in at most [`MOST_CLIENTS`] clients, and a name comes back only with the next
-//! floor.
+//! floor. Threads that need names only, and need not know who has which, take them by a [`Taker`] each: these names do
+//! not end.
 //!
 //! The calls are those of a library in which each function is proved to meet its contract. What this crate adds is not
 //! proved: that the library's conditions on its callers hold. All that is unsafe stands in one file, `src/raw.rs`.
@@ -41,6 +42,7 @@ mod lane;
 mod quiet;
 mod raw;
 mod steps;
+mod taker;
 
 pub use error::{Error, Refused};
 pub use floor::Floor;
@@ -48,6 +50,7 @@ pub use kind::Kind;
 pub use lane::{Client, Grant, Lane};
 pub use quiet::Quiet;
 pub use steps::{Moved, Place, Swept};
+pub use taker::Taker;
 
 /// How many clients a floor lets in at most.
 pub const MOST_CLIENTS: u64 = 262_144;

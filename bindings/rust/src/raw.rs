@@ -65,8 +65,14 @@ extern "C" {
     fn renamer_counts(quiet: *const Handle, counts: *mut u64, size: usize) -> u32;
     fn renamer_holders(quiet: *const Handle, holders: *mut u64, size: usize) -> u32;
     fn renamer_open_after(lane: *mut Handle, quiet: *const Handle, quota: u64) -> u32;
+    fn renamer_open_takes(taker: *mut Handle, kind: u32, width: u32, apart: u32) -> u32;
+    fn renamer_split_taker(taker: *mut Handle, other: *mut Handle) -> u32;
+    fn renamer_take(taker: *mut Handle, entry: u64, name: *mut u64) -> u32;
+    fn renamer_take_many(taker: *mut Handle, entry: u64, names: *mut u64, count: usize) -> u32;
+    fn renamer_takes_entered(taker: *const Handle, entered: *mut u64) -> u32;
     fn renamer_free(lane: *mut Handle);
     fn renamer_free_quiet(quiet: *mut Handle);
+    fn renamer_free_taker(taker: *mut Handle);
 }
 
 /// The version of the library.
@@ -81,6 +87,11 @@ fn own_version() -> u32 {
     1_000_000 * part(env!("CARGO_PKG_VERSION_MAJOR"))
         + 1_000 * part(env!("CARGO_PKG_VERSION_MINOR"))
         + part(env!("CARGO_PKG_VERSION_PATCH"))
+}
+
+/// An archive of another version may have calls that take other things: so no floor is opened by it.
+fn must_be_of_this_version() {
+    assert_eq!(version(), own_version(), "librenamer.a has another version than the crate renamer");
 }
 
 /// What a status says.
@@ -119,8 +130,7 @@ unsafe impl Send for RawLane {}
 unsafe impl Sync for RawLane {}
 
 impl RawLane {
-    /// The first lane of a floor. No other call is made before it, so an archive of another version, whose calls may take other
-    /// things, is found here.
+    /// The first lane of a floor. No other call is made before it.
     pub(crate) fn open(kind: u32, width: u32, quota: u64) -> Result<RawLane, Error> {
         RawLane::by(renamer_open, kind, width, quota)
     }
@@ -136,7 +146,7 @@ impl RawLane {
         width: u32,
         quota: u64,
     ) -> Result<RawLane, Error> {
-        assert_eq!(version(), own_version(), "librenamer.a has another version than the crate renamer");
+        must_be_of_this_version();
         let mut lane = none();
         // SAFETY: the handle is new, and none.
         done(unsafe { open(&raw mut lane, kind, width, quota) })?;
@@ -306,5 +316,55 @@ impl Drop for RawQuiet {
     fn drop(&mut self) {
         // SAFETY: `&mut` is the only way to the handle.
         unsafe { renamer_free_quiet(&raw mut self.0) }
+    }
+}
+
+/// A taker, or none.
+pub(crate) struct RawTaker(Handle);
+
+// SAFETY: as for a lane.
+unsafe impl Send for RawTaker {}
+
+// SAFETY: as for a lane.
+unsafe impl Sync for RawTaker {}
+
+impl RawTaker {
+    /// The first taker of a floor. No other call is made before it.
+    pub(crate) fn open(kind: u32, width: u32, apart: bool) -> Result<RawTaker, Error> {
+        must_be_of_this_version();
+        let mut taker = none();
+        // SAFETY: the handle is new, and none.
+        done(unsafe { renamer_open_takes(&raw mut taker, kind, width, apart.into()) })?;
+        Ok(RawTaker(taker))
+    }
+
+    pub(crate) fn split(&mut self) -> Result<RawTaker, Error> {
+        let mut other = none();
+        // SAFETY: the second handle is new, and none; `&mut` is the only way to the first.
+        done(unsafe { renamer_split_taker(&raw mut self.0, &raw mut other) })?;
+        Ok(RawTaker(other))
+    }
+
+    pub(crate) fn take(&mut self, entry: u64) -> Result<u64, Error> {
+        let mut name = 0;
+        // SAFETY: `&mut` is the only way to the handle, and the name is a variable of its own.
+        done(unsafe { renamer_take(&raw mut self.0, entry, &raw mut name) })?;
+        Ok(name)
+    }
+
+    pub(crate) fn take_many(&mut self, entry: u64, names: &mut [u64]) -> Result<(), Error> {
+        // SAFETY: `&mut` is the only way to the handle, and the array is a slice of this size.
+        done(unsafe { renamer_take_many(&raw mut self.0, entry, names.as_mut_ptr(), names.len()) })
+    }
+
+    pub(crate) fn entered(&self) -> u64 {
+        number(renamer_takes_entered, &self.0)
+    }
+}
+
+impl Drop for RawTaker {
+    fn drop(&mut self) {
+        // SAFETY: `&mut` is the only way to the handle; one that is none may be freed.
+        unsafe { renamer_free_taker(&raw mut self.0) }
     }
 }

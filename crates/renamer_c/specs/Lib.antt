@@ -4,6 +4,7 @@ pub mod Holding
 pub mod InsideFloorRecord
 pub mod InsideFloorWithPlaces
 pub mod InsideHeldLane
+pub mod InsideHeldTaker
 pub mod Joining
 pub mod Lends
 pub mod Looking
@@ -16,3 +17,4 @@ pub mod Refusals
 pub mod Returns
 pub mod Statuses
 pub mod Sweepings
+pub mod Taking

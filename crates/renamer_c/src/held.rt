@@ -2,32 +2,35 @@
 
 ghost use Rattle.std.specs.Fn.{FnOnceReturnsAtMut};
 ghost use Rattle.std.specs.Prelude.{◌≡◌, ◌⊎◌, Err, None, Some, IfErr, IfOk};
-ghost use Rattle.renamer_c.specs.Handles.{lane_held, record_held};
+ghost use Rattle.renamer_c.specs.Handles.{lane_held, record_held, taker_held};
 ghost use Rattle.renamer_c.specs.Joining.{StopsWith, refusal_of};
 ghost use Rattle.renamer_c.specs.Looking.{IsTakenOf};
 ghost use Rattle.renamer_c.specs.Refusals.{NotJoined, NotThere, WithLane};
-ghost use Rattle.renamer_c.specs.declared.held.Held.TheVariants.{Lane};
+ghost use Rattle.renamer_c.specs.declared.held.Held.TheVariants.{Lane, Taker};
 
 use crate::floor_record::FloorRecord;
 use crate::held_lane::HeldLane;
 use crate::held_lane::returning::JoinStop;
+use crate::held_taker::HeldTaker;
 use crate::places::Place;
 use crate::refusal::Refusal;
 use crate::taken::Taken;
 
-/// What a handle has. Lane and record are type parameters: the checker passes no `&mut` with a lifetime in it to a
-/// closure.
+/// What a handle has. Lane, record and taker are type parameters: the checker passes no `&mut` with a lifetime in it to
+/// a closure.
 #[derive(Drop)]
-pub enum Held<L = HeldLane, R = FloorRecord> {
+pub enum Held<L = HeldLane, R = FloorRecord, K = HeldTaker> {
     /// Nothing, while a call works on it.
     Nothing,
     /// A lane.
     Lane(L),
     /// A closed floor.
     Closed(R),
+    /// A taker.
+    Taker(K),
 }
 
-impl<L, R> Held<L, R> {
+impl<L, R, K> Held<L, R, K> {
     /// What a call makes of the lane that is there, and returns.
     ///
     /// # Errors
@@ -42,6 +45,24 @@ impl<L, R> Held<L, R> {
     {
         match self {
             Held::Lane(lane) => call(lane),
+            _ => Err(Refusal::Nothing),
+        }
+    }
+
+    /// What a call makes of the taker that is there, and returns.
+    ///
+    /// # Errors
+    /// `Nothing` if there is no taker, with nothing changed, else as the call.
+    pub(crate) fn with_taker<T, F: FnOnce(&mut K) -> Result<T, Refusal>>(
+        &mut self,
+        call: F,
+    ) -> Result<T, Refusal>
+        requires { F.IsAlwaysCallable call }
+        ensures { ((taker_held self.old ≡ None) × (self.new ≡ self.old) × (result ≡ Err Refusal.Nothing))
+            ⊎ ((l k : K) × (self.old ≡ Taker l) × (self.new ≡ Taker k) × FnOnceReturnsAtMut F.FnOnce call l result k) }
+    {
+        match self {
+            Held::Taker(taker) => call(taker),
             _ => Err(Refusal::Nothing),
         }
     }

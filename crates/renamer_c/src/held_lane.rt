@@ -68,10 +68,11 @@ fn floor_over(
     ensures lane { IfOk result (λ r. r.1 ≡ empty_lane r.0 quota) }
     ensures spaced { IfOk result (λ r. LieApart apart r.1) }
 {
+    let words = Words::zero_shared(alloc, network)?;
     if apart {
-        Floor::open_shared_apart(alloc, network, quota)
+        Floor::open_words(alloc, words.apart(), quota)
     } else {
-        Floor::open_shared(alloc, network, quota)
+        Floor::open_words(alloc, words, quota)
     }
 }
 

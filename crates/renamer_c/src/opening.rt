@@ -29,7 +29,7 @@ pub extern "C" fn renamer_version() -> u32
 ///
 /// # Errors
 /// The first that stands: `Kind`, `Width`, `Quota`.
-fn asked(kind: u32, width: u32, quota: u64) -> Result<Net, Refusal>
+pub(crate) fn asked(kind: u32, width: u32, quota: u64) -> Result<Net, Refusal>
     ensures ok { IfOk result (λ net. (number_of net.kind ≡ kind) × (net.width ≡ width)) }
     ensures known { OnOk result ((kind ≤ 2) × IsWidth width × (quota ≤ MOST_CLIENTS)) }
     ensures err { IfErr result (NotOpened kind width quota) }

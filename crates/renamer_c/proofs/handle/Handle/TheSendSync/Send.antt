@@ -18,6 +18,7 @@ use Rattle.renamer_c.specs.Holding.{holds}
 use Rattle.renamer_c.proofs.floor_record.FloorRecord.TheSendSync as record_crosses
 use Rattle.renamer_c.proofs.held.Held.TheSendSync as held_crosses
 use Rattle.renamer_c.proofs.held_lane.HeldLane.TheSendSync as lane_crosses
+use Rattle.renamer_c.proofs.held_taker.HeldTaker.TheSendSync as taker_crosses
 use Rattle.renamer_c.specs.contracts.handle.Handle.{the_row, the_type}
 
 quiet : {D X : Type 0} (to : D → X) (e : Exit X) → Quiet e → Quiet (hidden (under to e))
@@ -30,7 +31,7 @@ lies R s null_ptr x = tt
 
 held_keyless : (a : Global) (p : Ptr) (x : Option (held.the_row).Denot) → Keyless (holds held.the_row a p x)
 held_keyless a p None = tt
-held_keyless a p (Some x) = (lies held.the_row (held_crosses.the_send _ _ lane_crosses.the_send record_crosses.the_send) p x, frees.frees a (raw (lone (held.the_row).mir)) p)
+held_keyless a p (Some x) = (lies held.the_row (held_crosses.the_send _ _ _ lane_crosses.the_send record_crosses.the_send taker_crosses.the_send) p x, frees.frees a (raw (lone (held.the_row).mir)) p)
 
 pub send : IsSend the_row
 send =

@@ -1,0 +1,3 @@
+module renamer
+
+go 1.19

@@ -1,0 +1,108 @@
+//! A taker: a thread's own part of a floor whose names are only taken.
+use crate::raw::RawTaker;
+use crate::{Error, Kind};
+use std::fmt;
+
+/// A thread's own part of a floor whose names are only taken. Such a floor knows no clients and keeps no list: nobody can
+/// ask who has which name, and it has no end, since it has 2^62 names.
+///
+/// A taker can be sent to another thread. The floor lives as long as a taker of it. Names are never given back, and what a
+/// taker that is dropped has not taken is nobody's then: so keep it, and let the next thread go on with it.
+///
+/// ```
+/// use renamer::{Error, Kind, Taker};
+///
+/// let mut first = Taker::open(Kind::Tree, 64)?;
+/// let other = first.split()?;
+/// let take_100 = |mut taker: Taker| (0..100).map(|_| taker.take(0)).collect::<Result<Vec<u64>, Error>>();
+/// let mut names = std::thread::scope(|scope| {
+///     let thread = scope.spawn(move || take_100(other));
+///     Ok::<_, Error>([take_100(first)?, thread.join().expect("a thread ends")?])
+/// })?
+/// .concat();
+/// names.sort();
+/// assert!(names.into_iter().eq(0..200));
+/// # Ok::<(), Error>(())
+/// ```
+pub struct Taker {
+    raw: RawTaker,
+}
+
+impl Taker {
+    /// Opens a floor over a network, whose width is a power of two from 2 to 256, and gives its first taker.
+    ///
+    /// # Errors
+    /// [`Error::Width`], [`Error::Memory`]: the first that stands.
+    ///
+    /// # Panics
+    /// If the archive that is linked has another version than the crate.
+    pub fn open(kind: Kind, width: u32) -> Result<Taker, Error> {
+        RawTaker::open(kind as u32, width, false).map(|raw| Taker { raw })
+    }
+
+    /// Opens a floor as [`Taker::open`] does, whose words lie 128 bytes apart in memory and not 8, as those of
+    /// [`Floor::open_apart`](crate::Floor::open_apart).
+    ///
+    /// # Errors
+    /// As those of [`Taker::open`].
+    ///
+    /// # Panics
+    /// As [`Taker::open`].
+    pub fn open_apart(kind: Kind, width: u32) -> Result<Taker, Error> {
+        RawTaker::open(kind as u32, width, true).map(|raw| Taker { raw })
+    }
+
+    /// Splits off another taker of the same floor. It gets 1,099,511,627,776 names, or half of those that are left to
+    /// this one, if these are fewer. So the first taker of a floor can give that many to 4,194,303 others.
+    ///
+    /// # Errors
+    /// [`Error::QuotaTooSmall`] if no two names are left, [`Error::Memory`]: the first that stands.
+    pub fn split(&mut self) -> Result<Taker, Error> {
+        self.raw.split().map(|raw| Taker { raw })
+    }
+
+    /// Takes a name, by an entry below the width; a tree has only entry 0. No two takes by takers of one floor get the
+    /// same name, and each name is below the number of takes that have begun. A take that comes later may get a lower
+    /// name, and a thread that is stopped within a take keeps one name from all others.
+    ///
+    /// It takes no memory, and waits for nobody.
+    ///
+    /// # Errors
+    /// [`Error::NoSuchEntry`], [`Error::QuotaSpent`]: the first that stands.
+    pub fn take(&mut self, entry: u64) -> Result<u64, Error> {
+        self.raw.take(entry)
+    }
+
+    /// Takes a name for each place of a slice, by one entry, and writes them there in no order that is said. All come in
+    /// by one atomic add, and all that are on a wire go on by one more: so a name costs the fewer adds the longer the
+    /// slice is.
+    ///
+    /// ```
+    /// use renamer::{Kind, Taker};
+    ///
+    /// let mut names = [0; 64];
+    /// Taker::open(Kind::Bitonic, 8)?.take_many(3, &mut names)?;
+    /// names.sort();
+    /// assert!(names.into_iter().eq(0..64));
+    /// # Ok::<(), renamer::Error>(())
+    /// ```
+    ///
+    /// # Errors
+    /// As those of [`Taker::take`].
+    pub fn take_many(&mut self, entry: u64, names: &mut [u64]) -> Result<(), Error> {
+        self.raw.take_many(entry, names)
+    }
+
+    /// How many takes were begun by all takers of the floor, as far as this one can know: more than each name that it
+    /// took, and never more than were begun.
+    #[must_use]
+    pub fn entered(&self) -> u64 {
+        self.raw.entered()
+    }
+}
+
+impl fmt::Debug for Taker {
+    fn fmt(&self, out: &mut fmt::Formatter<'_>) -> fmt::Result {
+        out.debug_struct("Taker").field("entered", &self.entered()).finish()
+    }
+}
