@@ -65,15 +65,15 @@ def epochs(kind, width, count):
 
 def floors(kind, width, count):
     made = {kind: 1, "Floor::open": 1, "Floor::open_after": 2, "Floor::enter": 3 * count, "Lane::reserve": 1}
-    made |= {"Floor::split": 2, "Floor::join": 2, "Floor::close": 4, "Quiet::holders": 4, "Words::zero": 1}
-    return made | {"Floor::open_apart": 1, "closed floors are tight": 4}
+    made |= {"Floor::split": 2, "Floor::join": 2, "Floor::close": 4, "Quiet::holders": 4, "Words::zero": 2}
+    return made | {"Floor::open_words": 1, "closed floors are tight": 4}
 
 
 def shared(kind, width, count):
-    made = {kind: 1, "Floor::open_shared": 1, "Floor::split_off": 1, "Lane::reserve": 1}
+    made = {kind: 1, "Floor::open_words": 2, "Floor::split_off": 1, "Lane::reserve": 1}
     made |= {"Floor::name": (count + 1) // 2, "Floor::name_all": count // 2}
-    made |= {"Floor::join": 2, "Floor::close_for": 2, "ClosedFloor::into_quiet": 2, "Floor::open_shared_apart": 1}
-    made |= {"Words::zero_shared": 1, "Floor::open_after": 1, "Floor::split": 1, "Floor::enter": count}
+    made |= {"Floor::join": 2, "Floor::close_for": 2, "ClosedFloor::into_quiet": 2}
+    made |= {"Words::zero_shared": 3, "Floor::open_after": 1, "Floor::split": 1, "Floor::enter": count}
     return made | {"Floor::close": 1, "Quiet::holders": 3, "closed floors are tight": 3}
 
 

@@ -1,0 +1,209 @@
+"""A floor, its lanes, and what a closed floor says."""
+
+from __future__ import annotations
+
+import os
+import threading
+import weakref
+from typing import Any, Literal, NamedTuple, NoReturn, TypeVar
+
+import numpy as np
+import numpy.typing as npt
+
+from . import _library as lib
+from ._arrays import Clients, as_clients
+
+Network = Literal["bitonic", "periodic", "tree"]
+_KINDS = {"bitonic": 0, "periodic": 1, "tree": 2}
+# The records that a call takes and gives, as the header has them.
+CLIENT = np.dtype([("client", "<u8"), ("entry", "<u8")])
+GRANT = np.dtype([("client", "<u8"), ("exit", "<u8"), ("visit", "<u8"), ("name", "<u8")])
+# How many clients one call of the library names: their grants stay in the processor's cache.
+AT_ONCE = 2048
+
+_Some = TypeVar("_Some", bound="Owned")
+_owned: weakref.WeakSet[Owned] = weakref.WeakSet()
+
+
+def _forget() -> None:
+    """In the child of a fork: two processes with one floor would give the same names. And a lock may be held by a
+    thread that the child does not have."""
+    for owned in list(_owned):
+        owned._handle.at = None
+        owned._lock = threading.Lock()
+
+
+os.register_at_fork(after_in_child=_forget)
+
+
+class Owned:
+    """What one thread has of a floor: a handle, behind a lock. `with` frees it at its end, as does its last reference.
+
+    A call on what another thread is using waits until that is done, so give each thread its own. Calls leave the GIL
+    free. It can be neither copied nor pickled, and the child of a fork does not have it.
+    """
+
+    _free = lib.free_lane
+
+    def __init__(self, handle: lib.Handle) -> None:
+        self._handle, self._lock, self._number = handle, threading.Lock(), lib.Number()
+        _owned.add(self)
+
+    def __enter__(self: _Some) -> _Some:
+        return self
+
+    def __exit__(self, *_: object) -> None:
+        self._let_go()
+
+    def __del__(self) -> None:
+        if hasattr(self, "_handle"):
+            type(self)._free(self._handle)
+
+    def __reduce__(self) -> NoReturn:
+        raise TypeError(f"a {type(self).__name__.lower()} has one owner: it can be neither copied nor pickled")
+
+    def _let_go(self) -> None:
+        with self._lock:
+            type(self)._free(self._handle)
+
+
+def as_network(network: Network, width: int) -> tuple[int, int]:
+    """A network as a call takes it: its kind and its width, of which each that is too large is refused.
+
+    Raises ValueError if there is no such kind, and OverflowError.
+    """
+    if network not in _KINDS:
+        raise ValueError(f"no network is called {network!r}: take one of {', '.join(_KINDS)}")
+    return _KINDS[network], min(lib.in_range(width), 2**32 - 1)
+
+
+class Quiet(NamedTuple):
+    """What a closed floor says: `holders[n]` is the client with the name n, and `counts[i]` how many left by exit i."""
+
+    holders: Clients
+    counts: Clients
+
+
+class Lane(Owned):
+    """A thread's own part of a floor, which `Floor.lane` makes, and by which it names clients.
+
+    Its calls raise WasFreed once it was handed back, and NoMemory.
+    """
+
+    def hand_back(self) -> None:
+        """Hands the lane back to its floor, with its names and what is left of its quota. A second time it does
+        nothing."""
+        self._let_go()
+
+    def name(self, client: int, entry: int = 0) -> int:
+        """The name of a client, a number from 0 to 2**64 - 1, which comes in by an entry. A tree has only entry 0. A
+        client that is named twice has two names.
+
+        Raises NoSuchEntry, QuotaSpent, and OverflowError if a number is out of range.
+        """
+        client, entry = lib.in_range(client), lib.in_range(entry)
+        with self._lock:
+            lib.name_one(self._handle, client, entry, self._number)
+            return self._number.value
+
+    def name_many(self, clients: npt.ArrayLike, entry: int = 0) -> Clients:
+        """The names of a row of clients, as an array of uint64 in its order. If the call is refused nobody has a name.
+
+        Raises what `name` raises, and TypeError if the clients are no row of whole numbers.
+        """
+        wanted = as_clients(clients)
+        names, asked = np.empty(len(wanted), np.uint64), np.empty(min(len(wanted), AT_ONCE), CLIENT)
+        asked["entry"] = lib.in_range(entry)
+        with self._lock:
+            # With quota and room for all of them, all get names if the first some do.
+            if lib.ask(lib.quota_left, self._handle) < len(wanted):
+                raise lib.QuotaSpent(7)
+            lib.reserve(self._handle, len(wanted))
+            for at in range(0, len(wanted), AT_ONCE):
+                some = wanted[at : at + AT_ONCE]
+                asked["client"][: len(some)] = some
+                grants = self._grant(asked[: len(some)])
+                # A client that stands here twice has two names, and either may be the first.
+                by_client = np.argsort(grants["client"], kind="stable")
+                names[at : at + AT_ONCE][np.argsort(some, kind="stable")] = grants["name"][by_client]
+        return names
+
+    def grant_many(self, clients: npt.NDArray[Any]) -> npt.NDArray[Any]:
+        """Names the clients of an array of the dtype CLIENT, which is not copied: each record has a client and an
+        entry. Returns as many records of the dtype GRANT, in the order in which the clients left. If the call is
+        refused nobody has a name. Some 2,048 clients a call are the fastest.
+
+        Raises NoSuchEntry, QuotaSpent, and TypeError if the array is another, or not in one piece.
+        """
+        if clients.dtype != CLIENT or clients.ndim != 1 or not clients.flags.c_contiguous:
+            raise TypeError("the clients are no array of the dtype renamer.CLIENT in one piece")
+        with self._lock:
+            return self._grant(clients)
+
+    def _grant(self, clients: npt.NDArray[Any]) -> npt.NDArray[Any]:
+        grants = np.empty(len(clients), GRANT)
+        lib.name_many(self._handle, clients.ctypes.data, len(clients), grants.ctypes.data, len(grants))
+        return grants
+
+    @property
+    def quota(self) -> int:
+        """How many clients more the lane may let in."""
+        with self._lock:
+            return lib.ask(lib.quota_left, self._handle)
+
+
+class Floor:
+    """A counting network on atomic words, by which at most `quota` clients get names: one epoch.
+
+    `lane` gives each thread a lane of its own, and after the threads have ended `close` says who has which name. The
+    width is 2, 4, 8, 16, 32, 64, 128 or 256. With `apart` no two words of the network share a cache line: that is for
+    machines of many processors.
+
+    Raises ValueError for a network that there is not, NoSuchNetwork for its width, NoSuchQuota, OverflowError and
+    NoMemory.
+    """
+
+    def __init__(
+        self, network: Network = "tree", width: int = 2, quota: int = lib.MOST_CLIENTS, *, apart: bool = False
+    ) -> None:
+        handle, call = lib.Handle(), lib.open_apart if apart else lib.open_floor
+        call(handle, *as_network(network, width), lib.in_range(quota))
+        self.network, self.width = network, width
+        self._rest = Lane(handle)
+
+    def __enter__(self) -> Floor:
+        return self
+
+    def __exit__(self, *_: object) -> None:
+        self._rest.hand_back()
+
+    def lane(self, quota: int | None = None) -> Lane:
+        """A lane with so much of the quota, or with all that is left of it. Lanes that were handed back give theirs
+        again.
+
+        Raises QuotaSpent if less is left, OverflowError, NoMemory, and WasFreed if the floor was closed.
+        """
+        handle, rest = lib.Handle(), self._rest
+        with rest._lock:
+            lib.join_all(rest._handle)
+            some = lib.ask(lib.quota_left, rest._handle) if quota is None else lib.in_range(quota)
+            lib.split_lane(rest._handle, some, handle)
+        return Lane(handle)
+
+    def close(self) -> Quiet:
+        """Takes in all lanes that were handed back, and closes the floor.
+
+        Raises LanesMissing or LanesThere while a lane is open, NoMemory, and WasFreed if the floor was closed.
+        """
+        quiet, rest = lib.Handle(), self._rest
+        with rest._lock:
+            lib.join_all(rest._handle)
+            lib.close_floor(rest._handle, quiet)
+        try:
+            holders = np.empty(lib.ask(lib.quiet_clients, quiet), np.uint64)
+            counts = np.empty(lib.ask(lib.quiet_exits, quiet), np.uint64)
+            lib.list_holders(quiet, holders.ctypes.data, len(holders))
+            lib.list_counts(quiet, counts.ctypes.data, len(counts))
+            return Quiet(holders, counts)
+        finally:
+            lib.free_quiet(quiet)

@@ -1,0 +1,216 @@
+import concurrent.futures
+import copy
+import gc
+import multiprocessing
+import os
+import pickle
+import threading
+import time
+
+import numpy as np
+import pytest
+
+import renamer
+from renamer import CLIENT
+from renamer._arrays import as_clients
+
+NETWORKS = [("bitonic", 8), ("periodic", 4), ("tree", 2), ("tree", 64)]
+
+
+def tight(names, k):
+    return sorted(np.asarray(names).tolist()) == list(range(k))
+
+
+@pytest.mark.parametrize("network, width", NETWORKS)
+@pytest.mark.parametrize("apart", [False, True])
+def test_sixteen_threads_get_each_name_once(network, width, apart):
+    with renamer.Floor(network, width, 1600, apart=apart) as floor:
+        lanes = [floor.lane(100) for _ in range(16)]
+
+        def name(lane, first):
+            with lane:
+                some = np.arange(first, first + 50)
+                many = lane.name_many(some)
+                single = {client: lane.name(client) for client in range(first + 50, first + 100)}
+                return dict(zip(some.tolist(), many.tolist())) | single
+
+        named = {}
+        with concurrent.futures.ThreadPoolExecutor(16) as pool:
+            for part in pool.map(name, lanes, range(0, 16000, 1000)):
+                named |= part
+        closed = floor.close()
+    assert tight(list(named.values()), 1600)
+    assert {int(c): n for n, c in enumerate(closed.holders)} == named
+    assert closed.counts.sum() == 1600 and closed.counts.max() - closed.counts.min() <= 1
+
+
+def test_names_of_an_array_stand_in_its_order():
+    clients = np.random.default_rng(3).integers(0, 2**64, 5000, dtype=np.uint64)
+    for network, width in NETWORKS:
+        with renamer.Floor(network, width, 5000) as floor, floor.lane() as lane:
+            names = lane.name_many(clients)
+            lane.hand_back()
+            holders = floor.close().holders
+        assert tight(names, 5000)
+        assert (holders[names.astype(int)] == clients).all()
+
+
+def test_a_lane_that_all_threads_use_stays_whole():
+    """Without the lane's lock this ends with a segmentation fault, or names are missing at the close."""
+    asked = np.zeros(6144, CLIENT)
+
+
+    def name(_):
+        return [*lane.grant_many(asked)["name"], lane.name(1), *lane.name_many([2])]
+
+    with renamer.Floor("bitonic", 16, 200_000) as floor:
+        lane = floor.lane()
+        with concurrent.futures.ThreadPoolExecutor(8) as pool:
+            found = list(pool.map(name, range(32)))
+        lane.hand_back()
+        assert tight(sum(found, []), 32 * 6146)
+        assert len(floor.close().holders) == 32 * 6146
+
+
+def test_each_refusal_is_an_exception():
+    with pytest.raises(renamer.NoSuchNetwork):
+        renamer.Floor("tree", 3)
+    with pytest.raises(ValueError, match="cubic"):
+        renamer.Floor("cubic")
+    with pytest.raises(renamer.NoSuchQuota) as refused:
+        renamer.Floor(quota=renamer.MOST_CLIENTS + 1)
+    assert pickle.loads(pickle.dumps(refused.value)).status == refused.value.status == 5
+    floor = renamer.Floor(quota=5001)
+    lane = floor.lane(5000)
+    with pytest.raises(renamer.LanesMissing):
+        floor.close()
+    with pytest.raises(renamer.QuotaSpent):
+        floor.lane(2)
+    with pytest.raises(renamer.NoSuchEntry):
+        lane.name(1, 1)
+    with pytest.raises(renamer.QuotaSpent):
+        lane.name_many(range(5001))
+    assert lane.quota == 5000 and lane.name_many(range(5000)).tolist() == list(range(5000))
+    with pytest.raises(renamer.QuotaSpent):
+        lane.name(1)
+    lane.hand_back()
+    lane.hand_back()
+    with pytest.raises(renamer.WasFreed):
+        lane.name(1)
+    assert floor.close().holders.tolist() == list(range(5000))
+    with pytest.raises(renamer.WasFreed):
+        floor.close()
+
+
+def test_numbers_out_of_range_are_refused():
+    floor = renamer.Floor(quota=2)
+    lane = floor.lane(1)
+    for wrong in (-1, 2**64, 2**64 + 1):
+        for call in (
+            lambda: renamer.Floor(quota=wrong),
+            lambda: renamer.Floor(width=wrong),
+            lambda: floor.lane(wrong),
+            lambda: lane.name(wrong),
+            lambda: lane.name(1, wrong),
+            lambda: lane.name_many([wrong, 1]),
+            lambda: lane.name_many([1], wrong),
+        ):
+            with pytest.raises(OverflowError):
+                call()
+    with pytest.raises(renamer.NoSuchNetwork):
+        renamer.Floor(width=2**32 + 2)
+    with pytest.raises(OverflowError):
+        lane.name_many(np.array([1, -1]))
+    for wrong in ([1.5], ["1"], [[1]], [1, 1.0], [None], np.array([1.0]), 1):
+        with pytest.raises(TypeError):
+            lane.name_many(wrong)
+    assert lane.quota == 1 and lane.name(2**64 - 1) == 0
+
+
+def test_a_lane_that_is_dropped_is_handed_back():
+    with renamer.Floor(quota=10) as floor:
+        assert floor.lane(4).name(7) == 0
+        gc.collect()
+        assert floor.lane().quota == 9
+        gc.collect()
+        assert floor.close().holders.tolist() == [7]
+
+
+def test_a_lane_has_one_owner():
+    lane = renamer.Floor(quota=1).lane()
+    for way in (copy.copy, copy.deepcopy, pickle.dumps):
+        with pytest.raises((TypeError, ValueError)):
+            way(lane)
+
+
+@pytest.mark.filterwarnings("ignore::DeprecationWarning")
+def test_the_child_of_a_fork_has_no_lanes():
+    with renamer.Floor(quota=10) as floor, floor.lane() as lane:
+        held = threading.Event(), threading.Event()
+
+        def hold():
+            with lane._lock:
+                held[0].set(), held[1].wait()
+
+        holder = threading.Thread(target=hold)
+        holder.start()
+        held[0].wait()
+        child = multiprocessing.get_context("fork").Process(target=_name_in_child, args=(lane, floor))
+        child.start()
+        child.join(20)
+        ended = child.exitcode
+        child.kill()
+        held[1].set()
+        holder.join()
+        assert ended == 0
+        assert lane.name(1) == 0
+
+
+def _name_in_child(lane, floor):
+    for call in (lambda: lane.name(1), lambda: lane.name_many([1]), floor.lane, floor.close):
+        try:
+            call()
+        except renamer.WasFreed:
+            continue
+        os._exit(1)
+    with renamer.Floor(quota=1) as own, own.lane() as mine:
+        os._exit(mine.name(1))
+
+
+def test_arrays_are_not_copied():
+    asked = np.zeros(3, CLIENT)
+    asked["client"] = [5, 6, 7]
+    with renamer.Floor(quota=3) as floor, floor.lane() as lane:
+        for wrong in (asked[::2], np.zeros(3, np.uint64), asked.reshape(3, 1)):
+            with pytest.raises(TypeError):
+                lane.grant_many(wrong)
+        assert sorted(lane.grant_many(asked)["client"]) == [5, 6, 7]
+    array = np.arange(4, dtype=np.uint64)
+    assert as_clients(array) is array
+    with renamer.Floor(quota=9) as floor, floor.lane() as lane:
+        assert [lane.name(client) for client in range(3)] == [0, 1, 2]
+        assert lane.name_many([]).tolist() == []
+        assert lane.name_many(np.array([3, 4], np.int16)[::-1]).tolist() == [3, 4]
+        assert lane.name_many([2**64 - 1, 0]).tolist() == [5, 6]
+
+
+def test_the_gil_is_free():
+    """While one thread names many, another goes on."""
+    with renamer.Floor("periodic", 256) as floor, floor.lane() as lane:
+        asked = np.zeros(renamer.MOST_CLIENTS, CLIENT)
+        asked["entry"] = np.arange(len(asked)) % 256  # each walks alone, which takes long
+        call = []
+
+        def name():
+            call.append(time.perf_counter())
+            lane.grant_many(asked)
+            call.append(time.perf_counter())
+
+        thread = threading.Thread(target=name)
+        thread.start()
+        steps = []
+        while len(call) < 2:
+            steps.append(time.perf_counter())
+        thread.join()
+    begun, ended = call
+    assert sum(0.2 < (step - begun) / (ended - begun) < 0.8 for step in steps) > 10

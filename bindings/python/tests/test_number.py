@@ -1,0 +1,140 @@
+import pickle
+import subprocess
+import sys
+
+import numpy as np
+import pytest
+
+import renamer
+from renamer._arrays import as_clients
+from renamer._parts import count_off
+from renamer._program import run_part
+
+
+@pytest.mark.parametrize("clients", [0, 1, 2, 63, 64, 65, 262_143, 262_144, 262_145, 600_000])
+def test_any_number_of_clients(clients):
+    assert (count_off(clients) == np.arange(clients)).all()
+    assert renamer.check(renamer.number(np.arange(clients))) == clients
+
+
+def test_duplicates_are_found():
+    for clients in ([7, 5, 7], ["b", "a", "b"], [b"b", b"a", b"b"], np.array([2**64 - 1, 1, 2**64 - 1], np.uint64)):
+        with pytest.raises(renamer.Duplicate) as found:
+            renamer.number(clients)
+        assert pickle.loads(pickle.dumps(found.value)).client == clients[0]
+        assert renamer.number(clients, share=True).tolist() == [1, 0, 1]
+    days = np.array(["2026-11-29", "2026-11-28"], "datetime64[D]")
+    with pytest.raises(renamer.Duplicate, match="^client b stands twice in epoch 2026-11-28$"):
+        renamer.name_part(["b", "b", "b"], days[[0, 1, 1]])
+
+
+def test_identities_that_differ_stay_apart():
+    """numpy makes floats of the first list, and of the second texts without their last zero byte."""
+    for clients in ([2**63, 0, 2**63 + 1], [b"a", b"a\0"], [2**53, 2**53 + 1], [2**70, -1], ["a", "a\0"]):
+        assert sorted(renamer.number(clients, share=True)) == list(range(len(clients)))
+        assert renamer.number(clients).tolist() == list(range(len(clients)))
+
+
+def test_what_is_no_row_of_one_kind_is_refused():
+    dates = np.array(["2026-11-29", "NaT"], "datetime64[s]")
+    for wrong in ([1.0], np.array([1.0]), [[1]], 1, [1, "1"], ["a", None], [None], ["a", float("nan")], dates):
+        with pytest.raises(TypeError):
+            renamer.number(wrong)
+        with pytest.raises(TypeError):
+            renamer.name_part([1], wrong)
+    with pytest.raises(ValueError, match="2 clients, but 1 epochs"):
+        renamer.name_part([1, 2], [1])
+
+
+def test_series():
+    pandas = pytest.importorskip("pandas")
+    texts = pandas.Series(["b", "a", "b"], index=[9, 9, 1])
+    for series in (texts, texts.astype("string"), texts.astype("category"), pandas.Series([7, 5, 7], dtype="Int64")):
+        assert renamer.number(series, share=True).tolist() == [1, 0, 1]
+    with pytest.raises(TypeError):
+        renamer.number(pandas.Series([7, None], dtype="Int64"))
+    clients = pandas.Series([2**64 - 1, 0], dtype="uint64")
+    assert np.shares_memory(as_clients(clients), clients.to_numpy())
+    assert renamer.run(clients).tolist() == renamer.number(clients).tolist() == [0, 1]
+
+
+def cut(total, parts, epochs, seed, same):
+    """Records at random over parts by the hash of client and epoch, as an engine has them."""
+    draw = np.random.default_rng(seed)
+    clients, epoch = draw.integers(0, same, total), draw.integers(0, epochs, total)
+    place = (clients * 7 + epoch * 13) % parts
+    return [(clients[place == p], epoch[place == p]) for p in range(parts)]
+
+
+@pytest.mark.parametrize("seed", range(40))
+def test_parts_are_tight_together(seed):
+    draw = np.random.default_rng([seed, 1])
+    parts = cut(int(draw.integers(0, 3000)), int(draw.integers(1, 9)), int(draw.integers(1, 40)), seed, 200)
+    made = [renamer.name_part(*part, share=True) for part in parts]
+    firsts = renamer.first_names([(part.epochs, part.counts) for part in made])
+    found = {}
+    for (clients, epochs), part, first in zip(parts, made, firsts):
+        names = part.names + first[np.searchsorted(part.epochs, epochs)]
+        for client, epoch, name in zip(clients.tolist(), epochs.tolist(), names.tolist()):
+            assert found.setdefault(epoch, {}).setdefault(client, name) == name
+    for named in found.values():
+        assert sorted(named.values()) == list(range(len(named)))
+
+
+def test_a_client_of_two_epochs_has_two_names():
+    part = renamer.name_part([5, 5], [8, 9])
+    assert part.names.tolist() == [0, 0] and part.epochs.tolist() == [8, 9] and part.counts.tolist() == [1, 1]
+
+
+def test_names_hang_on_no_order():
+    clients = np.random.default_rng(1).permutation(10_000)
+    first = renamer.name_part(clients).names
+    again = np.random.default_rng(2).permutation(10_000)
+    assert (first[again] == renamer.name_part(clients[again]).names).all()
+
+
+def test_check_finds_what_is_not_tight():
+    most = 1_048_576
+    assert renamer.check([]) == 0
+    assert renamer.check(np.random.default_rng(1).permutation(most + 5)) == most + 5
+    full = np.arange(most)
+    largest = full.astype(np.uint64) + np.uint64(2**64 - most)
+    for names in ([0, 2], [0, 0], [1], [-1, 0], [*full[:-1], most], [*full, most - 1], [*full, most + 1], largest):
+        with pytest.raises(renamer.NotTight):
+            renamer.check(names)
+    with pytest.raises(renamer.NotTight, match="DuplicateClient record 2"):
+        renamer.check([0, 1], [7, 7])
+    for wrong in ([0.0], [[0]]):
+        with pytest.raises(TypeError):
+            renamer.check(wrong)
+    with pytest.raises(ValueError, match="1 names, but 2 clients"):
+        renamer.check([0], [1, 2])
+
+
+def test_the_program_names_a_batch():
+    draw = np.random.default_rng(5)
+    clients, epochs = draw.integers(0, 2**64, 3000, dtype=np.uint64), draw.integers(0, 9, 3000)
+    names = renamer.run(clients, epochs)
+    for epoch in range(9):
+        assert (names[epochs == epoch] == np.arange((epochs == epoch).sum())).all()
+    assert renamer.run([]).tolist() == [] and renamer.run([7, 5]).tolist() == [0, 1]
+    with pytest.raises(renamer.Refusal, match="^record 3: Duplicate$"):
+        renamer.run([7, 5, 7])
+    with pytest.raises(OverflowError):
+        renamer.run([-1])
+    with pytest.raises(ValueError, match="2 clients, but 1 epochs"):
+        renamer.run([1, 2], [1])
+
+
+def test_a_part_is_the_same_by_library_and_program():
+    draw = np.random.default_rng(6)
+    clients, epochs = draw.permutation(3000), draw.integers(2**60, 2**60 + 9, 3000)
+    for one, other in zip(renamer.name_part(clients, epochs), run_part(clients, epochs)):
+        assert one.dtype == other.dtype and (one == other).all()
+
+
+def test_the_program_runs():
+    ran = subprocess.run([sys.executable, "-m", "renamer", "--version"], capture_output=True, text=True)
+    assert ran.stdout == f"renamer {renamer.__version__}\n" and ran.returncode == 0
+    ran = subprocess.run([sys.executable, "-m", "renamer", "run", "--width", "3"], capture_output=True)
+    assert ran.returncode == 2
