@@ -1,4 +1,4 @@
-# Completions of renamer for bash.
+# Completions of renamer and its tools for bash.
 
 # Sets COMPREPLY to what may follow: a value of the option before, or else a job, or an option of the job that was not
 # given yet. $2 is the word that was begun, and $3 the one before.
@@ -30,4 +30,33 @@ _renamer() {
     mapfile -t COMPREPLY < <(compgen -W "$words" -- "$word")
 }
 
+# The same for a tool; files follow where nothing else is offered.
+_renamer_tool() {
+    local word=$2 before=$3 words='' given
+    [[ $word != = ]] || word=
+    [[ $before != = ]] || before=${COMP_WORDS[COMP_CWORD - 2]}
+    case $before in
+        --network) words='bitonic periodic tree' ;;
+        --width) words='2 4 8 16 32 64 128 256' ;;
+        --clients | --seed | --epochs | --at | --beat | --own | --other | --busy) return ;;
+        --replay | --output | --csv | --picture | --networks | --strides | --processors | *'<' | *'>') ;;
+        *)
+            case ${COMP_WORDS[0]##*/} in
+                renamer-picture) words=' --replay --output --at --table --beat --help ' ;;
+                renamer-schedule) words=' --clients --seed --network --width --epochs --help ' ;;
+                renamer-contention)
+                    words=' --networks --strides --processors --own --other --busy --csv --picture --measure --help '
+                    ;;
+            esac
+            for given in "${COMP_WORDS[@]:1:COMP_CWORD-1}"; do
+                words=${words/ "$given" / }
+            done
+            # Where a file may stand, options are offered once one is begun.
+            [[ $word == -* || ${COMP_WORDS[0]} != *renamer-picture ]] || words=
+            ;;
+    esac
+    mapfile -t COMPREPLY < <(compgen -W "$words" -- "$word")
+}
+
 complete -o default -F _renamer renamer
+complete -o default -F _renamer_tool renamer-picture renamer-schedule renamer-contention

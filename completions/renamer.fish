@@ -1,4 +1,4 @@
-# Completions of renamer for fish.
+# Completions of renamer and its tools for fish.
 
 set -l jobs run replay check show help
 
@@ -26,3 +26,29 @@ complete -c renamer -n '__fish_seen_subcommand_from run' -l hand -x -a '(seq 64)
 complete -c renamer -n '__fish_seen_subcommand_from run' -l form -x -a 'report grants' \
     -d 'What is written: report (exits and names) or grants (CSV for check)'
 complete -c renamer -n '__fish_seen_subcommand_from run' -l carry -d 'Keep the counters from epoch to epoch'
+
+complete -c renamer-picture -s h -l help -d 'Print help'
+complete -c renamer-picture -l replay -r -d 'What renamer replay prints'
+complete -c renamer-picture -l output -r -d 'Where the picture goes'
+complete -c renamer-picture -l at -x -d 'Draw the moment after so many events'
+complete -c renamer-picture -l table -d 'Print where each client is'
+complete -c renamer-picture -l beat -x -d 'How many seconds an event takes'
+
+complete -c renamer-schedule -f -s h -l help -d 'Print help'
+complete -c renamer-schedule -l clients -x -d 'How many clients'
+complete -c renamer-schedule -l seed -x -d 'Of what is random'
+complete -c renamer-schedule -l network -x -a 'bitonic periodic tree' -d 'The kind of network'
+complete -c renamer-schedule -l width -x -a '2 4 8 16 32 64 128 256' -d 'The width of the network'
+complete -c renamer-schedule -l epochs -x -d 'How many epochs'
+
+complete -c renamer-contention -f -s h -l help -d 'Print help'
+complete -c renamer-contention -l networks -x -d 'The networks, with commas'
+complete -c renamer-contention -l strides -x -d 'How many words apart words lie'
+complete -c renamer-contention -l processors -x -d 'Numbers of processors'
+complete -c renamer-contention -l own -x -d 'ns of an add on a line of its own'
+complete -c renamer-contention -l other -x -d 'ns of an add on another line'
+complete -c renamer-contention -l busy -x -d 'ns for which it keeps the line'
+complete -c renamer-contention -l csv -r -d 'Write the table as CSV'
+complete -c renamer-contention -l picture -r -d 'Write it as a picture'
+complete -c renamer-contention -l measure -d 'Measure the prices here'
+
