@@ -1,33 +1,28 @@
 "use strict";
-// Draws a network on its places, and a floor on it: its clients are tokens, on wires or behind the exits.
+// Draws a network on its places: wires, balancers, entries, exits and the parts of which it is made.
 const SVG = "http://www.w3.org/2000/svg";
-// The colours of Okabe and Ito, which also those tell apart who see few colours, and the colour of letters on each.
-const COLOURS = [
-    ["#0072b2", "white"], ["#e69f00", "black"], ["#000000", "white"], ["#56b4e9", "black"],
-    ["#d55e00", "black"], ["#009e73", "black"], ["#f0e442", "black"], ["#cc79a7", "black"],
-];
-// How wide the words below a token behind an exit are, in letters, and how many such tokens at most stand apart.
-const NAME_LETTERS = 8, NAMES_APART = 6;
 
-const colourOf = id => COLOURS[Number(BigInt(id) % BigInt(COLOURS.length))];
 const text = (x, y, words, more = "") => `<text x="${x}" y="${y}" dy=".35em" ${more}>${words}</text>`;
 const box = (width, height, corner) =>
     `x="${-width / 2}" y="${-height / 2}" width="${width}" height="${height}" rx="${corner * height}"`;
 
 class Drawing {
     constructor(svg, wiring, places) {
-        Object.assign(this, {svg, wiring, places, tokens: new Map()});
-        this.nameWidth = LETTER * places.font * NAME_LETTERS;
-        this.width = places.afterExits + NAMES_APART * this.nameWidth + places.font;
+        Object.assign(this, {svg, wiring, places, parts: partsOf(wiring)});
         // Without the line above, in which a picture has its heading.
-        svg.setAttribute("viewBox", `0 ${places.line} ${this.width} ${places.bottom - places.line}`);
-        svg.style.setProperty("--wide", this.width);
+        svg.setAttribute("viewBox", `0 ${places.line} ${places.width} ${places.bottom - places.line}`);
+        svg.style.setProperty("--wide", places.width);
         svg.style.setProperty("--font", places.font);
-        svg.innerHTML = [...this.wires(), ...this.balancers(), ...this.ends(), '<g id="tokens"></g>'].join("");
-        this.group = svg.querySelector("#tokens");
+        svg.innerHTML = [
+            `<g id="parts">${this.boxes().join("")}</g>`, ...this.wires(), ...this.balancers(), '<g id="tokens"></g>',
+            ...this.countsOfWires(), this.ends("entries", 0, places.left, this.entries()),
+            this.ends("exits", places.right, places.afterExits - places.right, this.exits()),
+        ].join("");
         this.dots = [...svg.querySelectorAll(".dot")];
         this.lines = [...svg.querySelectorAll(".wire")];
         this.counts = [...svg.querySelectorAll(".count")];
+        this.stairs = [...svg.querySelectorAll(".stair")];
+        this.tokens = new Tokens(svg.querySelector("#tokens"), wiring, places);
     }
 
     wires() {
@@ -35,8 +30,16 @@ class Drawing {
         return wiring.ends.map((_, wire) => {
             const begin = places.wireBegin(wire), y = places.wireY(wire), x = begin + half + WIRE_AWAY * places.font;
             return `<path class="wire" d="M${begin} ${y}H${places.wireEnd(wire)}"/>`
-                + text(x, y - 0.72 * places.font, wire, 'class="number"')
-                + text(places.gap(wire)[0], y + 0.72 * places.font, "", 'class="count"');
+                + text(x, y - 0.72 * places.font, wire, 'class="number"');
+        });
+    }
+
+    // How many came to each wire stands in front of tokens, and beside the balancer's box.
+    countsOfWires() {
+        const {places, wiring} = this, half = places.boxWidth(wiring.outputs.length - 1) / 2;
+        return wiring.ends.map((_, wire) => {
+            const away = wire < wiring.entries ? WIRE_AWAY * places.font : half + 0.2 * places.font;
+            return text(places.wireBegin(wire) + away, places.wireY(wire) + 0.98 * places.font, "", 'class="count"');
         });
     }
 
@@ -54,90 +57,94 @@ class Drawing {
         });
     }
 
-    ends() {
-        const {places, wiring} = this, {font, left, right} = places;
-        const width = left - 1.2 * font, height = Math.min(2.2 * font, places.row - 4);
-        const entries = Array.from({length: wiring.entries}, (_, entry) =>
+    // Entries or exits, on a ground that hides what is scrolled below them.
+    ends(id, x, width, drawn) {
+        const {line, bottom} = this.places;
+        return `<g id="${id}"><rect class="ground" x="${x}" y="${line}" width="${width}" height="${bottom - line}"/>`
+            + `${drawn.join("")}</g>`;
+    }
+
+    entries() {
+        const {places, wiring} = this, {font, left, row} = places;
+        const width = left - 1.2 * font, height = places.finger ? row - 0.7 * font : Math.min(2.2 * font, row - 4);
+        return Array.from({length: wiring.entries}, (_, entry) =>
             `<g class="entry" data-entry="${entry}" tabindex="0" role="button" `
             + `aria-label="let a client in by entry ${entry}" `
             + `transform="translate(${left / 2} ${places.wireY(entry)})">`
-            + `<rect ${box(width, height, 0.2)}/>${text(0, 0, `entry ${entry}`)}</g>`);
-        const exits = places.exitWires.map((wire, exit) =>
-            text(right + 0.6 * font, places.wireY(wire), `exit ${exit}`, 'class="exit"'));
-        return [...entries, ...exits];
+            + `<rect class="finger" ${box(left, row, 0)}/><rect class="body" ${box(width, height, 0.2)}/>`
+            + `${text(0, 0, places.entryWords(entry))}</g>`);
     }
 
-    // Draws what is so now. Tokens walk to their new places, and the last to move is on top.
+    exits() {
+        const {places} = this;
+        return this.wiring.exitWires.map((wire, exit) =>
+            text(places.right + 0.6 * places.font, places.wireY(wire), places.exitWords(exit), 'class="exit"'));
+    }
+
+    // A box about each part, and behind it a bar for each of its wires, as long as its count.
+    boxes() {
+        const {places, wiring} = this, half = places.boxWidth(wiring.outputs.length - 1) / 2 + 0.4 * places.font;
+        this.behind = this.parts.map(part => wiresBehind(part, wiring, places.rows));
+        return this.parts.map(({words, levels: [first, last], rows: [top, bottom]}, at) => {
+            const x = places.gaps[first][1] - 0.2 * places.font, end = places.gaps[last + 1][0] - half;
+            const y = places.y(top) - 0.5 * places.row + 2, height = places.y(bottom) + 0.5 * places.row - 2 - y;
+            const stairs = this.behind[at].map(wire =>
+                `<rect class="stair" x="${places.gap(wire)[0]}" y="${places.wireY(wire) - 0.42 * places.row}" `
+                + `height="${0.84 * places.row}" width="0"/>`);
+            const labelX = x + half + 2.2 * places.font, labelY = places.y(top) - 1.4 * places.font;
+            return `<rect class="part" x="${x}" y="${y}" width="${end - x}" height="${height}" rx="6"/>`
+                + `${text(labelX, labelY, words, 'class="number"')}${stairs.join("")}`;
+        });
+    }
+
+    // Draws what is so now.
     show(floor) {
-        floor.next.forEach((output, balancer) => [0, 1].forEach(at =>
-            this.dots[2 * balancer + at].classList.toggle("next", output === at)));
+        this.showDots(floor.next);
         this.showCounts(floor.came);
-        for (const [id, token] of this.tokens) {
-            if (!floor.clients.has(id)) {
-                token.remove();
-                this.tokens.delete(id);
-            }
-        }
-        const standing = [...floor.clients.values()].sort((a, b) => a.since - b.since);
-        standing.filter(it => !this.tokens.has(it.id)).forEach(it => this.makeToken(it));
-        // So that they are seen to walk from their entries.
-        this.group.getBoundingClientRect();
-        const inside = Map.groupBy(standing.filter(it => it.wire !== null), it => it.wire);
-        const outside = Map.groupBy(standing.filter(it => it.wire === null), it => it.exit);
-        for (const [wire, here] of inside) this.showOnWire(wire, here);
-        for (const [exit, here] of outside) this.showBehindExit(exit, here);
+        this.showStairs(floor.came);
+        this.tokens.show(floor);
+    }
+
+    showDots(next) {
+        next.forEach((output, balancer) => {
+            if (this.shownNext?.[balancer] === output) return;
+            [0, 1].forEach(at => this.dots[2 * balancer + at].classList.toggle("next", output === at));
+        });
+        this.shownNext = [...next];
     }
 
     // A wire to which nobody came has a 0 if somebody went by its balancer.
     showCounts(came) {
-        this.counts.forEach((count, wire) => {
+        this.shownCounts = this.counts.map((count, wire) => {
             const pair = this.wiring.outputs[this.wiring.sources[wire]] ?? [wire];
-            count.textContent = pair.some(it => came[it]) ? came[wire] : "";
+            const words = pair.some(it => came[it]) ? String(came[wire]) : "";
+            if (words !== (this.shownCounts?.[wire] ?? "")) count.textContent = words;
+            return words;
         });
     }
 
-    // The first stands at the end of the gap, and others behind it, one over another if there is no room.
-    showOnWire(wire, here) {
-        const {places} = this, [begin, end] = places.gap(wire), half = places.tokenWidth / 2;
-        const apart = Math.min(places.tokenWidth, (end - begin - 2 * half) / Math.max(1, here.length - 1));
-        here.forEach((it, at) => this.put(it, end - half - apart * at, places.wireY(wire), ""));
-    }
-
-    showBehindExit(exit, here) {
-        const {places} = this, y = places.wireY(places.exitWires[exit]), most = (NAMES_APART - 1) * this.nameWidth;
-        const apart = Math.min(this.nameWidth, most / Math.max(1, here.length - 1));
-        const first = places.afterExits + this.nameWidth / 2;
-        here.forEach((it, at) => this.put(it, first + apart * at, y, `name ${it.name}`));
-    }
-
-    put(it, x, y, note) {
-        const token = this.tokens.get(it.id), isInside = it.wire !== null;
-        const label = isInside ? `take client ${it.id} on from wire ${it.wire}` : `client ${it.id}, ${note}`;
-        token.setAttribute("class", isInside ? "token inside" : "token");
-        token.setAttribute("aria-label", label);
-        token.setAttribute("tabindex", isInside ? 0 : -1);
-        token.style.transform = `translate(${x}px, ${y}px)`;
-        token.lastChild.textContent = note;
-        it.place = [x, y];
-    }
-
-    makeToken({id, entry}) {
-        const {font, left, box: height, row} = this.places, [fill, letters] = colourOf(id);
-        const token = document.createElementNS(SVG, "g"), width = this.places.boxWidth(id);
-        token.dataset.client = id;
-        token.setAttribute("role", "button");
-        token.style.transform = `translate(${left}px, ${this.places.wireY(entry)}px)`;
-        token.innerHTML = `<rect class="finger" ${box(width + font, Math.min(row, 3 * font), 0)}/>`
-            + `<rect class="body" ${box(width, height, 0.5)} fill="${fill}"/>`
-            + text(0, 0, id, `class="id" style="fill: ${letters}"`) + text(0, 1.25 * font, "", 'class="note"');
-        this.group.append(token);
-        this.tokens.set(id, token);
+    showStairs(came) {
+        const wires = this.behind.flat(), most = Math.max(4, ...wires.map(wire => came[wire]));
+        wires.forEach((wire, at) => {
+            const [begin, end] = this.places.gap(wire);
+            this.stairs[at].setAttribute("width", (end - begin) * came[wire] / most);
+        });
     }
 
     // Marks the wire to which a client would go next, if it is inside and goes by a balancer.
     mark(it, floor) {
         const end = it && it.wire !== null ? this.wiring.ends[it.wire] : null;
         const wire = end && !end.isExit ? this.wiring.outputs[end.number][floor.next[end.number]] : -1;
-        this.lines.forEach((line, at) => line.classList.toggle("marked", at === wire));
+        this.lines[this.marked]?.classList.remove("marked");
+        this.lines[wire]?.classList.add("marked");
+        this.marked = wire;
+    }
+
+    // Keeps entries and exits in sight, where the network is wider than its frame.
+    stick(frame) {
+        const scale = this.svg.clientWidth / this.places.width || 1;
+        const back = Math.min(0, (frame.scrollLeft + frame.clientWidth) / scale - this.places.afterExits);
+        this.svg.querySelector("#entries").setAttribute("transform", `translate(${frame.scrollLeft / scale} 0)`);
+        this.svg.querySelector("#exits").setAttribute("transform", `translate(${back} 0)`);
     }
 }

@@ -10,7 +10,7 @@ const BYTES = 8;
 class Refused extends Error {
     constructor(status) {
         const [name, meaning] = STATUSES[status];
-        super(`by the library, ${name} (${status}): ${meaning}`);
+        super(`${meaning} (${name}, ${status})`);
         this.status = status;
     }
 }
@@ -91,7 +91,9 @@ function wiringOf(library, kind, width) {
         if (!moved.hasLeft) (outputs[moved.place] ??= [])[moved.number % 2] = moved.next;
     }
     library.release("free", [lane]);
-    return {kind, width, entries, ends, outputs, ...levelsOf(ends, outputs)};
+    const exitWires = [];
+    ends.forEach(({isExit, number}, wire) => { if (isExit) exitWires[number] = wire; });
+    return {kind, width, entries, ends, outputs, exitWires, ...levelsOf(ends, outputs)};
 }
 
 // The balancer that each wire comes from, and for each balancer how many others come before it on the longest way.

@@ -13,7 +13,8 @@ struct head {
 };
 
 enum { PAGE = 65536, UNIT = 16 };
-static const size_t MOST = (size_t)1 << 33;
+/* No block is larger than what 32 bits can address. */
+static const size_t MOST = (size_t)1 << 32;
 
 /* Where the linker says that memory is free from. */
 extern unsigned char __heap_base;
@@ -44,14 +45,16 @@ static void give(struct head *it) {
     }
 }
 
-/* Asks the browser for a block of so many bytes. */
+/*
+ * Asks the browser for a block of so many bytes. Whether it was given is seen by the size of the memory: where its
+ * addresses are cut to 32 bits, a refusal is another number than -1.
+ */
 static int grow(size_t size) {
     size_t begin = end_of_memory ? end_of_memory : ((size_t)&__heap_base + UNIT - 1) / UNIT * UNIT;
     size_t end = __builtin_wasm_memory_size(0) * PAGE;
-    if (end < begin + size) {
-        if (__builtin_wasm_memory_grow(0, (begin + size - end + PAGE - 1) / PAGE) == (size_t)-1) return 0;
-        end = __builtin_wasm_memory_size(0) * PAGE;
-    }
+    if (end < begin + size) __builtin_wasm_memory_grow(0, (begin + size - end + PAGE - 1) / PAGE);
+    end = __builtin_wasm_memory_size(0) * PAGE;
+    if (end < begin + size) return 0;
     struct head *it = (struct head *)begin;
     it->size = end - begin;
     end_of_memory = end;

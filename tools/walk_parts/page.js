@@ -1,56 +1,99 @@
 "use strict";
 // The page: which network, which commands so far and at what moment of them, and what buttons, keys and clicks do.
 const WIDTHS = [2, 4, 8, 16, 32];
-// Tokens have room for labels of so many letters. There is room for two before each level, but for five where all come
-// into a tree.
-const LETTERS = 3;
-const placesOf = wiring => new Places(wiring, LETTERS, level => wiring.entries === 1 && level === 0 ? 5 : 2);
+// Tokens have room for labels of so many letters. There is room for so many before each level, but for five where all
+// come into a tree; for fingers there is room for one and a number.
+const LETTERS = 3, TOKENS = 2, TREE_TOKENS = 5, FINGER_TOKENS = 1.7;
+
+function placesOf(wiring, finger = 0) {
+    const tokens = finger ? FINGER_TOKENS : TOKENS, first = wiring.entries > 1 ? tokens : finger ? TOKENS : TREE_TOKENS;
+    return new Places(wiring, LETTERS, level => level ? tokens : first, finger);
+}
+
 // So many commands a schedule has at most.
 const MOST_COMMANDS = 20000;
+// A finger wants so many pixels.
+const FINGER = 44;
+// So many commands are done again at once. Of longer walks the page says how far it is, each so many milliseconds.
+const SHORT_WALK = 1000, SLICE = 60;
+// Who waits when the page opens.
+const WAITING = "e101.0,e102.1,e103.3";
 
 const $ = id => document.getElementById(id);
 const random = below => Math.floor(Math.random() * below);
 
 class Page {
     constructor(library) {
-        Object.assign(this, {library, floor: null, timer: null, fault: "", hint: "", commands: [], done: 0});
-        this.open("bitonic", 4, false, []);
+        Object.assign(this, {library, floor: null, timer: null, fault: "", commands: [], done: 0, marked: null});
+        this.narrow = matchMedia("(max-width: 640px)");
+        this.open("bitonic", 4, false, commandsOf(WAITING));
+        this.isWelcome = true;
     }
 
     // Opens a network, with a schedule of which so many commands are done.
     open(kind, width, carries, commands, done = commands.length) {
+        if (commands.length > MOST_COMMANDS) throw Error(`a schedule has ${MOST_COMMANDS} records at most here`);
         const wiring = wiringOf(this.library, kind, width);
-        Object.assign(this, {wiring, carries, commands, hint: ""});
-        this.drawing = new Drawing($("network"), wiring, placesOf(wiring));
+        Object.assign(this, {wiring, carries, commands, hint: "", lesson: null, tries: 0, marked: null});
+        this.isWelcome = false;
+        this.draw();
         this.goTo(Math.min(done, commands.length));
         $("frame").scrollTo(0, 0);
     }
 
-    // Does the commands before a moment again, from nothing.
-    goTo(moment) {
-        this.floor?.release();
-        this.floor = new Floor(this.library, this.wiring, this.carries);
-        this.answers = [this.floor.heading()];
-        this.last = null;
-        for (this.done = 0; this.done < moment; this.done += 1) this.perform(this.commands[this.done]);
+    draw() { this.drawing = new Drawing($("network"), this.wiring, this.places()); }
+
+    // The layout, in which entries are as high and wide as a finger wants them if the window is narrow.
+    places() {
+        if (!this.narrow.matches) return placesOf(this.wiring);
+        const first = placesOf(this.wiring, FINGER), least = getComputedStyle($("network")).getPropertyValue("--least");
+        const scale = Math.max(Number(least) / first.font, Math.min(1, $("frame").clientWidth / first.width));
+        return placesOf(this.wiring, 1.05 * FINGER / scale);
     }
 
-    perform(command) {
-        if (this.done === MOST_COMMANDS) throw Error(`a schedule has ${MOST_COMMANDS} records at most here`);
-        if (!isRecord(command)) throw Error(`record ${this.done + 1} is none of a schedule: ${command.slice(0, 60)}`);
-        const lines = this.floor.run(command);
-        this.answers.push(...lines);
-        this.last = this.floor.clients.get(lines[0].split(" ")[1]) ?? null;
+    // Does the commands before a moment again, from nothing: at once, or after this is said.
+    goTo(moment) {
+        Object.assign(this, {done: 0, until: moment, hasOldFloor: true});
+        if (moment <= SHORT_WALK) this.catchUp(Infinity);
+    }
+
+    // Does so many of them as a slice of time allows.
+    catchUp(slice = SLICE) {
+        if (this.hasOldFloor) this.openFloor();
+        for (const begin = performance.now(); this.isBehind() && performance.now() - begin < slice;) this.perform();
+    }
+
+    openFloor() {
+        this.floor?.release();
+        const floor = new Floor(this.library, this.wiring, this.carries);
+        Object.assign(this, {floor, answers: [floor.heading()], last: null, hasOldFloor: false});
+    }
+
+    isBehind() { return this.done < this.until; }
+
+    // A command that cannot be done is not part of the walk, nor is what comes after it.
+    perform() {
+        try {
+            this.answers.push(...this.floor.run(this.commands[this.done]));
+        } catch (why) {
+            this.commands.length = this.until = this.done;
+            throw why;
+        }
+        this.last = this.floor.clients.get(this.floor.last.id) ?? null;
+        this.done += 1;
     }
 
     forth() {
         if (this.done === this.commands.length) return this.stop();
-        this.perform(this.commands[this.done]);
-        this.done += 1;
+        this.perform();
+        this.until = this.done;
+        this.isWelcome = false;
+        if (this.floor.last.what === "leave" && !this.floor.inside) this.tries += 1;
     }
 
     // Does a new command: what stood behind this moment is left out.
     act(command) {
+        if (this.done === MOST_COMMANDS) throw Error(`a schedule has ${MOST_COMMANDS} records at most here`);
         this.commands.length = this.done;
         this.commands.push(command);
         this.hint = "";
@@ -100,17 +143,27 @@ class Page {
         this.repeat("play", () => { this.forth(); if (this.done === this.commands.length) this.stop(); });
     }
 
+    openAt(network, schedule, done) {
+        const [kind, width] = network.split("-");
+        this.open(kind, Number(width), false, commandsOf(schedule), done);
+    }
+
     showExample(at) {
-        const [, network, schedule, hint] = EXAMPLES[at], [kind, width] = network.split("-");
-        this.open(kind, Number(width), false, commandsOf(schedule), 0);
+        const [, network, schedule, hint] = EXAMPLES[at];
+        this.openAt(network, schedule, 0);
         this.hint = hint;
         this.play();
     }
 
+    openLesson(at) {
+        const {network, schedule, hasParts} = LESSON[at];
+        this.openAt(network, schedule);
+        this.lesson = at;
+        $("parts-seen").checked = Boolean(hasParts);
+    }
+
     loadSchedule() {
-        const [header, ...records] = $("schedule").value.trim().split(/\r?\n/);
-        if (header !== "op,client,wire") throw Error("a schedule begins with the line op,client,wire");
-        this.open(this.wiring.kind, this.wiring.width, this.carries, records);
+        this.open(this.wiring.kind, this.wiring.width, this.carries, commandsOfText($("schedule").value));
     }
 
     // Does something, and shows what is so then, or why it could not be done.
@@ -121,10 +174,10 @@ class Page {
         } catch (why) {
             this.stop();
             this.fault = why.message;
-            // A record that is none is not part of the walk.
-            this.commands.length = Math.min(this.commands.length, this.done);
         }
         showAll(this);
+        clearTimeout(this.later);
+        if (this.isBehind()) this.later = setTimeout(() => this.attempt(() => this.catchUp()));
     }
 
     // ---- the address, which has the whole walk
@@ -134,10 +187,12 @@ class Page {
         return `#${network}/${this.done}/${this.commands.map(shortOf).join()}`;
     }
 
+    // An address that was sent on may have each comma as %2C.
     read(address) {
-        const [network, done, schedule] = address.slice(1).split("/"), [kind, word, carry] = network.split("-");
-        const width = Number(word), isThere = KINDS.includes(kind) && WIDTHS.includes(width);
-        if (!isThere) throw Error("the address has no network of this page");
+        const [network, done, schedule] = address.slice(1).replaceAll(/%2c/gi, ",").split("/");
+        const [kind, word, carry] = network.split("-"), width = Number(word);
+        if (kind === "lesson" && LESSON[width - 1]) return this.openLesson(width - 1);
+        if (!KINDS.includes(kind) || !WIDTHS.includes(width)) throw Error("the address has no network of this page");
         this.open(kind, width, carry === "carry", commandsOf(schedule ?? ""), Number(done) || 0);
     }
 }
@@ -150,16 +205,3 @@ const RULES = {
     rounds: here => here.reduce((a, b) => b.since < a.since ? b : a),
     thread: here => here.reduce((a, b) => b.entry < a.entry || b.entry === a.entry && b.wire < a.wire ? b : a),
 };
-
-// A command as it stands in an address, and back.
-function shortOf(command) {
-    return command.replace(/^enter,(\d+),(\d+)$/, "e$1.$2").replace(/^step,(\d+),$/, "s$1").replace("turn,,", "t");
-}
-
-function longOf(short) {
-    return short.replace(/^e(\d+)\.(\d+)$/, "enter,$1,$2").replace(/^s(\d+)$/, "step,$1,").replace(/^t$/, "turn,,");
-}
-
-function commandsOf(text) {
-    return text ? text.split(",").map(longOf) : [];
-}

@@ -2,27 +2,31 @@
 // What stands at which place, in pixels: the layouts of tools/picture_parts/layout.py, in which the numbers here are
 // explained. checks/long/walk compares the two.
 const LEVEL_GAP = 0.5, LETTER = 0.6, BOLD = 0.67, WIRE_AWAY = 0.45, WIRE_LETTER = 0.9, TREE = 4.4, LINES = 3.1;
+// How wide the words below a token behind an exit are, in letters; how many such tokens are seen, for fingers fewer.
+const NAME_LETTERS = 7, NAMES_SEEN = 3, NAMES_FOR_FINGERS = 2;
 const SCALES = [[16, 11, 46], [64, 8, 28], [Infinity, 5, 16]];
 
 class Places {
     // A network with room for tokens with labels of so many letters: so many before each level, and behind the last.
-    constructor(wiring, letters, tokensBefore) {
-        this.wiring = wiring;
-        this.isTree = wiring.entries === 1;
+    // For fingers entries have only their numbers, and are so high and wide at least.
+    constructor(wiring, letters, tokensBefore, finger = 0) {
+        Object.assign(this, {wiring, finger, isTree: wiring.entries === 1});
         const [, font, row] = SCALES.find(([most]) => wiring.width <= most);
         const column = (this.isTree ? TREE : LINES) * font, least = LETTER * font * (1 + digits(wiring.ends.length));
-        Object.assign(this, {font, row, column: Math.max(column, least), line: 1.5 * Math.max(font, 11)});
+        Object.assign(this, {font, row: Math.max(row, finger), column: Math.max(column, least)});
+        this.line = 1.5 * Math.max(font, 11);
         this.box = 1.45 * font;
         this.dot = 0.32 * font;
         this.tokenWidth = (LETTER * letters + 1) * font;
-        this.left = this.room(`entry ${wiring.entries}`) + 2 * font;
+        this.left = Math.max(this.room(this.entryWords(wiring.entries)) + 2 * font, finger + 1.2 * font);
         this.rows = this.isTree ? rowsOfLeaves(wiring) : rowsOfLines(wiring);
-        this.exitWires = [];
-        wiring.ends.forEach(({isExit, number}, wire) => { if (isExit) this.exitWires[number] = wire; });
         this.setBars(level => tokensBefore(level) * this.tokenWidth);
         this.right = this.gaps.at(-1)[1];
-        this.afterExits = this.right + this.room(`exit ${wiring.width}`) + font;
-        this.bottom = this.y(Math.max(...this.rows)) + 2.2 * font;
+        this.afterExits = this.right + this.room(this.exitWords(wiring.width)) + font;
+        this.nameWidth = LETTER * font * NAME_LETTERS;
+        this.namesSeen = finger ? NAMES_FOR_FINGERS : NAMES_SEEN;
+        this.width = this.afterExits + this.namesSeen * this.nameWidth + font;
+        this.bottom = this.y(Math.max(...this.rows)) + Math.max(2.2 * font, finger / 2);
     }
 
     // How far to the right each balancer is, and the gap before each level and behind the last, in which tokens stand.
@@ -44,9 +48,11 @@ class Places {
         }
     }
 
+    entryWords(entry) { return this.finger ? `${entry}` : `entry ${entry}`; }
+    exitWords(exit) { return this.finger ? `${exit}` : `exit ${exit}`; }
     room(words) { return LETTER * this.font * String(words).length; }
     boxWidth(words) { return (BOLD * String(words).length + 0.7) * this.font; }
-    y(row) { return this.line + 2.6 * this.font + this.row * row; }
+    y(row) { return this.line + Math.max(2.6 * this.font, this.finger / 2) + this.row * row; }
     wireY(wire) { return this.y(this.rows[wire]); }
     wireBegin(wire) { return wire < this.wiring.entries ? this.left : this.bars[this.wiring.sources[wire]]; }
 
