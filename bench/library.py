@@ -8,13 +8,14 @@ distinct numbers; those of all but the last are dense. All but that begin with r
 its clients in by entries of its own; for the bitonic networks there are rows beside that by which each takes all
 entries. Rows `apart` are of floors whose words lie 128 bytes apart.
 
-One thread is compared by processor time, in uncontended adds, and on two networks to a walk in plain Rust, which makes as
-many adds as a name is, each on the word that the last one's number leads to; several by the clock, each way to the add by
-as many threads. A ratio is the median over ten rounds, in which all ways run in turn; a run is the median of five epochs after
-a first, in which its memory comes from the system. It measures the names only, and not what is made before. Rows of
-lanes are what a lane takes without a name, by one thread: split off, handed back and joined, with as many there as the row
-says; the same of every eighth by turns, while the others are out; and a join while none is back. The rows of
-slabs are left out if the folder of crates has none.
+Rows of takes and lists of takes are of takers, which keep no list. One thread is compared by processor time, in
+uncontended adds, and on some networks to a walk in plain Rust, which makes as many adds as a name is, each on the word
+that the last one's number leads to; several by the clock, each way to the add by as many threads. A ratio is the median
+over ten rounds, in which all ways run in turn; a run is the median of five epochs after a first, in which its memory
+comes from the system. It measures the names only, and not what is made before. Rows of lanes are what a lane takes
+without a name, by one thread: split off, handed back and joined, with as many there as the row says; the same of every
+eighth by turns, while the others are out; and a join while none is back. The rows of slabs are left out if the folder
+of crates has none.
 """
 import statistics
 
@@ -27,8 +28,9 @@ LANES = (1, 8, 64, 1000, 100000)
 BY_LANES = {"lanes": "split off, handed back and joined", "eighth": "with seven eighths of them out",
             "none": "a join with none back"}
 TABLE, ADD, REFUSED = "a mutex and table", "the add", "a refused call"
-# How many adds a name is.
+# How many adds a name is, and how many a take.
 ADDS = {"tree 64": 8, "bitonic 64": 23}
+TAKE_ADDS = {"tree 2": 3, **ADDS}
 SLABS = {"a mutex and slab": "slab", "a sharded slab": "sharded"}
 ALL_OVER = {f"{network} {width} by all entries": ["all-over", network, str(width)]
             for network, width in NETWORKS if network == "bitonic"}
@@ -41,6 +43,8 @@ def ways(namers, slabs):
     for network, width in NETWORKS:
         found[f"{network} {width}"] = [namers, "name", network, str(width)]
         found[f"{network} {width} by lists of 64"] = [namers, "many", network, str(width)]
+        found[f"{network} {width} by takes"] = [namers, "take", network, str(width)]
+        found[f"{network} {width} by takes of 64"] = [namers, "take-many", network, str(width)]
     found |= {name: [namers, *words] for name, words in APART.items()}
     found |= {name: [slabs, word] for name, word in SLABS.items() if slabs}
     return found
@@ -73,14 +77,15 @@ def rows(bench):
     jobs[REFUSED, 1] = [namers, "refused", "1"]
     jobs |= {(f"{lanes} lane{'s' * (lanes > 1)}, {what}", 1): [namers, word, str(lanes), "1"]
              for word, what in BY_LANES.items() for lanes in LANES}
-    jobs |= {(f"a plain walk of {adds} adds", 1): [namers, "walk", str(adds), "1"] for adds in ADDS.values()}
+    jobs |= {(f"a plain walk of {adds} adds", 1): [namers, "walk", str(adds), "1"] for adds in TAKE_ADDS.values()}
     spent = measured(bench, jobs)
     for way, threads in jobs:
         if way != ADD:
             by, unit = ("processor", " adds") if threads == 1 else ("clock", "")
             ratio, times = compared(spent, (way, threads), (ADD, threads), by)
             yield measure.Row(f"{way}, {THREADS[threads]}", ratio, f"{times}{' by the clock' * (threads > 1)}", unit)
-    for way, adds in ADDS.items():
+    takes = {f"{way} by {what}": adds for way, adds in TAKE_ADDS.items() for what in ("takes", "takes of 64")}
+    for way, adds in {**ADDS, **takes}.items():
         ratio, times = compared(spent, (way, 1), (f"a plain walk of {adds} adds", 1), "processor")
         yield measure.Row(f"{way}, one thread, to a plain walk of {adds} adds", ratio, times)
     for way in [way for way, threads in jobs if threads == 4 and way not in (ADD, TABLE, *SLABS)]:

@@ -95,7 +95,7 @@ MANUAL = [
     r"A word of the command line that is not UTF-8\b",
     r"by eight workers",
     r"A word that is not UTF-8\b",
-    r"(\b[\w-]+\([13]\),? ?){8}",
+    r"(\b[\w-]+\([13]\),? ?){7}",
 ]
 
 

@@ -38,9 +38,9 @@ MOST = {
         "atomic_table::Closed": ANY, "atomic_table::Join": 1, "atomic_table::Play": 1, "atomic_table::Seat": ANY,
         "atomic_table::Split": 1, "atomic_table::Table": 2, "atomic_table::TableRule": 1, "Table": 6, "Play": 7,
         "Join": 3, "Split": 3, "table_of": 3, "Counters::new": 1, ".shared": 10, ".fetch_add": 4, ".load": 2,
-        ".split_seat": 3, ".join_seat": 2,
+        ".split_seat": 4, ".join_seat": 2,
         # Lanes that are split off, and floors that open.
-        ".split": 1, ".split_off": 1, "::open_words": 5,
+        ".split": 1, ".split_off": 1, "::open_words": 2,
         # The network, which several may own.
         "std::sync::Arc": ANY, "Arc": 9, "::try_clone": 1, "::shared": 2, ".share": 2, ".share_network": 2,
         # Ghost data, and the receipts.
@@ -73,17 +73,19 @@ MOST = {
         # What was put there is ghost data.
         "std::snapshot::Snapshot": ANY, "Snapshot": 3, "Snapshot::of": 1,
         # Who goes there, and who owns a floor or a row.
-        "std::sync::Arc": ANY, "Arc": 14, "FloorShare": 8, "::try_clone": 2, ".share": 1, ".another_owner": 1,
+        "std::sync::Arc": ANY, "Arc": 19, "FloorShare": 8, "::try_clone": 3, ".share": 1, ".another_owner": 1,
         "with_places": 8, ".hand_back": 4, ".take_back": 3,
-        # Lanes that are split off, and floors that open.
-        ".split": 1, ".split_off": 1, "::open": 1, "::open_after": 2, "::open_shared": 1, "::open_shared_apart": 1,
+        # Lanes and takers that are split off, and floors that open.
+        ".split": 2, ".split_off": 1, "::open": 2, "::open_after": 2, "::open_words": 2, "::open_for_takers": 2,
+        "::opening": 1,
         "std::ptr::null_mut": ANY, "unsafe": 5, "*mut": 5,
     },
 }
 # What stands so often, no more and no less, in the texts of a crate, or of a file of the library in C.
 TEXTS = {
     "renamer_c/": {"const ROWS: usize = 26;": 1, "for at in 0..ROWS {": 1},
-    "../library": {"--redefine-sym renamer_free=": 1, "--redefine-sym renamer_free_quiet=": 1, "redefine-sym": 2},
+    "../library": {"--redefine-sym renamer_free=": 1, "--redefine-sym renamer_free_quiet=": 1,
+                   "--redefine-sym renamer_free_taker=": 1, "redefine-sym": 3},
     "../bindings/c/explain.c": {"static": 0},
     "../bindings/c/free.c": {"static": 0},
     "../bindings/c/heap.c": {"static": 2, "static char nothing;": 1, "static struct got got(": 1},

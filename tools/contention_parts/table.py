@@ -1,8 +1,11 @@
 """A table of names per microsecond, as text, as CSV and as a picture."""
 import math
 
+from .model import WORDS_IN_A_LINE
+
 COLOURS = ("#1d2733", "#b4431f", "#0b4f8a", "#2c7a4b", "#7a3e9d", "#a67c00", "#c2185b", "#00838f")
-WIDE, HIGH, LEFT, RIGHT, TOP, BOTTOM = 900, 520, 70, 230, 50, 60
+# Of each part of the picture, which has the networks of one stride.
+WIDE, HIGH, LEFT, RIGHT, TOP, BOTTOM = 460, 470, 64, 96, 74, 60
 # Labels at the right stand at least so far below one another.
 APART = 16
 
@@ -52,17 +55,21 @@ class Plot:
 
 
 def grid(plot: Plot, processors: list[int]) -> list[str]:
-    """Returns the axes with their numbers."""
+    """Returns the axes with their numbers and names."""
     found = []
     for number in processors:
         x = f"{plot.x(number):.1f}"
-        found.append(f'<path d="M{x} {TOP}V{HIGH - BOTTOM}"/><text x="{x}" y="{HIGH - 38}" text-anchor="middle">'
+        found.append(f'<path d="M{x} {TOP}V{HIGH - BOTTOM}"/><text x="{x}" y="{HIGH - 40}" text-anchor="middle">'
                      f"{number}</text>")
     for power in range(plot.low, plot.high + 1):
         for digit in (1, 2, 5) if power < plot.high else (1,):
             y = plot.y(digit * 10**power)
             found.append(f'<path d="M{LEFT} {y:.1f}H{WIDE - RIGHT}"/><text x="{LEFT - 8}" y="{y + 4:.1f}" '
                          f'text-anchor="end">{digit * 10.0**power:g}</text>')
+    middle = (TOP + HIGH - BOTTOM) / 2
+    found.append(f'<text x="{(LEFT + WIDE - RIGHT) / 2}" y="{HIGH - 16}" text-anchor="middle">processors</text>')
+    found.append(f'<text transform="translate(18 {middle}) rotate(-90)" text-anchor="middle">'
+                 "names per microsecond</text>")
     return found
 
 
@@ -76,26 +83,37 @@ def places_of_labels(wanted: list[float]) -> list[float]:
     return [height - over for height in found]
 
 
-def as_picture(title: str, processors: list[int], rows: list[Row]) -> str:
-    """Returns a line for each row, from left to right by the number of processors."""
-    plot, names = Plot(processors, rows), list(dict.fromkeys(row.name for row in rows))
+def part(plot: Plot, processors: list[int], rows: list[Row], names: list[str]) -> list[str]:
+    """Returns the axes, and a line for each row, from left to right by the number of processors."""
+    found = ['<g class="grid">', *grid(plot, processors), "</g>"]
     labels = places_of_labels([plot.y(row.rates[-1]) for row in rows])
-    lines = []
     for row, height in zip(rows, labels):
         colour = COLOURS[names.index(row.name) % len(COLOURS)]
         points = " ".join(f"{plot.x(number):.1f},{plot.y(rate):.1f}" for number, rate in zip(processors, row.rates))
-        dashes = ' stroke-dasharray="5 4"' if row.stride == 1 else ""
-        lines.append(f'<polyline points="{points}" fill="none" stroke="{colour}" stroke-width="2"{dashes}/>')
-        lines.append(f'<text x="{WIDE - RIGHT + 10}" y="{height + 4:.1f}" style="fill: {colour}">{row.label}</text>')
+        dashes = "" if row.stride else ' stroke-dasharray="5 4"'
+        found.append(f'<polyline points="{points}" fill="none" stroke="{colour}" stroke-width="2"{dashes}/>')
+        found.append(f'<text x="{WIDE - RIGHT + 8}" y="{height + 4:.1f}" style="fill: {colour}">{row.name}</text>')
+    return found
+
+
+def as_picture(title: str, processors: list[int], rows: list[Row]) -> str:
+    """Returns a part for each stride, side by side and by the same axes; what has no stride stands in each."""
+    plot, names = Plot(processors, rows), list(dict.fromkeys(row.name for row in rows))
+    strides = sorted({row.stride for row in rows} - {0}) or [0]
+    wide, parts = WIDE * len(strides), []
+    for at, stride in enumerate(strides):
+        own = [row for row in rows if row.stride in (0, stride)]
+        together = max(1, WORDS_IN_A_LINE // stride) if stride else 0
+        said = f"stride {stride}: {together} word{'s' * (together > 1)} in a cache line" if stride else ""
+        parts += [f'<g transform="translate({WIDE * at} 0)">', f'<text x="{LEFT}" y="60">{said}</text>',
+                  *part(plot, processors, own, names), "</g>"]
     return "\n".join([
-        f'<svg xmlns="http://www.w3.org/2000/svg" width="{WIDE}" height="{HIGH}" viewBox="0 0 {WIDE} {HIGH}">',
+        f'<svg xmlns="http://www.w3.org/2000/svg" width="{wide}" height="{HIGH}" viewBox="0 0 {wide} {HIGH}">',
         f"<title>{title}</title>",
         '<style>text { font-family: "DejaVu Sans", Verdana, Arial, sans-serif; font-size: 12px; fill: #1d2733 }',
         ".grid path { stroke: #d5dbe3; fill: none }</style>",
-        f'<rect width="{WIDE}" height="{HIGH}" fill="white"/>',
+        f'<rect width="{wide}" height="{HIGH}" fill="white"/>',
         f'<text x="{LEFT}" y="28" style="font-size: 15px">{title}</text>',
-        '<g class="grid">', *grid(plot, processors), "</g>",
-        f'<text x="{(LEFT + WIDE - RIGHT) / 2}" y="{HIGH - 14}" text-anchor="middle">processors</text>',
-        *lines,
+        *parts,
         "</svg>\n",
     ])

@@ -4,17 +4,18 @@
 //!     namers add|table|refused THREADS ROUNDS
 //!     namers walk ADDS THREADS ROUNDS
 //!     namers name|apart|many|all-over NETWORK WIDTH THREADS ROUNDS
+//!     namers take|take-many NETWORK WIDTH THREADS ROUNDS
 //!
 //! Or what a lane takes by itself, without a name, if so many are there: to be split off, handed back and joined by another,
 //! all of them or an eighth by turns; or a join while none is back.
 //!
 //!     namers lanes|eighth|none LANES 1 ROUNDS
 //!
-//! By `name`, `apart` and `many` each thread lets its clients in by entries of its own, by `all-over` each by all entries.
+//! By all but `all-over`, by which each thread lets its clients in by all entries, each has entries of its own.
 //! By `apart` the words of the floor lie apart.
 mod timing;
 
-use renamer::{Client, Error, Floor, Grant, Kind, Lane};
+use renamer::{Client, Error, Floor, Grant, Kind, Lane, Taker};
 use std::collections::HashMap;
 use std::env;
 use std::hint::black_box;
@@ -76,8 +77,7 @@ enum Entering {
 }
 
 /// The entries of a thread's clients, one after another.
-fn entries(lane: &Lane, entering: Entering, thread: u64, threads: u64) -> impl Iterator<Item = u64> {
-    let entries = lane.entries();
+fn entries(entries: u64, entering: Entering, thread: u64, threads: u64) -> impl Iterator<Item = u64> {
     let from = thread * entries / threads;
     let to = match entering {
         Entering::Apart => ((thread + 1) * entries / threads).max(from + 1),
@@ -93,7 +93,7 @@ type Open = fn(Kind, u32, u64) -> Result<Floor, Error>;
 fn name(open: Open, kind: Kind, width: u32, entering: Entering, threads: u64) -> Spent {
     let floor = open(kind, width, CLIENTS).expect("there is memory");
     let (spent, sum) = in_threads(lanes(&floor, threads), |(thread, lane)| {
-        let entries = entries(lane, entering, *thread, threads);
+        let entries = entries(lane.entries(), entering, *thread, threads);
         let mut sum = 0;
         for (client, entry) in clients(*thread, threads).zip(entries) {
             sum += lane.name(client, entry).expect("there is room");
@@ -109,7 +109,7 @@ fn many(kind: Kind, width: u32, threads: u64) -> Spent {
     const LIST: usize = 64;
     let floor = Floor::open(kind, width, CLIENTS).expect("there is memory");
     let (spent, sum) = in_threads(lanes(&floor, threads), |(thread, lane)| {
-        let entries = entries(lane, Entering::Apart, *thread, threads);
+        let entries = entries(lane.entries(), Entering::Apart, *thread, threads);
         let coming = clients(*thread, threads).zip(entries).map(|(client, entry)| Client { client, entry });
         let list: Vec<_> = coming.take(LIST).collect();
         let mut grants = [Grant::default(); LIST];
@@ -117,6 +117,42 @@ fn many(kind: Kind, width: u32, threads: u64) -> Spent {
         for _ in 0..CLIENTS / threads / LIST as u64 {
             lane.name_many_into(&list, &mut grants).expect("there is room");
             sum += grants.iter().map(|grant| grant.name).sum::<u64>();
+        }
+        sum
+    });
+    is_tight(sum);
+    spent
+}
+
+/// A taker for each thread, and the entries by which it takes names.
+fn takers(kind: Kind, width: u32, threads: u64) -> Vec<(Taker, impl Iterator<Item = u64>)> {
+    let mut first = Taker::open(kind, width).expect("there is memory");
+    let count = if kind == Kind::Tree { 1 } else { width.into() };
+    (0..threads)
+        .map(|thread| (first.split().expect("there is memory"), entries(count, Entering::Apart, thread, threads)))
+        .collect()
+}
+
+fn take(kind: Kind, width: u32, threads: u64) -> Spent {
+    let (spent, sum) = in_threads(takers(kind, width, threads), |(taker, entries)| {
+        let mut sum = 0;
+        for entry in entries.take((CLIENTS / threads) as usize) {
+            sum += taker.take(entry).expect("there is quota");
+        }
+        sum
+    });
+    is_tight(sum);
+    spent
+}
+
+/// Takes names by lists of 64.
+fn take_many(kind: Kind, width: u32, threads: u64) -> Spent {
+    let (spent, sum) = in_threads(takers(kind, width, threads), |(taker, entries)| {
+        let mut names = [0; 64];
+        let mut sum = 0;
+        for entry in entries.take((CLIENTS / threads) as usize / names.len()) {
+            taker.take_many(entry, &mut names).expect("there is quota");
+            sum += names.iter().sum::<u64>();
         }
         sum
     });
@@ -209,6 +245,7 @@ fn number<N: std::str::FromStr>(word: &str) -> N {
 fn usage() -> ! {
     eprintln!("namers: add|table|refused THREADS ROUNDS, walk ADDS THREADS ROUNDS, or");
     eprintln!("        name|apart|many|all-over bitonic|periodic|tree WIDTH THREADS ROUNDS, or");
+    eprintln!("        take|take-many bitonic|periodic|tree WIDTH THREADS ROUNDS, or");
     eprintln!("        lanes|eighth|none LANES 1 ROUNDS");
     process::exit(2)
 }
@@ -241,6 +278,8 @@ fn main() {
             Box::new(move |threads| name(Floor::open, kind(network), number(width), Entering::AllOver, threads))
         }
         ["many", network, width, ..] => Box::new(move |threads| many(kind(network), number(width), threads)),
+        ["take", network, width, ..] => Box::new(move |threads| take(kind(network), number(width), threads)),
+        ["take-many", network, width, ..] => Box::new(move |threads| take_many(kind(network), number(width), threads)),
         ["lanes", count, ..] => Box::new(move |_| come_and_go(number(count))),
         ["eighth", count, ..] => Box::new(move |_| every_eighth(number(count))),
         ["none", count, ..] => Box::new(move |_| none_back(number(count))),
