@@ -2,6 +2,7 @@
 
 mod batch;
 mod batch_fault;
+pub(crate) mod clipped;
 mod command;
 pub(crate) mod number;
 pub(crate) mod records;

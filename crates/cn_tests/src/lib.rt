@@ -1,5 +1,5 @@
-//! The worked rows of the service that cross its crates, as tests: they show texts to the byte, what no clause can name,
-//! and that memory that is there is used.
+//! The worked rows of the service that cross its crates, as tests: they show texts to the byte, what no clause can
+//! name, and that memory that is there is used.
 #![tactic(auto)]
 
 #[cfg(test)]

@@ -1,4 +1,5 @@
-//! Workers that meet, in runs of an epoch and in runs of a batch: each waits, before its first leave, for all the others.
+//! Workers that meet, in runs of an epoch and in runs of a batch: each waits, before its first leave, for all the
+//! others.
 
 use crate::serving::served;
 use crate::waiting::comes_to;

@@ -97,7 +97,8 @@ pub(crate) fn source_of(given: Given) -> Words {
     }
 }
 
-/// A job of a kind and a width, what it is given, what it writes, its status, and the line that is printed of its fault.
+/// A job of a kind and a width, what it is given, what it writes, its status, and the line that is printed of its
+/// fault.
 type Row = (Asked, Kind, u32, Given, &'static [u8], u8, &'static [u8]);
 
 /// Only a run and a replay ask for random words; and a flush that fails is a write that fails.

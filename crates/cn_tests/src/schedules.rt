@@ -48,8 +48,8 @@ const ENTER_AND_STEP: [Command; 2] = [
     Command::Step { client: 7 },
 ];
 
-/// Texts and their commands: only a header, a turn as a record of its own, the records that csv reads, and numbers of at
-/// most 20 digits and 64 bits.
+/// Texts and their commands: only a header, a turn as a record of its own, the records that csv reads, and numbers of
+/// at most 20 digits and 64 bits.
 const READ: [(&[u8], &[Command]); 15] = [
     (TWO_CLIENTS, &TWO_CLIENTS_COMMANDS),
     (b"op,client,wire\n", &[]),

@@ -12,6 +12,7 @@ ghost use Rattle.cn_report.specs.Reading.Records.{HasRead, IsPlain, Record, reco
 
 use crate::grants::epochs::{Granting, NamedEpoch};
 use crate::grants::record::{Flaw, GrantCause, flaw_at, granted_of};
+use crate::reading::clipped::Clipped;
 use crate::reading::records::{is_header, next_record, open_records};
 use cn_spec::limits::MOST_RECORDS;
 use csv::{ByteRecord, Reader};
@@ -116,7 +117,7 @@ pub fn named_grants<R: Read + Drop>(alloc: Global, reader: R) -> Result<Vec<Name
     ensures exact { IfSome (R.remaining reader) (λ text.
         IfErr result (λ flaw. IsTightList (records_of text) → IsOutside flaw)) }
 {
-    let mut records = open_records(alloc, reader)?;
+    let mut records = open_records(alloc, Clipped::new(reader))?;
     let mut fields = ByteRecord::new(alloc);
     take_grants(alloc, &mut records, &mut fields)
 }

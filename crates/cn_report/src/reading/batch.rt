@@ -16,6 +16,7 @@ use crate::reading::batch::arrivals::ArrivalReader;
 use crate::reading::batch::gathering::Gathering;
 use crate::reading::batch::readers::{OneThread, Readers, STRETCH, TwoThreads};
 use crate::reading::batch_fault::{BatchCause, BatchFault};
+use crate::reading::clipped::Clipped;
 use cn_ledger::Client;
 use std::alloc::Global;
 use std::hash::RandomState;
@@ -129,7 +130,7 @@ pub fn read_batch<R: Read + Drop>(
     ensures fits { IfOk result (λ batch. AreServable entries batch.epochs.items) }
     ensures few { IfOk result (λ batch. clients_of_epochs batch.epochs.items ≤ MOST_RECORDS) }
 {
-    read_by(&OneThread, alloc, reader, entries, state)
+    read_by(&OneThread, alloc, Clipped::new(reader), entries, state)
 }
 
 /// The epochs of a batch, as [`read_batch`] reads them, by two threads: one gathers records while the other reads on.
@@ -150,5 +151,5 @@ pub fn read_batch_by_two<R: Read + Drop, T: Threads + Wait + Sync>(
     ensures fits { IfOk result (λ batch. AreServable entries batch.epochs.items) }
     ensures few { IfOk result (λ batch. clients_of_epochs batch.epochs.items ≤ MOST_RECORDS) }
 {
-    read_by(&TwoThreads(rt), alloc, reader, entries, state)
+    read_by(&TwoThreads(rt), alloc, Clipped::new(reader), entries, state)
 }

@@ -33,10 +33,12 @@ fn fault_of(error: Error) -> RecordFault
 }
 
 /// A reader of records of any length, with no header set aside. Its header is set, and empty: else it would keep the
-/// first record twice. It is boxed, for it holds a buffer of 8 KB, of which the frame of each caller would have a copy.
+/// first record twice. It is boxed, and not made in the caller's frame, for it holds a buffer of 8 KB, of which that
+/// frame would have copies.
 ///
 /// # Errors
 /// `AllocError` if there is no memory for it.
+#[inline(never)]
 pub(crate) fn open_records<R: Read + Drop>(
     alloc: Global,
     reader: R,
@@ -45,11 +47,10 @@ pub(crate) fn open_records<R: Read + Drop>(
     ensures opened { IfOk result (λ records.
         IfSome (R.remaining reader) (λ text. HasRead R.remaining records.value text [])) }
 {
-    let mut records = ReaderBuilder::new()
-        .flexible(true)
-        .from_reader(alloc, reader);
+    let mut builder = ReaderBuilder::new();
+    let mut records = Box::new(alloc, builder.flexible(true).from_reader(alloc, reader))?;
     match records.set_byte_headers(ByteRecord::new(alloc)) {
-        Ok(()) => Ok(Box::new(alloc, records)?),
+        Ok(()) => Ok(records),
         Err(_) => Err(AllocError),
     }
 }

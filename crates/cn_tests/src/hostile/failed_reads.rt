@@ -1,4 +1,5 @@
-//! Readers that fail after many records: the fault is that of the record which was being read.
+//! Readers that fail after many records: the fault is that of the record which was being read. A header with a field
+//! too many is refused before more is read.
 
 use super::limits::{ONE_WORKER, TWO_WORKERS, full_epochs};
 use super::runs::{Answer, is_answered};
@@ -40,5 +41,26 @@ fn reads_that_fail_after_many_records(rt: HostRuntime) -> Result<(), Fail> {
     let by_one = wrong_read(&rt, alloc, state, ONE_WORKER);
     let by_two = wrong_read(&rt, alloc, state, TWO_WORKERS);
     assert_eq!(rt; (by_one, by_two), (None, None));
+    Ok(())
+}
+
+/// Whether a header is refused at its fourth field, though a read behind that would fail.
+fn refuses_a_long_header<R: Threads + Wait + Sync>(
+    rt: &R,
+    alloc: Global,
+    state: RandomState,
+    asked: Asked,
+) -> bool {
+    let left: &[u8] = b"epoch,client,entry,";
+    let wanted = Answer::Refused(0, BatchCause::Header);
+    is_answered(rt, alloc, state, asked, Broken { left }, &OpenGate, wanted)
+}
+
+#[test]
+fn a_header_is_refused_at_its_fourth_field(rt: HostRuntime) -> Result<(), Fail> {
+    let (alloc, state) = (rt.alloc(), RandomState::new(&rt)?);
+    let by_one = refuses_a_long_header(&rt, alloc, state, ONE_WORKER);
+    let by_two = refuses_a_long_header(&rt, alloc, state, TWO_WORKERS);
+    assert_eq!(rt; (by_one, by_two), (true, true));
     Ok(())
 }

@@ -1,5 +1,5 @@
-//! Workers of whom one is held before one of its moments until the other has come to its last. The other begins when the
-//! first is held: so the order of all passages is fixed, and each client has the name that comes of it.
+//! Workers of whom one is held before one of its moments until the other has come to its last. The other begins when
+//! the first is held: so the order of all passages is fixed, and each client has the name that comes of it.
 
 use super::runs::ran;
 use crate::serving::Asked;
@@ -19,8 +19,8 @@ use std::thread::Threads;
 /// To how many moments a worker comes: each of its two clients comes in, passes three balancers, and leaves.
 const MOMENTS: u64 = 10;
 
-/// Counts the moments to which two workers come. It holds one of them before one of its moments until the other has come
-/// to its last, and that one before its first moment until the first is held.
+/// Counts the moments to which two workers come. It holds one of them before one of its moments until the other has
+/// come to its last, and that one before its first moment until the first is held.
 #[derive(Drop)]
 struct Stall {
     held: usize,

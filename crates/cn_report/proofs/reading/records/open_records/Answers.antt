@@ -13,8 +13,11 @@ opened-named : {R : Type 0} (rem : R → Option (List ℕ)) (made named : Reader
 opened-named rem made named known same config state source =
     opened rem named known (ap reader_config same ∙ config) (ap reader_state same ∙ state) (ap (source_of rem) same ∙ source)
 
-pub returns-in_ok-new-in-Ok-clause-opened : goal.returns-in_ok-new-in-Ok-clause-opened
-returns-in_ok-new-in-Ok-clause-opened g c =
-    let made = c.from_reader-records.ensures in
+pub returns-in-Ok-clause-opened : goal.returns-in-Ok-clause-opened
+returns-in-Ok-clause-opened g c =
+    let made = c.from_reader.ensures in
     let config = rw c.flexible.ensures at made.config in
-    rw c.in_ok-new-in-Ok.ensures.ok (opened-named g.R.Read.remaining c.from_reader-records.result c.set_byte_headers.new.self (g.R.Read.remaining c.args.reader) c.in-Ok.ensures.same (config ∙ c.new.ensures.config) made.state made.source)
+    let boxed = c.deref_mut.ensures.value ∙ c.in_ok-records.ensures.ok in
+    opened-named g.R.Read.remaining c.deref_mut.result.now c.set_byte_headers.new.self (g.R.Read.remaining c.args.reader)
+    c.in-Ok.ensures.same (ap reader_config boxed ∙ config ∙ c.new-builder.ensures.config)
+    (ap reader_state boxed ∙ made.state) (ap (source_of g.R.Read.remaining) boxed ∙ made.source)

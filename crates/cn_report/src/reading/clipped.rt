@@ -1,0 +1,85 @@
+//! A reader that ends where a header has a field too many.
+
+ghost use Rattle.std.specs.Prelude.{◌≡◌, ◌≤◌, ◌<◌, ◌++◌, [], ℕ, List, false, true, length, option_map, take};
+ghost use Rattle.cn_report.specs.Reading.Clipped.{after_byte, clipped, clipped_remaining, is_over};
+
+use std::io::{Read, Result};
+
+/// Where a text stands that is read.
+#[derive(Clone, Copy, Debug, PartialEq, Eq)]
+pub(crate) enum Line {
+    /// In the line of its header, after so many commas.
+    Header(u8),
+    /// After that line.
+    Later,
+}
+
+impl Line {
+    /// Whether the header has a fourth field, which none may have.
+    fn is_over(self) -> bool
+        ensures { result ≡ is_over self }
+    {
+        matches!(self, Line::Header(commas) if commas >= 3)
+    }
+
+    /// Where the text stands after one more byte.
+    fn after(self, byte: u8) -> Line
+        requires { is_over self ≡ false }
+        ensures { result ≡ after_byte self byte }
+    {
+        match (self, byte) {
+            (Line::Header(commas), b',') => Line::Header(commas + 1),
+            (Line::Header(commas), b'\r' | b'\n') if commas > 0 => Line::Later,
+            _ => self,
+        }
+    }
+
+    /// Where the text stands after these bytes, or those of them up to a third comma of the header, and how many.
+    fn after_all(self, bytes: &[u8]) -> (Line, usize)
+        requires { is_over self ≡ false }
+        ensures within { result.1 ≤ length bytes.now }
+        ensures some { 0 < length bytes.now → 0 < result.1 }
+        ensures clipped { (rest : List ℕ)
+            → clipped self (bytes.now ++ rest) ≡ take result.1 bytes.now ++ clipped result.0 rest }
+    {
+        let (mut line, mut count) = (self, 0);
+        while count < bytes.len() && !line.is_over() {
+            line = line.after(bytes[count]);
+            count += 1;
+        }
+        (line, count)
+    }
+}
+
+/// A reader whose text ends with the third comma of its header's line, if that line has so many: so a header that is
+/// none is refused before more of its line is kept. Any other text is read as it is.
+#[derive(Drop)]
+pub(crate) struct Clipped<R: Read + Drop> {
+    reader: R,
+    line: Line,
+}
+
+impl<R: Read + Drop> Clipped<R> {
+    pub(crate) fn new(reader: R) -> Self
+        ensures { clipped_remaining R.remaining result ≡ option_map (clipped (Line.Header 0)) (R.remaining reader) }
+    {
+        Clipped {
+            reader,
+            line: Line::Header(0),
+        }
+    }
+}
+
+impl<R: Read + Drop> Read for Clipped<R> {
+    ghost remaining = { clipped_remaining R.remaining };
+
+    fn read(&mut self, bytes: &mut [u8]) -> Result<usize> {
+        if self.line.is_over() {
+            return Ok(0);
+        }
+        let read = self.reader.read(bytes)?;
+        let (line, count) = self.line.after_all(&bytes[..read]);
+        self.line = line;
+        Ok(count)
+    }
+}
