@@ -177,6 +177,22 @@ class lane : public owner<renamer_lane, renamer_free> {
         return named;
     }
 
+    /* Names the clients of a list, who come in by one entry, and writes as many names, in the order of the clients. */
+    status name_list(const std::uint64_t *clients, std::size_t count, std::uint64_t entry,
+                     std::uint64_t *names) noexcept {
+        const detail::array<const std::uint64_t> from(clients, count);
+        const detail::array<std::uint64_t> to(names, count);
+        return status(renamer_name_list(&handle, from, count, entry, to, count));
+    }
+    /* The same; the names take the place of what the second list had. */
+    status name_list(const std::vector<std::uint64_t> &clients, std::uint64_t entry,
+                     std::vector<std::uint64_t> &names) {
+        std::vector<std::uint64_t> list(clients.size());
+        const status named = name_list(clients.data(), clients.size(), entry, list.data());
+        if (named == status::done) names.swap(list);
+        return named;
+    }
+
     status enter(std::uint64_t client, std::uint64_t entry) noexcept {
         return status(renamer_enter(&handle, client, entry));
     }
@@ -226,11 +242,10 @@ class taker : public owner<renamer_taker, renamer_free_taker> {
 
     /* Takes a name for each place of an array, or of a list. */
     status take_many(std::uint64_t entry, std::uint64_t *names, std::size_t count) noexcept {
-        return status(renamer_take_many(&handle, entry, names, count));
+        return status(renamer_take_many(&handle, entry, detail::array<std::uint64_t>(names, count), count));
     }
     status take_many(std::uint64_t entry, std::vector<std::uint64_t> &names) noexcept {
-        std::uint64_t nowhere = 0; // no pointer of a call is null
-        return take_many(entry, names.empty() ? &nowhere : names.data(), names.size());
+        return take_many(entry, names.data(), names.size());
     }
 
     status entered(std::uint64_t &entered) const noexcept { return status(renamer_takes_entered(&handle, &entered)); }

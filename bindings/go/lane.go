@@ -56,6 +56,20 @@ func (lane *Lane) NameMany(clients []Client) ([]Grant, error) {
 	return grants, err
 }
 
+// NameList names the clients of a list, who come in by one entry, and returns their names in the order of the list.
+func (lane *Lane) NameList(clients []uint64, entry uint64) ([]uint64, error) {
+	names := make([]uint64, len(clients))
+	// No pointer of the call is nil, also with an empty list.
+	from, to := new(uint64), new(uint64)
+	if len(clients) > 0 {
+		from, to = &clients[0], &names[0]
+	}
+	size := C.size_t(len(clients))
+	err := done(C.renamer_name_list(&lane.handle, (*C.uint64_t)(unsafe.Pointer(from)), size, C.uint64_t(entry),
+		(*C.uint64_t)(unsafe.Pointer(to)), size))
+	return names, err
+}
+
 // Enter lets a client in by an entry, where it stands last.
 func (lane *Lane) Enter(client, entry uint64) error {
 	return done(C.renamer_enter(&lane.handle, C.uint64_t(client), C.uint64_t(entry)))

@@ -38,6 +38,7 @@ WORDS = {
     "lane_after_lane.c": {None: ["100000"], "others": ["2000"]},
     "lanes_at_once.c": {None: ["200001"], "others": ["2000"]},
     "one_for_each.c": {None: ["20000"], "others": ["200"]},
+    "join_all_ends.c": {None: ["500"], "others": ["20"]},
 }
 VALGRIND = ["valgrind", "-q", "--leak-check=full", "--error-exitcode=9"]
 # So long may a command run, which takes a minute or two if nothing else runs.
@@ -88,6 +89,7 @@ PROGRAMS = (
     Program(C / "examples" / "workers.cpp", prints=WORKERS),
     Program(C / "tests" / "names.c"),
     Program(C / "tests" / "statuses.c"),
+    Program(C / "tests" / "listed.c"),
     Program(C / "tests" / "handed.c"),
     Program(C / "tests" / "asked.c", (WRAPPED,)),
     Program(C / "tests" / "lane_size.c", (WRAPPED,)),
@@ -101,6 +103,7 @@ PROGRAMS = (
     Program(C / "tests" / "takers.c", GROWTHS),
     Program(C / "tests" / "refilled.c"),
     Program(C / "tests" / "next_floor.c"),
+    Program(C / "tests" / "join_all_ends.c"),
     Program(C / "tests" / "objects.cpp"),
     FUZZ,
 )

@@ -1,5 +1,5 @@
 """The package for Python in bindings/python, over the library that is built: its calls beside the header, its tests,
-its types, its example, and the wheels. If a package of Python is missing it is named, and the case not tried."""
+its types, its examples, and the wheels. If a package of Python is missing it is named, and the case not tried."""
 import os
 import pathlib
 import re
@@ -26,6 +26,12 @@ KINDS = {"u32": "_word", "u64": "Number", "usize": "_size", "*mut handle": "_han
 ARRAYS = ("*mut u64", "usize"), ("_array", "_size")
 DECLARED = re.compile(r'^\w+ = _(call|free)\("(\w+)"(?:, ([^)]*))?\)$', re.M)
 DATE = {"SOURCE_DATE_EPOCH": "1700000000"}
+# What the examples print that need numpy only.
+EXAMPLES = {
+    "pool": "1600 clients have the names 0 to 1599\n",
+    "workers": WORKERS,
+    "processes": "200000 clients of 3 days have the names from 0 on, each once\n",
+}
 
 
 def python_with(*packages):
@@ -73,12 +79,22 @@ def calls_are_of_the_header():
         raise Wrong("; ".join(wrong) or "not each call is declared in a line")
 
 
+def edits_stand_once():
+    """The text that each wrong edit of checks/long/python changes is there, once."""
+    sys.path.append(str(ROOT / "checks" / "long"))
+    from python_edits import EDITS
+    sources = {path.name: path.read_text() for path in (PACKAGE / "src" / "renamer").glob("*.py")}
+    wrong = [f"{old!r} in {name}" for _, name, old, _ in EDITS if sources[name].count(old) != 1]
+    if wrong or not EDITS:
+        raise Wrong(f"not there, or not once: {'; '.join(wrong)}")
+
+
 def types_pass(folder):
     run([python_with("numpy", "mypy"), "-m", "mypy", "--cache-dir", folder / "mypy"], PACKAGE)
 
 
 def examples_run():
-    for name, prints in (("pool", "1600 clients have the names 0 to 1599\n"), ("workers", WORKERS)):
+    for name, prints in EXAMPLES.items():
         printed = run([python_with("numpy"), f"examples/{name}.py"], PACKAGE, **place())
         if printed != prints:
             raise Wrong(f"{name} printed {printed!r}")
@@ -125,6 +141,7 @@ def is_installed(wheel, environment, program):
 def cases(folder):
     """The cases of the gate: a name, and what raises Wrong."""
     yield "Python, calls of the header", calls_are_of_the_header
+    yield "Python, edits", edits_stand_once
     yield "Python, tests", fast_tests_pass
     yield "Python, types", lambda: types_pass(folder)
     yield "Python, examples", examples_run

@@ -14,7 +14,8 @@ CLOSED = {".data.rel.ro", ".dynamic", ".got", ".got.plt", ".relro_padding"}
 IN_C = {"renamer_explain", "renamer_free", "renamer_free_quiet", "renamer_free_taker"}
 # The calls that add to words of the table, and those that begin or end a lane or a floor, which go to owners and
 # places. The others have no atomic instruction.
-ADD = {f"renamer_{name}" for name in ("enter", "name", "name_many", "step", "sweep", "take", "take_many")}
+ADD = {f"renamer_{name}"
+       for name in ("enter", "name", "name_list", "name_many", "step", "sweep", "take", "take_many")}
 BEGIN_OR_END = {f"renamer_{name}" for name in ("close", "free", "free_quiet", "free_taker", "hand_back", "join", "join_all",
                                                "open", "open_after", "open_apart", "open_takes", "split",
                                                "split_taker")}

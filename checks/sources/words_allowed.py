@@ -64,17 +64,20 @@ MOST = {
                 "std::io::ErrorKind": ANY, "std::io::IsTerminal": ANY, "std::io::writer": 1, "std::process::ExitCode": ANY,
                 "std::process::ExitCode::from": 1},
     "renamer_c": {
-        # Places for lanes that were handed back, and how many are.
+        # Places for lanes that were handed back, and how many are in which state.
         **{f"counted_slot::{name}": ANY for name in ("Claim", "Counted", "Fits", "FREE", "MARKED", "MOST_READERS",
                                                      "ONE_READER", "PRESENT", "TAKEN")},
-        "Counted": 8, "Counted::new": 2, "OnePlace": 6, "RowSlot": 13, ".turn": 3, "turn_at": 3, "no_rows": 3,
-        "std::sync::atomic::AtomicU64": ANY, "AtomicU64": 5, "std::sync::atomic::Ordering::SeqCst": 2,
-        ".load": 3, ".fetch_add": 1, ".fetch_sub": 1, ".repeated": 1,
+        "Counted": 8, "Counted::new": 2, "OnePlace": 6, "RowSlot": 13, ".turn": 3, "turn_place": 3, "take_from": 5,
+        "put_at": 3, "no_rows": 2,
+        "std::sync::atomic::AtomicU64": ANY, "AtomicU64": 12, "std::sync::atomic::Ordering::SeqCst": 4,
+        ".load": 7, ".fetch_add": 4, ".fetch_sub": 3,
         # What was put there is ghost data.
         "std::snapshot::Snapshot": ANY, "Snapshot": 3, "Snapshot::of": 1,
+        # Two grants of a slice of a lane's own.
+        ".swap": 1,
         # Who goes there, and who owns a floor or a row.
-        "std::sync::Arc": ANY, "Arc": 19, "FloorShare": 8, "::try_clone": 3, ".share": 1, ".another_owner": 1,
-        "with_places": 8, ".hand_back": 4, ".take_back": 3,
+        "std::sync::Arc": ANY, "Arc": 20, "FloorShare": 8, "::try_clone": 3, ".share": 1, ".another_owner": 1,
+        ".shared": 2, "with_places": 13, ".hand_back": 4, ".take_back": 1,
         # Lanes and takers that are split off, and floors that open.
         ".split": 2, ".split_off": 1, "::open": 2, "::open_after": 2, "::open_words": 2, "::open_for_takers": 2,
         "::opening": 1,
@@ -83,7 +86,7 @@ MOST = {
 }
 # What stands so often, no more and no less, in the texts of a crate, or of a file of the library in C.
 TEXTS = {
-    "renamer_c/": {"const ROWS: usize = 26;": 1, "for at in 0..ROWS {": 1},
+    "renamer_c/": {"const ROWS: usize = 26;": 1, "for at in 0..ROWS {": 2},
     "../library": {"--redefine-sym renamer_free=": 1, "--redefine-sym renamer_free_quiet=": 1,
                    "--redefine-sym renamer_free_taker=": 1, "redefine-sym": 3},
     "../bindings/c/explain.c": {"static": 0},

@@ -25,6 +25,8 @@ enum { LANES = 32, QUIETS = 8, STATUSES = RENAMER_LANES_THERE + 1, UNSET = 0xa5 
     X(name, STATUS(NONE) | STATUS(STILL_WALKING) | STATUS(NO_SUCH_ENTRY) | STATUS(QUOTA_SPENT) | STATUS(MEMORY))       \
     X(name_many, STATUS(NONE) | STATUS(SIZE) | STATUS(STILL_WALKING) | STATUS(NO_SUCH_ENTRY) | STATUS(QUOTA_SPENT)     \
                      | STATUS(MEMORY))                                                                                 \
+    X(name_list, STATUS(NONE) | STATUS(SIZE) | STATUS(STILL_WALKING) | STATUS(NO_SUCH_ENTRY) | STATUS(QUOTA_SPENT)     \
+                     | STATUS(MEMORY))                                                                                 \
     X(enter, STATUS(NONE) | STATUS(NO_SUCH_ENTRY) | STATUS(QUOTA_SPENT) | STATUS(MEMORY))                              \
     X(step, STATUS(NONE) | STATUS(NOBODY_THERE))                                                                       \
     X(sweep, STATUS(NONE) | STATUS(NOBODY_THERE))                                                                      \
@@ -126,6 +128,7 @@ void call_free(void);
 void call_free_quiet(void);
 void call_name(void);
 void call_name_many(void);
+void call_name_list(void);
 void call_enter(void);
 void call_step(void);
 void call_sweep(void);

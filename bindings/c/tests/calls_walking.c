@@ -123,6 +123,64 @@ void call_name_many(void) {
     free(grants);
 }
 
+/* Judges the names of clients who came in by one entry: each is that of its client by one of these grants. */
+static void judge_names(const uint64_t *clients, const uint64_t *names, const renamer_grant *grants, size_t count) {
+    static unsigned char is_seen[MOST_LISTED];
+    memset(is_seen, 0, sizeof is_seen);
+    for (size_t at = 0; at < count; at++) {
+        size_t grant = 0;
+        while (grant < count && (is_seen[grant] || grants[grant].name != names[at]))
+            grant++;
+        CHECK(grant < count && grants[grant].client == clients[at]);
+        is_seen[grant] = 1;
+    }
+}
+
+/* Takes clients of a list as named in the model, by the lane's last grants. */
+static void take_listed(struct handle *handle, const uint64_t *clients, uint64_t entry, const uint64_t *names,
+                        size_t count) {
+    static renamer_client listed[MOST_LISTED];
+    static renamer_grant grants[MOST_LISTED];
+    struct lane *lane = handle->model;
+    size_t before = lane->granted;
+    CHECK(renamer_grants(&handle->lane, before, grants, count) == RENAMER_DONE);
+    for (size_t at = 0; at < count; at++) {
+        listed[at] = (renamer_client){clients[at], entry};
+        lane_enter(lane, clients[at], entry);
+    }
+    while (lane->inside)
+        lane_step(lane, 0);
+    judge_listed(listed, grants, lane->grants + before, count);
+    judge_names(clients, names, grants, count);
+}
+
+void call_name_list(void) {
+    struct handle *handle = some_handle();
+    struct lane *lane = handle->model;
+    size_t count = drawn(drawn(2) ? 4 : MOST_LISTED), size = drawn(8) ? count : drawn(2) ? count + 1 : odd_number();
+    uint64_t *clients = unset_array(count, sizeof *clients), *names = unset_array(count, sizeof *names);
+    uint64_t entry = some_entry(lane);
+    int has_room = lane && lane->room >= count;
+    for (size_t at = 0; at < count; at++)
+        clients[at] = some_client();
+    uint32_t wanted = RENAMER_NONE, status = MADE(name_list, (&handle->lane, clients, count, entry, names, size));
+    show("%zu clients by entry %" PRIu64 ", %zu names", count, entry, size);
+    if (lane && size != count)
+        wanted = RENAMER_SIZE;
+    else if (lane)
+        wanted = lane->inside ? RENAMER_STILL_WALKING : why_not(lane, entry < lane->floor->network->entries, count);
+    CHECK(!has_room || run.asked == 0);
+    if (is_done(status, wanted, 0)) {
+        CHECK(is_unset(names, count, count, sizeof *names));
+        take_listed(handle, clients, entry, names, count);
+    } else {
+        CHECK(is_unset(names, 0, count, sizeof *names));
+        judge_refused(handle);
+    }
+    free(clients);
+    free(names);
+}
+
 /* ---- steps */
 
 /* Most often a wire on which a client of the lane stands. */

@@ -129,6 +129,7 @@ static const struct {
 } ways[] = {
     {call_version, 1},    {call_open, 12},   {call_open_after, 6},   {call_split, 22},      {call_reserve, 8},
     {call_name, 60},      {call_enter, 40},  {call_name_many, 16},   {call_step, 40},       {call_sweep, 24},
+    {call_name_list, 12},
     {call_let_out, 40},   {call_number, 17}, {call_entered, 12},     {call_grants, 8},      {call_all_of_lane, 2},
     {call_hand_back, 20}, {call_join, 16},   {call_join_all, 5},     {call_many_back, 1}, {call_close, 14},
     {call_counts, 5},     {call_holders, 5}, {call_quiet_number, 4}, {call_free_quiet, 2},  {call_free, 6},

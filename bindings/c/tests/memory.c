@@ -82,6 +82,18 @@ static void name_a_list(renamer_lane *lane, uint64_t first) {
     NO_GROWTH(renamer_name_many(lane, clients, 10, grants, 10));
 }
 
+/* The same with a list of their numbers. */
+static void list_some(renamer_lane *lane, uint64_t first) {
+    uint64_t clients[10], names[10];
+    struct seen before = seen_of(lane);
+    for (uint64_t i = 0; i < 10; i++)
+        clients[i] = first + i;
+    EACH_GROWTH(renamer_name_list(lane, clients, 10, 0, names, 10), is_as(lane, &before));
+    before = seen_of(lane);
+    EACH_GROWTH(renamer_reserve(lane, 10), is_as(lane, &before));
+    NO_GROWTH(renamer_name_list(lane, clients, 10, 0, names, 10));
+}
+
 /* Lets clients in with and without room, and on by steps, which want no memory. */
 static void step_some(renamer_lane *lane, uint64_t first) {
     renamer_moved moved;
@@ -201,6 +213,7 @@ static void run_floor(uint32_t kind, uint32_t width) {
     name_some(&lane, 3000);
     EACH_GROWTH(renamer_open(&lane, kind, width, 60), lane.at != NULL);
     name_a_list(&lane, 5000);
+    list_some(&lane, 6000);
     before = seen_of(&lane);
     EACH_GROWTH(renamer_close(&lane, &quiet), is_as(&lane, &before) && !quiet.at);
     CHECK(!lane.at && !other.at);

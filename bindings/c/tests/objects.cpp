@@ -61,6 +61,10 @@ static void walk(renamer::lane &lane) {
     std::vector<renamer::grant> grants(1);
     CHECK(lane.name_many({}, grants) == status::done && grants.empty());
     CHECK(lane.name_many(nullptr, 0, nullptr) == status::done && lane.grants(0, nullptr, 0) == status::done);
+    std::vector<std::uint64_t> names(1);
+    CHECK(lane.name_list({}, 1, names) == status::done && names.empty());
+    CHECK(lane.name_list(nullptr, 0, 1, nullptr) == status::done);
+    CHECK(lane.name_list({1}, 4, names) == status::no_such_entry);
     CHECK(lane.reserve(5) == status::done);
     CHECK(lane.name_many(clients, grants) == status::done && grants.size() == 3);
     renamer::moved moved;

@@ -25,6 +25,7 @@ static void none(renamer_lane *lane, renamer_quiet *quiet) {
     CHECK(renamer_grant_count(lane, &number) == RENAMER_NONE);
     CHECK(renamer_grants(lane, 0, &grant, 1) == RENAMER_NONE);
     CHECK(renamer_name_many(lane, &client, 1, &grant, 1) == RENAMER_NONE);
+    CHECK(renamer_name_list(lane, &client.client, 1, 0, &number, 1) == RENAMER_NONE);
     CHECK(renamer_enter(lane, 1, 0) == RENAMER_NONE);
     CHECK(renamer_step(lane, 0, &moved) == RENAMER_NONE);
     CHECK(renamer_sweep(lane, 0, &swept) == RENAMER_NONE);

@@ -136,8 +136,8 @@ impl Floor {
             .collect()
     }
 
-    /// Takes in lanes that were dropped or handed back, one after another, until it finds none back: their quota is the
-    /// floor's again. While other threads go on splitting off and handing back lanes it may go on too.
+    /// Takes in, one after another, all lanes that were dropped or handed back before the call, and of those that come
+    /// back meanwhile some: their quota is the floor's again. It returns whatever other threads do.
     ///
     /// # Errors
     /// [`Error::Memory`]. Then some may be taken in, and it can be called again.

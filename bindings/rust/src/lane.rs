@@ -139,6 +139,34 @@ impl Lane {
         self.raw.name_many(clients, grants)
     }
 
+    /// Names clients who all come in by one entry, and returns their names in their order. They walk as by
+    /// [`Lane::name_many`], 64 of them together.
+    ///
+    /// ```
+    /// use renamer::{Floor, Kind};
+    ///
+    /// let mut lane = Floor::open(Kind::Tree, 4, 4)?.into_lane();
+    /// let names = lane.name_list(&[17, 5, 99, 40], 0)?;
+    /// assert!(lane.grants().iter().any(|grant| grant.client == 99 && grant.name == names[2]));
+    /// # Ok::<(), renamer::Error>(())
+    /// ```
+    ///
+    /// # Errors
+    /// As those of [`Lane::name`].
+    pub fn name_list(&mut self, clients: &[u64], entry: u64) -> Result<Vec<u64>, Error> {
+        let mut names = vec![0; clients.len()];
+        self.name_list_into(clients, entry, &mut names)?;
+        Ok(names)
+    }
+
+    /// Names clients as [`Lane::name_list`] does, and writes their names into a slice of as many.
+    ///
+    /// # Errors
+    /// [`Error::Size`] if there are not as many names as clients, else as those of [`Lane::name`].
+    pub fn name_list_into(&mut self, clients: &[u64], entry: u64, names: &mut [u64]) -> Result<(), Error> {
+        self.raw.name_list(clients, entry, names)
+    }
+
     /// Splits off another lane of the same floor, with so much of the quota.
     ///
     /// # Errors
@@ -198,8 +226,8 @@ impl Lane {
         self.raw.join()
     }
 
-    /// Takes in lanes as [`Lane::join`] does, one after another, and is done once it finds none back. While other threads
-    /// go on splitting off and handing back lanes it may go on too.
+    /// Takes in, one after another, all lanes of the floor that were back when it was called, and of those that come
+    /// back meanwhile some. It returns whatever other threads do.
     ///
     /// # Errors
     /// [`Error::Memory`]. Then some may be taken in, and it can be called again.

@@ -45,6 +45,7 @@ extern "C" {
     fn renamer_reserve(lane: *mut Handle, clients: u64) -> u32;
     fn renamer_name(lane: *mut Handle, client: u64, entry: u64, name: *mut u64) -> u32;
     fn renamer_name_many(lane: *mut Handle, clients: *const Client, client_count: usize, grants: *mut Grant, grant_count: usize) -> u32;
+    fn renamer_name_list(lane: *mut Handle, clients: *const u64, client_count: usize, entry: u64, names: *mut u64, name_count: usize) -> u32;
     fn renamer_enter(lane: *mut Handle, client: u64, entry: u64) -> u32;
     fn renamer_step(lane: *mut Handle, wire: u64, moved: *mut RawMoved) -> u32;
     fn renamer_sweep(lane: *mut Handle, wire: u64, swept: *mut RawSwept) -> u32;
@@ -178,6 +179,14 @@ impl RawLane {
         done(unsafe {
             let (from, to) = (clients.as_ptr(), grants.as_mut_ptr());
             renamer_name_many(&raw mut self.0, from, clients.len(), to, grants.len())
+        })
+    }
+
+    pub(crate) fn name_list(&mut self, clients: &[u64], entry: u64, names: &mut [u64]) -> Result<(), Error> {
+        // SAFETY: as for `name_many`.
+        done(unsafe {
+            let (from, to) = (clients.as_ptr(), names.as_mut_ptr());
+            renamer_name_list(&raw mut self.0, from, clients.len(), entry, to, names.len())
         })
     }
 

@@ -99,6 +99,23 @@ fn lists_that_are_not_named() {
 }
 
 #[test]
+fn lists_by_one_entry() {
+    let mut lane = floor(3).into_lane();
+    let mut names = [77; 2];
+    assert_eq!(lane.name_list(&[7; 4], 0), Err(Error::QuotaSpent));
+    assert_eq!(lane.name_list(&[], 4), Err(Error::NoSuchEntry));
+    assert_eq!(lane.name_list_into(&[7], 4, &mut names), Err(Error::Size));
+    assert_eq!((lane.quota(), lane.grant_count(), names), (3, 0, [77; 2]));
+    assert_eq!(lane.name_list(&[], 3), Ok(vec![]));
+    assert_eq!(lane.name_list_into(&[7, 8], 3, &mut names), Ok(()));
+    for (client, name) in [7, 8].into_iter().zip(names) {
+        assert!(lane.grants().iter().any(|grant| (grant.client, grant.name) == (client, name)));
+    }
+    lane.enter(9, 0).unwrap();
+    assert_eq!(lane.name_list(&[], 3), Err(Error::StillWalking));
+}
+
+#[test]
 fn steps_where_nobody_is() {
     let mut lane = floor(2).into_lane();
     assert_eq!(lane.lowest(), Err(Error::NobodyThere));

@@ -17,7 +17,7 @@ entries_by : (entry : ℕ) (ids : List ℕ) → map (λ (c : Client). c.entry) (
 entries_by entry [] = refl
 entries_by entry (id ∷ ids) = ap (λ (es : List ℕ). entry ∷ es) (entries_by entry ids)
 
-times-by : (entry id : ℕ) (ids : List ℕ) → count_by (λ c. c.id == id) (by_entry entry ids) ≡ times id ids
+pub times-by : (entry id : ℕ) (ids : List ℕ) → count_by (λ c. c.id == id) (by_entry entry ids) ≡ times id ids
 times-by entry id [] = sym (times-nil id)
 times-by entry id (x ∷ ids) =
     omega (arith, times-by entry id ids, times-cons id x ids, sum_by-cons (λ (c : Client). cond (c.id == id) 1 0) (record { id = x; entry = entry }) (by_entry entry ids))

@@ -1,7 +1,7 @@
 -- Where lanes end that are handed back, and why joins stop.
-use Rattle.std.specs.Prelude.{◌≡◌, ℕ, Option, None, Some, ⊤}
+use Rattle.std.specs.Prelude.{◌≡◌, ◌⊎◌, ℕ, Option, None, Some, ⊤}
 use Rattle.cn_floor.specs.Lane.{LaneValue}
-use Rattle.renamer_c.specs.Looking.{IsNoneBack}
+use Rattle.renamer_c.specs.Looking.{IsNoneBack, IsWhole}
 use Rattle.renamer_c.specs.Placing.{IsPut, IsUnturned}
 use Rattle.renamer_c.specs.Refusals.{WithLane}
 use Rattle.renamer_c.specs.Returns.{IsBack, JoinsTimes}
@@ -9,16 +9,16 @@ use Rattle.renamer_c.specs.declared.floor_with_places.Handed.{Handed}
 use Rattle.renamer_c.specs.declared.floor_with_places.Handed.TheVariants.{AtPlace, NotItsOwn, WithFloor}
 use Rattle.renamer_c.specs.declared.held_lane.returning.JoinStop.{JoinStop}
 use Rattle.renamer_c.specs.declared.held_lane.returning.JoinStop.TheVariants.{Nothing, NothingBack, Memory}
-use Rattle.renamer_c.specs.declared.looking.NoneBack.{NoneBack}
 use Rattle.renamer_c.specs.declared.refusal.Refusal.{Refusal}
 use Rattle.renamer_c.specs.declared.refusal.Refusal.TheVariants as why
+use Rattle.renamer_c.specs.declared.searches.Search.{Search}
 
 -- where a lane ends that is handed back: it is at its place; or its floor, of which it was the only lane, is here; or
--- its place was not its own
+-- it is here, since its place was not its own
 abbrev pub EndsSomewhere : LaneValue → Handed → Type 0
 EndsSomewhere lane (AtPlace p) = IsPut lane p
 EndsSomewhere lane (WithFloor floor) = floor ≡ lane.home
-EndsSomewhere lane (NotItsOwn u) = IsUnturned 2 u
+EndsSomewhere lane (NotItsOwn u here) = IsUnturned 2 u × (here ≡ lane)
 
 -- what a join leaves that stops: if no lane was back, what was seen; and where one is that was back, for whose grants
 -- there is no room
@@ -33,7 +33,6 @@ refusal_of Nothing = why.Nothing
 refusal_of (NothingBack none) = why.NothingBack
 refusal_of (Memory handed) = why.Memory
 
--- all that were back were taken in: then none was back at one moment; or lanes came back for centuries
-abbrev pub AreAllIn : Option LaneValue → Option LaneValue → Option NoneBack → Type 0
-AreAllIn old new (Some none) = IsNoneBack none
-AreAllIn old new None = (n : ℕ) × JoinsTimes n old new × (n ≡ 18446744073709551615)
+-- each lane was taken in that a search found which went through all places; or lanes were found for centuries
+abbrev pub AreAllIn : Option LaneValue → Option LaneValue → Search → Type 0
+AreAllIn old new s = (n : ℕ) × JoinsTimes n old new × (n ≡ s.found) × (IsWhole s ⊎ (s.found ≡ 18446744073709551615))

@@ -1,12 +1,14 @@
--- Looks for a lane that was handed back.
-use Rattle.std.specs.Prelude.{◌≡◌, ◌≢◌, ◌⊎◌, ℕ, ◌+◌, ◌/◌, ◌%◌, ◌<◌, ◌≤◌, true, false}
+-- Searches for a lane that was handed back.
+use Rattle.std.specs.Prelude.{◌≡◌, ◌≢◌, ◌⊎◌, ℕ, ◌+◌, ◌/◌, ◌%◌, ◌<◌, ◌≤◌, true}
 use Rattle.cn_floor.specs.Lane.{FloorValue}
 use Rattle.renamer_c.specs.Placing.{IsPlaceOf}
 use Rattle.renamer_c.specs.Returns.{IsBack}
-use Rattle.renamer_c.specs.declared.looking.NoneBack.{NoneBack}
-use Rattle.renamer_c.specs.declared.looking.NoneBack.TheVariants.{ByCount, BySearches, Late}
 use Rattle.renamer_c.specs.declared.places.Place.{Place}
-use Rattle.renamer_c.specs.declared.searches.RowWord.{RowWord}
+use Rattle.renamer_c.specs.declared.reading_rows.Unread.{Unread}
+use Rattle.renamer_c.specs.declared.searches.EmptyGroup.{EmptyGroup}
+use Rattle.renamer_c.specs.declared.searches.EmptyRow.{EmptyRow}
+use Rattle.renamer_c.specs.declared.searches.NoneBack.{NoneBack}
+use Rattle.renamer_c.specs.declared.searches.NoneBack.TheVariants.{Searched, Late}
 use Rattle.renamer_c.specs.declared.searches.Search.{Search}
 use Rattle.renamer_c.specs.declared.taken.Taken.{Taken}
 
@@ -14,26 +16,50 @@ use Rattle.renamer_c.specs.declared.taken.Taken.{Taken}
 abbrev pub IsTakenOf : FloorValue → Taken × Place → Type 0
 IsTakenOf floor t = IsBack floor t.0.lane × IsPlaceOf floor t.1
 
--- by its word a row was made, and can have one reader more
-pub record CanBeRead (s : RowWord) : Type 0 where
-  pub made : s.word % 4 ≡ 1
-  pub few : s.word / 4 < 1073741823
-  pub shared : s.full ≡ false
-
 -- the row with this number was not made; or has as many readers as it can have, or owners; or was turned by other
 -- threads for centuries
-abbrev pub IsNoRow : ℕ → RowWord → Type 0
+abbrev pub IsNoRow : ℕ → Unread → Type 0
 IsNoRow at s = (s.at ≡ at) × ((s.word % 4 ≢ 1) ⊎ ((1073741823 ≤ s.word / 4) ⊎ ((s.full ≡ true)
     ⊎ (s.looks ≡ 18446744073709551615))))
 
--- a search went through each place of each row, and found no lane
-pub record IsWhole (s : Search) : Type 0 where
-  pub first : s.first ≡ record { row = 0; place = 0 }
-  pub on : s.on ≡ record { row = 26; place = 0 }
+-- none of the places of this row was counted in this state
+pub record IsEmptyRow (row state : ℕ) (e : EmptyRow) : Type 0 where
+  pub is_it : (e.row ≡ row) × (e.state ≡ state)
+  pub none : e.number ≡ 0
 
--- why no lane is taken: none was counted; or two searches, one right after the other, found none, and no lane was
--- handed back from the one to the other; or it was looked for centuries
+-- none of the places of a group that begins here was counted in this state
+pub record IsEmptyGroup (first state : ℕ) (e : EmptyGroup) : Type 0 where
+  pub begins : (e.first ≡ first) × (e.state ≡ state)
+  pub size : (0 < e.size) × (e.size ≤ 16777216)
+  pub none : e.number ≡ 0
+
+-- a search for this state that begins, after so many
+pub record IsNewSearch (state earlier : ℕ) (s : Search) : Type 0 where
+  pub what : s.state ≡ state
+  pub on : s.on ≡ record { row = 0; place = 0 }
+  pub found : s.found ≡ 0
+  pub after : s.earlier ≡ earlier
+  pub rows : s.unmade.from ≤ 26
+
+-- the same search, further on, which found so many more
+pub record GoesOn (more : ℕ) (a b : Search) : Type 0 where
+  pub state : b.state ≡ a.state
+  pub found : b.found ≡ a.found + more
+  pub returns : b.returns ≡ a.returns
+  pub rows : b.unmade ≡ a.unmade
+  pub earlier : b.earlier ≡ a.earlier
+
+-- a search has not passed the rows that were made when it began
+pub record IsWithin (s : Search) : Type 0 where
+  pub on : s.on.row ≤ s.unmade.from
+  pub few : s.unmade.from ≤ 26
+
+-- a search for lanes went through all rows that were made when it began
+pub record IsWhole (s : Search) : Type 0 where
+  pub lanes : s.state ≡ 1
+  pub rows : s.on.row ≡ s.unmade.from
+
+-- why no lane is taken: a whole search found none, and no lane was handed back meanwhile; or so it was for centuries
 abbrev pub IsNoneBack : NoneBack → Type 0
-IsNoneBack (ByCount count) = count.number ≡ 0
-IsNoneBack (BySearches a b) = IsWhole a × IsWhole b × (b.earlier ≡ a.earlier + 1) × (b.returns ≡ a.returns)
-IsNoneBack (Late s) = IsWhole s × (s.earlier ≡ 18446744073709551615)
+IsNoneBack (Searched s now) = IsWhole s × (s.found ≡ 0) × (now ≡ s.returns)
+IsNoneBack (Late s) = s.earlier ≡ 18446744073709551615

@@ -1,9 +1,13 @@
 -- Places for lanes that are handed back, and what was seen of them, or done there.
 use Rattle.std.specs.Arc.{arc_value}
-use Rattle.std.specs.Prelude.{◌≡◌, ◌≢◌, ◌⊎◌, ℕ, ◌*◌, ◌^◌, ◌%◌, ◌<◌, All, List, length}
+use Rattle.std.specs.Prelude.{◌≡◌, ◌≢◌, ℕ, ◌*◌, ◌^◌, ◌<◌, ◌≤◌, All, List, Option, IsSomeAnd, MatchOption, length}
 use Rattle.cn_floor.specs.Lane.{FloorValue, LaneValue}
+use Rattle.renamer_c.specs.Returns.{IsBack}
 use Rattle.renamer_c.specs.declared.places.Place.{Place}
-use Rattle.renamer_c.specs.declared.places.Places.{Places}
+use Rattle.renamer_c.specs.declared.places.Returned.{Returned}
+use Rattle.renamer_c.specs.declared.reading_rows.RowSlot.{RowSlot}
+use Rattle.renamer_c.specs.declared.row.Row.{Row}
+use Rattle.renamer_c.specs.declared.row.SharedRow.{SharedRow}
 use Rattle.renamer_c.specs.declared.turns.Put.{Put}
 use Rattle.renamer_c.specs.declared.turns.Unturned.{Unturned}
 
@@ -11,30 +15,39 @@ use Rattle.renamer_c.specs.declared.turns.Unturned.{Unturned}
 abbrev pub AreTagsOf : FloorValue → List FloorValue → Type 0
 AreTagsOf floor tags = All (λ tag. tag ≡ floor) tags
 
--- the same of a row of places that is shared
-abbrev pub IsRowOf : FloorValue → Places → Type 0
-IsRowOf floor p = AreTagsOf floor (arc_value p.row).items
+-- the same of spaces for rows
+abbrev pub AreSlotsOf : FloorValue → List RowSlot → Type 0
+AreSlotsOf floor slots = All (λ slot. slot.row ≡ floor) slots
+
+-- the same of a row, which has not more places than that
+abbrev pub IsRowOf : FloorValue → Row → Type 0
+IsRowOf floor row = AreTagsOf floor row.places.items × (length row.places.items ≤ 1099511627776)
+
+-- the same of a row that is shared
+abbrev pub IsSharedRowOf : FloorValue → SharedRow → Type 0
+IsSharedRowOf floor shared = IsRowOf floor (arc_value shared.row)
 
 -- a place in such a row
 abbrev pub IsPlaceOf : FloorValue → Place → Type 0
-IsPlaceOf floor p = IsRowOf floor p.places × (p.spot.place < length (arc_value p.places.row).items)
+IsPlaceOf floor p = IsSharedRowOf floor p.shared × (p.spot.place < length (arc_value p.shared.row).places.items)
+    × (p.spot.row < 26)
 
 -- how many places the row with this number has
 abbrev pub row_size : ℕ → ℕ
 row_size at = 16 * 2 ^ at
 
--- the state of a place by its word: the low half, where nobody reads
-abbrev pub state_by_word : ℕ → ℕ
-state_by_word word = word % 4294967296
-
--- a place was not in this state when it was looked at, or another thread turned it then
+-- a place was not in this state when it was looked at, or when it was to be turned
 abbrev pub IsUnturned : ℕ → Unturned → Type 0
-IsUnturned state u = (state_by_word u.seen ≢ state) ⊎ (u.found ≢ u.seen)
+IsUnturned state u = u.word ≢ state
 
 -- the same of the place with this number
 abbrev pub IsNotIn : ℕ → ℕ → Unturned → Type 0
 IsNotIn at state u = (u.at ≡ at) × IsUnturned state u
 
+-- what stood at a place in this state: a lane of this floor, if the state is that of places with one
+abbrev pub IsFound : FloorValue → ℕ → Option Returned → Type 0
+IsFound floor state there = MatchOption there (state ≢ 1) (λ r. IsSomeAnd r.boxed.value (IsBack floor))
+
 -- this lane was put into a place, whose word then says that it has one
 abbrev pub IsPut : LaneValue → Put → Type 0
-IsPut lane p = (p.lane.value ≡ lane) × (state_by_word p.word ≡ 1)
+IsPut lane p = (p.lane.value ≡ lane) × (p.word ≡ 1)

@@ -70,6 +70,19 @@ NotNamedMany lane clients size Memory = WithLane lane (λ l. (size ≡ length cl
     × All (λ c. c.entry < entries_of_lane l) clients × (length clients ≤ l.view.quota) × (l.room < length clients))
 NotNamedMany lane clients size r = ⊥
 
+-- why so many clients of a list, who come in by this entry, are not named, with space for so many names
+abbrev pub NotNamedList : Option LaneValue → ℕ → ℕ → ℕ → Refusal → Type 0
+NotNamedList lane count entry size Nothing = lane ≡ None
+NotNamedList lane count entry size Size = WithLane lane (λ l. size ≢ count)
+NotNamedList lane count entry size StillWalking = WithLane lane (λ l. (size ≡ count) × (0 < tokens_in l.yard.lists))
+NotNamedList lane count entry size NoSuchEntry = WithLane lane (λ l. (size ≡ count) × (tokens_in l.yard.lists ≡ 0)
+    × (entries_of_lane l ≤ entry))
+NotNamedList lane count entry size QuotaSpent = WithLane lane (λ l. (size ≡ count) × (tokens_in l.yard.lists ≡ 0)
+    × (entry < entries_of_lane l) × (l.view.quota < count))
+NotNamedList lane count entry size Memory = WithLane lane (λ l. (size ≡ count) × (tokens_in l.yard.lists ≡ 0)
+    × (entry < entries_of_lane l) × (count ≤ l.view.quota) × (l.room < count))
+NotNamedList lane count entry size r = ⊥
+
 -- why a client is not let in
 abbrev pub NotEntered : Option LaneValue → ℕ → Refusal → Type 0
 NotEntered lane entry Nothing = lane ≡ None

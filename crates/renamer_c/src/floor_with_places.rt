@@ -1,35 +1,40 @@
 //! A floor that lanes own together, and the places for lanes that are handed back to it.
 
+mod searching;
+
 ghost use Rattle.std.specs.Arc.{arc_value};
-ghost use Rattle.std.specs.Prelude.{◌≡◌, ◌+◌, Some, length, IfErr, IfOk};
+ghost use Rattle.std.specs.Prelude.{◌≡◌, ◌+◌, ◌<◌, Some, length, IfErr, IfOk};
 ghost use Rattle.cn_yard.specs.Lists.{tokens_in};
 ghost use Rattle.cn_floor.specs.Lane.{FloorValue};
 ghost use Rattle.renamer_c.specs.Joining.{EndsSomewhere};
-ghost use Rattle.renamer_c.specs.Looking.{IsNoneBack, IsTakenOf};
-ghost use Rattle.renamer_c.specs.Placing.{IsPlaceOf};
+ghost use Rattle.renamer_c.specs.Placing.{AreSlotsOf, IsPlaceOf};
 ghost use Rattle.renamer_c.specs.Refusals.{NotClosed};
 ghost use Rattle.renamer_c.specs.Returns.{IsBack};
 
-use crate::looking::{NoneBack, free_place, no_rows, take_lane};
-use crate::places::{Place, Spot};
+use crate::places::Place;
+use crate::reading_rows::RowSlot;
 use crate::refusal::Refusal;
-use crate::searches::{Count, RowSlot};
-use crate::taken::Taken;
+use crate::row::Counts;
 use crate::turns::{Put, Unturned};
 use cn_floor::{CloseFault, Floor, Lane, Quiet};
+use counted_slot::{Counted, FREE, PRESENT};
 use std::alloc::{AllocError, Global};
 use std::marker::Model;
 use std::sync::Arc;
 use std::sync::atomic::AtomicU64;
 use std::sync::atomic::Ordering::SeqCst;
 
+/// How many rows there are at most.
+const ROWS: usize = 26;
+
 /// A floor with places for lanes. To contracts it is the floor.
 #[derive(Drop)]
 pub(crate) struct FloorWithPlaces {
     floor: Floor<'static>,
-    rows: Vec<RowSlot>,
-    /// How many lanes are back, and no fewer: those that are being handed back or taken are counted too.
-    back: AtomicU64,
+    /// The rows of places.
+    slots: Vec<RowSlot>,
+    /// How many hand-backs ended.
+    returns: AtomicU64,
 }
 
 impl Model for FloorWithPlaces {
@@ -50,12 +55,29 @@ pub(crate) enum Handed {
     AtPlace(Put),
     /// Nowhere, since its floor has no other lane, and goes too.
     WithFloor(FloorWithPlaces),
-    /// Nowhere, since its place was not its own, which no call makes it.
-    NotItsOwn(Unturned),
+    /// Here, since its place was not its own, which no call makes it.
+    NotItsOwn(Unturned, Lane),
 }
 
 /// A share of a floor: lanes own their floor together. It is there until its close takes it out.
 pub(crate) type FloorShare = Arc<Option<FloorWithPlaces>, Global>;
+
+/// Space for rows of places for lanes of a floor.
+///
+/// # Errors
+/// `AllocError` if they get no memory.
+fn no_rows(alloc: Global, floor: &Floor<'static>) -> Result<Vec<RowSlot>, AllocError>
+    ensures { IfOk result (λ slots. AreSlotsOf floor.now slots.items × (length slots.items ≡ 26)) }
+{
+    let mut slots = Vec::new(alloc);
+    for at in 0..ROWS {
+        slots.push(RowSlot {
+            row: Counted::new(None, floor),
+            counts: Counts::new(),
+        })?;
+    }
+    Ok(slots)
+}
 
 impl FloorWithPlaces {
     /// A floor with space for rows of places.
@@ -65,11 +87,11 @@ impl FloorWithPlaces {
     pub(crate) fn new(alloc: Global, floor: Floor<'static>) -> Result<FloorWithPlaces, AllocError>
         ensures { IfOk result (λ g. g ≡ floor.entry) }
     {
-        let rows = no_rows(alloc, &floor)?;
+        let slots = no_rows(alloc, &floor)?;
         Ok(FloorWithPlaces {
             floor,
-            rows,
-            back: AtomicU64::new(0),
+            slots,
+            returns: AtomicU64::new(0),
         })
     }
 
@@ -80,48 +102,45 @@ impl FloorWithPlaces {
         &self.floor
     }
 
-    /// A free place for a lane, near the hint, which is then this place, or the first of all.
-    ///
-    /// # Errors
-    /// `AllocError` if it gets no memory.
-    pub(crate) fn claim_place(&self, alloc: Global, hint: &mut Spot) -> Result<Place, AllocError>
-        ensures { IfOk result (IsPlaceOf self.now) }
+    /// Counts a place more in this state.
+    fn add(&self, place: &Place, state: u64)
+        requires { place.now.spot.row < 26 }
     {
-        let place = free_place(alloc, &self.rows, &self.floor, *hint)?;
-        *hint = place.spot();
-        Ok(place)
+        let spot = place.spot();
+        self.slots[spot.row].counts.of(state).fetch_add(1, SeqCst);
+        place.row().add(spot.place, state);
     }
 
-    /// Hands a lane back to its place, in its box, by a few atomic steps.
+    /// Counts a place less in this state.
+    fn subtract(&self, place: &Place, state: u64)
+        requires { place.now.spot.row < 26 }
+    {
+        let spot = place.spot();
+        place.row().subtract(spot.place, state);
+        self.slots[spot.row].counts.of(state).fetch_sub(1, SeqCst);
+    }
+
+    /// Lets a place go, for another lane.
+    pub(crate) fn free(&self, place: Place)
+        requires { IsPlaceOf self.now place }
+    {
+        self.add(&place, FREE);
+        place.free(&self.floor);
+    }
+
+    /// Hands a lane back to its place, in its box: by as many steps as there are counts of the place, and four.
     pub(crate) fn hand_back(&self, place: Place, lane: Lane, boxed: Box<Option<Lane>>) -> Handed
         requires place { IsPlaceOf self.now place }
         requires lane { IsBack self.now lane }
         ensures { EndsSomewhere lane result }
     {
-        self.back.fetch_add(1, SeqCst);
-        match place.put(&self.floor, lane, boxed) {
+        self.add(&place, PRESENT);
+        let put = place.put(&self.floor, lane, boxed);
+        self.returns.fetch_add(1, SeqCst);
+        match put {
             Ok(put) => Handed::AtPlace(put),
-            Err(other) => Handed::NotItsOwn(other),
+            Err((other, lane)) => Handed::NotItsOwn(other, lane),
         }
-    }
-
-    /// Takes a lane that was handed back, with its place: near the hint, which is then this place, or the first of
-    /// all.
-    ///
-    /// # Errors
-    /// What was seen, if no lane was back at one moment.
-    pub(crate) fn take_back(&self, hint: &mut Spot) -> Result<(Taken, Place), NoneBack>
-        ensures ok { IfOk result (IsTakenOf self.now) }
-        ensures none { IfErr result IsNoneBack }
-    {
-        let back = Count::of(&self.back);
-        if back.is_zero() {
-            return Err(NoneBack::ByCount(back));
-        }
-        let (taken, place) = take_lane(&self.rows, &self.floor, *hint)?;
-        self.back.fetch_sub(1, SeqCst);
-        *hint = place.spot();
-        Ok((taken, place))
     }
 
     /// Closes the floor by a lane that has the whole of its quota, spent or not, and nobody inside. Lanes that were
@@ -136,11 +155,20 @@ impl FloorWithPlaces {
         ensures ok { IfOk result (λ quiet. (quiet.start ≡ self.start) × (quiet.did ≡ lane.view)) }
         ensures err { IfErr result (λ back. (back.0 ≡ self) × (back.1 ≡ lane)) }
     {
-        let FloorWithPlaces { floor, rows, back } = self;
+        let FloorWithPlaces {
+            floor,
+            slots,
+            returns,
+        } = self;
         match floor.close(lane) {
             Ok(quiet) => Ok(quiet),
             Err(CloseFault::StillWalking(floor, lane) | CloseFault::Memory(floor, lane)) => {
-                Err((FloorWithPlaces { floor, rows, back }, lane))
+                let floor = FloorWithPlaces {
+                    floor,
+                    slots,
+                    returns,
+                };
+                Err((floor, lane))
             }
             Err(CloseFault::LanesMissing { .. }) => unreachable!(),
         }

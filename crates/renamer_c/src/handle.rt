@@ -5,13 +5,10 @@ ghost use Rattle.std.specs.Borrow.{sem};
 ghost use Rattle.std.specs.Coded.{coded_option};
 ghost use Rattle.renamer_c.specs.Holding.{holds, the_row};
 
-use crate::held::{Held, take_back};
+use crate::held::Held;
 use crate::held_lane::HeldLane;
-use crate::held_lane::returning::JoinStop;
 use crate::loose::Loose;
-use crate::places::Place;
 use crate::refusal::Refusal;
-use crate::taken::Taken;
 use std::alloc::Global;
 use std::marker::Model;
 use std::mem::replace;
@@ -32,9 +29,7 @@ impl Model for Handle {
 impl Handle {
     ghost use Rattle.renamer_c.specs.Handles.{lane_in};
     ghost use Rattle.renamer_c.specs.Lends.{LendsHeld};
-    ghost use Rattle.renamer_c.specs.Joining.{StopsWith, refusal_of};
-    ghost use Rattle.renamer_c.specs.Looking.{IsTakenOf};
-    ghost use Rattle.renamer_c.specs.Refusals.{NotJoined, NotThere, WithLane};
+    ghost use Rattle.renamer_c.specs.Refusals.{NotThere};
     ghost use Rattle.renamer_c.specs.declared.held.Held.TheVariants.{Lane};
 
     fn none(alloc: Global) -> Handle
@@ -121,23 +116,6 @@ impl Handle {
         match replace(boxed.as_mut(), Held::Nothing) {
             Held::Lane(lane) => Ok((lane, boxed)),
             _ => unreachable!(),
-        }
-    }
-
-    /// Takes a lane out of those that were handed back to the floor of the lane that is there, with its place.
-    ///
-    /// # Errors
-    /// `Nothing` if no lane is there, else `NothingBack`.
-    pub(crate) fn take_back(&mut self) -> Result<(Taken, Place), JoinStop>
-        ensures kept { self.new.held ≡ self.old.held }
-        ensures ok { IfOk result (λ r. WithLane (lane_in self.old.held)
-            (λ l. IsTakenOf l.home r)) }
-        ensures stop { IfErr result (StopsWith (lane_in self.old.held)) }
-        ensures refused { IfErr result (λ s. NotJoined (lane_in self.old.held) (refusal_of s)) }
-    {
-        match self.get_mut() {
-            Some(held) => take_back(held),
-            None => Err(JoinStop::Nothing),
         }
     }
 

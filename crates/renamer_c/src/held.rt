@@ -3,18 +3,13 @@
 ghost use Rattle.std.specs.Fn.{FnOnceReturnsAtMut};
 ghost use Rattle.std.specs.Prelude.{◌≡◌, ◌⊎◌, Err, None, Some, IfErr, IfOk};
 ghost use Rattle.renamer_c.specs.Handles.{lane_held, record_held, taker_held};
-ghost use Rattle.renamer_c.specs.Joining.{StopsWith, refusal_of};
-ghost use Rattle.renamer_c.specs.Looking.{IsTakenOf};
-ghost use Rattle.renamer_c.specs.Refusals.{NotJoined, NotThere, WithLane};
+ghost use Rattle.renamer_c.specs.Refusals.{NotThere};
 ghost use Rattle.renamer_c.specs.declared.held.Held.TheVariants.{Lane, Taker};
 
 use crate::floor_record::FloorRecord;
 use crate::held_lane::HeldLane;
-use crate::held_lane::returning::JoinStop;
 use crate::held_taker::HeldTaker;
-use crate::places::Place;
 use crate::refusal::Refusal;
-use crate::taken::Taken;
 
 /// What a handle has. Lane, record and taker are type parameters: the checker passes no `&mut` with a lifetime in it to
 /// a closure.
@@ -93,24 +88,5 @@ impl<L, R, K> Held<L, R, K> {
             Held::Closed(record) => Ok(record),
             _ => Err(Refusal::Nothing),
         }
-    }
-}
-
-/// Takes a lane out of those that were handed back to the floor of the lane that is there, with its place.
-///
-/// # Errors
-/// `Nothing` if no lane is there, else `NothingBack`.
-pub(crate) fn take_back(held: &mut Held) -> Result<(Taken, Place), JoinStop>
-    ensures kept { held.new ≡ held.old }
-    ensures ok { IfOk result (λ r. WithLane (lane_held held.old) (λ l. IsTakenOf l.home r)) }
-    ensures stop { IfErr result (StopsWith (lane_held held.old)) }
-    ensures refused { IfErr result (λ s. NotJoined (lane_held held.old) (refusal_of s)) }
-{
-    match held {
-        Held::Lane(lane) => match lane.take_back() {
-            Ok(taken) => Ok(taken),
-            Err(none) => Err(JoinStop::NothingBack(none)),
-        },
-        _ => Err(JoinStop::Nothing),
     }
 }

@@ -1,6 +1,7 @@
 //! A lane with its share of its floor.
 
 mod by_entry;
+mod in_order;
 mod last_lane;
 pub(crate) mod returning;
 mod single_steps;
@@ -19,7 +20,7 @@ ghost use Rattle.renamer_c.specs.Questions.{number_asked};
 ghost use Rattle.renamer_c.specs.Refusals.{NotNamed, NotReserved};
 
 use crate::floor_with_places::{FloorShare, FloorWithPlaces, floor_of, with_places};
-use crate::places::{Place, Spot};
+use crate::places::Place;
 use crate::question::Question;
 use crate::refusal::Refusal;
 use cn_floor::{Floor, Lane, LaneFault, OpenFault, Words};
@@ -38,8 +39,6 @@ pub struct HeldLane {
     /// Its place, to which it is handed back, and its box there.
     place: Place,
     boxed: Box<Option<Lane>>,
-    /// Where it found a place last, its own or another lane's, and looks first the next time.
-    hint: Spot,
 }
 
 impl Model for HeldLane {
@@ -84,7 +83,6 @@ impl HeldLane {
         most: u64,
         place: Place,
         boxed: Box<Option<Lane>>,
-        hint: Spot,
     ) -> HeldLane
         requires own { arc_value floor ≡ Some lane.home }
         requires most { most ≡ lane.home.start.quota }
@@ -97,7 +95,6 @@ impl HeldLane {
             most,
             place,
             boxed,
-            hint,
         }
     }
 
@@ -122,13 +119,15 @@ impl HeldLane {
         let Ok(boxed) = Box::new(alloc, None) else {
             return Err(Refusal::Memory);
         };
-        let mut hint = Spot { row: 0, place: 0 };
-        let Ok(place) = floor.claim_place(alloc, &mut hint) else {
+        let Ok(place) = floor.claim_place(alloc) else {
             return Err(Refusal::Memory);
         };
         match Arc::new(alloc, Some(floor)) {
-            Ok(floor) => Ok(HeldLane::of(floor, lane, most, place, boxed, hint)),
-            Err(_) => Err(Refusal::Memory),
+            Ok(floor) => Ok(HeldLane::of(floor, lane, most, place, boxed)),
+            Err(_) => {
+                place.go_with_floor();
+                Err(Refusal::Memory)
+            }
         }
     }
 
@@ -181,14 +180,14 @@ impl HeldLane {
     ///
     /// # Errors
     /// `AllocError` if they get no memory.
-    fn share(&mut self, alloc: Global) -> Result<(FloorShare, Place, Box<Option<Lane>>), AllocError>
-        ensures kept { self.new ≡ self.old }
-        ensures floor { IfOk result (λ r. arc_value r.0 ≡ Some self.old.home) }
-        ensures place { IfOk result (λ r. IsPlaceOf self.old.home r.1) }
+    fn share(&self, alloc: Global) -> Result<(FloorShare, Place, Box<Option<Lane>>), AllocError>
+        ensures floor { IfOk result (λ r. arc_value r.0 ≡ Some self.now.home) }
+        ensures place { IfOk result (λ r. IsPlaceOf self.now.home r.1) }
     {
+        let floor = Arc::try_clone(&self.floor)?;
         let boxed = Box::new(alloc, None)?;
-        let place = with_places(&self.floor).claim_place(alloc, &mut self.hint)?;
-        Ok((Arc::try_clone(&self.floor)?, place, boxed))
+        let place = with_places(&self.floor).claim_place(alloc)?;
+        Ok((floor, place, boxed))
     }
 
     /// Splits off a lane with some of the quota.
@@ -205,8 +204,11 @@ impl HeldLane {
             return Err(Refusal::Memory);
         };
         match floor_of(&floor).split_off(&mut self.lane, quota) {
-            Ok(other) => Ok(HeldLane::of(floor, other, self.most, place, boxed, self.hint)),
-            Err(_) => Err(Refusal::Memory),
+            Ok(other) => Ok(HeldLane::of(floor, other, self.most, place, boxed)),
+            Err(_) => {
+                with_places(&floor).free(place);
+                Err(Refusal::Memory)
+            }
         }
     }
 

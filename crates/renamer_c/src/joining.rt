@@ -9,8 +9,8 @@ ghost use Rattle.renamer_c.specs.declared.refusal.TheConstants.{DONE};
 
 use crate::handle::Handle;
 use crate::held_lane::returning::JoinStop;
-use crate::looking::NoneBack;
 use crate::refusal::DONE;
+use crate::searches::Search;
 use std::alloc::Global;
 
 /// Hands a lane back to its floor, for other lanes to take in.
@@ -34,7 +34,7 @@ pub extern "C" fn renamer_hand_back(alloc: Global, lane: &mut Handle) -> u32
     }
 }
 
-/// Takes in a lane of the same floor that was handed back. If none was, the lane stays where it is.
+/// Takes in a lane of the same floor that was handed back.
 ///
 /// # Errors
 /// The first that stands: `Nothing`, `NothingBack`, `Memory`. Then nothing has changed.
@@ -44,11 +44,10 @@ fn join_one(alloc: Global, lane: &mut Handle) -> Result<(), JoinStop>
     ensures stop { IfErr result (StopsWith (lane_in lane.old.held)) }
     ensures refused { IfErr result (λ s. NotJoined (lane_in lane.old.held) (refusal_of s)) }
 {
-    let (other, other_place) = lane.take_back()?;
     let Ok((held, boxed)) = lane.take_lane(alloc) else {
-        unreachable!()
+        return Err(JoinStop::Nothing);
     };
-    match held.join(other, other_place) {
+    match held.join_one() {
         Ok(held) => {
             lane.put_lane(held, boxed);
             Ok(())
@@ -60,7 +59,7 @@ fn join_one(alloc: Global, lane: &mut Handle) -> Result<(), JoinStop>
     }
 }
 
-/// Takes in a lane of the same floor that was handed back. If none was, the lane stays where it is.
+/// Takes in a lane of the same floor that was handed back.
 #[unsafe(no_mangle)]
 pub extern "C" fn renamer_join(alloc: Global, lane: &mut Handle) -> u32
     ensures joined { result ≡ DONE → Joins (lane_in lane.old.held) (lane_in lane.new.held) }
@@ -73,31 +72,33 @@ pub extern "C" fn renamer_join(alloc: Global, lane: &mut Handle) -> u32
     }
 }
 
-/// How many lanes one call takes in at most: for centuries.
-const MOST_JOINS: u64 = u64::MAX;
-
-/// Takes in lanes of the same floor that were handed back, one after another, until none is back. Returns what was seen
-/// then, or nothing if lanes came back for centuries.
+/// Takes in the lanes of the same floor that were handed back, each that one search through all places finds. Returns
+/// the search.
 ///
 /// # Errors
 /// The first that stands, after those that were taken in: `Nothing`, `Memory`.
-fn join_all(alloc: Global, lane: &mut Handle) -> Result<Option<NoneBack>, JoinStop>
+fn join_all(alloc: Global, lane: &mut Handle) -> Result<Search, JoinStop>
     ensures joined { JoinsAll (lane_in lane.old.held) (lane_in lane.new.held) }
     ensures ok { IfOk result (AreAllIn (lane_in lane.old.held) (lane_in lane.new.held)) }
     ensures stop { IfErr result (StopsWith (lane_in lane.new.held)) }
     ensures refused { IfErr result (λ s. NotJoinedAll (lane_in lane.new.held) (refusal_of s)) }
 {
-    for at in 0..MOST_JOINS {
-        match join_one(alloc, lane) {
-            Ok(()) => {}
-            Err(JoinStop::NothingBack(none)) => return Ok(Some(none)),
-            Err(stop) => return Err(stop),
+    let Ok((held, boxed)) = lane.take_lane(alloc) else {
+        return Err(JoinStop::Nothing);
+    };
+    match held.join_all() {
+        Ok((held, search)) => {
+            lane.put_lane(held, boxed);
+            Ok(search)
+        }
+        Err((held, stop)) => {
+            lane.put_lane(held, boxed);
+            Err(stop)
         }
     }
-    Ok(None)
 }
 
-/// Takes in lanes of the same floor that were handed back, one after another, until none is back.
+/// Takes in the lanes of the same floor that were handed back.
 #[unsafe(no_mangle)]
 pub extern "C" fn renamer_join_all(alloc: Global, lane: &mut Handle) -> u32
     ensures joined { JoinsAll (lane_in lane.old.held) (lane_in lane.new.held) }

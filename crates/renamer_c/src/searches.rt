@@ -1,207 +1,133 @@
-//! What a search for a lane saw. Only this file makes a value of it, each by its load or its exchange or by one that it
-//! takes, and nothing copies one: so a function that has to return a search that was in vain is not proved unless it
-//! looks at each place.
+//! What a search saw of places. Only this file makes a value of it, each by its load or by one that it takes, and
+//! nothing copies one: so a function that has to return a search that was in vain is not proved unless it looks at each
+//! place, or at a count of it.
 
 ghost use Rattle.std.specs.Arc.{arc_value};
-ghost use Rattle.std.specs.Prelude.{◌≡◌, ◌+◌, ◌/◌, ◌%◌, ◌^◌, ◌<◌, ◌≤◌, IfErr, IfOk, IsTrue, false, length};
-ghost use Rattle.renamer_c.specs.Looking.{CanBeRead, IsNoRow};
-ghost use Rattle.renamer_c.specs.Placing.{AreTagsOf, IsNotIn, IsPlaceOf, IsRowOf, row_size};
+ghost use Rattle.std.specs.Prelude.{◌≡◌, ◌+◌, ◌<◌, ◌≤◌, IfErr, IfOk, IfSome, length};
+ghost use Rattle.renamer_c.specs.Looking.{IsEmptyGroup, IsEmptyRow, IsNewSearch, IsNoRow, IsNoneBack, IsWhole};
+ghost use Rattle.renamer_c.specs.Placing.{IsNotIn};
 
-use crate::places::{Place, Places, Spot};
+use crate::places::Spot;
+use crate::reading_rows::{ReadRow, RowSlot, Unmade, Unread};
+use crate::row::{LEVELS, Row, group_size};
 use crate::turns::Unturned;
-use cn_floor::Floor;
-use counted_slot::{Counted, FREE, MOST_READERS, ONE_READER, PRESENT, TAKEN};
 use std::sync::atomic::AtomicU64;
 use std::sync::atomic::Ordering::SeqCst;
 
-/// A row of places, once it is made (`PRESENT`). Nobody writes it then.
-pub(crate) type RowSlot = Counted<Option<Places>>;
-
-/// A row that was read.
+/// How many places of a row were counted in a state: none.
 #[derive(Drop)]
-pub(crate) struct ReadRow {
-    at: usize,
-    places: Places,
-}
-
-/// Why a row was not read: its word, after so many looks, or that its places have too many owners.
-#[derive(Drop)]
-pub(crate) struct RowWord {
-    at: usize,
-    word: u64,
-    looks: u64,
-    full: bool,
-}
-
-impl ReadRow {
-    /// Its places.
-    pub(crate) fn places(&self) -> &Places
-        ensures { result.now ≡ self.now.places }
-    {
-        &self.places
-    }
-
-    /// One of them, for its taker.
-    pub(crate) fn into_place(self, floor: &Floor<'static>, place: usize) -> Place
-        requires row { IsRowOf floor.now self.places }
-        requires place { place < length (arc_value self.places.row).items }
-        ensures { IsPlaceOf floor.now result }
-    {
-        // Only the contract reads it: whose lanes stand there.
-        let _ = floor;
-        let ReadRow { at: row, places } = self;
-        Place::of(places, Spot { row, place })
-    }
-}
-
-impl RowWord {
-    /// The word of a row.
-    pub(crate) fn of(rows: &[RowSlot], at: usize) -> RowWord
-        requires { at < length rows.now }
-        ensures { (result.at ≡ at) × (result.looks ≡ 0) }
-    {
-        RowWord {
-            at,
-            word: rows[at].load(),
-            looks: 0,
-            full: false,
-        }
-    }
-
-    /// Whether the row can be read.
-    pub(crate) fn is_there(&self) -> bool
-        ensures there { IsTrue result → CanBeRead self.now }
-        ensures none { result ≡ false → IsNoRow self.now.at self.now }
-    {
-        !self.full && self.word % 4 == PRESENT && self.word / ONE_READER < MOST_READERS
-    }
-
-    /// Whether the row was not made.
-    pub(crate) fn is_free(&self) -> bool
-        ensures { IsTrue result → self.now.word ≡ 0 }
-    {
-        self.word == FREE
-    }
-
-    /// Reads the row: a compare-exchange counts a reader more, until its places have an owner more.
-    ///
-    /// # Errors
-    /// The row's word, if another thread turned it.
-    pub(crate) fn read(
-        mut self,
-        rows: &[RowSlot],
-        floor: &Floor<'static>,
-    ) -> Result<ReadRow, RowWord>
-        requires rows { AreTagsOf floor.now rows.now }
-        requires at { self.at < length rows.now }
-        requires there { CanBeRead self }
-        requires looks { self.looks < 18446744073709551615 }
-        ensures ok { IfOk result (λ r. (r.at ≡ self.at) × IsRowOf floor.now r.places) }
-        ensures err { IfErr result (λ s. (s.at ≡ self.at) × (s.looks ≡ self.looks + 1)) }
-    {
-        // Only the contract reads it: whose lanes stand there.
-        let _ = floor;
-        let seen = self.word;
-        let (found, claim) = rows[self.at].turn(seen, seen + ONE_READER);
-        self.looks += 1;
-        self.word = found;
-        if found != seen {
-            claim.done();
-            return Err(self);
-        }
-        let places = match claim.get() {
-            Some(places) => places.another_owner().ok(),
-            None => None,
-        };
-        claim.leave();
-        let at = self.at;
-        match places {
-            Some(places) => Ok(ReadRow { at, places }),
-            None => {
-                self.full = true;
-                Err(self)
-            }
-        }
-    }
-
-    /// Makes the row of these places, unless another thread made it then.
-    pub(crate) fn make(self, rows: &[RowSlot], floor: &Floor<'static>, places: Places)
-        requires rows { AreTagsOf floor.now rows.now }
-        requires at { self.at < length rows.now }
-        requires free { self.word ≡ 0 }
-        requires places { IsRowOf floor.now places }
-        requires size { length (arc_value places.row).items ≡ row_size self.at }
-    {
-        // Only the contract reads it: whose lanes stand there.
-        let _ = floor;
-        let (found, claim) = rows[self.at].turn(FREE, TAKEN);
-        if found == FREE {
-            let _ = claim.put(Some(places), PRESENT);
-        } else {
-            claim.done();
-        }
-    }
-}
-
-/// How many lanes are back, by the count, at one moment.
-#[derive(Drop)]
-pub(crate) struct Count {
+pub(crate) struct EmptyRow {
+    row: usize,
+    state: u64,
     number: u64,
 }
 
-impl Count {
-    /// That of this word.
-    pub(crate) fn of(word: &AtomicU64) -> Count {
-        Count {
-            number: word.load(SeqCst),
-        }
-    }
+/// How many places of a group were counted in a state: none.
+#[derive(Drop)]
+pub(crate) struct EmptyGroup {
+    first: usize,
+    size: usize,
+    state: u64,
+    number: u64,
+}
 
-    /// Whether there are none.
-    pub(crate) fn is_zero(&self) -> bool
-        ensures { IsTrue result → self.now.number ≡ 0 }
+impl EmptyRow {
+    /// The row, if none was counted there.
+    pub(crate) fn of(slots: &[RowSlot], row: usize, state: u64) -> Option<EmptyRow>
+        requires { row < length slots.now }
+        ensures { IfSome result (IsEmptyRow row state) }
     {
-        self.number == 0
+        let number = slots[row].counts.of(state).load(SeqCst);
+        if number == 0 {
+            Some(EmptyRow { row, state, number })
+        } else {
+            None
+        }
     }
 }
 
-/// A search for a lane through the places of rows, so far in vain.
+impl EmptyGroup {
+    /// The largest group that begins at this place, and where none was counted.
+    pub(crate) fn of(row: &Row, first: usize, state: u64) -> Option<EmptyGroup>
+        ensures { IfSome result (IsEmptyGroup first state) }
+    {
+        let mut empty = None;
+        for level in 1..LEVELS {
+            let size = group_size(level);
+            if first % size != 0 {
+                return empty;
+            }
+            let number = match row.group(level, first) {
+                Some(counts) => counts.of(state).load(SeqCst),
+                None => return empty,
+            };
+            if number != 0 {
+                return empty;
+            }
+            empty = Some(EmptyGroup {
+                first,
+                size,
+                state,
+                number,
+            });
+        }
+        empty
+    }
+}
+
+/// A search for places in a state, through all rows.
 #[derive(Drop)]
 pub(crate) struct Search {
-    first: Spot,
+    state: u64,
     /// Where it goes on.
     on: Spot,
-    /// How many lanes had been handed back to the places that it passed.
+    /// How many places it found.
+    found: u64,
+    /// How many hand-backs had ended when it began, and which rows were not made right after: no lane that was handed
+    /// back by then is there.
     returns: u64,
-    /// How many searches went before it.
+    unmade: Unmade,
+    /// How many searches in vain went before it.
     earlier: u64,
 }
 
+/// Why no lane is taken.
+#[derive(Drop)]
+pub(crate) enum NoneBack {
+    /// None was found by a search, and as many hand-backs had ended after it as before.
+    Searched(Search, u64),
+    /// So many searches were in vain as take centuries, and during each of them a hand-back ended.
+    Late(Search),
+}
+
 impl Search {
-    /// One that begins here.
-    pub(crate) fn from(first: Spot) -> Search
-        ensures { (result.first ≡ first) × (result.on ≡ first) × (result.earlier ≡ 0) }
+    /// One that begins at the first place of all.
+    pub(crate) fn new(state: u64, slots: &[RowSlot], returns: &AtomicU64) -> Search
+        requires { length slots.now ≡ 26 }
+        ensures { IsNewSearch state 0 result }
     {
         Search {
-            first,
-            on: first,
-            returns: 0,
+            state,
+            on: Spot { row: 0, place: 0 },
+            found: 0,
+            returns: returns.load(SeqCst),
+            unmade: Unmade::of(slots),
             earlier: 0,
         }
     }
 
-    /// One after this, which begins where this did.
-    pub(crate) fn repeated(&self) -> Search
-        requires { self.now.earlier < 18446744073709551615 }
-        ensures { (result.first ≡ self.now.first) × (result.on ≡ self.now.first)
-            × (result.earlier ≡ self.now.earlier + 1) }
+    /// How many rows it goes through.
+    pub(crate) fn rows(&self) -> usize
+        ensures { result ≡ self.now.unmade.from }
     {
-        Search {
-            first: self.first,
-            on: self.first,
-            returns: 0,
-            earlier: self.earlier + 1,
-        }
+        self.unmade.from()
+    }
+
+    /// For what state.
+    pub(crate) fn state(&self) -> u64
+        ensures { result ≡ self.now.state }
+    {
+        self.state
     }
 
     /// Where it goes on.
@@ -211,49 +137,102 @@ impl Search {
         self.on
     }
 
-    /// Whether as many lanes had been handed back as another search saw.
-    pub(crate) fn saw_as_many(&self, other: &Search) -> bool
-        ensures { IsTrue result → self.now.returns ≡ other.now.returns }
-    {
-        self.returns == other.returns
-    }
-
-    /// Passes a place that had no lane.
+    /// Passes a place that was not in the state.
     pub(crate) fn pass(mut self, none: Unturned) -> Search
-        requires none { IsNotIn self.on.place 1 none }
+        requires none { IsNotIn self.on.place self.state none }
         requires few { self.on.place < 18446744073709551615 }
-        ensures { result ≡ record self {
-          on = record { row = self.on.row; place = self.on.place + 1 };
-          returns = (self.returns + none.seen / 4294967296) % 2 ^ 64;
-        } }
+        ensures { result ≡ record self { on = record { row = self.on.row; place = self.on.place + 1 } } }
     {
-        self.returns = self.returns.wrapping_add(none.returns());
+        drop(none);
         self.on.place += 1;
         self
     }
 
-    /// Ends a row of which it passed all places.
-    pub(crate) fn end_row(mut self, row: ReadRow) -> Search
-        requires row { row.at ≡ self.on.row }
-        requires all { length (arc_value row.places.row).items ≤ self.on.place }
-        requires few { self.on.row < 18446744073709551615 }
-        ensures { result ≡ record self { on = record { row = self.on.row + 1; place = 0 } } }
+    /// Passes a place that it found, and whose state is changed.
+    pub(crate) fn pass_found(mut self) -> Search
+        requires few { (self.on.place < 18446744073709551615) × (self.found < 18446744073709551615) }
+        ensures { result ≡ record self {
+          on = record { row = self.on.row; place = self.on.place + 1 };
+          found = self.found + 1;
+        } }
     {
-        drop(row);
-        self.on.row += 1;
-        self.on.place = 0;
+        self.found += 1;
+        self.on.place += 1;
         self
     }
 
-    /// Skips a row that cannot be read.
-    pub(crate) fn skip_row(mut self, none: RowWord) -> Search
+    /// Passes a group of places.
+    pub(crate) fn pass_group(mut self, none: EmptyGroup) -> Search
+        requires none { IsEmptyGroup self.on.place self.state none }
+        requires few { self.on.place + none.size < 18446744073709551615 }
+        ensures { result ≡ record self { on = record { row = self.on.row; place = self.on.place + none.size } } }
+    {
+        self.on.place += none.size;
+        self
+    }
+
+    /// Passes a row.
+    pub(crate) fn pass_row(self, none: EmptyRow) -> Search
+        requires none { IsEmptyRow self.on.row self.state none }
+        requires few { self.on.row < 18446744073709551615 }
+        ensures { result ≡ record self { on = record { row = self.on.row + 1; place = 0 } } }
+    {
+        drop(none);
+        self.next_row()
+    }
+
+    /// Passes a row that cannot be read.
+    pub(crate) fn pass_unread(self, none: Unread) -> Search
         requires none { IsNoRow self.on.row none }
         requires few { self.on.row < 18446744073709551615 }
         ensures { result ≡ record self { on = record { row = self.on.row + 1; place = 0 } } }
     {
         drop(none);
+        self.next_row()
+    }
+
+    /// Ends a row of which it passed all places.
+    pub(crate) fn end_row(self, row: ReadRow) -> Search
+        requires row { row.at ≡ self.on.row }
+        requires all { length (arc_value row.shared.row).places.items ≤ self.on.place }
+        requires few { self.on.row < 18446744073709551615 }
+        ensures { result ≡ record self { on = record { row = self.on.row + 1; place = 0 } } }
+    {
+        drop(row);
+        self.next_row()
+    }
+
+    fn next_row(mut self) -> Search
+        requires { self.on.row < 18446744073709551615 }
+        ensures { result ≡ record self { on = record { row = self.on.row + 1; place = 0 } } }
+    {
         self.on.row += 1;
         self.on.place = 0;
         self
+    }
+
+    /// Ends a search in vain: no lane was back at this moment, if no hand-back ended since it began.
+    ///
+    /// # Errors
+    /// Else one that begins anew.
+    pub(crate) fn end(self, slots: &[RowSlot], returns: &AtomicU64) -> Result<NoneBack, Search>
+        requires slots { length slots.now ≡ 26 }
+        requires whole { IsWhole self × (self.found ≡ 0) }
+        requires few { self.earlier < 18446744073709551615 }
+        ensures none { IfOk result IsNoneBack }
+        ensures again { IfErr result (IsNewSearch self.state (self.earlier + 1)) }
+    {
+        let now = returns.load(SeqCst);
+        if now == self.returns {
+            return Ok(NoneBack::Searched(self, now));
+        }
+        Err(Search {
+            state: self.state,
+            on: Spot { row: 0, place: 0 },
+            found: 0,
+            returns: now,
+            unmade: Unmade::of(slots),
+            earlier: self.earlier + 1,
+        })
     }
 }

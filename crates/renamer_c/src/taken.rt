@@ -1,16 +1,13 @@
 //! Lanes that are taken out of their places.
 
-ghost use Rattle.std.specs.Arc.{arc_value};
-ghost use Rattle.std.specs.Prelude.{◌≡◌, ◌<◌, IfErr, IfOk, length};
+ghost use Rattle.std.specs.Prelude.{◌≡◌, ◌<◌, IfErr, IfOk, IsSomeAnd, length};
 ghost use Rattle.renamer_c.specs.Joining.{EndsSomewhere};
-ghost use Rattle.renamer_c.specs.Placing.{IsNotIn, IsPlaceOf, IsRowOf};
+ghost use Rattle.renamer_c.specs.Placing.{IsPlaceOf};
 ghost use Rattle.renamer_c.specs.Returns.{IsBack, IsJoined};
 
 use crate::floor_with_places::{FloorWithPlaces, Handed};
-use crate::places::{Place, Places};
-use crate::turns::{Unturned, turn_from};
+use crate::places::{Place, Returned};
 use cn_floor::{Floor, JoinFault, Lane};
-use counted_slot::{MARKED, PRESENT};
 use std::mem::replace;
 
 /// A lane that was taken out of a place, and its box there. Only a join lets it go, or its place has it again.
@@ -20,30 +17,16 @@ pub(crate) struct Taken {
 }
 
 impl Taken {
-    /// Takes the lane out of a place, which is its taker's own then.
-    ///
-    /// # Errors
-    /// If no lane is there, or another thread takes it.
-    pub(crate) fn out_of(
-        places: &Places,
-        at: usize,
-        floor: &Floor<'static>,
-    ) -> Result<Taken, Unturned>
-        requires row { IsRowOf floor.now places.now }
-        requires at { at < length (arc_value places.now.row).items }
-        ensures ok { IfOk result (λ taken. IsBack floor.now taken.lane) }
-        ensures err { IfErr result (IsNotIn at 1) }
+    /// What stood at a place of this floor.
+    pub(crate) fn of(returned: Returned, floor: &Floor<'static>) -> Taken
+        requires { IsSomeAnd returned.boxed.value (IsBack floor.now) }
+        ensures { IsBack floor.now result.lane }
     {
-        let turned = match turn_from(&places.row, at, PRESENT, floor) {
-            Ok(turned) => turned,
-            Err(none) => return Err(none),
-        };
-        let mut boxed = match turned.empty(MARKED) {
-            Ok(returned) => returned.into_boxed(),
-            Err(none) => return Err(none),
-        };
+        // Only the contract reads it: whose lane it is.
+        let _ = floor;
+        let mut boxed = returned.into_boxed();
         match replace(&mut *boxed, None) {
-            Some(lane) => Ok(Taken { lane, boxed }),
+            Some(lane) => Taken { lane, boxed },
             None => unreachable!(),
         }
     }

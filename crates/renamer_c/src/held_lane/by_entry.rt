@@ -28,7 +28,7 @@ fn all_enter(clients: &[Client], entries: u64) -> bool
 }
 
 /// How many clients who come in by one entry go on together at most.
-const TOGETHER: usize = 64;
+pub(super) const TOGETHER: usize = 64;
 
 /// Copies the identities of the first clients of a list: of the longest run of those who come in by one entry, as far
 /// as there is space. Returns how many.
@@ -48,7 +48,7 @@ fn copy_run(clients: &[Client], ids: &mut [u64]) -> usize
 }
 
 /// Names clients who come in by one entry, of whom there is one at least: one by itself, and several together.
-fn name_run(floor: &Floor<'static>, lane: &mut Lane, ids: &[u64], entry: u64)
+pub(super) fn name_run(floor: &Floor<'static>, lane: &mut Lane, ids: &[u64], entry: u64)
     requires own { lane.old.home ≡ floor.now }
     requires out { tokens_in lane.old.yard.lists ≡ 0 }
     requires some { 0 < length ids.now }

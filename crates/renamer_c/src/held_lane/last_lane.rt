@@ -46,16 +46,16 @@ impl HeldLane {
             most,
             place,
             boxed,
-            hint,
         } = self;
         match close(&mut floor, lane) {
             Ok(quiet) => {
+                place.go_with_floor();
                 quiet.quiet_laws();
                 Ok(FloorRecord::of(quiet, counts, holders))
             }
             Err((refusal, lane)) => {
-                Err((refusal, HeldLane::of(floor, lane, most, place, boxed, hint)))
-            },
+                Err((refusal, HeldLane::of(floor, lane, most, place, boxed)))
+            }
         }
     }
 

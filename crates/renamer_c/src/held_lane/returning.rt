@@ -1,18 +1,21 @@
 //! Lanes that are handed back, and taken into others.
 
-ghost use Rattle.std.specs.Prelude.{◌≡◌, Some, IfErr, IfOk};
-ghost use Rattle.renamer_c.specs.Joining.{EndsSomewhere, StopsWith, refusal_of};
-ghost use Rattle.renamer_c.specs.Looking.{IsNoneBack, IsTakenOf};
-ghost use Rattle.renamer_c.specs.Refusals.{NotHandedBack, NotJoined};
-ghost use Rattle.renamer_c.specs.Returns.{IsBack, IsJoined};
+ghost use Rattle.std.specs.Prelude.{◌≡◌, ◌<◌, Some, IfErr, IfOk, length};
+ghost use Rattle.renamer_c.specs.Joining.{AreAllIn, EndsSomewhere, StopsWith, refusal_of};
+ghost use Rattle.renamer_c.specs.Looking.{IsTakenOf};
+ghost use Rattle.renamer_c.specs.Refusals.{NotHandedBack, NotJoined, NotJoinedAll};
+ghost use Rattle.renamer_c.specs.Returns.{IsBack, IsJoined, Joins, JoinsAll};
 
 use super::HeldLane;
 use crate::floor_with_places::{Handed, floor_of, with_places};
-use crate::looking::NoneBack;
 use crate::places::Place;
 use crate::refusal::Refusal;
+use crate::searches::{NoneBack, Search};
 use crate::taken::Taken;
 use std::sync::Arc;
+
+/// How many lanes one call takes in at most: for centuries.
+const MOST_JOINS: u64 = u64::MAX;
 
 /// Why a lane takes in no other.
 #[derive(Drop)]
@@ -57,41 +60,27 @@ impl HeldLane {
             most: _most,
             place,
             boxed,
-            hint: _hint,
         } = self;
         match Arc::try_unwrap(floor) {
-            Ok(Some(floor)) => Ok(Handed::WithFloor(floor)),
+            Ok(Some(floor)) => {
+                place.go_with_floor();
+                Ok(Handed::WithFloor(floor))
+            }
             Ok(None) => unreachable!(),
             Err(floor) => Ok(with_places(&floor).hand_back(place, lane, boxed)),
         }
     }
 
-    /// Takes a lane out of those of the floor that were handed back, with its place.
+    /// Takes in this lane of the floor, which was handed back.
     ///
     /// # Errors
-    /// What was seen, if no lane was back at one moment.
-    pub(crate) fn take_back(&mut self) -> Result<(Taken, Place), NoneBack>
-        ensures kept { self.new ≡ self.old }
-        ensures ok { IfOk result (IsTakenOf self.old.home) }
-        ensures none { IfErr result IsNoneBack }
-    {
-        with_places(&self.floor).take_back(&mut self.hint)
-    }
-
-    /// Takes in a lane of the floor that was handed back.
-    ///
-    /// # Errors
-    /// `Memory`, with the lane as it was, and where the other went, which is handed back again.
-    pub(crate) fn join(
-        self,
-        other: Taken,
-        other_place: Place,
-    ) -> Result<HeldLane, (HeldLane, JoinStop)>
+    /// If it has no room for the other's grants, with the lane as it was, and where the other went, which is handed
+    /// back again.
+    fn join(self, other: Taken, other_place: Place) -> Result<HeldLane, (HeldLane, Handed)>
         requires { IsTakenOf self.home (other, other_place) }
         ensures ok { IfOk result (λ r. IsJoined self r other.lane) }
-        ensures err { IfErr result (λ r. r.0 ≡ self) }
-        ensures stop { IfErr result (λ r. StopsWith (Some self) r.1) }
-        ensures refused { IfErr result (λ r. NotJoined (Some self) (refusal_of r.1)) }
+        ensures err { IfErr result (λ r. (r.0 ≡ self) × EndsSomewhere other.lane r.1) }
+        ensures room { IfErr result (λ r. self.room < length other.lane.view.grants) }
     {
         let HeldLane {
             floor,
@@ -99,27 +88,74 @@ impl HeldLane {
             most,
             place,
             boxed,
-            hint,
         } = self;
         match other.join(floor_of(&floor), lane) {
-            Ok(lane) => Ok(HeldLane::of(floor, lane, most, place, boxed, hint)),
+            Ok(lane) => {
+                with_places(&floor).free(other_place);
+                Ok(HeldLane::of(floor, lane, most, place, boxed))
+            }
             Err((lane, other)) => {
                 let handed = other.put_back(with_places(&floor), other_place);
-                let lane = HeldLane::of(floor, lane, most, place, boxed, hint);
-                Err((lane, JoinStop::Memory(handed)))
+                Err((HeldLane::of(floor, lane, most, place, boxed), handed))
             }
         }
+    }
+
+    /// Takes in a lane of the floor that was handed back.
+    ///
+    /// # Errors
+    /// If none was back at one moment, or the lane has no room for the grants of one. It is as it was then.
+    pub(crate) fn join_one(self) -> Result<HeldLane, (HeldLane, JoinStop)>
+        ensures ok { IfOk result (λ lane. Joins (Some self) (Some lane)) }
+        ensures err { IfErr result (λ r. r.0 ≡ self) }
+        ensures stop { IfErr result (λ r. StopsWith (Some self) r.1) }
+        ensures refused { IfErr result (λ r. NotJoined (Some self) (refusal_of r.1)) }
+    {
+        match with_places(&self.floor).take_back() {
+            Ok((other, place)) => match self.join(other, place) {
+                Ok(lane) => Ok(lane),
+                Err((lane, handed)) => Err((lane, JoinStop::Memory(handed))),
+            },
+            Err(none) => Err((self, JoinStop::NothingBack(none))),
+        }
+    }
+
+    /// Takes in the lanes of the floor that were handed back, each that one search through all places finds. Returns
+    /// the search.
+    ///
+    /// # Errors
+    /// If the lane, which has taken in those before, has no room for the grants of one.
+    pub(crate) fn join_all(self) -> Result<(HeldLane, Search), (HeldLane, JoinStop)>
+        ensures ok { IfOk result (λ r. AreAllIn (Some self) (Some r.0) r.1) }
+        ensures joined { IfErr result (λ r. JoinsAll (Some self) (Some r.0)) }
+        ensures stop { IfErr result (λ r. StopsWith (Some r.0) r.1) }
+        ensures refused { IfErr result (λ r. NotJoinedAll (Some r.0) (refusal_of r.1)) }
+    {
+        let mut lane = self;
+        let mut search = with_places(&lane.floor).new_search();
+        for joined in 0..MOST_JOINS {
+            let (other, place, next) = match with_places(&lane.floor).search_lane(search) {
+                Ok(found) => found,
+                Err(whole) => return Ok((lane, whole)),
+            };
+            match lane.join(other, place) {
+                Ok(after) => lane = after,
+                Err((lane, handed)) => return Err((lane, JoinStop::Memory(handed))),
+            }
+            search = next;
+        }
+        Ok((lane, search))
     }
 
     /// Lets the lane go, and what it has of its floor.
     pub(super) fn let_go(self) {
         let HeldLane {
-            floor: _floor,
+            floor,
             lane: _lane,
             most: _most,
-            place: _place,
+            place,
             boxed: _boxed,
-            hint: _hint,
         } = self;
+        with_places(&floor).free(place);
     }
 }
