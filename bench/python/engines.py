@@ -8,17 +8,20 @@ The ways, by default all, in 64 partitions that are drawn, named and written:
     read      without names
     cumsum    a cumulative sum of ones: names hang on the order, and no duplicate is found
     ranges    the lengths of all partitions, and then a range in each: the same
-    distinct  duplicates are dropped by `drop_duplicates`, and then ranges
+    shuffle   without names, but equal clients are brought together, as the ways below do it
     renamer   `renamer.dask.number`
     proved    the same with `proved=True`
+    distinct  duplicates are dropped by `drop_duplicates`, and then ranges
 
-Of each it prints the seconds by the clock and of its workers' processors. Of the last two numpy looks at what was
-written: whether the names are 0 to TOTAL - 1, each once, and the clients those that were drawn. With --kills so many
-workers are killed, one after another, while a way of these two goes on. The status is 0 only if all of this is right.
+Of each it prints the seconds by the clock and of its workers' processors, and the most memory that a worker had. Of
+`renamer` and `proved` numpy looks at what was written: whether the names are 0 to TOTAL - 1, each once, and the clients
+those that were drawn. With --kills so many workers are killed, one after another, while a way of these two goes on. The
+status is 0 only if all of this is right.
 
 It needs numpy, pandas, Dask with `distributed`, and the package renamer, as bindings/python/README.md says.
 """
 import argparse
+import logging
 import os
 import pathlib
 import resource
@@ -60,9 +63,10 @@ WAYS = {
     "read": lambda frame: frame.assign(name=0),
     "cumsum": lambda frame: frame.assign(name=frame.assign(one=1).one.cumsum() - 1),
     "ranges": by_ranges,
-    "distinct": lambda frame: by_ranges(frame.drop_duplicates(split_out=PARTS).persist()),
+    "shuffle": lambda frame: renamer.dask._shuffled(frame, ["client"], PARTS).assign(name=0),
     "renamer": lambda frame: renamer.dask.number(frame, "client"),
     "proved": lambda frame: renamer.dask.number(frame, "client", proved=True),
+    "distinct": lambda frame: by_ranges(frame.drop_duplicates(split_out=PARTS).persist()),
 }
 TIGHT = ("renamer", "proved")
 
@@ -76,9 +80,9 @@ def save(part, at, folder):
 
 
 def used():
-    """The seconds of processors of a worker."""
+    """The seconds of processors of a worker, and the most memory that it had, in MB."""
     spent = resource.getrusage(resource.RUSAGE_SELF)
-    return spent.ru_utime + spent.ru_stime
+    return spent.ru_utime + spent.ru_stime, spent.ru_maxrss // 1024
 
 
 def kill(cluster, kills, is_done, killed):
@@ -99,11 +103,11 @@ def is_right(folder, total):
 
 
 def took(way, total, kills, folder):
-    """The seconds by the clock and of processors, and how many workers were killed."""
+    """The seconds by the clock and of processors, the most memory of a worker, and how many workers were killed."""
     is_done, killed = threading.Event(), []
-    cluster = LocalCluster(n_workers=WORKERS, threads_per_worker=1, dashboard_address=None)
+    cluster = LocalCluster(n_workers=WORKERS, threads_per_worker=1, dashboard_address=None, silence_logs=logging.ERROR)
     with cluster, Client(cluster) as client:
-        before, begun = sum(client.run(used).values()), time.monotonic()
+        before, begun = sum(seconds for seconds, _ in client.run(used).values()), time.monotonic()
         killer = threading.Thread(target=kill, args=(cluster, kills, is_done, killed))
         killer.start()
         source = [dask.delayed(drawn)(at, total) for at in range(PARTS)]
@@ -112,7 +116,8 @@ def took(way, total, kills, folder):
         seconds = time.monotonic() - begun
         is_done.set()
         killer.join()
-        return seconds, sum(client.run(used).values()) - before, len(killed)
+        processors, most = zip(*client.run(used).values())
+        return seconds, sum(processors) - before, max(most), len(killed)
 
 
 def main():
@@ -123,14 +128,16 @@ def main():
     asked = words.parse_args()
     warnings.filterwarnings("ignore")
     dask.config.set({"distributed.scheduler.allowed-failures": 50})
+    # On a busy machine a killed worker is back later than after the 15 s for which a cluster waits before it drops it.
+    dask.config.set({"distributed.deploy.lost-worker-timeout": "600s"})
     wrong = 0
     for way in asked.ways:
         with tempfile.TemporaryDirectory() as folder:
             kills = asked.kills if way in TIGHT else 0
-            clock, processors, killed = took(way, asked.total, kills, pathlib.Path(folder))
+            clock, processors, most, killed = took(way, asked.total, kills, pathlib.Path(folder))
             right = "" if way not in TIGHT else ", right" if is_right(pathlib.Path(folder), asked.total) else ", WRONG"
         wrong += right == ", WRONG" or killed < kills
-        spent = f"{clock:.1f} s, processors {processors:.1f} s"
+        spent = f"{clock:.1f} s, processors {processors:.1f} s, a worker at most {most} MB"
         print(f"{way}, {asked.total} clients: {spent}, {killed} killed{right}", flush=True)
     return wrong > 0
 

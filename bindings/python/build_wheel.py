@@ -47,8 +47,9 @@ def metadata():
 
 def tag(binaries):
     """For which machines and systems the wheel is."""
-    asked = [subprocess.run(["objdump", "-T", path], check=True, capture_output=True, text=True).stdout
-             for path in binaries]
+    # Of a program that wants no C library this says that there is nothing, and does not fail.
+    words = ["readelf", "--version-info", "--wide"]
+    asked = [subprocess.run([*words, path], check=True, capture_output=True, text=True).stdout for path in binaries]
     glibc = max(OLDEST, *map(int, re.findall(r"GLIBC_2\.(\d+)", "".join(asked))))
     return f"py3-none-manylinux_2_{glibc}_x86_64"
 

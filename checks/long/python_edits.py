@@ -2,14 +2,13 @@
 there once, and what stands there in its place."""
 
 FLOOR, NUMBER, DASK, MPI = "test_floor.py::test_", "test_number.py::test_", "test_dask.py::test_", "test_mpi.py::test_"
+PAGES, TAKER = "test_pages.py::test_", "test_taker.py::test_"
 EDITS = (
     # Lanes and floors.
     (FLOOR + "a_lane_that_all_threads_use_stays_whole", "_floor.py",
      "        with self._lock:\n            return self._grant", "        if True:\n            return self._grant"),
-    (FLOOR + "each_refusal_is_an_exception", "_floor.py",
-     "                raise lib.QuotaSpent(7)", "                pass"),
-    (FLOOR + "the_child_of_a_fork_has_no_lanes", "_floor.py", "        lane._handle.at = None\n", ""),
-    (FLOOR + "the_child_of_a_fork_has_no_lanes", "_floor.py", "        lane._lock = threading.Lock()\n", ""),
+    (FLOOR + "the_child_of_a_fork_has_no_lanes", "_floor.py", "        owned._handle.at = None\n", ""),
+    (FLOOR + "the_child_of_a_fork_has_no_lanes", "_floor.py", "        owned._lock = threading.Lock()\n", ""),
     (FLOOR + "sixteen_threads_get_each_name_once", "_floor.py",
      "            lib.join_all(rest._handle)\n            lib.close_floor", "            lib.close_floor"),
     (FLOOR + "a_lane_that_is_dropped_is_handed_back", "_floor.py",
@@ -17,14 +16,20 @@ EDITS = (
     (FLOOR + "a_lane_that_is_dropped_is_handed_back", "_floor.py", 'if hasattr(self, "_handle"):', "if False:"),
     (FLOOR + "a_lane_has_one_owner", "_floor.py", "    def __reduce__(self)", "    def _reduce(self)"),
     (FLOOR + "names_of_an_array_stand_in_its_order", "_floor.py",
-     '[np.argsort(some, kind="stable")] = grants["name"][by_client]', '[:] = grants["name"]'),
+     "as_clients(clients), lib.in_range(entry)", "np.sort(as_clients(clients)), lib.in_range(entry)"),
     (FLOOR + "arrays_are_not_copied", "_floor.py", " or not clients.flags.c_contiguous", ""),
     (FLOOR + "numbers_out_of_range_are_refused", "_floor.py", "else lib.in_range(quota)", "else quota"),
-    (FLOOR + "numbers_out_of_range_are_refused", "_floor.py", "min(lib.in_range(width), most)", "width"),
+    (FLOOR + "numbers_out_of_range_are_refused", "_floor.py", "min(lib.in_range(width), 2**32 - 1)", "width"),
     (FLOOR + "numbers_out_of_range_are_refused", "_library.py", "    if found >> 64:", "    if False:"),
     (FLOOR + "each_refusal_is_an_exception", "_library.py", "super().__init__(status)", "super().__init__()"),
     (FLOOR + "the_gil_is_free", "_library.py", "ctypes.CDLL(str", "ctypes.PyDLL(str"),
     (FLOOR + "numbers_out_of_range_are_refused", "_arrays.py", "        in_range(row.min())", "        pass"),
+    (PAGES + "public_names_are_shown_as_users_call_them", "__init__.py", "_public.__module__ = __name__", "pass"),
+    (FLOOR + "a_lane_with_nothing_is_there_still", "_library.py", "15: LanesThere", "15: LanesMissing"),
+    # Takers.
+    (TAKER + "threads_take_each_name_once", "_taker.py",
+     "lib.take_many(self._handle, lib.in_range(entry), names.ctypes.data, len(names))", "names[:] = 0"),
+    (TAKER + "refusals", "_taker.py", "        entry = lib.in_range(entry)\n", ""),
     # Rows of identities.
     (NUMBER + "identities_that_differ_stay_apart", "_arrays.py", "np.array(values, object)", "np.asarray(values)"),
     (NUMBER + "identities_that_differ_stay_apart", "_arrays.py",

@@ -48,7 +48,9 @@ def here(lazy):
 
 @pytest.fixture(scope="module")
 def client():
-    with dask.config.set({"distributed.scheduler.allowed-failures": 20}):
+    # On a busy machine a killed worker is back later than after the 15 s for which a cluster waits before it drops it.
+    patient = {"distributed.scheduler.allowed-failures": 20, "distributed.deploy.lost-worker-timeout": "600s"}
+    with dask.config.set(patient):
         with distributed.LocalCluster(n_workers=3, threads_per_worker=1, dashboard_address=None) as cluster:
             with distributed.Client(cluster) as made:
                 yield made
@@ -149,7 +151,7 @@ def test_workers_are_killed(client):
 
     killer = threading.Thread(target=kill)
     killer.start()
-    found = future.result(60)
+    found = future.result(300)
     killer.join()
     assert dict(zip(found["client"], found["name"])) == dict(zip(want["client"], want["name"]))
     assert sorted(found["name"]) == list(range(TOTAL)) and killed

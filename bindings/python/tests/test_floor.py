@@ -4,6 +4,8 @@ import gc
 import multiprocessing
 import os
 import pickle
+import subprocess
+import sys
 import threading
 import time
 
@@ -55,10 +57,20 @@ def test_names_of_an_array_stand_in_its_order():
         assert (holders[names.astype(int)] == clients).all()
 
 
+def test_a_client_that_stands_twice_has_two_names():
+    clients = np.arange(300) % 7
+    for network, width in NETWORKS:
+        with renamer.Floor(network, width, 300) as floor, floor.lane() as lane:
+            names = lane.name_many(clients)
+            lane.hand_back()
+            holders = floor.close().holders
+        assert tight(names, 300)
+        assert (holders[names.astype(int)] == clients).all()
+
+
 def test_a_lane_that_all_threads_use_stays_whole():
     """Without the lane's lock this ends with a segmentation fault, or names are missing at the close."""
     asked = np.zeros(6144, CLIENT)
-
 
     def name(_):
         return [*lane.grant_many(asked)["name"], lane.name(1), *lane.name_many([2])]
@@ -88,18 +100,44 @@ def test_each_refusal_is_an_exception():
         floor.lane(2)
     with pytest.raises(renamer.NoSuchEntry):
         lane.name(1, 1)
-    with pytest.raises(renamer.QuotaSpent):
+    with pytest.raises(renamer.QuotaSpent, match="quota of a lane"):
         lane.name_many(range(5001))
     assert lane.quota == 5000 and lane.name_many(range(5000)).tolist() == list(range(5000))
     with pytest.raises(renamer.QuotaSpent):
         lane.name(1)
     lane.hand_back()
     lane.hand_back()
-    with pytest.raises(renamer.WasFreed):
+    with pytest.raises(renamer.WasFreed, match="handed back"):
         lane.name(1)
     assert floor.close().holders.tolist() == list(range(5000))
     with pytest.raises(renamer.WasFreed):
         floor.close()
+
+
+def test_no_memory():
+    """A process that may take no more memory is refused large floors, and goes on with a small one."""
+    program = """
+import resource, renamer
+pages, floors = int(open("/proc/self/statm").read().split()[0]), []
+resource.setrlimit(resource.RLIMIT_AS, [pages * resource.getpagesize()] * 2)
+try:
+    while True:
+        floors.append(renamer.Floor("periodic", 256, apart=True))
+except renamer.NoMemory as refused:
+    floors.clear()
+    print(refused.status, isinstance(refused, MemoryError), renamer.Floor(quota=1).lane().name(7))
+"""
+    ran = subprocess.run([sys.executable, "-c", program], capture_output=True, text=True, timeout=60)
+    assert (ran.stdout, ran.returncode) == ("2 True 0\n", 0), ran.stderr
+
+
+def test_a_lane_with_nothing_is_there_still():
+    floor = renamer.Floor(quota=1)
+    lane = floor.lane(0)
+    with pytest.raises(renamer.LanesThere):
+        floor.close()
+    lane.hand_back()
+    assert len(floor.close().holders) == 0
 
 
 def test_numbers_out_of_range_are_refused():

@@ -1,3 +1,4 @@
+import os
 import pickle
 import subprocess
 import sys
@@ -42,6 +43,9 @@ def test_what_is_no_row_of_one_kind_is_refused():
             renamer.number(wrong)
         with pytest.raises(TypeError):
             renamer.name_part([1], wrong)
+    for wrong, said in (({1, 2}, "not one set"), ([[1], [2]], "not 2 dimensions"), (np.float64(1), "not one float64")):
+        with pytest.raises(TypeError, match=said):
+            renamer.number(wrong)
     with pytest.raises(ValueError, match="2 clients, but 1 epochs"):
         renamer.name_part([1, 2], [1])
 
@@ -56,6 +60,23 @@ def test_series():
     clients = pandas.Series([2**64 - 1, 0], dtype="uint64")
     assert np.shares_memory(as_clients(clients), clients.to_numpy())
     assert renamer.run(clients).tolist() == renamer.number(clients).tolist() == [0, 1]
+
+
+def test_what_numpy_makes_an_array_of():
+    """As a Series of polars, of which numpy makes an array of objects if it has texts."""
+
+    class Series:
+        def __init__(self, *values):
+            self.values = values
+
+        def __array__(self, *_, **__):
+            return np.array(self.values, object if isinstance(self.values[0], str) else None)
+
+    assert renamer.number(Series("b", "a", "b"), share=True).tolist() == [1, 0, 1]
+    assert renamer.number(Series(7, 5)).tolist() == [0, 1]
+    for wrong in (Series("b", None), Series(7.0, float("nan"))):
+        with pytest.raises(TypeError):
+            renamer.number(wrong)
 
 
 def cut(total, parts, epochs, seed, same):
@@ -102,8 +123,10 @@ def test_check_finds_what_is_not_tight():
     for names in ([0, 2], [0, 0], [1], [-1, 0], [*full[:-1], most], [*full, most - 1], [*full, most + 1], largest):
         with pytest.raises(renamer.NotTight):
             renamer.check(names)
-    with pytest.raises(renamer.NotTight, match="DuplicateClient record 2"):
+    with pytest.raises(renamer.NotTight, match="^flaw: DuplicateClient record 2"):
         renamer.check([0, 1], [7, 7])
+    with pytest.raises(renamer.NotTight, match="^from name 1048576 on, counted from 0 there, flaw: Gap epoch 1 name 0"):
+        renamer.check([*full, most + 1])
     for wrong in ([0.0], [[0]]):
         with pytest.raises(TypeError):
             renamer.check(wrong)
@@ -131,6 +154,12 @@ def test_a_part_is_the_same_by_library_and_program():
     clients, epochs = draw.permutation(3000), draw.integers(2**60, 2**60 + 9, 3000)
     for one, other in zip(renamer.name_part(clients, epochs), run_part(clients, epochs)):
         assert one.dtype == other.dtype and (one == other).all()
+
+
+def test_without_a_program(tmp_path):
+    words, alone = [sys.executable, "-m", "renamer", "--version"], {**os.environ, "PATH": str(tmp_path)}
+    ran = subprocess.run(words, capture_output=True, text=True, env=alone)
+    assert ran.returncode == 70 and ran.stdout == "" and ran.stderr.count("\n") == 1
 
 
 def test_the_program_runs():

@@ -2,6 +2,10 @@
 
 import doctest
 import pathlib
+import pickle
+import traceback
+import types
+import typing
 
 import pytest
 
@@ -21,3 +25,14 @@ def test_a_page(page, needed):
 def test_the_first_lines_of_the_package():
     failed, tried = doctest.testmod(renamer)
     assert tried and not failed
+
+
+def test_public_names_are_shown_as_users_call_them():
+    public = [getattr(renamer, name) for name in renamer.__all__]
+    public = [found for found in public if isinstance(found, (type, types.FunctionType))]
+    assert {found.__module__ for found in public} == {"renamer"}
+    assert pickle.loads(pickle.dumps(public)) == public
+    assert typing.get_type_hints(renamer.Part)["names"] == typing.get_type_hints(renamer.number)["return"]
+    shown = traceback.format_exception_only(renamer.Duplicate(7, 1))
+    assert shown == ["renamer.Duplicate: client 7 stands twice in epoch 1\n"]
+    assert repr(renamer.Floor()).startswith("<renamer.Floor object")

@@ -12,10 +12,14 @@
 
 `number` names the clients of one row, of any length. A `Floor` is for threads that name clients as they come: it is one
 epoch of at most 262,144 clients, and each thread has a lane of its own. `renamer.dask` and `renamer.mpi` name the
-clients of a data set that lies on many processes. A `Taker` takes names without end, of which no list is kept.
+clients of a data set that lies on many processes. A `Taker` takes names without end, of which no list is kept. By the
+proved program `check` looks at names from anywhere, and `run` names a batch.
 """
 
-from ._floor import CLIENT, GRANT, Floor, Lane, Network, Quiet
+from types import FunctionType
+
+from ._arrays import Quiet
+from ._floor import CLIENT, GRANT, Floor, Lane, Network
 from ._library import (
     MOST_CLIENTS,
     LanesMissing,
@@ -64,3 +68,7 @@ __all__ = [
     "version",
 ]
 __version__ = ".".join(map(str, version()))
+# Tracebacks, pickles and help have them as users call them: renamer.Duplicate, without the file that it is made in.
+for _name in __all__:
+    if isinstance(_public := globals()[_name], (type, FunctionType)):
+        _public.__module__ = __name__

@@ -1,8 +1,6 @@
-"""What the calls take for a row of clients."""
+"""The rows of clients and names that calls take and return."""
 
-from __future__ import annotations
-
-from typing import Any
+from typing import Any, NamedTuple
 
 import numpy as np
 import numpy.typing as npt
@@ -13,6 +11,13 @@ Clients = npt.NDArray[np.uint64]
 Names = npt.NDArray[np.int64]
 # Whole numbers, texts, bytes, dates, and objects, which are looked at one by one.
 _COMPARED = "iuUSmMO"
+
+
+class Quiet(NamedTuple):
+    """What a closed floor says: `holders[n]` is the client with the name n, and `counts[i]` how many left by exit i."""
+
+    holders: Clients
+    counts: Clients
 
 
 def as_clients(clients: npt.ArrayLike) -> Clients:
@@ -50,7 +55,8 @@ def _row(values: npt.ArrayLike) -> npt.NDArray[Any]:
     texts of [1, "1"]."""
     row = np.asarray(values) if hasattr(values, "__array__") else np.array(values, object)
     if row.ndim != 1:
-        raise TypeError(f"one row is wanted, and not {row.ndim} dimensions")
+        given = f"{row.ndim} dimensions" if row.ndim else f"one {type(values).__name__}"
+        raise TypeError(f"one row is wanted, as an array or a list, and not {given}")
     return row
 
 

@@ -5,21 +5,19 @@ from __future__ import annotations
 import os
 import threading
 import weakref
-from typing import Any, Literal, NamedTuple, NoReturn, TypeVar
+from typing import Any, Literal, NoReturn, TypeVar
 
 import numpy as np
 import numpy.typing as npt
 
 from . import _library as lib
-from ._arrays import Clients, as_clients
+from ._arrays import Clients, Quiet, as_clients
 
 Network = Literal["bitonic", "periodic", "tree"]
 _KINDS = {"bitonic": 0, "periodic": 1, "tree": 2}
 # The records that a call takes and gives, as the header has them.
 CLIENT = np.dtype([("client", "<u8"), ("entry", "<u8")])
 GRANT = np.dtype([("client", "<u8"), ("exit", "<u8"), ("visit", "<u8"), ("name", "<u8")])
-# How many clients one call of the library names: their grants stay in the processor's cache.
-AT_ONCE = 2048
 
 _Some = TypeVar("_Some", bound="Owned")
 _owned: weakref.WeakSet[Owned] = weakref.WeakSet()
@@ -77,13 +75,6 @@ def as_network(network: Network, width: int) -> tuple[int, int]:
     return _KINDS[network], min(lib.in_range(width), 2**32 - 1)
 
 
-class Quiet(NamedTuple):
-    """What a closed floor says: `holders[n]` is the client with the name n, and `counts[i]` how many left by exit i."""
-
-    holders: Clients
-    counts: Clients
-
-
 class Lane(Owned):
     """A thread's own part of a floor, which `Floor.lane` makes, and by which it names clients.
 
@@ -111,21 +102,10 @@ class Lane(Owned):
 
         Raises what `name` raises, and TypeError if the clients are no row of whole numbers.
         """
-        wanted = as_clients(clients)
-        names, asked = np.empty(len(wanted), np.uint64), np.empty(min(len(wanted), AT_ONCE), CLIENT)
-        asked["entry"] = lib.in_range(entry)
+        wanted, entry = as_clients(clients), lib.in_range(entry)
+        names = np.empty(len(wanted), np.uint64)
         with self._lock:
-            # With quota and room for all of them, all get names if the first some do.
-            if lib.ask(lib.quota_left, self._handle) < len(wanted):
-                raise lib.QuotaSpent(7)
-            lib.reserve(self._handle, len(wanted))
-            for at in range(0, len(wanted), AT_ONCE):
-                some = wanted[at : at + AT_ONCE]
-                asked["client"][: len(some)] = some
-                grants = self._grant(asked[: len(some)])
-                # A client that stands here twice has two names, and either may be the first.
-                by_client = np.argsort(grants["client"], kind="stable")
-                names[at : at + AT_ONCE][np.argsort(some, kind="stable")] = grants["name"][by_client]
+            lib.name_list(self._handle, wanted.ctypes.data, len(wanted), entry, names.ctypes.data, len(names))
         return names
 
     def grant_many(self, clients: npt.NDArray[Any]) -> npt.NDArray[Any]:

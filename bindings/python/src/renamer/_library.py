@@ -13,18 +13,23 @@ MOST_CLIENTS = 262_144
 class Refused(Exception):
     """The library refused a call, which changed nothing. `status` is that of renamer.h."""
 
+    # What is said in place of the library's sentence, if that speaks of calls that Python has not.
+    _said = ""
+
     def __init__(self, status: int) -> None:
         super().__init__(status)
         self.status = status
 
     def __str__(self) -> str:
         sentence: bytes = _library.renamer_explain(self.status)
-        return sentence.decode()
+        return self._said or sentence.decode()
 
 
 class WasFreed(Refused, ValueError):
     """The lane was handed back or the floor closed, or a fork took it: the child of a process has no lanes of its
     parent."""
+
+    _said = "it was handed back, closed or freed, or this is the child of a fork, which has none of its parent's lanes"
 
 
 class NoMemory(Refused, MemoryError):
@@ -46,9 +51,13 @@ class NoSuchEntry(Refused, ValueError):
 class QuotaSpent(Refused):
     """The lane may let in no more clients, or not so many; or it has less quota than is to be split off."""
 
+    _said = "there is not so much quota left: the attribute quota of a lane says how much it has"
+
 
 class LanesMissing(Refused):
     """Other lanes of the floor have quota or names of it: hand them back before the close."""
+
+    _said = "other lanes of the floor have quota or names of it: hand them back before"
 
 
 class LanesThere(Refused):
@@ -110,8 +119,8 @@ _number, _array = ctypes.POINTER(Number), ctypes.c_void_p
 open_floor = _call("renamer_open", _handle, _word, _word, Number)
 open_apart = _call("renamer_open_apart", _handle, _word, _word, Number)
 split_lane = _call("renamer_split", _handle, Number, _handle)
-reserve = _call("renamer_reserve", _handle, Number)
 name_one = _call("renamer_name", _handle, Number, Number, _number)
+name_list = _call("renamer_name_list", _handle, _array, _size, Number, _array, _size)
 name_many = _call("renamer_name_many", _handle, _array, _size, _array, _size)
 quota_left = _call("renamer_quota", _handle, _number)
 join_all = _call("renamer_join_all", _handle)

@@ -4,8 +4,6 @@ That the names of each floor are 0 to k-1, each once, is proved of the library. 
 another is an addition, made here.
 """
 
-from __future__ import annotations
-
 from collections.abc import Sequence
 from typing import Any, NamedTuple
 
@@ -13,8 +11,11 @@ import numpy as np
 import numpy.typing as npt
 
 from ._arrays import Names, as_identities
-from ._floor import AT_ONCE, CLIENT, Floor
+from ._floor import Floor
 from ._library import MOST_CLIENTS
+
+# How many clients one call of the library names: a lane gets room for all of a call first.
+AT_ONCE = 2048
 
 
 class Duplicate(ValueError):
@@ -60,10 +61,13 @@ def number(clients: npt.ArrayLike, *, share: bool = False) -> Names:
 
 def name_part(clients: npt.ArrayLike, epochs: npt.ArrayLike | None = None, *, share: bool = False) -> Part:
     """Names the clients of one part of a data set, each epoch from 0 on. With `share` the records of one client in an
-    epoch share its name; else Duplicate is raised if a client stands twice in one.
+    epoch share its name. Both rows are as `number` takes one, and equally long.
 
     Clients get their names in the order of their identities. So which client gets which name depends on the set of
     clients that are here, and on no order of records.
+
+    Raises Duplicate if a client stands twice in an epoch, TypeError if a row is not of one kind or a value is missing,
+    and ValueError if one row is longer.
     """
     wanted = as_identities(clients)
     group = np.zeros(len(wanted), np.int8) if epochs is None else as_identities(epochs)
@@ -85,8 +89,8 @@ def name_part(clients: npt.ArrayLike, epochs: npt.ArrayLike | None = None, *, sh
 
 
 def first_names(parts: Sequence[tuple[npt.NDArray[Any], Names]]) -> list[Names]:
-    """Puts parts behind one another. Given the epochs and the counts of each part, it returns for each part the first
-    name of each of its epochs, which is how many clients the epoch has in earlier parts."""
+    """Puts parts behind one another. Given the epochs and the counts of each part, at least of one, it returns for each
+    part the first name of each of its epochs, which is how many clients the epoch has in earlier parts."""
     epochs = np.concatenate([epochs for epochs, _ in parts])
     counts = np.concatenate([counts for _, counts in parts])
     order = np.argsort(epochs, kind="stable")
@@ -100,16 +104,13 @@ def first_names(parts: Sequence[tuple[npt.NDArray[Any], Names]]) -> list[Names]:
 def count_off(clients: int) -> Names:
     """Names for so many clients, whatever they are called: those of floors that stand behind one another."""
     names = np.empty(clients, np.int64)
-    asked = np.zeros(min(clients, AT_ONCE), CLIENT)
     for first in range(0, clients, MOST_CLIENTS):
         end = min(clients, first + MOST_CLIENTS)
         with Floor("tree", 2, end - first) as floor, floor.lane() as lane:
             for at in range(first, end, AT_ONCE):
-                some = asked[: end - at]
                 # Places are the identities: no two are the same.
-                some["client"] = np.arange(at, at + len(some))
-                grants = lane.grant_many(some)
-                names[grants["client"]] = grants["name"]
+                some = np.arange(at, min(end, at + AT_ONCE), dtype=np.uint64)
+                names[at : at + len(some)] = lane.name_many(some)
         names[first:end] += first
     return names
 

@@ -44,8 +44,9 @@ def run(clients: npt.ArrayLike, epochs: npt.ArrayLike | None = None) -> Names:
     """Lets the program name at most 1,048,576 clients, at most 262,144 in an epoch, each epoch in their order from 0
     on. Clients and epochs are numbers from 0 to 2**64 - 1.
 
-    Raises Refusal if a client stands twice in an epoch or there are more, TypeError if these are no rows of whole
-    numbers, and OverflowError if one is out of range.
+    Returns an array of int64, in the order of the clients. Raises Refusal if a client stands twice in an epoch or there
+    are more, TypeError if these are no rows of whole numbers, OverflowError if one is out of range, ValueError if one
+    row is longer, FileNotFoundError if there is no program, and OSError if it fails.
     """
     who = as_clients(clients)
     when = np.ones_like(who) if epochs is None else as_clients(epochs)
@@ -74,11 +75,13 @@ def run_part(clients: npt.ArrayLike, epochs: npt.ArrayLike | None = None) -> Par
 
 
 def check(names: npt.ArrayLike, clients: npt.ArrayLike | None = None) -> int:
-    """Lets the program look whether names are 0 to k-1, each once, and returns k. Raises NotTight if they are not.
+    """Lets the program look whether names, in any order, are 0 to k-1, each once, and returns k.
 
     More than 1,048,576 names are looked at in blocks of as many: block b has the names from b * 1,048,576 on. Less the
     first they must be 0 and up, each once, and all blocks but the last must be full. If there are clients, one who
     stands twice in a block is found too.
+
+    Raises NotTight if the names are not 0 to k-1, else what `run` raises but Refusal.
     """
     given = as_names(names)
     who = np.arange(len(given), dtype=np.uint64) if clients is None else as_clients(clients)
@@ -111,7 +114,10 @@ def check_block(names: Names, clients: Clients, block: int, total: int) -> None:
     if len(names) != size:
         raise NotTight(f"of {total} names {len(names)} are from {first} to {first + MOST_RECORDS - 1}")
     text = "epoch,client,name\n" + _lines(np.ones_like(names), clients, names - first)
-    _ask(["check", "--width", "2"], text, NotTight)
+    try:
+        _ask(["check", "--width", "2"], text, NotTight)
+    except NotTight as flaw:
+        raise NotTight(f"from name {first} on, counted from 0 there, {flaw}" if first else str(flaw)) from None
 
 
 def _lines(*columns: npt.NDArray[Any]) -> str:

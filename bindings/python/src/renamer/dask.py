@@ -41,8 +41,12 @@ def number(
     fails with RuntimeError.
 
     With `whole` each epoch stays in one partition, which is for many small ones. With `proved` each partition is named
-    by one run of the proved program, which finds duplicates too: then clients and epochs are numbers from 0 to 2**64 -
-    1, a partition has at most 1,048,576 records, and 262,144 of an epoch. Each worker needs this package.
+    by one run of the proved program, which finds duplicates too, and raises Refusal: then clients and epochs are
+    numbers from 0 to 2**64 - 1, a partition has at most 1,048,576 records, and 262,144 of an epoch. Each worker needs
+    this package.
+
+    Raises ValueError if both `share` and `proved` are asked for, or the frame has a column of this name. As it is
+    computed TypeError is raised if the clients of a partition are not of one kind, or one is missing.
     """
     if share and proved:
         raise ValueError("the program shares no names: take share, or proved")

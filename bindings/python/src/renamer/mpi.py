@@ -26,7 +26,10 @@ def number(clients: npt.ArrayLike, comm: Any = MPI.COMM_WORLD, *, share: bool = 
     its records get one name.
 
     Each client goes to the process that its hash says, gets its name there as `name_part` gives it, and the name comes
-    back.
+    back, as int64.
+
+    Raises, in the process that has them, TypeError if the clients are no row of whole numbers, and OverflowError if one
+    is out of range.
     """
     own = as_clients(clients)
     mixed = own * _MIX
