@@ -3,14 +3,11 @@ import os
 import pathlib
 import re
 import shutil
+import signal
 import subprocess
-import sys
 
-ROOT = pathlib.Path(__file__).resolve().parents[2]
-sys.path.insert(0, str(ROOT / "checks" / "library"))
-sys.path.insert(0, str(ROOT / "tools"))
 import crates_txt
-from library_programs import ARM, Wrong, run
+from library_programs import ARM, ROOT, Wrong, run
 
 VERSION = (ROOT / "VERSION").read_text().strip()
 NAME, ARM_NAME = (f"renamer-{VERSION}-{processor}-linux" for processor in ("x86_64", "aarch64"))
@@ -21,6 +18,8 @@ PACKAGES = [
 ]
 WHEEL = f"renamer-{VERSION}-py3-none-manylinux_2_17_x86_64.whl"
 MADE = [ARCHIVE, ARM_ARCHIVE, *PACKAGES, WHEEL, SPDX, SUMS]
+# What of an archive its `install` leaves where it is.
+AT_TOP = {"Containerfile", "LICENSE", "README.md", "THIRD-PARTY", "install"}
 MUSL = "x86_64-unknown-linux-musl"
 # What ./release takes as it was built, and what says of what that was built.
 BUILT = tuple(f"crates/{crate}/out/{file}" for crate, files in (
@@ -33,6 +32,8 @@ BUILT = tuple(f"crates/{crate}/out/{file}" for crate, files in (
 CRATE = re.compile(r"(?<![\w:])([a-z]\w*)::")
 # A root is changed by a user who may not do so in a space of names of its own.
 AS_ROOT = [] if os.getuid() == 0 else ["unshare", "--map-root-user"]
+# What runs a container from a Containerfile.
+CONTAINERS = ("docker", "podman")
 # The commands of examples/README.md that are tried: the words, the file that is read, and what is printed.
 EXAMPLE = re.compile(r"^    \$ renamer ([\w -]+) < (examples/\S+)\n((?:    .*\n)+)", re.M)
 
@@ -76,15 +77,40 @@ def add_libraries(root, program):
         shutil.copy(os.path.realpath(path), place)
 
 
-def do_examples(root, program):
-    """Runs the commands of the page of examples in a root, and compares what is printed with what stands there."""
-    in_root = [*AS_ROOT, shutil.which("chroot", path="/usr/sbin:/usr/bin"), root, program]
+def container_tool():
+    """What runs containers here, if it is here and runs any."""
+    for tool in filter(shutil.which, CONTAINERS):
+        if subprocess.run([tool, "info"], stdin=subprocess.DEVNULL, capture_output=True).returncode == 0:
+            return tool
+    return None
+
+
+def in_root(root, program):
+    """The words by which a program runs in a root."""
+    return [*AS_ROOT, shutil.which("chroot", path="/usr/sbin:/usr/bin"), root, program]
+
+
+def do_examples(program):
+    """Runs the commands of the page of examples by a program, and compares what is printed with what stands there."""
     found = EXAMPLE.findall((ROOT / "examples" / "README.md").read_text())
     if len(found) < 4:
         raise Wrong(f"examples/README.md has only {len(found)} such commands")
     for words, name, shown in found:
-        done = subprocess.run([*in_root, *words.split()], input=(ROOT / name).read_text(), capture_output=True, text=True)
+        done = subprocess.run([*program, *words.split()], input=(ROOT / name).read_text(), capture_output=True, text=True)
         if (done.returncode, done.stdout, done.stderr) != (0, re.sub("(?m)^    ", "", shown), ""):
             raise Wrong(f"{words} < {name}: status {done.returncode}, {done.stderr or done.stdout}")
-    if run([*in_root, "--version"]) != f"renamer {VERSION}\n":
+    if run([*program, "--version"]) != f"renamer {VERSION}\n":
         raise Wrong("it is of another version")
+
+
+def kill_install(install, list_of_files, lines, **environment):
+    """Begins an install, and kills it and its children when its list has so many lines."""
+    begun = subprocess.Popen(list(map(str, install)), env={**os.environ, **environment}, stdin=subprocess.DEVNULL,
+                             stdout=subprocess.DEVNULL, stderr=subprocess.DEVNULL, start_new_session=True)
+    has_them = False
+    while not has_them and begun.poll() is None:
+        has_them = list_of_files.exists() and list_of_files.read_text().count("\n") >= lines
+    if begun.poll() is not None:
+        raise Wrong(f"it ended before its list had {lines} lines")
+    os.killpg(begun.pid, signal.SIGKILL)
+    begun.wait()

@@ -145,12 +145,16 @@ async function wrongPile() {
     choose("kind", "bitonic");
     choose("width", 4);
     for (let i = 0; i < 62; ++i) press("Enter", document.querySelector('[data-entry="0"]'));
-    await tick(600);
-    const pill = document.querySelector(".pill")?.textContent, seen = document.querySelectorAll(".token").length;
     const first = document.querySelector('[data-client="101"] .body');
-    const top = document.elementFromPoint(...centre(first))?.closest(".token")?.dataset.client;
+    const onTop = () => document.elementFromPoint(...centre(first))?.closest(".token")?.dataset.client;
+    // Until it has walked there.
+    await until(() => onTop() === "101");
+    const pill = document.querySelector(".pill")?.textContent, seen = document.querySelectorAll(".token").length;
+    const top = onTop();
     const isRight = pill === "+61" && seen === 1 && top === "101";
-    return isRight ? [] : [`of 62 on a wire: ${pill}, ${seen} seen, on top ${top}`];
+    const wrong = isRight ? [] : [`of 62 on a wire: ${pill}, ${seen} seen, on top ${top}`];
+    const [body, words] = document.querySelector(".pill").children, {width} = boxOf(body);
+    return boxOf(words).width < width ? wrong : [...wrong, `${pill} is wider than what it stands on`];
 }
 
 function centre(it) {
@@ -190,10 +194,10 @@ async function wrongEnds(kind, width) {
     for (const share of [0, 0.5, 1]) {
         frame.scrollLeft = share * (frame.scrollWidth - frame.clientWidth);
         await tick(100);
-        const {left, right} = boxOf(frame), entry = boxOf(document.querySelector(".entry .body"));
-        const exit = boxOf(document.querySelector(".exit"));
-        const isIn = it => it.left >= left - 1 && it.right <= right + 1;
-        if (!isIn(entry) || !isIn(exit)) wrong.push(`of ${kind} ${width} the ends are not in sight at ${share}`);
+        const left = boxOf(frame).left + frame.clientLeft, right = left + frame.clientWidth;
+        const ends = [...document.querySelectorAll(".entry .body, .exit")].map(boxOf);
+        const isIn = it => it.left >= left - 0.5 && it.right <= right + 0.5;
+        if (!ends.every(isIn)) wrong.push(`of ${kind} ${width} the ends are not in sight at ${share}`);
     }
     return wrong;
 }
@@ -229,6 +233,7 @@ function wrongPrint() {
     const seen = ["four", "controls", "load", "would"].filter(id => isSeen(element(id))), frame = element("frame");
     const wrong = seen.map(id => `${id} is printed`);
     if (!isSeen(element("network")) || frame.scrollWidth > frame.clientWidth + 2) wrong.push("the network is cut");
+    if (element("answers").scrollWidth > element("answers").clientWidth) wrong.push("the answers are cut");
     if (luminance(getComputedStyle(document.body).backgroundColor) < 0.9) wrong.push("paper is not white");
     return wrong;
 }

@@ -6,6 +6,8 @@ from walk_browser import Browser
 
 DEEDS = (pathlib.Path(__file__).resolve().parent / "walk_deeds.js").read_text()
 PHONE = {"width": 390, "height": 844}
+# A sheet of A4 between its margins.
+SHEET = {"width": 718, "height": 1046}
 # What a finger wants, and what a mouse has at least, in pixels.
 FINGER, MOUSE = 43.5, 24
 # Within so many seconds a click is answered; each is tried so often, and so many records are there then.
@@ -59,11 +61,11 @@ class Trials:
 
     def print(self):
         for scheme in ("light", "dark"):
-            self.open(prefers_color_scheme=scheme)
+            self.open(prefers_color_scheme=scheme, **SHEET)
+            self.browser.value("openStop(5)")
             self.browser.print_media(True)
             self.wrong += [f"print: {it}" for it in self.browser.value("wrongPrint()")]
             self.browser.print_media(False)
-
 
     def walk_long(self, text):
         """A walk of some 20,000 records: what a click costs before it is answered, at best of some, or what is said."""
@@ -95,7 +97,7 @@ def tried_on_page(program, page, folder, schedule, answers, long_walk):
         trials.look("wide", f"wrongBegin({MOUSE})", "wrongEnds('periodic', 32)", "wrongColours(false)")
         trials.look("dark", "wrongColours(true)", prefers_color_scheme="dark")
         ends = [f"wrongEnds('{kind}', {width})" for kind, width in (("bitonic", 8), ("tree", 16), ("periodic", 8))]
-        trials.look("390 pixels", f"wrongBegin({FINGER})", *ends, **PHONE)
+        trials.look("390 pixels", f"wrongBegin({FINGER})", *ends, "wrongPile()", **PHONE)
         trials.print()
         trials.refuse()
         trials.walk_long(long_walk)

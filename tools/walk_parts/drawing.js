@@ -30,7 +30,7 @@ class Drawing {
         return wiring.ends.map((_, wire) => {
             const begin = places.wireBegin(wire), y = places.wireY(wire), x = begin + half + WIRE_AWAY * places.font;
             return `<path class="wire" d="M${begin} ${y}H${places.wireEnd(wire)}"/>`
-                + text(x, y - 0.72 * places.font, wire, 'class="number"');
+                + text(x, y - places.numberAway, wire, 'class="number"');
         });
     }
 
@@ -39,7 +39,7 @@ class Drawing {
         const {places, wiring} = this, half = places.boxWidth(wiring.outputs.length - 1) / 2;
         return wiring.ends.map((_, wire) => {
             const away = wire < wiring.entries ? WIRE_AWAY * places.font : half + 0.2 * places.font;
-            return text(places.wireBegin(wire) + away, places.wireY(wire) + 0.98 * places.font, "", 'class="count"');
+            return text(places.wireBegin(wire) + away, places.wireY(wire) + places.countAway, "", 'class="count"');
         });
     }
 
@@ -81,6 +81,12 @@ class Drawing {
             text(places.right + 0.6 * places.font, places.wireY(wire), places.exitWords(exit), 'class="exit"'));
     }
 
+    // Where the bar of a wire begins, behind its count, and how long it is at most.
+    stair(wire) {
+        const [begin, end] = this.places.gap(wire), x = begin + 0.9 * this.places.font;
+        return [x, end - x];
+    }
+
     // A box about each part, and behind it a bar for each of its wires, as long as its count.
     boxes() {
         const {places, wiring} = this, half = places.boxWidth(wiring.outputs.length - 1) / 2 + 0.4 * places.font;
@@ -89,7 +95,7 @@ class Drawing {
             const x = places.gaps[first][1] - 0.2 * places.font, end = places.gaps[last + 1][0] - half;
             const y = places.y(top) - 0.5 * places.row + 2, height = places.y(bottom) + 0.5 * places.row - 2 - y;
             const stairs = this.behind[at].map(wire =>
-                `<rect class="stair" x="${places.gap(wire)[0]}" y="${places.wireY(wire) - 0.42 * places.row}" `
+                `<rect class="stair" x="${this.stair(wire)[0]}" y="${places.wireY(wire) - 0.42 * places.row}" `
                 + `height="${0.84 * places.row}" width="0"/>`);
             const labelX = x + half + 2.2 * places.font, labelY = places.y(top) - 1.4 * places.font;
             return `<rect class="part" x="${x}" y="${y}" width="${end - x}" height="${height}" rx="6"/>`
@@ -126,8 +132,7 @@ class Drawing {
     showStairs(came) {
         const wires = this.behind.flat(), most = Math.max(4, ...wires.map(wire => came[wire]));
         wires.forEach((wire, at) => {
-            const [begin, end] = this.places.gap(wire);
-            this.stairs[at].setAttribute("width", (end - begin) * came[wire] / most);
+            this.stairs[at].setAttribute("width", this.stair(wire)[1] * came[wire] / most);
         });
     }
 

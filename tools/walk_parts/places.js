@@ -4,6 +4,8 @@
 const LEVEL_GAP = 0.5, LETTER = 0.6, BOLD = 0.67, WIRE_AWAY = 0.45, WIRE_LETTER = 0.9, TREE = 4.4, LINES = 3.1;
 // How wide the words below a token behind an exit are, in letters; how many such tokens are seen, for fingers fewer.
 const NAME_LETTERS = 7, NAMES_SEEN = 3, NAMES_FOR_FINGERS = 2;
+// For fingers the words at entries and exits are so many times as large as others.
+const END_LETTER = 1.4;
 const SCALES = [[16, 11, 46], [64, 8, 28], [Infinity, 5, 16]];
 
 class Places {
@@ -17,6 +19,8 @@ class Places {
         this.line = 1.5 * Math.max(font, 11);
         this.box = 1.45 * font;
         this.dot = 0.32 * font;
+        // How far above its wire a number stands, and below it a count; in high rows tokens do not touch them.
+        [this.numberAway, this.countAway] = finger ? [1.25 * font, 1.25 * font] : [0.72 * font, 0.98 * font];
         this.tokenWidth = (LETTER * letters + 1) * font;
         this.left = Math.max(this.room(this.entryWords(wiring.entries)) + 2 * font, finger + 1.2 * font);
         this.rows = this.isTree ? rowsOfLeaves(wiring) : rowsOfLines(wiring);
@@ -50,7 +54,8 @@ class Places {
 
     entryWords(entry) { return this.finger ? `${entry}` : `entry ${entry}`; }
     exitWords(exit) { return this.finger ? `${exit}` : `exit ${exit}`; }
-    room(words) { return LETTER * this.font * String(words).length; }
+    endFont() { return (this.finger ? END_LETTER : 1) * this.font; }
+    room(words) { return LETTER * this.endFont() * String(words).length; }
     boxWidth(words) { return (BOLD * String(words).length + 0.7) * this.font; }
     y(row) { return this.line + Math.max(2.6 * this.font, this.finger / 2) + this.row * row; }
     wireY(wire) { return this.y(this.rows[wire]); }

@@ -8,6 +8,8 @@ const COLOURS = [
 ];
 // Longer labels are cut to their end.
 const LABEL = 4;
+// How wide a letter is in the number of those who have no room.
+const PILL_LETTER = 0.55;
 
 const colourOf = id => COLOURS[Number(BigInt(id) % BigInt(COLOURS.length))];
 const labelOf = id => id.length > LABEL ? `…${id.slice(1 - LABEL)}` : id;
@@ -26,7 +28,6 @@ function grouped(list, keyOf) {
 class Tokens {
     constructor(group, wiring, places) {
         Object.assign(this, {group, wiring, places, tokens: new Map(), pills: new Map()});
-        this.pillWidth = (places.finger ? 2 : 2.6) * places.font;
     }
 
     // Tokens walk to their new places.
@@ -49,8 +50,9 @@ class Tokens {
     standOnWire(wire, here) {
         const {places} = this, {tokenWidth} = places, [begin, end] = places.gap(wire), y = places.wireY(wire);
         const room = end - begin, isRoomForAll = here.length * tokenWidth <= room + 1e-6;
-        const seen = isRoomForAll ? here.length : Math.max(1, Math.floor((room - this.pillWidth) / tokenWidth));
-        const x = at => end - tokenWidth * (at + 0.5), pillX = end - tokenWidth * seen - this.pillWidth / 2;
+        const pill = this.pillWidth(`+${here.length}`);
+        const seen = isRoomForAll ? here.length : Math.max(1, Math.floor((room - pill) / tokenWidth));
+        const x = at => end - tokenWidth * (at + 0.5), pillX = end - tokenWidth * seen - pill / 2;
         here.slice(0, seen).forEach((it, at) => this.want(it, x(at), y, ""));
         if (!isRoomForAll) this.wantRest(`wire ${wire}`, here.slice(seen), pillX, y);
     }
@@ -140,14 +142,21 @@ class Tokens {
             if (!this.pills.has(key)) this.pills.set(key, this.makePill());
             const pill = this.pills.get(key);
             pill.setAttribute("transform", `translate(${x} ${y})`);
-            if (pill.lastChild.textContent !== words) pill.lastChild.textContent = words;
+            if (pill.textContent !== words) this.write(pill, words);
         }
     }
 
+    // How wide a number of clients is, with what stands free beside it.
+    pillWidth(words) { return (PILL_LETTER * words.length + 1) * this.places.font; }
+
+    write(pill, words) {
+        const {font, box: height} = this.places;
+        pill.innerHTML = `<rect ${box(this.pillWidth(words) - 0.3 * font, height, 0.5)}/>${text(0, 0, words)}`;
+    }
+
     makePill() {
-        const {font, box: height} = this.places, pill = document.createElementNS(SVG, "g");
+        const pill = document.createElementNS(SVG, "g");
         pill.setAttribute("class", "pill");
-        pill.innerHTML = `<rect ${box(this.pillWidth - 0.3 * font, height, 0.5)}/>${text(0, 0, "")}`;
         this.group.append(pill);
         return pill;
     }
