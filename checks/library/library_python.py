@@ -23,7 +23,7 @@ DEBIAN = {"numpy": "python3-numpy", "pytest": "python3-pytest", "ensurepip": "py
 KINDS = {"u32": "_word", "u64": "Number", "usize": "_size", "*mut handle": "_handle", "*const handle": "_handle",
          "*mut u64": "_number", "*const client": "_array", "*mut grant": "_array"}
 # Arrays, of which the size comes next.
-ARRAYS = ("*mut u64", "usize"), ("_array", "_size")
+ARRAYS = ("*const u64", "usize"), ("*mut u64", "usize")
 DECLARED = re.compile(r'^\w+ = _(call|free)\("(\w+)"(?:, ([^)]*))?\)$', re.M)
 DATE = {"SOURCE_DATE_EPOCH": "1700000000"}
 # What the examples print that need numpy only.
@@ -69,9 +69,10 @@ def calls_are_of_the_header():
     declared = DECLARED.findall(text)
     for form, name, kinds in declared:
         taken, back = header[name]
-        wanted = [KINDS[kind] for kind in taken]
-        if taken[-2:] == list(ARRAYS[0]):
-            wanted[-2:] = ARRAYS[1]
+        wanted = [KINDS.get(kind) for kind in taken]
+        for at, pair in enumerate(zip(taken, taken[1:])):
+            if pair in ARRAYS:
+                wanted[at : at + 2] = "_array", "_size"
         own = ["_handle"] if form == "free" else kinds.split(", ")
         if own != wanted or (form == "free") != (back is None):
             wrong.append(f"{name} takes {own}, and in the header {wanted}")
