@@ -39,11 +39,9 @@
  * back, join, close or free use them. Calls that name clients or let them in use them only if the lane has no room,
  * which renamer_reserve makes. Calls that step, sweep, take names or only ask never use them.
  *
- * THE CALLER'S SIDE. What no call can check is the caller's: no pointer is NULL but one that is freed, also not that of
- * an array of size 0, since the proved calls take arrays that are somewhere, and cannot ask: pass any address. (By
- * renamer.hpp, and by the packages for Rust, Go and Python, a list of nobody needs none.) An array is as long as its
- * size says; a number or an array that a call writes overlaps nothing else that is passed; two handles of one call are
- * not the same handle.
+ * THE CALLER'S SIDE. What no call can check is the caller's: no pointer is NULL but one that is freed, and that of an
+ * array of size 0. An array is as long as its size says; a number or an array that a call writes overlaps nothing else
+ * that is passed; two handles of one call are not the same handle.
  */
 #ifndef RENAMER_H
 #define RENAMER_H
@@ -51,19 +49,24 @@
 #include <stddef.h>
 #include <stdint.h>
 
-/* With these a compiler warns at a call of a status that is not looked at, and of NULL where something is to stand. */
+/* With these a compiler warns at a call of a status that is not looked at, and of NULL where something is to stand: in a
+   call of lists, for the handle. */
 #ifdef __GNUC__
 #define RENAMER_NO_NULL __attribute__((nonnull))
+#define RENAMER_HANDLE_NO_NULL __attribute__((nonnull(1)))
 #else
 #define RENAMER_NO_NULL
+#define RENAMER_HANDLE_NO_NULL
 #endif
 #if (defined(__cplusplus) && __cplusplus >= 201703L) || (defined(__STDC_VERSION__) && __STDC_VERSION__ >= 202311L)
-#define RENAMER_CALL [[nodiscard]] RENAMER_NO_NULL
+#define RENAMER_STATUS [[nodiscard]]
 #elif defined(__GNUC__)
-#define RENAMER_CALL __attribute__((warn_unused_result)) RENAMER_NO_NULL
+#define RENAMER_STATUS __attribute__((warn_unused_result))
 #else
-#define RENAMER_CALL
+#define RENAMER_STATUS
 #endif
+#define RENAMER_CALL RENAMER_STATUS RENAMER_NO_NULL
+#define RENAMER_LIST_CALL RENAMER_STATUS RENAMER_HANDLE_NO_NULL
 
 #ifdef __cplusplus
 extern "C" {
@@ -229,8 +232,8 @@ RENAMER_CALL uint32_t renamer_name(renamer_lane *lane, uint64_t client, uint64_t
    the fastest, since their grants stay in the processor's cache.
    RENAMER_NONE, _SIZE (there are not as many grants as clients), _STILL_WALKING, _NO_SUCH_ENTRY, _QUOTA_SPENT, _MEMORY.
    One thread at a time. */
-RENAMER_CALL uint32_t renamer_name_many(renamer_lane *lane, const renamer_client *clients, size_t client_count, renamer_grant *grants,
-                                        size_t grant_count);
+RENAMER_LIST_CALL uint32_t renamer_name_many(renamer_lane *lane, const renamer_client *clients, size_t client_count,
+                                             renamer_grant *grants, size_t grant_count);
 
 /* Names the clients of a list, who all come in by one entry, and writes their names in the order of the list: names[i]
    is that of clients[i]. They walk as by renamer_name_many, 64 of them together. The lane's last grants are theirs, and
@@ -241,8 +244,8 @@ RENAMER_CALL uint32_t renamer_name_many(renamer_lane *lane, const renamer_client
    the lane has less room.
    RENAMER_NONE, _SIZE (there are not as many names as clients), _STILL_WALKING, _NO_SUCH_ENTRY, _QUOTA_SPENT, _MEMORY.
    One thread at a time. */
-RENAMER_CALL uint32_t renamer_name_list(renamer_lane *lane, const uint64_t *clients, size_t client_count,
-                                        uint64_t entry, uint64_t *names, size_t name_count);
+RENAMER_LIST_CALL uint32_t renamer_name_list(renamer_lane *lane, const uint64_t *clients, size_t client_count,
+                                             uint64_t entry, uint64_t *names, size_t name_count);
 
 /* Lets a client in by an entry: it stands last on the wire with the entry's number. It takes memory only if the lane
    has no room.
@@ -289,7 +292,7 @@ RENAMER_CALL uint32_t renamer_grant_count(const renamer_lane *lane, uint64_t *co
 /* Copies as many grants of the lane as size says, in the order in which they were given, from the grant with the index
    first on.
    RENAMER_NONE, _SIZE (there are fewer than first + size). */
-RENAMER_CALL uint32_t renamer_grants(const renamer_lane *lane, uint64_t first, renamer_grant *grants, size_t size);
+RENAMER_LIST_CALL uint32_t renamer_grants(const renamer_lane *lane, uint64_t first, renamer_grant *grants, size_t size);
 
 /* Hands the lane back to its floor, from any thread: its quota, its grants and all that it did. The lane is none then,
    and another lane of the floor may take it in by renamer_join. Any number of lanes may be back.
@@ -336,11 +339,11 @@ RENAMER_CALL uint32_t renamer_quiet_clients(const renamer_quiet *quiet, uint64_t
 
 /* Copies how many clients left by each exit: counts[i] is the number of exit i.
    RENAMER_NONE, _SIZE (counts has not that size). */
-RENAMER_CALL uint32_t renamer_counts(const renamer_quiet *quiet, uint64_t *counts, size_t size);
+RENAMER_LIST_CALL uint32_t renamer_counts(const renamer_quiet *quiet, uint64_t *counts, size_t size);
 
 /* Copies who has which name: holders[n] is the client with name n.
    RENAMER_NONE, _SIZE (holders has not that size). */
-RENAMER_CALL uint32_t renamer_holders(const renamer_quiet *quiet, uint64_t *holders, size_t size);
+RENAMER_LIST_CALL uint32_t renamer_holders(const renamer_quiet *quiet, uint64_t *holders, size_t size);
 
 /* Opens a floor that goes on from the counters of a closed one, over the same network. Its names begin at 0 again. The
    closed floor stays as it is.
@@ -374,7 +377,7 @@ RENAMER_CALL uint32_t renamer_take(renamer_taker *taker, uint64_t entry, uint64_
 /* Takes as many names as count says, by one entry, and writes them in no order that is said. All of them come in by one
    atomic add, and all that are on a wire go on by one more: so a name costs the fewer adds the longer the list is.
    RENAMER_NONE, _NO_SUCH_ENTRY, _QUOTA_SPENT. One thread at a time. */
-RENAMER_CALL uint32_t renamer_take_many(renamer_taker *taker, uint64_t entry, uint64_t *names, size_t count);
+RENAMER_LIST_CALL uint32_t renamer_take_many(renamer_taker *taker, uint64_t entry, uint64_t *names, size_t count);
 
 /* Returns how many takes were begun by all takers of the floor, as far as this one can know: more than each name that
    it took, no less than its earlier answers, and never more than were begun.

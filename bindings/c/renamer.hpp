@@ -23,7 +23,6 @@
 
 #include <cstddef>
 #include <cstdint>
-#include <type_traits>
 #include <vector>
 
 namespace renamer {
@@ -67,23 +66,6 @@ using grant = renamer_grant;
 using moved = renamer_moved;
 using swept = renamer_swept;
 
-namespace detail {
-
-/* An array as the calls of renamer.h take it: they want a pointer that is not null, also to no elements. */
-template <typename Element> class array {
-  public:
-    array(Element *at, std::size_t count) noexcept : nothing(), at(count ? at : &nothing) {}
-    array(const array &) = delete;
-    array &operator=(const array &) = delete;
-    operator Element *() const noexcept { return at; }
-
-  private:
-    typename std::remove_const<Element>::type nothing;
-    Element *at;
-};
-
-} // namespace detail
-
 /* What has a handle: it can be moved, and frees the handle at its end. */
 template <typename Handle, void (*Free)(Handle *)> class owner {
   public:
@@ -113,7 +95,7 @@ class quiet : public owner<renamer_quiet, renamer_free_quiet> {
 
     /* counts[i] left by exit i. The count is that of exits. */
     status counts(std::uint64_t *counts, std::size_t count) const noexcept {
-        return status(renamer_counts(&handle, detail::array<std::uint64_t>(counts, count), count));
+        return status(renamer_counts(&handle, counts, count));
     }
     status counts(std::vector<std::uint64_t> &counts) const {
         return list(renamer_quiet_exits, renamer_counts, counts);
@@ -121,7 +103,7 @@ class quiet : public owner<renamer_quiet, renamer_free_quiet> {
 
     /* holders[n] is the client with name n. The count is that of clients. */
     status holders(std::uint64_t *holders, std::size_t count) const noexcept {
-        return status(renamer_holders(&handle, detail::array<std::uint64_t>(holders, count), count));
+        return status(renamer_holders(&handle, holders, count));
     }
     status holders(std::vector<std::uint64_t> &holders) const {
         return list(renamer_quiet_clients, renamer_holders, holders);
@@ -137,7 +119,7 @@ class quiet : public owner<renamer_quiet, renamer_free_quiet> {
         const status asked = status(size(&handle, &length));
         if (asked != status::done) return asked;
         std::vector<std::uint64_t> list(static_cast<std::size_t>(length));
-        const status copied = status(copy(&handle, detail::array<std::uint64_t>(list.data(), list.size()), list.size()));
+        const status copied = status(copy(&handle, list.data(), list.size()));
         if (copied == status::done) to.swap(list);
         return copied;
     }
@@ -166,8 +148,7 @@ class lane : public owner<renamer_lane, renamer_free> {
 
     /* Names the clients of a list, and writes as many grants. */
     status name_many(const client *clients, std::size_t count, grant *grants) noexcept {
-        const detail::array<const client> from(clients, count);
-        return status(renamer_name_many(&handle, from, count, detail::array<grant>(grants, count), count));
+        return status(renamer_name_many(&handle, clients, count, grants, count));
     }
     /* The same; the grants take the place of what the second list had. */
     status name_many(const std::vector<client> &clients, std::vector<grant> &grants) {
@@ -180,9 +161,7 @@ class lane : public owner<renamer_lane, renamer_free> {
     /* Names the clients of a list, who come in by one entry, and writes as many names, in the order of the clients. */
     status name_list(const std::uint64_t *clients, std::size_t count, std::uint64_t entry,
                      std::uint64_t *names) noexcept {
-        const detail::array<const std::uint64_t> from(clients, count);
-        const detail::array<std::uint64_t> to(names, count);
-        return status(renamer_name_list(&handle, from, count, entry, to, count));
+        return status(renamer_name_list(&handle, clients, count, entry, names, count));
     }
     /* The same; the names take the place of what the second list had. */
     status name_list(const std::vector<std::uint64_t> &clients, std::uint64_t entry,
@@ -209,7 +188,7 @@ class lane : public owner<renamer_lane, renamer_free> {
 
     /* Some of the lane's grants, in the order in which they were given, from the first-th on; or all. */
     status grants(std::uint64_t first, grant *grants, std::size_t count) const noexcept {
-        return status(renamer_grants(&handle, first, detail::array<grant>(grants, count), count));
+        return status(renamer_grants(&handle, first, grants, count));
     }
     status grants(std::vector<grant> &grants) const {
         std::uint64_t count = 0;
@@ -242,7 +221,7 @@ class taker : public owner<renamer_taker, renamer_free_taker> {
 
     /* Takes a name for each place of an array, or of a list. */
     status take_many(std::uint64_t entry, std::uint64_t *names, std::size_t count) noexcept {
-        return status(renamer_take_many(&handle, entry, detail::array<std::uint64_t>(names, count), count));
+        return status(renamer_take_many(&handle, entry, names, count));
     }
     status take_many(std::uint64_t entry, std::vector<std::uint64_t> &names) noexcept {
         return take_many(entry, names.data(), names.size());

@@ -45,8 +45,8 @@ func (lane *Lane) Name(client, entry uint64) (uint64, error) {
 // NameMany names the clients of a list, and returns their grants in the order in which they left.
 func (lane *Lane) NameMany(clients []Client) ([]Grant, error) {
 	grants := make([]Grant, len(clients))
-	// No pointer of the call is nil, also with an empty list.
-	from, to := &Client{}, &Grant{}
+	var from *Client
+	var to *Grant
 	if len(clients) > 0 {
 		from, to = &clients[0], &grants[0]
 	}
@@ -59,8 +59,7 @@ func (lane *Lane) NameMany(clients []Client) ([]Grant, error) {
 // NameList names the clients of a list, who come in by one entry, and returns their names in the order of the list.
 func (lane *Lane) NameList(clients []uint64, entry uint64) ([]uint64, error) {
 	names := make([]uint64, len(clients))
-	// No pointer of the call is nil, also with an empty list.
-	from, to := new(uint64), new(uint64)
+	var from, to *uint64
 	if len(clients) > 0 {
 		from, to = &clients[0], &names[0]
 	}

@@ -35,8 +35,7 @@ func (taker *Taker) Take(entry uint64) (uint64, error) {
 
 // TakeMany takes a name for each place of a list, and writes them there, in no order that is said.
 func (taker *Taker) TakeMany(entry uint64, names []uint64) error {
-	var nothing C.uint64_t
-	to := &nothing
+	var to *C.uint64_t
 	if len(names) > 0 {
 		to = (*C.uint64_t)(&names[0])
 	}

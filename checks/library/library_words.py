@@ -10,8 +10,11 @@ import subprocess
 KEPT = {".bss": 1}
 # What is written as a program starts, and closed then.
 CLOSED = {".data.rel.ro", ".dynamic", ".got", ".got.plt", ".relro_padding"}
-# The calls that C has: a text for each status, and frees that do nothing if they get NULL.
-IN_C = {"renamer_explain", "renamer_free", "renamer_free_quiet", "renamer_free_taker"}
+# The calls that C has: a text for each status, frees that do nothing if they get NULL, and calls of lists, which hand the
+# proved one an array that is somewhere if they get NULL for one of size 0.
+IN_C = {f"renamer_{name}"
+        for name in ("explain", "free", "free_quiet", "free_taker", "name_many", "name_list", "grants", "counts", "holders",
+                     "take_many")}
 # The calls that add to words of the table, and those that begin or end a lane or a floor, which go to owners and
 # places. The others have no atomic instruction.
 ADD = {f"renamer_{name}"

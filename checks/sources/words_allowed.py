@@ -88,9 +88,13 @@ MOST = {
 TEXTS = {
     "renamer_c/": {"const ROWS: usize = 26;": 1, "for at in 0..ROWS {": 2},
     "../library": {"--redefine-sym renamer_free=": 1, "--redefine-sym renamer_free_quiet=": 1,
-                   "--redefine-sym renamer_free_taker=": 1, "redefine-sym": 3},
+                   "--redefine-sym renamer_free_taker=": 1, "--redefine-sym renamer_name_many=": 1,
+                   "--redefine-sym renamer_name_list=": 1, "--redefine-sym renamer_grants=": 1,
+                   "--redefine-sym renamer_counts=": 1, "--redefine-sym renamer_holders=": 1,
+                   "--redefine-sym renamer_take_many=": 1, "redefine-sym": 9},
     "../bindings/c/explain.c": {"static": 0},
     "../bindings/c/free.c": {"static": 0},
+    "../bindings/c/lists.c": {"static": 0},
     "../bindings/c/heap.c": {"static": 2, "static char nothing;": 1, "static struct got got(": 1},
 }
 # The crates of which functions may be proved by hand: such a proof may give ghost data any value.

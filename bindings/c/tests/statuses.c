@@ -133,6 +133,27 @@ static void lists_of_clients(void) {
     renamer_free(&lane);
 }
 
+/* An array of size 0 may be NULL. */
+static void lists_of_nobody(void) {
+    renamer_lane lane = RENAMER_NO_LANE_YET;
+    renamer_quiet quiet = RENAMER_NO_QUIET_YET;
+    renamer_taker taker = RENAMER_NO_TAKER_YET;
+    renamer_client client = {7, 0};
+    uint64_t name = 77;
+    CHECK(renamer_open(&lane, RENAMER_TREE, 2, 1) == RENAMER_DONE);
+    CHECK(renamer_name_many(&lane, NULL, 0, NULL, 0) == RENAMER_DONE);
+    CHECK(renamer_name_many(&lane, &client, 1, NULL, 0) == RENAMER_SIZE);
+    CHECK(renamer_name_list(&lane, NULL, 0, 0, NULL, 0) == RENAMER_DONE);
+    CHECK(renamer_name_list(&lane, NULL, 0, 0, &name, 1) == RENAMER_SIZE && name == 77);
+    CHECK(renamer_grants(&lane, 0, NULL, 0) == RENAMER_DONE && renamer_grants(&lane, 1, NULL, 0) == RENAMER_SIZE);
+    CHECK(renamer_close(&lane, &quiet) == RENAMER_DONE);
+    CHECK(renamer_counts(&quiet, NULL, 0) == RENAMER_SIZE && renamer_holders(&quiet, NULL, 0) == RENAMER_DONE);
+    renamer_free_quiet(&quiet);
+    CHECK(renamer_open_takes(&taker, RENAMER_TREE, 2, 0) == RENAMER_DONE);
+    CHECK(renamer_take_many(&taker, 0, NULL, 0) == RENAMER_DONE);
+    renamer_free_taker(&taker);
+}
+
 /* Clients of a list by one entry go on together, 64 of them at most: on the tree of width 2 those by one exit leave
    right after one another. */
 static void lists_go_together(void) {
@@ -288,6 +309,7 @@ int main(void) {
     none(&lane, &quiet);
     split_refuses();
     lists_of_clients();
+    lists_of_nobody();
     lists_go_together();
     clients_inside();
     lost_inside();
