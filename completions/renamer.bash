@@ -18,9 +18,9 @@ _renamer() {
         help) words='run replay check show' ;;
         *)
             case ${COMP_WORDS[1]} in
-                run) words=' --network --width --workers --hand --form --carry --help ' ;;
+                run) words=' --network --width --workers --hand --form --carry --large --help ' ;;
                 replay | show) words=' --network --width --help ' ;;
-                check) words=' --width --help ' ;;
+                check) words=' --width --large --help ' ;;
             esac
             for given in "${COMP_WORDS[@]:2:COMP_CWORD-2}"; do
                 words=${words/ "$given" / }

@@ -42,6 +42,7 @@ def phrases_of_help(job):
     limit = limits()
     epoch = rf"epoch has at most {limit['MOST_CLIENTS']} clients\b"
     records = rf"at most {limit['MOST_RECORDS']} records\b"
+    large = rf"with `--large` (each )?{limit['MOST_NAMED']}\b"
     numbers, header = r"numbers below 2\^64", r"count from 0: the header is record 0\b"
     width = rf"width of the network: {widths()}$"
     tight = r"tight: 0 to k-1 in each epoch, each once$"
@@ -53,6 +54,7 @@ def phrases_of_help(job):
             r"a tree has (only )?entry 0\b",
             epoch,
             records,
+            large,
             r"have the names 0 to k-1\b",
             header,
             width,
@@ -63,6 +65,7 @@ def phrases_of_help(job):
             tight,
             numbers,
             records,
+            large,
             r"have the names 0 to k-1\b",
             r"remainders 0, 1, 2 and 3\b",
             header,
@@ -113,6 +116,7 @@ def phrases_of_manual():
         rf"After the header come at most {records} records\.",
         rf"epoch has at most {clients} clients, and no client twice",
         rf"epoch has at most {clients} clients\.",
+        rf"may have {limit['MOST_NAMED']} records, as far as memory goes",
     ]
 
 
@@ -147,8 +151,8 @@ IN_CAUSES = {
         r"record 0 is not `epoch,client,entry` or `epoch,client`",
         DIGITS,
         r"0 to W-1 are allowed, of a tree only 0$",
-        r"the epoch has {MOST_CLIENTS} clients already",
-        r"the batch has {MOST_RECORDS} records already",
+        r"the epoch has {MOST_CLIENTS} clients already, or {MOST_NAMED} with `--large`$",
+        r"the batch has {MOST_RECORDS} records already, or {MOST_NAMED} with `--large`$",
     ],
     "replay": [
         r"record 0 is not `op,client,wire`",
@@ -159,7 +163,7 @@ IN_CAUSES = {
     "check": [
         r"record 0 is not `epoch,client,name`",
         r"not three numbers below 2\^64 in 1 to {MOST_DIGITS} digits",
-        r"the list has {MOST_RECORDS} records already",
+        r"the list has {MOST_RECORDS} records already, or {MOST_NAMED} with `--large`$",
     ],
 }
 

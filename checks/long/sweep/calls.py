@@ -7,7 +7,8 @@ MOST_CLIENTS = 262_144
 MOST_RECORDS = 1_048_576
 MOST_BALANCERS = 65_536
 MOST_ENDS = 4_096
-MOST_TOKENS = 4_194_304
+# As many tokens as are tried in one yard: at its limit they would take 103 GB.
+MANY_TOKENS = 4_194_304
 # From so many clients on two epochs of those whose turns clear are made, else five.
 MANY = 65_536
 
@@ -44,7 +45,7 @@ def wires(kind, width, count):
 
 
 def words(kind, width, count):
-    return {"Net::build": 1, "parse_words": 24}
+    return {"Net::build": 1, "parse_words": 29}
 
 
 def tables(kind, width, count):
@@ -104,7 +105,7 @@ def low_shapes():
         for number in (0, 1, 2, 3, 7, 64, 65, 1_000, MOST_ENDS, 65_536, 65_537, MOST_ENDS + 2 * MOST_BALANCERS):
             yield yards, "tree", number, size
     for number in (1, 1_000):
-        yield yards, "tree", number, MOST_TOKENS
+        yield yards, "tree", number, MANY_TOKENS
     for size in (*SIZES, MOST_RECORDS):
         yield names, "tree", 2, size
         yield wires, "tree", 2, size

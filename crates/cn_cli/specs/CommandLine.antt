@@ -35,17 +35,18 @@ run_with_values =
     (option_with (codes "1") (codes "hand")))
     (option_with (codes "report") (codes "form"))
 
--- the same, with [--carry]
+-- the same, with [--carry] [--large]
 abbrev pub run_words : App
-run_words = with_rule run_with_values (flag_rule (codes "carry"))
+run_words = with_rule (with_rule run_with_values (flag_rule (codes "carry"))) (flag_rule (codes "large"))
 
 -- replay --network N --width W
 abbrev pub replay_words : App
 replay_words = network_words (codes "replay")
 
--- check --width W
+-- check --width W [--large]
 abbrev pub check_words : App
-check_words = with_rule (new_app (codes "check")) (required_option (codes "width"))
+check_words =
+    with_rule (with_rule (new_app (codes "check")) (required_option (codes "width"))) (flag_rule (codes "large"))
 
 -- show --network N --width W
 abbrev pub show_words : App

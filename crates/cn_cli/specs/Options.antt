@@ -5,14 +5,15 @@ use Rattle.cn_wiring.specs.Widths.{IsWidth}
 use Rattle.cn_nets.specs.Net.{Description}
 use Rattle.cn_cli.specs.declared.options.Form.{Form}
 
--- a network, how many workers walk it, how many tokens each has in hand at most, what is written, and whether its
--- counters are carried from epoch to epoch
+-- a network, how many workers walk it, how many tokens each has in hand at most, what is written, whether its counters
+-- are carried from epoch to epoch, and whether the batch may be a large one
 pub record Settings : Type 0 where
   pub net : Description
   pub workers : ℕ
   pub hand : ℕ
   pub form : Form
   pub carry : Bool
+  pub large : Bool
 
 -- the network is built, and both numbers are within their limits
 abbrev pub SettingsFit : Settings → Type 0

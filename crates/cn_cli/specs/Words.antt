@@ -4,7 +4,7 @@ use Rattle.clap.specs.Words.{IsAmong, Kinds, Row, Text, fault_of, subcommand_of}
 use Rattle.clap.specs.declared.error.ErrorKind.{ErrorKind}
 use Rattle.clap.specs.declared.error.ErrorKind.TheVariants.{DisplayHelp, DisplayVersion, OutOfMemory}
 use Rattle.cn_wiring.specs.Widths.{IsWidth}
-use Rattle.cn_cli.specs.Choices.{NamesNetwork, NamesRun, NamesWidth}
+use Rattle.cn_cli.specs.Choices.{NamesCheck, NamesNetwork, NamesRun}
 use Rattle.cn_cli.specs.CommandLine.{command_line}
 use Rattle.cn_cli.specs.Options.{SettingsFit}
 use Rattle.cn_cli.specs.declared.choices.ChoiceFault.{ChoiceFault}
@@ -28,8 +28,8 @@ Asks (Some (name, options)) (Run settings) =
     (name ≡ codes "run") × NamesRun options settings × SettingsFit settings
 Asks (Some (name, options)) (Replay net) =
     (name ≡ codes "replay") × NamesNetwork options net × IsWidth net.width
-Asks (Some (name, options)) (Check width) =
-    (name ≡ codes "check") × NamesWidth options width × IsWidth width
+Asks (Some (name, options)) (Check asked) =
+    (name ≡ codes "check") × NamesCheck options asked × IsWidth asked.width
 Asks (Some (name, options)) (Show net) =
     (name ≡ codes "show") × NamesNetwork options net × IsWidth net.width
 

@@ -44,7 +44,7 @@ example with its output, and the statuses.",
 };
 
 pub(crate) const CHECK: Brief = Brief {
-    usage: "renamer check --width <W> < FILE",
+    usage: "renamer check --width <W> [OPTIONS] < FILE",
     about: "Reads a list of grants, and says whether its names are tight: 0 to k-1 in each epoch, each once",
     end: "\
 The file is CSV with the header `epoch,client,name`. `--help` has the formats,

@@ -1,7 +1,7 @@
 //! What can be wrong with an input: the causes that fault lines name, in the order in which they are looked for. Help
 //! shows these tables, and the manual page has them too, which `checks/pages/examples` compares.
 
-use cn_spec::limits::{MOST_CLIENTS, MOST_RECORDS};
+use cn_spec::limits::{MOST_CLIENTS, MOST_NAMED, MOST_RECORDS};
 use std::alloc::{AllocError, Global};
 
 /// Of a batch.
@@ -20,8 +20,10 @@ Causes; of several the first is given:
   EpochBackwards  the epoch is below that of the record before
   EntryRange      no such entry: 0 to W-1 are allowed, of a tree only 0
   Duplicate       the client is in this epoch already
-  EpochFull       the epoch has {MOST_CLIENTS} clients already
-  BatchFull       the batch has {MOST_RECORDS} records already"
+  EpochFull       the epoch has {MOST_CLIENTS} clients already, or {MOST_NAMED} with
+                  `--large`
+  BatchFull       the batch has {MOST_RECORDS} records already, or {MOST_NAMED} with
+                  `--large`"
     )
 }
 
@@ -54,7 +56,8 @@ Causes; of several the first is given:
   Form             record 0 is not `epoch,client,name`; or the record is not
                    three numbers below 2^64 in 1 to 20 digits, or its epoch
                    is below that of the record before;
-                   or the list has {MOST_RECORDS} records already
+                   or the list has {MOST_RECORDS} records already, or {MOST_NAMED}
+                   with `--large`
   DuplicateClient  the client has a name in this epoch already
   DuplicateName    the name is given in this epoch already
   Gap              nobody in the epoch has the name, which is below its number

@@ -1,18 +1,18 @@
 //! What the options of a subcommand name.
 
-ghost use Rattle.std.specs.Prelude.{◌≡◌, ◌≢◌, ◌<◌, ◌^◌, ℕ, IfOk, MatchOption, MatchResult};
+ghost use Rattle.std.specs.Prelude.{◌≡◌, ◌≢◌, ◌<◌, ◌^◌, ℕ, IfOk, MatchOption, MatchResult, false};
 ghost use Rattle.std.specs.Prelude.{decimal, option_map};
 ghost use Rattle.clap.specs.Words.{first_of, found_of, rows_of};
 ghost use Rattle.cn_wiring.specs.declared.kind.Kind.{Kind};
 ghost use Rattle.cn_wiring.specs.Kinds.{kind_word};
 ghost use Rattle.cn_wiring.specs.Widths.{IsWidth};
-ghost use Rattle.cn_cli.specs.Choices.{Flags, GivesNoNumber, GivesNumber, NamesNetwork, NamesNoNet};
-ghost use Rattle.cn_cli.specs.Choices.{NamesNoRun, NamesNoWidth, NamesRun, NamesWidth, form_word};
+ghost use Rattle.cn_cli.specs.Choices.{Flags, GivesNoNumber, GivesNumber, NamesCheck, NamesNetwork, NamesNoCheck};
+ghost use Rattle.cn_cli.specs.Choices.{NamesNoNet, NamesNoRun, NamesNoWidth, NamesRun, NamesWidth, form_word};
 ghost use Rattle.cn_cli.specs.Options.{SettingsFit};
 ghost use Rattle.cn_cli.specs.declared.choices.ChoiceFault.TheVariants as choice;
 ghost use Rattle.cn_cli.specs.declared.options.Form.{Form};
 
-use crate::options::{Form, OptionFault, Options};
+use crate::options::{CheckOptions, Form, OptionFault, Options};
 use clap::ArgMatches;
 use cn_nets::{Net, NetFault, Widths};
 use cn_spec::limits::{MOST_HAND, MOST_WORKERS};
@@ -169,6 +169,20 @@ pub(crate) fn chosen_width<'a>(
     }
 }
 
+/// What the options ask of a check.
+pub(crate) fn chosen_check<'a>(
+    alloc: Global,
+    options: &ArgMatches<'a>,
+) -> Result<CheckOptions, ChoiceFault<'a>>
+    ensures { let given = rows_of (found_of options.now) in
+        MatchResult result (λ asked. NamesCheck given asked × IsWidth asked.width)
+        (λ fault. fault ≢ choice.Memory → NamesNoCheck given) }
+{
+    let width = chosen_width(alloc, options)?;
+    let large = has_flag(options, "large");
+    Ok(CheckOptions { width, large })
+}
+
 /// The network that the options name.
 pub(crate) fn chosen_net<'a>(
     alloc: Global,
@@ -195,6 +209,22 @@ fn refused<'a>(options: &ArgMatches<'a>, fault: OptionFault) -> ChoiceFault<'a>
     }
 }
 
+/// The run, which carries counters if that is asked for.
+fn with_carry(run: Options, carry: bool) -> Options
+    requires { run.carry ≡ false }
+    ensures { result ≡ record run { carry = carry } }
+{
+    if carry { run.carried() } else { run }
+}
+
+/// The run, whose batch may be large if that is asked for.
+fn with_large(run: Options, large: bool) -> Options
+    requires { run.large ≡ false }
+    ensures { result ≡ record run { large = large } }
+{
+    if large { run.enlarged() } else { run }
+}
+
 /// The options of a run.
 pub(crate) fn chosen_options<'a>(
     alloc: Global,
@@ -215,8 +245,10 @@ pub(crate) fn chosen_options<'a>(
         return Err(ChoiceFault::Form(word_of(options, "form")));
     };
     match Options::new(net, workers, hand, form) {
-        Ok(run) if has_flag(options, "carry") => Ok(run.carried()),
-        Ok(run) => Ok(run),
+        Ok(run) => {
+            let run = with_carry(run, has_flag(options, "carry"));
+            Ok(with_large(run, has_flag(options, "large")))
+        }
         Err(fault) => Err(refused(options, fault)),
     }
 }

@@ -61,6 +61,14 @@ fn with_option<'a>(
     command?.arg(option(alloc, name, value, default, help))
 }
 
+/// The command with one more flag, if it got its memory so far.
+fn with_flag<'a>(command: Draft<'a>, alloc: Global, name: &'a str, help: &'a str) -> Draft<'a>
+    ensures { IfOk result (λ whole. IsOkAnd command.entry (λ before.
+        app_of whole ≡ with_rule (app_of before) (flag_rule name.entry.now))) }
+{
+    command?.arg(flag(alloc, name, help))
+}
+
 /// A command of this name with the texts of its help, which change nothing of what it reads.
 fn described_command<'a>(alloc: Global, name: &'a str, brief: Brief, long: &'a str) -> Command<'a>
     ensures { app_of result ≡ new_app name.entry.now }
@@ -93,18 +101,22 @@ fn run_command<'a>(alloc: Global, help: &'a HelpTexts) -> Draft<'a>
 {
     let forms = "What is written: report (exits and names) or grants (CSV for check)";
     let carry = "Keep the counters of the network from epoch to epoch";
+    let large = "Take a large batch, as far as memory goes: --help has the limits";
     let command = network_command(alloc, "run", brief::RUN, &help.run, help);
     let command = with_option(command, alloc, "workers", "K", Some("1"), &help.workers);
     let command = with_option(command, alloc, "hand", "H", Some("1"), &help.hand);
     let command = with_option(command, alloc, "form", "F", Some("report"), forms);
-    command?.arg(flag(alloc, "carry", carry))
+    let command = with_flag(command, alloc, "carry", carry);
+    with_flag(command, alloc, "large", large)
 }
 
 fn check_command<'a>(alloc: Global, help: &'a HelpTexts) -> Draft<'a>
     ensures { IfOk result (λ command. app_of command ≡ check_words) }
 {
+    let large = "Take a large list, as far as memory goes: --help has the limits";
     let command = Ok(described_command(alloc, "check", brief::CHECK, &help.check));
-    with_option(command, alloc, "width", "W", None, &help.divisor)
+    let command = with_option(command, alloc, "width", "W", None, &help.divisor);
+    with_flag(command, alloc, "large", large)
 }
 
 /// The program's name and version. It has no subcommand yet, of which one has to be given.

@@ -2,7 +2,7 @@
 
 use crate::causes::{batch_causes, grant_causes, schedule_causes};
 use cn_nets::Widths;
-use cn_spec::limits::{MOST_CLIENTS, MOST_HAND, MOST_RECORDS, MOST_WORKERS};
+use cn_spec::limits::{MOST_CLIENTS, MOST_HAND, MOST_NAMED, MOST_RECORDS, MOST_WORKERS};
 use std::alloc::{AllocError, Global};
 
 /// The texts of help with the limits of the service, which the command line borrows.
@@ -80,8 +80,9 @@ client: the epoch that it is in, its identity, and the entry that it comes to.
 All are numbers below 2^64 in decimal digits. The records of an epoch stand
 together, and the numbers of epochs rise. Entries are 0 to W-1, and a tree has
 only entry 0. An epoch has at most {MOST_CLIENTS} clients, and a batch at most
-{MOST_RECORDS} records besides the header. Under the header `epoch,client` a
-record has no entry: client C comes to entry C modulo the number of entries.
+{MOST_RECORDS} records besides the header; with `--large` each {MOST_NAMED}.
+Under the header `epoch,client` a record has no entry: client C comes to entry C
+modulo the number of entries.
 
     epoch,client,entry
     1,17,3
@@ -228,8 +229,8 @@ Input: a grant list, as CSV on standard input. After the header, each record is
 a grant: an epoch, a client of it, and the name that this client has. All are
 numbers below 2^64 in decimal digits. The records of an epoch stand together,
 and the numbers of epochs rise. A list has at most {MOST_RECORDS} records besides
-the header. It is tight if in each epoch no client and no name stands twice,
-and the k grants have the names 0 to k-1.
+the header; with `--large` {MOST_NAMED}. It is tight if in each epoch no client
+and no name stands twice, and the k grants have the names 0 to k-1.
 
     epoch,client,name
     1,17,0

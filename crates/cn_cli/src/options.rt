@@ -1,4 +1,4 @@
-//! What a run is asked for beside its batch.
+//! What a run is asked for beside its batch, and a check beside its list.
 
 ghost use Rattle.std.specs.Prelude.{◌≡◌, ◌↔◌, IfOk, IsErrOf, false, true};
 ghost use Rattle.cn_cli.specs.Choices.{form_word};
@@ -32,9 +32,9 @@ impl Form {
 }
 
 /// What a run is asked for beside its batch: a network, how many workers share out the clients, how
-/// many tokens each of them has in hand at most, what is written, and whether the network's counters are
-/// carried from epoch to epoch. To contracts it is these five, and both numbers are within their
-/// limits.
+/// many tokens each of them has in hand at most, what is written, whether the network's counters are
+/// carried from epoch to epoch, and whether the batch may be a large one. To contracts it is these six, and both
+/// numbers are within their limits.
 #[derive(Clone, Copy, Debug, PartialEq, Eq)]
 pub struct Options {
     net: Net,
@@ -42,6 +42,7 @@ pub struct Options {
     hand: u32,
     form: Form,
     carry: bool,
+    large: bool,
 }
 
 impl Model for Options {
@@ -55,6 +56,7 @@ impl Model for Options {
       hand = options.hand;
       form = options.form;
       carry = options.carry;
+      large = options.large;
     } };
 
     ghost invariant = { λ options. SettingsFit (record {
@@ -63,6 +65,7 @@ impl Model for Options {
       hand = options.hand;
       form = options.form;
       carry = options.carry;
+      large = options.large;
     }) };
 
     ghost inverse = { λ settings. record {
@@ -71,7 +74,17 @@ impl Model for Options {
       hand = settings.hand;
       form = settings.form;
       carry = settings.carry;
+      large = settings.large;
     } };
+}
+
+/// What a check is asked for beside its list.
+#[derive(Clone, Copy, Debug, PartialEq, Eq)]
+pub struct CheckOptions {
+    /// The width by which names are counted.
+    pub width: u32,
+    /// Whether the list may be a large one.
+    pub large: bool,
 }
 
 /// Why no run is asked for so.
@@ -96,14 +109,14 @@ impl OptionFault {
 
 impl Options {
     /// A run on this network, by so many workers with so many tokens in hand each, which writes this
-    /// form. It carries no counters.
+    /// form. It carries no counters, and its batch is not a large one.
     ///
     /// # Errors
     /// `OptionFault::Workers` if `workers` is not from 1 to [`MOST_WORKERS`]; else `OptionFault::Hand` if `hand` is not
     /// from 1 to [`MOST_HAND`].
     pub fn new(net: Net, workers: u32, hand: u32, form: Form) -> Result<Options, OptionFault>
         ensures ok { IfOk result (λ options. options
-            ≡ record { net = net; workers = workers; hand = hand; form = form; carry = false }) }
+            ≡ record { net = net; workers = workers; hand = hand; form = form; carry = false; large = false }) }
         ensures workers { IsErrOf result OptionFault.Workers ↔ (¬ WorkersFit workers) }
         ensures hand { IsErrOf result OptionFault.Hand ↔ (WorkersFit workers × (¬ HandFits hand)) }
     {
@@ -120,6 +133,7 @@ impl Options {
                 hand,
                 form,
                 carry: false,
+                large: false,
             })
         }
     }
@@ -170,5 +184,22 @@ impl Options {
         ensures { result ≡ self.now.carry }
     {
         self.carry
+    }
+
+    /// The same run, whose batch may be a large one.
+    pub fn enlarged(self) -> Options
+        ensures { result ≡ record self { large = true } }
+    {
+        Options {
+            large: true,
+            ..self
+        }
+    }
+
+    /// Whether the batch may be a large one.
+    pub fn is_large(&self) -> bool
+        ensures { result ≡ self.now.large }
+    {
+        self.large
     }
 }

@@ -7,11 +7,11 @@ ghost use Rattle.cn_cli.specs.Words.{IsRefusalOf, status_of_words};
 ghost use Rattle.cn_cli.specs.declared.choices.ChoiceFault.TheVariants as choice;
 ghost use Rattle.cn_cli.specs.declared.words.WordsFault.TheVariants.{Memory};
 
-use crate::choices::{ChoiceFault, chosen_net, chosen_options, chosen_width};
+use crate::choices::{ChoiceFault, chosen_check, chosen_net, chosen_options};
 use crate::command_line::command;
 use crate::help::HelpTexts;
 use crate::hint::with_hint;
-use crate::options::Options;
+use crate::options::{CheckOptions, Options};
 use clap::error::ErrorKind;
 use clap::{ArgMatches, Command};
 use cn_nets::Net;
@@ -25,8 +25,9 @@ pub enum Job {
     Run(Options),
     /// Read a schedule, and write what a core of this network answers.
     Replay(Net),
-    /// Read a grant list, and if it is tight write how many names of each epoch fall to each exit of this width.
-    Check(u32),
+    /// Read a grant list, and if it is tight write how many names of each epoch fall to each exit of the width that is
+    /// asked for.
+    Check(CheckOptions),
     /// Write where each wire of this network ends.
     Show(Net),
 }
@@ -104,7 +105,7 @@ fn chosen_job<'a>(alloc: Global, matches: &ArgMatches<'a>) -> Result<Job, Choice
     match name {
         "run" => chosen_options(alloc, options).map(Job::Run),
         "replay" => chosen_net(alloc, options).map(Job::Replay),
-        "check" => chosen_width(alloc, options).map(Job::Check),
+        "check" => chosen_check(alloc, options).map(Job::Check),
         "show" => chosen_net(alloc, options).map(Job::Show),
         _ => Err(ChoiceFault::Subcommand),
     }

@@ -1,7 +1,7 @@
 -- What a closed floor keeps.
 use Rattle.std.specs.Prelude.{◌≡◌, ◌+◌, ◌≤◌}
 use Rattle.std.specs.Mem.Slots.{slots_items, slots_len, IsFull}
-use Rattle.cn_spec.specs.declared.limits.TheConstants.{MOST_CARRIED, MOST_CLIENTS}
+use Rattle.cn_spec.specs.declared.limits.TheConstants.{MOST_CARRIED, MOST_NAMED}
 use Rattle.cn_floor.specs.declared.floor.closed_floor.ClosedFloor.TheInside.{Inside}
 use Rattle.cn_floor.specs.Carried.{IsClosed, client_count}
 use Rattle.cn_floor.specs.Ends.{IsClosedFloor, QuietValue, words_after}
@@ -26,5 +26,5 @@ pub record KeepsClosedFloor (e : Inside) : Type 0 where
   pub network : e.network ≡ e.lane.value.home.start.network
   pub closed : IsClosed (words_after (closed_of e))
   pub clients : e.clients ≡ client_count (words_after (closed_of e))
-  pub few : client_count (words_after (closed_of e)) ≤ MOST_CARRIED + MOST_CLIENTS
+  pub few : client_count (words_after (closed_of e)) ≤ MOST_CARRIED + MOST_NAMED
   pub grants : e.grants.items ≡ e.lane.value.view.grants

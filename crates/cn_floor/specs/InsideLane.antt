@@ -1,6 +1,6 @@
 -- What a lane keeps.
 use Rattle.std.specs.Prelude.{◌≡◌, ◌+◌, ◌≤◌, [], length, vec_capacity}
-use Rattle.cn_spec.specs.declared.limits.TheConstants.{MOST_CLIENTS}
+use Rattle.cn_spec.specs.declared.limits.TheConstants.{MOST_NAMED}
 use Rattle.cn_yard.specs.Lists.{tokens_in}
 use Rattle.cn_floor.specs.declared.floor.lane.Lane.TheInside.{Inside}
 use Rattle.cn_floor.specs.Lane.{LaneValue}
@@ -24,7 +24,7 @@ pub record IsLane (l : Inside) : Type 0 where
   pub grants : l.grants.items ≡ l.seat.me.0.grants
   pub quota : l.quota ≡ l.seat.me.0.quota
   pub small : FitsLanes l.seat.me.0.start
-  pub few : tokens_in l.yard.lists + l.quota ≤ MOST_CLIENTS
+  pub few : tokens_in l.yard.lists + l.quota ≤ MOST_NAMED
   -- each token inside and each for which there is room can be granted its name
   pub room : length l.grants.items + tokens_in l.yard.lists + l.room ≤ vec_capacity l.grants
   pub spare : l.room ≤ l.yard.spare

@@ -5,7 +5,7 @@ use lib.ListN.{get_elem?}
 use Rattle.atomic_table.specs.Table.{State}
 use Rattle.cn_spec.specs.Step.{name_of}
 use Rattle.cn_spec.specs.Sums.{when, times, once_below, sum_below}
-use Rattle.cn_spec.specs.declared.limits.TheConstants.{MOST_CARRIED, MOST_CLIENTS}
+use Rattle.cn_spec.specs.declared.limits.TheConstants.{MOST_CARRIED, MOST_NAMED}
 use Rattle.cn_spec.specs.declared.limits.TheConstants.{MOST_TAKEN}
 use Rattle.cn_wiring.specs.declared.end.End.TheVariants.{Exit}
 use Rattle.cn_wiring.specs.Levels.{IsLevel}
@@ -49,7 +49,7 @@ pub record IsStart (start : Start) : Type 0 where
 
 -- what a floor begins with whose lanes keep lists
 pub record FitsLanes (start : Start) : Type 0 where
-  pub quota : start.quota ≤ MOST_CLIENTS
+  pub quota : start.quota ≤ MOST_NAMED
   pub few : base start ≤ MOST_CARRIED
 
 -- this ledger is that of some history since the floor began

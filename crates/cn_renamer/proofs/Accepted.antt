@@ -1,13 +1,15 @@
 -- A grant list that a run has written is tight.
-use Rattle.std.proofs.Common.{◌≡◌, ◌<◌, ◌^◌, ℕ, Bool, List, [], ◌∷◌, length, map, refl, arith, ap, ◌∙◌}
+use Rattle.std.proofs.Common.{◌≡◌, ◌<◌, ◌^◌, ℕ, ◌≤◌, Bool, true, false, List, [], ◌∷◌, length, map, refl, arith, ap, ◌∙◌}
 use Rattle.std.specs.List.{AllByRecursion, AllZip, sum_by}
 use Rattle.std.proofs.lemmas.List.Sorted.{All-permutation}
 use Rattle.std.proofs.lemmas.List.Sums.{sum_by-cons}
 use Rattle.cn_spec.specs.Step.{counts_after, shares, shares_after}
+use Rattle.cn_spec.specs.declared.limits.TheConstants.{MOST_NAMED, MOST_RECORDS}
 use Rattle.cn_ledger.specs.declared.client.Client.{Client}
 use Rattle.cn_record.specs.declared.record.EpochRecord.{EpochRecord}
 use Rattle.cn_report.proofs.CallerLemmas.{IsSmallEpoch, batch-numbers, printed-back, tight-after, written-tight}
 use Rattle.cn_report.specs.Reading.Batch.{AreRising}
+use Rattle.cn_report.specs.Reading.Bounds.{bounds_of}
 use Rattle.cn_report.specs.Grants.TightList.{IsTightList}
 use Rattle.cn_report.specs.Reading.Records.{records_of}
 use Rattle.cn_report.specs.Grants.Printed.{names_in, printed_epochs}
@@ -82,32 +84,37 @@ printed-alike width w (e ∷ epochs) [] served = absurd served
 printed-alike width w (e ∷ epochs) (r ∷ records) served =
     λ i. (served.0.1.number i, served.0.1.clients i, shares (served.0.1.clients i) w) ∷ printed-alike width w epochs records served.1 i
 
-module _ (net : Description) (carry : Bool) (bytes text : List ℕ) (run : IsRunOf net Grants carry bytes text) where
+few-records : (large : Bool) → (bounds_of large 0).records ≤ MOST_NAMED
+few-records true = let same : MOST_NAMED ≤ MOST_NAMED = omega arith in same
+few-records false = let less : MOST_RECORDS ≤ MOST_NAMED = omega arith in less
+
+module _ (net : Description) (carry large : Bool) (bytes text : List ℕ) (run : IsRunOf net Grants carry large bytes text) where
   each : AllZip (AfterSome run.network.table.width) run.epochs run.records
   each = each-served carry run.network.table.width 0 run.epochs run.records run.served
 
-  tight : AreTightRecords run.records
+  tight : AreTightRecords (bounds_of large 0).records run.records
   tight =
       let width = run.network.table.width in
-      let numbers = batch-numbers (entries_of net.kind net.width) (records_of bytes) run.epochs run.batch in
+      let numbers = batch-numbers (bounds_of large (entries_of net.kind net.width)) (records_of bytes) run.epochs run.batch in
+      let few : sum_by (λ (e : BatchEpoch). length e.clients.items) run.epochs ≤ (bounds_of large 0).records = numbers.1 in
       record {
         rising = rising width run.epochs run.records each run.batch.holds.rising;
         names = all-names width run.epochs run.records each numbers.0;
-        few = omega (arith, all-clients width run.epochs run.records each, numbers.1);
+        few = omega (arith, all-clients width run.epochs run.records each, few);
       }
 
   -- a check finds no flaw in it
-  pub accepted : IsTightList (records_of text)
-  accepted = rw run.written (written-tight run.records tight)
+  pub accepted : IsTightList (bounds_of large 0).records (records_of text)
+  accepted = rw run.written (written-tight (bounds_of large 0).records run.records (few-records large) tight)
 
   -- and lists the epochs of the batch
   pub printed : (w : ℕ) → printed_epochs w (records_of text) ≡ map (served_epoch w) run.epochs
   printed w =
       let width = run.network.table.width in
       ap (λ (t : List ℕ). printed_epochs w (records_of t)) run.written
-      ∙ printed-back w run.records tight (some-clients width run.epochs run.records each run.batch.holds.some)
+      ∙ printed-back (bounds_of large 0).records w run.records (few-records large) tight (some-clients width run.epochs run.records each run.batch.holds.some)
       ∙ printed-alike width w run.epochs run.records each
 
   -- each epoch's names are shared out, after any number of clients
   pub counted_after : (w m epoch : ℕ) → counts_after m w (names_in epoch (records_of text)) ≡ shares_after m (length (names_in epoch (records_of text))) w
-  counted_after = tight-after (records_of text) accepted
+  counted_after = tight-after (bounds_of large 0).records (records_of text) accepted

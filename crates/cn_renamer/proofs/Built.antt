@@ -10,7 +10,7 @@ built-for : (asked : Option (Text × List Row)) (job : Job) → Asks asked job �
 built-for None job asks = absurd asks
 built-for (Some (name, options)) (Run settings) asks = tt
 built-for (Some (name, options)) (Replay net) asks = tt
-built-for (Some (name, options)) (Check width) asks = asks.2
+built-for (Some (name, options)) (Check asked) asks = asks.2
 built-for (Some (name, options)) (Show net) asks = tt
 
 pub is-built : (words : List Text) (job : Job) → IsJobOf words job → IsBuiltFor job

@@ -14,6 +14,7 @@ use Rattle.cn_floor.specs.Ends.{ListsHolders, QuietValue}
 use Rattle.cn_walk.specs.Runner.{RunnerValue, next_runner, next_words}
 use Rattle.cn_walk.specs.Runs.{IsRunAfter}
 use Rattle.cn_walk.specs.declared.crew.Crew.{Crew}
+use Rattle.cn_report.specs.Reading.Bounds.{bounds_of}
 use Rattle.cn_report.specs.Reading.Batch.{MayCome, clients_of_epochs}
 use Rattle.cn_report.specs.declared.reading.batch.BatchEpoch.{BatchEpoch}
 use Rattle.cn_report.specs.Writing.EpochRecords.{AreRecordsOf}
@@ -155,7 +156,7 @@ when-zero true = refl
 
 pub records-made : (carry : Bool) (entries w m : ℕ) (words : WordsValue) (epochs : List BatchEpoch) (floors : List QuietValue) (lists : List (List ℕ))
     → words.network.table.width ≡ w → client_count words ≡ m → when carry m ≡ m → w ≤ MOST_ENDS
-    → All (λ (e : BatchEpoch). MayCome entries e.clients.items) epochs
+    → All (λ (e : BatchEpoch). MayCome (bounds_of true entries) e.clients.items) epochs
     → AreOfRunner (record { words = words; carries = carry }) floors → AllZip WalkedOn epochs floors
     → AllZip (λ (f : QuietValue) (list : List ℕ). ListsHolders f.did.grants list) floors lists
     → AreMadeOf carry w m epochs floors (flat_map (λ (list : List ℕ). list) lists)
@@ -170,12 +171,12 @@ records-made carry entries w m words (e ∷ epochs) (f ∷ floors) (h ∷ lists)
     let tail : List ℕ = flat_map (λ (list : List ℕ). list) lists in
     let many : length h ≡ k = lists_it.all ∙ one.theirs.as_many in
     let run : IsRunAfter words e.clients.items f = subst (λ (b : WordsValue). IsRunAfter b e.clients.items f) first one in
-    let its : IsMadeOf w m e f h = made-of entries w m e words f h (All-head (λ (x : BatchEpoch). MayCome entries x.clients.items) e epochs come) wide count narrow run lists_it in
+    let its : IsMadeOf w m e f h = made-of entries w m e words f h (All-head (λ (x : BatchEpoch). MayCome (bounds_of true entries) x.clients.items) e epochs come) wide count narrow run lists_it in
     let others : AreMadeOf carry w (when carry (m + k)) epochs floors tail =
     records-made carry entries w (when carry (m + k)) (next_words carry words f) epochs floors lists
     (ap (λ (n : Network). n.table.width) (next-network carry words f first) ∙ wide)
     (next-came carry words m e f first one count none)
-    (when-again carry (m + k)) narrow (All-tail (λ (x : BatchEpoch). MayCome entries x.clients.items) e epochs come) began walked listed in
+    (when-again carry (m + k)) narrow (All-tail (λ (x : BatchEpoch). MayCome (bounds_of true entries) x.clients.items) e epochs come) began walked listed in
     record {
       records = its.made ∷ others.records;
       served = (its.served, others.served);

@@ -75,9 +75,9 @@ printed-served carry w m (e ∷ epochs) (r ∷ records) (one, rest) (order, othe
     λ i. record { number = one.number i; clients = one.clients i; counts = counts i; holders = order i }
     ∷ printed-served carry w (when carry (m + length e.clients.items)) epochs records rest others i
 
-pub one-text-in-order : (net : Description) (form : Form) (carry : Bool) (bytes text other : List ℕ) (one : IsRunInOrder net form carry bytes text) (another : IsRunInOrder net form carry bytes other)
+pub one-text-in-order : (net : Description) (form : Form) (carry large : Bool) (bytes text other : List ℕ) (one : IsRunInOrder net form carry large bytes text) (another : IsRunInOrder net form carry large bytes other)
     → map plain_epoch one.run.epochs ≡ map plain_epoch another.run.epochs → text ≡ other
-one-text-in-order net form carry bytes text other one another same =
+one-text-in-order net form carry large bytes text other one another same =
     let networks = one-network net one.run.network another.run.network one.run.built another.run.built in
     let first = printed-served carry one.run.network.table.width 0 one.run.epochs one.run.records one.run.served one.ordered in
     let second = printed-served carry another.run.network.table.width 0 another.run.epochs another.run.records another.run.served another.ordered in

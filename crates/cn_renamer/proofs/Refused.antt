@@ -1,7 +1,8 @@
 -- A run whose batch is refused.
-use Rattle.std.proofs.Common.{◌≡◌, ℕ, List, Option, refl, subst, sym, inl, inr, ◌∙◌}
+use Rattle.std.proofs.Common.{◌≡◌, ℕ, Bool, List, Option, refl, subst, sym, inl, inr, ◌∙◌}
 use Rattle.std.specs.Prelude.{◌≢◌, ◌⊎◌, IfSome}
 use Rattle.cn_report.specs.Reading.Batch.{IsBatchFault}
+use Rattle.cn_report.specs.Reading.Bounds.{bounds_of}
 use Rattle.cn_report.specs.Reading.Records.{records_of}
 use Rattle.cn_report.specs.Writing.Written.{HasWritten}
 use Rattle.cn_report.specs.declared.reading.batch_fault.BatchCause.{BatchCause}
@@ -34,11 +35,11 @@ module _ (fault : BatchFault) where
       by cause.EpochFull e = inl (λ memory. let both = sym e ∙ memory in cc, refl)
       by cause.BatchFull e = inl (λ memory. let both = sym e ∙ memory in cc, refl)
 
-  pub refused-by : (net : Description) (entries : ℕ) (known : Option (List ℕ)) → entries ≡ entries_of net.kind net.width → IfSome known (λ bytes. IsBatchFault entries (records_of bytes) fault)
-      → IsServeFault net known (fault_of_batch fault)
-  refused-by net entries known same is = elim batch-or-memory [
-    | inl w ↦ subst (λ (f : ServeFault). IsServeFault net known f) (sym w.1) (w.0, subst (λ (n : ℕ). IfSome known (λ bytes. IsBatchFault n (records_of bytes) fault)) same is)
-    | inr m ↦ subst (λ (f : ServeFault). IsServeFault net known f) (sym m) tt
+  pub refused-by : (net : Description) (large : Bool) (entries : ℕ) (known : Option (List ℕ)) → entries ≡ entries_of net.kind net.width → IfSome known (λ bytes. IsBatchFault (bounds_of large entries) (records_of bytes) fault)
+      → IsServeFault net large known (fault_of_batch fault)
+  refused-by net large entries known same is = elim batch-or-memory [
+    | inl w ↦ subst (λ (f : ServeFault). IsServeFault net large known f) (sym w.1) (w.0, subst (λ (n : ℕ). IfSome known (λ bytes. IsBatchFault (bounds_of large n) (records_of bytes) fault)) same is)
+    | inr m ↦ subst (λ (f : ServeFault). IsServeFault net large known f) (sym m) tt
   ]
 
   -- and nothing was written

@@ -1,12 +1,12 @@
 -- The epochs of a batch that were run.
-use Rattle.std.proofs.Common.{◌≡◌, ℕ, ◌+◌, ◌<◌, ◌≤◌, All, Bool, ap, Option, List, [], ◌∷◌, drop, length, take, refl, subst, sym, arith, ◌∙◌}
+use Rattle.std.proofs.Common.{◌≡◌, ℕ, ◌+◌, ◌<◌, ◌≤◌, All, Bool, true, false, ap, Option, List, [], ◌∷◌, drop, length, take, refl, subst, sym, arith, ◌∙◌}
 use Rattle.std.specs.Prelude.{IfSome}
 use Rattle.std.specs.List.{AllZip, flat_map}
 use Rattle.std.proofs.lemmas.List.{drop_at, length-map, take_at}
-use Rattle.std.proofs.lemmas.List.Elements.{All-drop, All-head, All-take}
+use Rattle.std.proofs.lemmas.List.Elements.{All-drop, All-head, All-take, All-weaker}
 use Rattle.std.proofs.lemmas.List.Sums.{sum_by-cons, sum_by-take-drop}
 use Rattle.cn_spec.specs.Sums.{when}
-use Rattle.cn_spec.specs.declared.limits.TheConstants.{MOST_RECORDS}
+use Rattle.cn_spec.specs.declared.limits.TheConstants.{MOST_CLIENTS, MOST_NAMED}
 use Rattle.cn_wiring.specs.Network.{Network}
 use Rattle.cn_ledger.specs.declared.client.Client.{Client}
 use Rattle.cn_record.specs.declared.record.EpochRecord.{EpochRecord}
@@ -14,6 +14,7 @@ use Rattle.cn_floor.specs.Carried.{zero_words}
 use Rattle.cn_floor.specs.Ends.{QuietValue}
 use Rattle.cn_floor.proofs.CallerLemmas.{none-came}
 use Rattle.cn_walk.specs.declared.crew.Crew.{Crew}
+use Rattle.cn_report.specs.Reading.Bounds.{bounds_of}
 use Rattle.cn_report.specs.Reading.Batch.{AreServable, IsBatch, MayCome, clients_of_epochs}
 use Rattle.cn_report.specs.Reading.Records.{records_of}
 use Rattle.cn_report.specs.declared.reading.batch.BatchEpoch.{BatchEpoch}
@@ -28,9 +29,23 @@ use Rattle.cn_renamer.specs.Running.{MayRunAll}
 use Rattle.cn_renamer.proofs.Floors.{AreMadeOf, records-made, when-zero}
 use Rattle.cn_renamer.proofs.Headline.{written-as}
 
+-- what may come within any bounds may come within those of a large batch
+one-comes : (large : Bool) (entries : ℕ) (clients : List Client) → MayCome (bounds_of large entries) clients → MayCome (bounds_of true entries) clients
+one-comes true entries clients come = come
+one-comes false entries clients come =
+    let few : length clients ≤ MOST_CLIENTS = come.few in
+    let more : length clients ≤ MOST_NAMED = omega (arith, few) in
+    record { few = more; within = come.within; once = come.once }
+
+pub may-come : (large : Bool) (entries : ℕ) (epochs : List BatchEpoch) → All (λ (e : BatchEpoch). MayCome (bounds_of large entries) e.clients.items) epochs
+    → All (λ (e : BatchEpoch). MayCome (bounds_of true entries) e.clients.items) epochs
+may-come large entries epochs come =
+    All-weaker (λ (e : BatchEpoch). MayCome (bounds_of large entries) e.clients.items) (λ (e : BatchEpoch). MayCome (bounds_of true entries) e.clients.items)
+    (λ e. one-comes large entries e.clients.items) epochs come
+
 -- epochs that can be served may be run
-pub may-run : (entries : ℕ) (epochs : List BatchEpoch) → AreServable entries epochs → clients_of_epochs epochs ≤ MOST_RECORDS → MayRunAll entries epochs (clients_of_epochs epochs)
-may-run entries epochs fits few = record { come = fits.come; some = fits.some; few = few; all = refl }
+pub may-run : (large : Bool) (entries : ℕ) (epochs : List BatchEpoch) → AreServable (bounds_of large entries) epochs → clients_of_epochs epochs ≤ MOST_NAMED → MayRunAll entries epochs (clients_of_epochs epochs)
+may-run large entries epochs fits few = record { come = may-come large entries epochs fits.come; some = fits.some; few = few; all = refl }
 
 -- epochs that each have some client have some client
 pub some-client : (epochs : List BatchEpoch) → 0 < length epochs → All (λ (e : BatchEpoch). 0 < length e.clients.items) epochs → 0 < clients_of_epochs epochs
@@ -46,7 +61,7 @@ module _ (entries : ℕ) (epochs : List BatchEpoch) (places at front : ℕ) (may
 
   pub may-front : MayRunAll entries (take at epochs) front
   may-front = record {
-    come = All-take (λ (e : BatchEpoch). MayCome entries e.clients.items) at epochs may.come;
+    come = All-take (λ (e : BatchEpoch). MayCome (bounds_of true entries) e.clients.items) at epochs may.come;
     some = All-take (λ (e : BatchEpoch). 0 < length e.clients.items) at epochs may.some;
     few = omega (arith, may.few, may.all, is, all-cut);
     all = is;
@@ -54,7 +69,7 @@ module _ (entries : ℕ) (epochs : List BatchEpoch) (places at front : ℕ) (may
 
   pub may-back : (back : ℕ) → front + back ≡ places → MayRunAll entries (drop at epochs) back
   may-back back both = record {
-    come = All-drop (λ (e : BatchEpoch). MayCome entries e.clients.items) at epochs may.come;
+    come = All-drop (λ (e : BatchEpoch). MayCome (bounds_of true entries) e.clients.items) at epochs may.come;
     some = All-drop (λ (e : BatchEpoch). 0 < length e.clients.items) at epochs may.some;
     few = omega (arith, may.few, both);
     all = omega (arith, may.all, is, all-cut, both);
@@ -77,26 +92,26 @@ in-order carry w m (e ∷ epochs) (r ∷ records) holders (one, rest) is =
 
 -- what is written of every list of records of these epochs has each property that follows of a run on these floors, and in
 -- order if by one worker with one client in hand
-pub run-written : {W : Type 0} (contents : W → Option (List ℕ)) (old new : W) (net : Description) (form : Form) (carry : Bool) (network : Network) → IsNetworkOf net network
-    → (known : Option (List ℕ)) (epochs : List BatchEpoch) → IfSome known (λ bytes. IsBatch network.table.entries (records_of bytes) epochs) → AreServable network.table.entries epochs
+pub run-written : {W : Type 0} (contents : W → Option (List ℕ)) (old new : W) (net : Description) (form : Form) (carry large : Bool) (network : Network) → IsNetworkOf net network
+    → (known : Option (List ℕ)) (epochs : List BatchEpoch) → IfSome known (λ bytes. IsBatch (bounds_of large network.table.entries) (records_of bytes) epochs) → AreServable (bounds_of large network.table.entries) epochs
     → (crew : Crew) (floors : List QuietValue) (holders : List ℕ) → HaveWalked crew (new_runner carry network) epochs floors holders
     → (written : Written)
     → ((records : List EpochRecord) → AreRecordsOf carry network.table.width 0 epochs records holders → HasWritten contents (λ text. text ≡ text_in form network records) written old new)
     → (Is : List ℕ → List ℕ → Type 0)
-    → ((bytes text : List ℕ) (on : IsRunOnFloors net form carry floors bytes text) → (crew.workers ≡ 1 → crew.hand ≡ 1 → AllZip IsInOrder on.run.epochs on.run.records) → Is bytes text)
+    → ((bytes text : List ℕ) (on : IsRunOnFloors net form carry large floors bytes text) → (crew.workers ≡ 1 → crew.hand ≡ 1 → AllZip IsInOrder on.run.epochs on.run.records) → Is bytes text)
     → HasWritten contents (λ text. IfSome known (λ bytes. Is bytes text)) written old new
-run-written contents old new net form carry network built known epochs batch fits crew floors holders walked written writes Is is =
+run-written contents old new net form carry large network built known epochs batch fits crew floors holders walked written writes Is is =
     let w : ℕ = network.table.width in
     let m : AreMadeOf carry w 0 epochs floors holders =
     subst (λ (xs : List ℕ). AreMadeOf carry w 0 epochs floors xs) (sym walked.all)
     (records-made carry network.table.entries w 0 (zero_words network) epochs floors walked.lists refl (none-came network.table) (when-zero carry)
-    built.2.counts.formed.width.1 fits.come walked.began walked.walked walked.listed) in
+    built.2.counts.formed.width.1 (may-come large network.table.entries epochs fits.come) walked.began walked.walked walked.listed) in
     written-as contents old new (λ text. text ≡ text_in form network m.records) (λ text. IfSome known (λ bytes. Is bytes text))
-    (λ text same. known-map known (λ bytes. IsBatch network.table.entries (records_of bytes) epochs) (λ bytes. Is bytes text)
+    (λ text same. known-map known (λ bytes. IsBatch (bounds_of large network.table.entries) (records_of bytes) epochs) (λ bytes. Is bytes text)
     batch (λ bytes it. is bytes text (record {
       run = record {
         epochs = epochs;
-        batch = subst (λ (entries : ℕ). IsBatch entries (records_of bytes) epochs) built.2.entries it;
+        batch = subst (λ (entries : ℕ). IsBatch (bounds_of large entries) (records_of bytes) epochs) built.2.entries it;
         network = network;
         built = built;
         records = m.records;

@@ -1,5 +1,5 @@
 -- The record of an epoch that was run.
-use Rattle.std.proofs.Common.{◌≡◌, ℕ, ◌+◌, ◌-◌, ◌^◌, ◌<◌, ◌≤◌, Global, List, Vec, ap, get_or, length, map, refl, sym, ◌∙◌, arith}
+use Rattle.std.proofs.Common.{◌≡◌, ℕ, ◌+◌, ◌-◌, ◌^◌, ◌<◌, ◌≤◌, Global, List, Vec, ap, get_or, length, map, refl, sym, ◌∙◌, arith, true}
 use Rattle.std.specs.List.Sorted.{IsPermutation}
 use Rattle.std.proofs.lemmas.Grind.{same_number_lists}
 use Rattle.std.proofs.lemmas.List.{get_or-map, length-map}
@@ -17,6 +17,7 @@ use Rattle.cn_floor.specs.Carried.{WordsValue, client_count}
 use Rattle.cn_floor.specs.Ends.{ListsHolders, QuietValue, counts_by_exit}
 use Rattle.cn_walk.specs.Runs.{IsRunAfter}
 use Rattle.cn_walk.specs.Walks.{AreFor, AreInOrder}
+use Rattle.cn_report.specs.Reading.Bounds.{bounds_of}
 use Rattle.cn_report.specs.Reading.Batch.{MayCome}
 use Rattle.cn_report.specs.declared.reading.batch.BatchEpoch.{BatchEpoch}
 use Rattle.cn_renamer.specs.Floors.{IsOfFloor}
@@ -53,7 +54,7 @@ pub record IsMadeOf (w m : ℕ) (epoch : BatchEpoch) (floor : QuietValue) (holde
   pub listed : made.holders.items ≡ holders
 
 -- if m clients came before it, such a record is that of the epoch, served after them
-pub made-of : (entries w m : ℕ) (epoch : BatchEpoch) (before : WordsValue) (floor : QuietValue) (holders : List ℕ) → MayCome entries epoch.clients.items
+pub made-of : (entries w m : ℕ) (epoch : BatchEpoch) (before : WordsValue) (floor : QuietValue) (holders : List ℕ) → MayCome (bounds_of true entries) epoch.clients.items
     → before.network.table.width ≡ w → client_count before ≡ m → w ≤ MOST_ENDS → IsRunAfter before epoch.clients.items floor → ListsHolders floor.did.grants holders
     → IsMadeOf w m epoch floor holders
 made-of entries w m epoch before floor holders come wide after narrow run lists =

@@ -1,6 +1,7 @@
 -- The text of a list of grants that is tight, and which fault is given if it is not written.
-use Rattle.std.specs.Prelude.{ℕ, ◌≡◌, ◌≢◌, IfSome, List, Option, map}
+use Rattle.std.specs.Prelude.{ℕ, ◌≡◌, ◌≢◌, Bool, IfSome, List, Option, map}
 use Rattle.cn_report.specs.Grants.TightList.{IsFlaw, IsOutside, IsTightList}
+use Rattle.cn_report.specs.Reading.Bounds.{bounds_of}
 use Rattle.cn_report.specs.Reading.Records.{records_of}
 use Rattle.cn_report.specs.Grants.Printed.{printed_epochs, with_shares}
 use Rattle.cn_report.specs.declared.grants.record.Flaw.TheVariants as flaw
@@ -17,15 +18,15 @@ use Rattle.cn_renamer.specs.declared.output_fault.OutputFault.TheVariants as out
 abbrev pub IsTightTextOf : ℕ → List NamedEpoch → List ℕ → Type 0
 IsTightTextOf width epochs text = text ≡ tight_text (map (with_shares width) epochs)
 
--- the bytes that were read are a tight list of grants, and this is the text of its epochs, with the names of each
--- counted by their remainders
-pub record IsCheckOf (width : ℕ) (bytes text : List ℕ) : Type 0 where
-  pub tight : IsTightList (records_of bytes)
+-- the bytes that were read are a tight list of grants, within the limit of a large one or of one that is not, and this
+-- is the text of its epochs, with the names of each counted by their remainders
+pub record IsCheckOf (width : ℕ) (large : Bool) (bytes text : List ℕ) : Type 0 where
+  pub tight : IsTightList (bounds_of large 0).records (records_of bytes)
   pub printed : text ≡ tight_text (printed_epochs width (records_of bytes))
 
 -- this text is that of a check of the bytes that a reader has left, if they are known
-abbrev pub IsCheckOfKnown : ℕ → Option (List ℕ) → List ℕ → Type 0
-IsCheckOfKnown width known text = IfSome known (λ bytes. IsCheckOf width bytes text)
+abbrev pub IsCheckOfKnown : ℕ → Bool → Option (List ℕ) → List ℕ → Type 0
+IsCheckOfKnown width large known text = IfSome known (λ bytes. IsCheckOf width large bytes text)
 
 -- how much of its text a check has written that met a fault
 abbrev pub until_check : CheckFault → Written
@@ -34,12 +35,13 @@ until_check fault.Memory = Nothing
 until_check (fault.Write written) = First written
 
 -- a flaw is that of the bytes, and never want of memory; a tight list is refused only if a read failed
-abbrev pub IsCheckFault : Option (List ℕ) → CheckFault → Type 0
-IsCheckFault known (fault.Flaw why) =
+abbrev pub IsCheckFault : Bool → Option (List ℕ) → CheckFault → Type 0
+IsCheckFault large known (fault.Flaw why) =
     (why ≢ flaw.Memory)
-    × IfSome known (λ bytes. IsFlaw (records_of bytes) why × (IsTightList (records_of bytes) → IsOutside why))
-IsCheckFault known fault.Memory = Unit {0}
-IsCheckFault known (fault.Write written) = Unit {0}
+    × IfSome known (λ bytes. let most = (bounds_of large 0).records in
+    IsFlaw most (records_of bytes) why × (IsTightList most (records_of bytes) → IsOutside why))
+IsCheckFault large known fault.Memory = Unit {0}
+IsCheckFault large known (fault.Write written) = Unit {0}
 
 -- the fault of a check by its flaw; want of memory is a fault of its own
 abbrev pub fault_of_flaw : Flaw → CheckFault

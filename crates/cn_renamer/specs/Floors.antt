@@ -36,18 +36,18 @@ pub record IsOfFloor (floor : QuietValue) (r : EpochRecord) : Type 0 where
 -- this text is that of a run of the bytes, and its records are those of these floors, on which the clients walked,
 -- epoch by epoch; with carry each floor went on from the words of the one before, without it each began with words that
 -- are 0
-pub record IsRunOnFloors (net : Description) (form : Form) (carry : Bool) (floors : List QuietValue)
+pub record IsRunOnFloors (net : Description) (form : Form) (carry large : Bool) (floors : List QuietValue)
     (bytes text : List ℕ) : Type 0 where
-  pub run : IsRunOf net form carry bytes text
+  pub run : IsRunOf net form carry large bytes text
   pub began : AreOfRunner (new_runner carry run.network) floors
   pub walked : AllZip WalkedOn run.epochs floors
   pub records : AllZip IsOfFloor floors run.records
 
 -- this text is that of such a run of the bytes that a reader has left, if they are known
 abbrev pub IsRunOnFloorsOfKnown :
-    Description → Form → Bool → List QuietValue → Option (List ℕ) → List ℕ → Type 0
-IsRunOnFloorsOfKnown net form carry floors known text =
-    IfSome known (λ bytes. IsRunOnFloors net form carry floors bytes text)
+    Description → Form → Bool → Bool → List QuietValue → Option (List ℕ) → List ℕ → Type 0
+IsRunOnFloorsOfKnown net form carry large floors known text =
+    IfSome known (λ bytes. IsRunOnFloors net form carry large floors bytes text)
 
 -- ---- while they run
 

@@ -11,6 +11,7 @@ use Rattle.cn_spec.specs.Sums.{times, when}
 use Rattle.cn_wiring.specs.Network.{Network}
 use Rattle.cn_record.specs.declared.record.EpochRecord.{EpochRecord}
 use Rattle.cn_report.specs.Reading.Batch.{IsBatch}
+use Rattle.cn_report.specs.Reading.Bounds.{bounds_of}
 use Rattle.cn_report.specs.Reading.Records.{records_of}
 use Rattle.cn_report.specs.declared.reading.batch.BatchEpoch.{BatchEpoch}
 use Rattle.cn_report.specs.Grants.ListText.{grants_text}
@@ -46,10 +47,11 @@ abbrev pub text_in : Form → Network → List EpochRecord → List ℕ
 text_in Report network records = report_text network records
 text_in Grants network records = grants_text records
 
--- the bytes that were read are a batch, its epochs were served on the network, and this is the text of that
-pub record IsRunOf (net : Description) (form : Form) (carry : Bool) (bytes text : List ℕ) : Type 0 where
+-- the bytes that were read are a batch, within the bounds of a large one or of one that is not, its epochs were served
+-- on the network, and this is the text of that
+pub record IsRunOf (net : Description) (form : Form) (carry large : Bool) (bytes text : List ℕ) : Type 0 where
   pub epochs : List BatchEpoch
-  pub batch : IsBatch (entries_of net.kind net.width) (records_of bytes) epochs
+  pub batch : IsBatch (bounds_of large (entries_of net.kind net.width)) (records_of bytes) epochs
   pub network : Network
   pub built : IsNetworkOf net network
   pub records : List EpochRecord
@@ -57,8 +59,8 @@ pub record IsRunOf (net : Description) (form : Form) (carry : Bool) (bytes text 
   pub written : text ≡ text_in form network records
 
 -- this text is that of a run of the bytes that a reader has left, if they are known
-abbrev pub IsRunOfKnown : Description → Form → Bool → Option (List ℕ) → List ℕ → Type 0
-IsRunOfKnown net form carry known text = IfSome known (λ bytes. IsRunOf net form carry bytes text)
+abbrev pub IsRunOfKnown : Description → Form → Bool → Bool → Option (List ℕ) → List ℕ → Type 0
+IsRunOfKnown net form carry large known text = IfSome known (λ bytes. IsRunOf net form carry large bytes text)
 
 -- the clients of an epoch, in the order of the batch
 abbrev pub ids_of : BatchEpoch → List ℕ
@@ -69,13 +71,14 @@ abbrev pub IsInOrder : BatchEpoch → EpochRecord → Type 0
 IsInOrder epoch r = r.holders.items ≡ ids_of epoch
 
 -- so do those of each epoch of a run
-pub record IsRunInOrder (net : Description) (form : Form) (carry : Bool) (bytes text : List ℕ) : Type 0 where
-  pub run : IsRunOf net form carry bytes text
+pub record IsRunInOrder (net : Description) (form : Form) (carry large : Bool) (bytes text : List ℕ) : Type 0 where
+  pub run : IsRunOf net form carry large bytes text
   pub ordered : AllZip IsInOrder run.epochs run.records
 
 -- this text is that of such a run of the bytes that a reader has left, if they are known
-abbrev pub IsRunInOrderOfKnown : Description → Form → Bool → Option (List ℕ) → List ℕ → Type 0
-IsRunInOrderOfKnown net form carry known text = IfSome known (λ bytes. IsRunInOrder net form carry bytes text)
+abbrev pub IsRunInOrderOfKnown : Description → Form → Bool → Bool → Option (List ℕ) → List ℕ → Type 0
+IsRunInOrderOfKnown net form carry large known text =
+    IfSome known (λ bytes. IsRunInOrder net form carry large bytes text)
 
 -- what a check of the grant list says of an epoch of a run: its number, its k clients, and for each exit how many of
 -- its names n have `n % w` equal to the exit, which is the exit's share, with carry too

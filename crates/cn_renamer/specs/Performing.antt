@@ -20,17 +20,17 @@ use Rattle.cn_renamer.specs.Show.{IsWiringOf}
 
 -- the width of a check is one of which networks are built; the other jobs have a network that is built
 abbrev pub IsBuiltFor : Job → Type 0
-IsBuiltFor (job.Check width) = IsWidth width
+IsBuiltFor (job.Check asked) = IsWidth asked.width
 IsBuiltFor other = Unit {0}
 
 -- the text of a job, by the bytes that its reader has left, if they are known; of a run with one client in hand the
 -- names follow the order of the batch, by any number of workers
 abbrev pub IsTextOf : Job → Option (List ℕ) → List ℕ → Type 0
 IsTextOf (job.Run options) known text =
-    IsRunOfKnown options.net options.form options.carry known text
-    × (options.hand ≡ 1 → IsRunInOrderOfKnown options.net options.form options.carry known text)
+    IsRunOfKnown options.net options.form options.carry options.large known text
+    × (options.hand ≡ 1 → IsRunInOrderOfKnown options.net options.form options.carry options.large known text)
 IsTextOf (job.Replay net) known text = IsReplayOfKnown net known text
-IsTextOf (job.Check width) known text = IsCheckOfKnown width known text
+IsTextOf (job.Check asked) known text = IsCheckOfKnown asked.width asked.large known text
 IsTextOf (job.Show net) known text = IsWiringOf net text
 
 -- how much of its text a job has written that met a fault
@@ -50,12 +50,12 @@ IsOfRuntime other = ⊥
 
 -- the faults that a job may end with: its own, and if it asks for random words, that of their source
 abbrev pub MayEnd : Job → Option (List ℕ) → Fault → Type 0
-MayEnd (job.Run options) known (Serve fault) = IsServeFault options.net known fault
+MayEnd (job.Run options) known (Serve fault) = IsServeFault options.net options.large known fault
 MayEnd (job.Run options) known other = IsOfRuntime other
 MayEnd (job.Replay net) known (Replay fault) = IsReplayFault known fault
 MayEnd (job.Replay net) known other = IsOfRuntime other
-MayEnd (job.Check width) known (Check fault) = IsCheckFault known fault
-MayEnd (job.Check width) known other = ⊥
+MayEnd (job.Check asked) known (Check fault) = IsCheckFault asked.large known fault
+MayEnd (job.Check asked) known other = ⊥
 MayEnd (job.Show net) known (Output fault) = Unit {0}
 MayEnd (job.Show net) known other = ⊥
 

@@ -1,7 +1,8 @@
 -- Which epochs may be run, and by whom.
-use Rattle.std.specs.Prelude.{◌≡◌, ℕ, ◌<◌, ◌≤◌, ◌*◌, ◌/◌, All, List, Option, Some, None, length, max, min}
-use Rattle.cn_spec.specs.declared.limits.TheConstants.{MOST_RECORDS}
+use Rattle.std.specs.Prelude.{◌≡◌, ℕ, ◌<◌, ◌≤◌, ◌*◌, ◌/◌, All, List, Option, Some, None, length, max, min, true}
+use Rattle.cn_spec.specs.declared.limits.TheConstants.{MOST_NAMED}
 use Rattle.cn_report.specs.Reading.Batch.{MayCome, clients_of_epochs}
+use Rattle.cn_report.specs.Reading.Bounds.{bounds_of}
 use Rattle.cn_report.specs.declared.reading.batch.BatchEpoch.{BatchEpoch}
 use Rattle.cn_cli.specs.Options.{Settings}
 use Rattle.cn_renamer.specs.declared.epochs.TheConstants.{CLIENTS_FOR_A_THREAD}
@@ -10,9 +11,9 @@ use Rattle.cn_walk.specs.declared.crew.Crew.{Crew}
 -- these epochs may be run on a network with so many entries, each on a floor of its own, and there is a place for each
 -- client: the clients of each may come, and each has some
 pub record MayRunAll (entries : ℕ) (epochs : List BatchEpoch) (places : ℕ) : Type 0 where
-  pub come : All (λ e. MayCome entries e.clients.items) epochs
+  pub come : All (λ e. MayCome (bounds_of true entries) e.clients.items) epochs
   pub some : All (λ e. 0 < length e.clients.items) epochs
-  pub few : places ≤ MOST_RECORDS
+  pub few : places ≤ MOST_NAMED
   pub all : places ≡ clients_of_epochs epochs
 
 -- how many walk each epoch of a run: at a gate all workers that are asked for, and without one only one

@@ -1,6 +1,7 @@
 -- The faults of a run that does not write its text whole.
-use Rattle.std.specs.Prelude.{ℕ, ◌≢◌, IfSome, List, Option}
+use Rattle.std.specs.Prelude.{ℕ, ◌≢◌, Bool, IfSome, List, Option}
 use Rattle.cn_report.specs.Reading.Batch.{IsBatchFault}
+use Rattle.cn_report.specs.Reading.Bounds.{bounds_of}
 use Rattle.cn_report.specs.Reading.Records.{records_of}
 use Rattle.cn_report.specs.declared.reading.batch_fault.BatchCause.{BatchCause}
 use Rattle.cn_report.specs.declared.reading.batch_fault.BatchCause.TheVariants as cause
@@ -17,12 +18,12 @@ until_serve Memory = Nothing
 until_serve (Write written) = First written
 
 -- a batch that is refused has its own fault, which is never want of memory
-abbrev pub IsServeFault : Description → Option (List ℕ) → ServeFault → Type 0
-IsServeFault net known (Batch fault) =
+abbrev pub IsServeFault : Description → Bool → Option (List ℕ) → ServeFault → Type 0
+IsServeFault net large known (Batch fault) =
     (fault.cause ≢ cause.Memory)
-    × IfSome known (λ bytes. IsBatchFault (entries_of net.kind net.width) (records_of bytes) fault)
-IsServeFault net known Memory = Unit {0}
-IsServeFault net known (Write written) = Unit {0}
+    × IfSome known (λ bytes. IsBatchFault (bounds_of large (entries_of net.kind net.width)) (records_of bytes) fault)
+IsServeFault net large known Memory = Unit {0}
+IsServeFault net large known (Write written) = Unit {0}
 
 -- the fault of a run by that of the batch; want of memory is a fault of its own
 abbrev pub fault_of_cause : BatchFault → BatchCause → ServeFault

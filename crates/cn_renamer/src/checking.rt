@@ -8,7 +8,7 @@ ghost use Rattle.cn_renamer.specs.Lines.{flaw_line};
 ghost use Rattle.cn_renamer.specs.Outputs.{until_output};
 
 use crate::output_fault::OutputFault;
-use cn_report::{Flaw, NamedEpoch, Pieces, named_grants, write_tight};
+use cn_report::{Flaw, NamedEpoch, Pieces, named_grants_within, write_tight};
 use std::alloc::Global;
 use std::fmt;
 use std::io::{Read, Write};
@@ -111,8 +111,9 @@ fn write_epochs<W: Write>(
 /// Reads a list of grants, and if it is tight writes what it has: each epoch's number and its number of clients, how
 /// many of its names are `i` modulo the width, for each `i` below it, and how many epochs and grants there are.
 ///
-/// The width is one of the widths of networks ([`cn_wiring::is_width`]). Nothing is written before the whole list is
-/// judged.
+/// The width is one of the widths of networks ([`cn_wiring::is_width`]). A large list has at most
+/// [`cn_spec::limits::MOST_NAMED`] grants, another [`cn_spec::limits::MOST_RECORDS`]. Nothing is written before the
+/// whole list is judged.
 ///
 /// # Errors
 /// `Flaw` with the first record that has a flaw, or the first gap; `Memory` if any growth was refused; `Write` if a
@@ -123,13 +124,14 @@ pub fn check<R: Read + Drop, W: Write>(
     reader: R,
     writer: &mut W,
     width: u32,
+    large: bool,
 ) -> Result<(), CheckFault>
     requires { IsWidth width }
-    ensures written { let Is = IsCheckOfKnown width (R.remaining reader) in
+    ensures written { let Is = IsCheckOfKnown width large (R.remaining reader) in
         HasWritten W.contents Is (written_by until_check result) writer.old writer.new }
-    ensures flawed { IfErr result (IsCheckFault (R.remaining reader)) }
+    ensures flawed { IfErr result (IsCheckFault large (R.remaining reader)) }
 {
-    let epochs = named_grants(alloc, reader)?;
+    let epochs = named_grants_within(alloc, reader, large)?;
     write_epochs(alloc, writer, width, &epochs)?;
     Ok(())
 }

@@ -1,9 +1,10 @@
 //! The epochs of a batch: run one after another, each by many workers, or beside one another, each by one.
 
-ghost use Rattle.std.specs.Prelude.{◌≡◌, ◌+◌, ◌<◌, ◌≤◌, [], ◌∷◌, ℕ, IfOk, false, length, take};
-ghost use Rattle.cn_spec.specs.declared.limits.TheConstants.{MOST_CARRIED, MOST_RECORDS};
+ghost use Rattle.std.specs.Prelude.{◌≡◌, ◌+◌, ◌<◌, ◌≤◌, [], ◌∷◌, ℕ, IfOk, false, length, take, true};
+ghost use Rattle.cn_spec.specs.declared.limits.TheConstants.{MOST_CARRIED, MOST_NAMED};
 ghost use Rattle.cn_floor.specs.Carried.{client_count};
 ghost use Rattle.cn_report.specs.Reading.Batch.{MayCome, clients_of_epochs};
+ghost use Rattle.cn_report.specs.Reading.Bounds.{bounds_of};
 ghost use Rattle.cn_renamer.specs.Floors.{HaveWalked, new_runner, runner_after};
 ghost use Rattle.cn_renamer.specs.Running.{MayRunAll, clients_of_half, crew_of, of_one_worker, workers_that_pay};
 ghost use Rattle.cn_walk.specs.Crew.{IsCrew};
@@ -41,7 +42,7 @@ fn serve_epoch<'n, G: Gate + Sync, R: Threads + Wait + Sync>(
     gate: &G,
     holders: &mut [u64],
 ) -> Result<(Runner<'n>, Receipts), AllocError>
-    requires come { MayCome runner.words.network.table.entries epoch.now.clients.items }
+    requires come { MayCome (bounds_of true runner.words.network.table.entries) epoch.now.clients.items }
     requires few { client_count runner.words ≤ MOST_CARRIED }
     requires crew { IsCrew crew }
     requires places { length holders.old ≡ length epoch.now.clients.items }
@@ -94,7 +95,7 @@ fn run_in_turn<'n, G: Gate + Sync, R: Threads + Wait + Sync>(
 
 /// How many clients epochs have.
 fn clients_in(epochs: &[BatchEpoch]) -> usize
-    requires { clients_of_epochs epochs.now ≤ MOST_RECORDS }
+    requires { clients_of_epochs epochs.now ≤ MOST_NAMED }
     ensures { result ≡ clients_of_epochs epochs.now }
 {
     epochs.iter().map(|epoch| epoch.clients.len()).sum()
@@ -106,7 +107,7 @@ fn clients_in(epochs: &[BatchEpoch]) -> usize
 fn cut(epochs: &[BatchEpoch], crew: Crew, clients: usize) -> (usize, usize)
     requires two { 2 ≤ length epochs.now }
     requires crew { IsCrew crew }
-    requires few { clients_of_epochs epochs.now ≤ MOST_RECORDS }
+    requires few { clients_of_epochs epochs.now ≤ MOST_NAMED }
     requires all { clients ≡ clients_of_epochs epochs.now }
     ensures both { (0 < result.0) × (result.0 < length epochs.now) }
     ensures clients { result.1 ≡ clients_of_epochs (take result.0 epochs.now) }

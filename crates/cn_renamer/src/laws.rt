@@ -6,6 +6,7 @@ ghost use Rattle.cn_wiring.specs.Network.{Network, IsNetwork};
 ghost use Rattle.cn_record.specs.declared.command.Command.{Command};
 ghost use Rattle.cn_record.specs.declared.record.EpochRecord.{EpochRecord};
 ghost use Rattle.cn_report.specs.Reading.Batch.{IsBatch};
+ghost use Rattle.cn_report.specs.Reading.Bounds.{bounds_of};
 ghost use Rattle.cn_report.specs.Grants.TightList.{IsTightList};
 ghost use Rattle.cn_report.specs.Reading.Records.{records_of};
 ghost use Rattle.cn_report.specs.Grants.Printed.{names_in, printed_epochs};
@@ -51,28 +52,29 @@ pub fn counts_are_shares()
 /// [`crate::serve`] writes a function of the bytes that it reads, the network, the form, and whether counters are
 /// carried.
 pub fn a_run_in_order_has_one_text()
-    ensures { (net : Description) (form : Form) (carry : Bool) (bytes text other : List ℕ)
-        → IsRunInOrder net form carry bytes text → IsRunInOrder net form carry bytes other
+    ensures { (net : Description) (form : Form) (carry large : Bool) (bytes text other : List ℕ)
+        → IsRunInOrder net form carry large bytes text → IsRunInOrder net form carry large bytes other
         → text ≡ other }
 {
     batch_is_one();
 }
 
-/// What a run writes in the grants form, with carry or without, is a list that a check takes for tight; and a check by
-/// any width w reports the epochs of the batch, with as many names `n` of `n mod w = i` as the share of exit i. Of the
-/// k names of an epoch that comes after m clients as many have `(m + n) mod w = i` as the share of exit i in m + k
-/// clients minus that in m: with carry this is the exit's count.
+/// What a run writes in the grants form, with carry or without, is a list that a check takes for tight: of a large
+/// batch one that a check of a large list does. And a check by any width w reports the epochs of the batch, with as many
+/// names `n` of `n mod w = i` as the share of exit i. Of the k names of an epoch that comes after m clients as many
+/// have `(m + n) mod w = i` as the share of exit i in m + k clients minus that in m: with carry this is the exit's
+/// count.
 pub fn written_grants_are_accepted()
-    ensures tight { (net : Description) (carry : Bool) (bytes text : List ℕ)
-        → IsRunOf net Grants carry bytes text
-        → IsTightList (records_of text) }
-    ensures printed { (net : Description) (carry : Bool) (bytes text : List ℕ)
-        → IsRunOf net Grants carry bytes text
+    ensures tight { (net : Description) (carry large : Bool) (bytes text : List ℕ)
+        → IsRunOf net Grants carry large bytes text
+        → IsTightList (bounds_of large 0).records (records_of text) }
+    ensures printed { (net : Description) (carry large : Bool) (bytes text : List ℕ)
+        → IsRunOf net Grants carry large bytes text
         → (epochs : List BatchEpoch)
-        × IsBatch (entries_of net.kind net.width) (records_of bytes) epochs
+        × IsBatch (bounds_of large (entries_of net.kind net.width)) (records_of bytes) epochs
         × ((w : ℕ) → printed_epochs w (records_of text) ≡ map (served_epoch w) epochs) }
-    ensures after { (net : Description) (carry : Bool) (bytes text : List ℕ)
-        → IsRunOf net Grants carry bytes text
+    ensures after { (net : Description) (carry large : Bool) (bytes text : List ℕ)
+        → IsRunOf net Grants carry large bytes text
         → (w m epoch : ℕ) → let names = names_in epoch (records_of text) in
         counts_after m w names ≡ shares_after m (length names) w }
 {}

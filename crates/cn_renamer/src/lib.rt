@@ -15,7 +15,7 @@ mod showing;
 mod writing;
 
 pub use checking::{CheckFault, check};
-pub use cn_cli::{Form, Job, OptionFault, Options, WordsFault, parse_words};
+pub use cn_cli::{CheckOptions, Form, Job, OptionFault, Options, WordsFault, parse_words};
 pub use cn_nets::{Net, NetFault};
 pub use cn_report::{BatchCause, BatchFault, Flaw, ScheduleCause, ScheduleFault};
 pub use cn_walk::Receipts;

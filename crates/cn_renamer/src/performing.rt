@@ -51,7 +51,7 @@ pub fn perform<I: Read + Drop, W: Write, S: RandomSource, R: Threads + Wait + Sy
             let state = RandomState::new(source)?;
             Ok(replay(alloc, reader, writer, &net, state)?)
         }
-        Job::Check(width) => Ok(check(alloc, reader, writer, width)?),
+        Job::Check(asked) => Ok(check(alloc, reader, writer, asked.width, asked.large)?),
         Job::Show(net) => Ok(show(alloc, writer, &net)?),
     }
 }

@@ -1,9 +1,10 @@
 //! A batch, served by many workers.
 
 ghost use Rattle.std.specs.Prelude.{◌≡◌, ◌≤◌, IfErr, IfOk, IfSome, List, length};
-ghost use Rattle.cn_spec.specs.declared.limits.TheConstants.{MOST_RECORDS};
+ghost use Rattle.cn_spec.specs.declared.limits.TheConstants.{MOST_NAMED};
 ghost use Rattle.cn_record.specs.declared.record.EpochRecord.{EpochRecord};
 ghost use Rattle.cn_report.specs.Reading.Batch.{AnswersBatch, AreServable, clients_of_epochs};
+ghost use Rattle.cn_report.specs.Reading.Bounds.{bounds_of};
 ghost use Rattle.cn_report.specs.Reading.Records.{records_of};
 ghost use Rattle.cn_report.specs.Writing.Pieces.{nothing_put};
 ghost use Rattle.cn_report.specs.Writing.EpochRecords.{AreRecordsOf};
@@ -17,8 +18,8 @@ use crate::epochs::run_epochs;
 use crate::serve_fault::ServeFault;
 use cn_cli::{Form, Options};
 use cn_report::{
-    Batch, BatchEpoch, BatchFault, EmitFault, Pieces, read_batch, read_batch_by_two, write_grants,
-    write_report,
+    Batch, BatchEpoch, BatchFault, Bounds, EmitFault, Pieces, read_batch_by_two, read_batch_within,
+    write_grants, write_report,
 };
 use cn_walk::{Gate, Receipts};
 use cn_wiring::Counting;
@@ -31,7 +32,7 @@ use std::thread::Threads;
 /// Reads the batch of a run: by one thread if there is one worker, and else by two.
 ///
 /// # Errors
-/// Those of [`read_batch`].
+/// Those of [`read_batch_within`].
 fn read_by_options<I: Read + Drop, R: Threads + Wait + Sync>(
     rt: &R,
     alloc: Global,
@@ -41,14 +42,16 @@ fn read_by_options<I: Read + Drop, R: Threads + Wait + Sync>(
     state: RandomState,
 ) -> Result<Batch, BatchFault>
     ensures answer { IfSome (I.remaining reader) (λ text.
-        AnswersBatch network.now.table.entries (records_of text) result) }
-    ensures fits { IfOk result (λ batch. AreServable network.now.table.entries batch.epochs.items) }
-    ensures few { IfOk result (λ batch. clients_of_epochs batch.epochs.items ≤ MOST_RECORDS) }
+        AnswersBatch (bounds_of options.now.large network.now.table.entries) (records_of text) result) }
+    ensures fits { IfOk result (λ batch.
+        AreServable (bounds_of options.now.large network.now.table.entries) batch.epochs.items) }
+    ensures few { IfOk result (λ batch. clients_of_epochs batch.epochs.items ≤ MOST_NAMED) }
 {
+    let bounds = Bounds::of(options.is_large(), network.entries());
     if options.workers() < 2 {
-        read_batch(alloc, reader, network.entries(), state)
+        read_batch_within(alloc, reader, bounds, state)
     } else {
-        read_batch_by_two(rt, alloc, reader, network.entries(), state)
+        read_batch_by_two(rt, alloc, reader, bounds, state)
     }
 }
 
@@ -66,7 +69,7 @@ fn write_epochs<W: Write>(
 ) -> Result<(), EmitFault>
     requires fresh { pieces ≡ nothing_put }
     requires as_many { clients_of_epochs epochs.now ≡ length holders.now }
-    requires few { clients_of_epochs epochs.now ≤ MOST_RECORDS }
+    requires few { clients_of_epochs epochs.now ≤ MOST_NAMED }
     ensures { (records : List EpochRecord)
         → AreRecordsOf options.now.carry network.now.table.width 0 epochs.now records holders.now
         → let written = written_by (λ fault. First fault.written) result in
@@ -100,6 +103,9 @@ fn write_epochs<W: Write>(
 /// of exit i is its share of m + k clients minus its share of m. The names are still 0 to k-1, each below the number of
 /// clients that entered in the epoch.
 ///
+/// If the options say that the batch is a large one, it and each of its epochs may have as many clients as
+/// [`cn_spec::limits::MOST_NAMED`] says, as far as memory goes.
+///
 /// The gate is asked before each step, by workers whose numbers begin at 0, and `serve` returns only if it lets each
 /// worker on. The random state is for the clients of a batch's epoch as they are read. Nothing is written before every
 /// epoch has ended.
@@ -117,12 +123,14 @@ pub fn serve<I: Read + Drop, W: Write, G: Gate + Sync, R: Threads + Wait + Sync>
     state: RandomState,
     gate: &G,
 ) -> Result<(), ServeFault>
-    ensures headline { let Is = IsRunOfKnown options.now.net options.now.form options.now.carry (I.remaining reader) in
+    ensures headline { let o = options.now in
+        let Is = IsRunOfKnown o.net o.form o.carry o.large (I.remaining reader) in
         HasWritten W.contents Is (written_by until_serve result) writer.old writer.new }
     ensures in_order { options.now.workers ≡ 1 → options.now.hand ≡ 1
-        → let Is = IsRunInOrderOfKnown options.now.net options.now.form options.now.carry (I.remaining reader) in
+        → let o = options.now in
+        let Is = IsRunInOrderOfKnown o.net o.form o.carry o.large (I.remaining reader) in
         HasWritten W.contents Is (written_by until_serve result) writer.old writer.new }
-    ensures refused { IfErr result (IsServeFault options.now.net (I.remaining reader)) }
+    ensures refused { IfErr result (IsServeFault options.now.net options.now.large (I.remaining reader)) }
 {
     let _receipts = serve_with_receipts(rt, alloc, reader, writer, options, state, Some(gate))?;
     Ok(())
@@ -149,15 +157,17 @@ pub fn serve_with_receipts<I: Read + Drop, W: Write, G: Gate + Sync, R: Threads 
     state: RandomState,
     gate: Option<&G>,
 ) -> Result<Receipts, ServeFault>
-    ensures headline { let Is = IsRunOfKnown options.now.net options.now.form options.now.carry (I.remaining reader) in
+    ensures headline { let o = options.now in
+        let Is = IsRunOfKnown o.net o.form o.carry o.large (I.remaining reader) in
         HasWritten W.contents Is (written_by until_serve result) writer.old writer.new }
     ensures in_order { walkers gate.entry options.now.workers ≡ 1 → options.now.hand ≡ 1
-        → let Is = IsRunInOrderOfKnown options.now.net options.now.form options.now.carry (I.remaining reader) in
+        → let o = options.now in
+        let Is = IsRunInOrderOfKnown o.net o.form o.carry o.large (I.remaining reader) in
         HasWritten W.contents Is (written_by until_serve result) writer.old writer.new }
-    ensures floors { IfOk result (λ floors. let net = options.now.net in
-        let Is = IsRunOnFloorsOfKnown net options.now.form options.now.carry floors (I.remaining reader) in
+    ensures floors { IfOk result (λ floors. let o = options.now in
+        let Is = IsRunOnFloorsOfKnown o.net o.form o.carry o.large floors (I.remaining reader) in
         HasWritten W.contents Is Whole writer.old writer.new) }
-    ensures refused { IfErr result (IsServeFault options.now.net (I.remaining reader)) }
+    ensures refused { IfErr result (IsServeFault options.now.net options.now.large (I.remaining reader)) }
 {
     let network = options.net().build(alloc)?;
     let batch = read_by_options(rt, alloc, reader, &network, options, state)?;

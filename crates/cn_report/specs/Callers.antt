@@ -1,5 +1,6 @@
 -- For callers in Rattle: an epoch of a grant list with its counts, and what a check with counts answers.
 use Rattle.std.specs.Prelude.{ℕ, ◌≡◌, List, map, Result, MatchResult}
+use Rattle.cn_spec.specs.declared.limits.TheConstants.{MOST_RECORDS}
 use Rattle.cn_report.specs.Grants.TightList.{IsFlaw, IsTightList}
 use Rattle.cn_report.specs.Grants.Printed.{printed_epochs}
 use Rattle.cn_report.specs.Reading.Records.{Record}
@@ -18,4 +19,5 @@ IsPrinted width records epochs = map plain_tight epochs ≡ printed_epochs width
 -- what a check of these records answers: their epochs if they are a tight list, or their flaw
 abbrev pub AnswersTight : ℕ → List Record → Result Tight Flaw → Type 0
 AnswersTight width records result =
-    MatchResult result (λ tight. IsTightList records × IsPrinted width records tight.epochs.items) (IsFlaw records)
+    MatchResult result (λ tight. IsTightList MOST_RECORDS records × IsPrinted width records tight.epochs.items)
+    (IsFlaw MOST_RECORDS records)

@@ -2,6 +2,7 @@
 pub mod Arrival
 pub mod Heading
 pub mod Batch
+pub mod Bounds
 pub mod Clipped
 pub mod Command
 pub mod Faults

@@ -8,7 +8,7 @@ pub(crate) mod text;
 pub(crate) mod tight;
 
 pub use epochs::NamedEpoch;
-pub use list::named_grants;
+pub use list::{named_grants, named_grants_within};
 pub use record::Flaw;
 pub use text::write_grants;
 pub use tight::write_tight;

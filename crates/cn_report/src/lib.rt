@@ -12,9 +12,9 @@ pub use callers::{
     Tight, TightEpoch, check_grants, render_grants, render_replay, render_report, render_tight,
     render_wiring,
 };
-pub use grants::{Flaw, NamedEpoch, named_grants, write_grants, write_tight};
+pub use grants::{Flaw, NamedEpoch, named_grants, named_grants_within, write_grants, write_tight};
 pub use reading::{
-    Batch, BatchCause, BatchEpoch, BatchFault, ScheduleCause, ScheduleFault, read_batch,
-    read_batch_by_two, read_schedule,
+    Batch, BatchCause, BatchEpoch, BatchFault, Bounds, ScheduleCause, ScheduleFault, read_batch,
+    read_batch_by_two, read_batch_within, read_schedule,
 };
 pub use writing::{EmitFault, OpenEpoch, Pieces, emit, write_replay, write_report, write_wiring};

@@ -2,6 +2,7 @@
 
 mod batch;
 mod batch_fault;
+mod bounds;
 pub(crate) mod clipped;
 mod command;
 pub(crate) mod number;
@@ -10,7 +11,8 @@ mod scatter;
 mod schedule;
 mod schedule_fault;
 
-pub use batch::{Batch, BatchEpoch, read_batch, read_batch_by_two};
+pub use batch::{Batch, BatchEpoch, read_batch, read_batch_by_two, read_batch_within};
 pub use batch_fault::{BatchCause, BatchFault};
+pub use bounds::Bounds;
 pub use schedule::read_schedule;
 pub use schedule_fault::{ScheduleCause, ScheduleFault};

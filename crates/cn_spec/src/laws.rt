@@ -7,17 +7,18 @@ ghost use Rattle.cn_spec.specs.Step.{IsEachBelow, IsStep, counts_after, counts_o
 ghost use Rattle.cn_spec.specs.Step.{shares, shares_after};
 ghost use Rattle.cn_spec.specs.Networks.{HasStepChains, IsRow, a_cochain, b_cochain, bitonic, block, merge, periodic, tree};
 ghost use Rattle.cn_spec.specs.Sums.{IsOnceBelow, times};
-ghost use Rattle.cn_spec.specs.declared.limits.TheConstants.{MOST_ARRIVALS, MOST_BALANCERS, MOST_CARRIED, MOST_CLIENTS, MOST_DIGITS, MOST_ENDS, MOST_HAND, MOST_LEVEL, MOST_RECORDS, MOST_ROOM, MOST_TAKEN, MOST_TOKENS, MOST_WORKERS};
+ghost use Rattle.cn_spec.specs.declared.limits.TheConstants.{MOST_ARRIVALS, MOST_BALANCERS, MOST_CARRIED, MOST_CLIENTS, MOST_DIGITS, MOST_ENDS, MOST_HAND, MOST_LEVEL, MOST_NAMED, MOST_RECORDS, MOST_ROOM, MOST_TAKEN, MOST_TOKENS, MOST_WORKERS};
 
 /// What each limit is, in numbers.
 pub fn limits_are()
     ensures widths { MOST_LEVEL ≡ 8 }
     ensures wirings { (MOST_ENDS ≡ 4_096) × (MOST_BALANCERS ≡ 65_536) }
     ensures epochs { (MOST_CLIENTS ≡ 262_144) × (MOST_CARRIED ≡ 2_147_483_648) }
+    ensures lanes { MOST_NAMED ≡ 2_147_483_648 }
     ensures takers { MOST_TAKEN ≡ 2 ^ 62 }
     ensures texts { (MOST_RECORDS ≡ 1_048_576) × (MOST_DIGITS ≡ 20) }
     ensures counts { MOST_ARRIVALS ≡ 2 ^ 32 }
-    ensures yards { (MOST_TOKENS ≡ 4_194_304) × (MOST_ROOM ≡ 1_048_576) }
+    ensures yards { (MOST_TOKENS ≡ 4_294_967_294) × (MOST_ROOM ≡ 1_048_576) }
     ensures workers { (MOST_WORKERS ≡ 64) × (MOST_HAND ≡ 64) }
 {}
 

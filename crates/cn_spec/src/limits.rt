@@ -9,17 +9,22 @@ pub const MOST_ENDS: u32 = 4_096;
 /// The most balancers of a wiring.
 pub const MOST_BALANCERS: u32 = 65_536;
 
-/// The most clients of one epoch.
+/// The most clients of one epoch, unless its batch is a large one.
 pub const MOST_CLIENTS: u64 = 262_144;
 
-/// The most clients that may have come before an epoch that goes on from the counts of earlier ones.
+/// The most names that a floor gives to lanes, which keep a list of them. So it is the most clients of one epoch of a
+/// large batch, and the most records of a large batch or a large grant list, its header aside.
+pub const MOST_NAMED: u64 = 2_147_483_648;
+
+/// The most clients that may have come before an epoch, and before a floor with lanes, that goes on from the counts of
+/// earlier ones.
 pub const MOST_CARRIED: u64 = 2_147_483_648;
 
 /// The most names that a floor gives to takers, which keep no list of them, and the most clients that may have come
 /// before it.
 pub const MOST_TAKEN: u64 = 4_611_686_018_427_387_904;
 
-/// The most records of a batch, a schedule or a grant list, its header aside.
+/// The most records of a schedule, and of a batch or a grant list that is not a large one, its header aside.
 pub const MOST_RECORDS: u64 = 1_048_576;
 
 /// The most arrivals at one balancer, and the most visits of one exit.
@@ -28,8 +33,8 @@ pub const MOST_ARRIVALS: u64 = 4_294_967_296;
 /// The most digits of a number field.
 pub const MOST_DIGITS: usize = 20;
 
-/// The most records of one yard, live and free.
-pub const MOST_TOKENS: u32 = 4_194_304;
+/// The most records of one yard, live and free: two fewer than their numbers could count.
+pub const MOST_TOKENS: u32 = 4_294_967_294;
 
 /// The most clients for which a lane takes room at once.
 pub const MOST_ROOM: u64 = 1_048_576;

@@ -9,8 +9,8 @@ use crate::serving::{self, options_of};
 use crate::writers::{Broken, Narrow, Then};
 use crate::{checking, grants_form, showing};
 use cn_renamer::{
-    BatchCause, BatchFault, CheckFault, Fault, Flaw, Form, Job, Net, OutputFault, ReplayFault,
-    ScheduleCause, ScheduleFault, ServeFault, perform,
+    BatchCause, BatchFault, CheckFault, CheckOptions, Fault, Flaw, Form, Job, Net, OutputFault,
+    ReplayFault, ScheduleCause, ScheduleFault, ServeFault, perform,
 };
 use cn_wiring::Kind;
 use std::alloc::Global;
@@ -112,10 +112,18 @@ fn wrong_run<R: RandomSource + Threads + Wait + Sync>(
     None
 }
 
+/// A check of a list that is not a large one, by this width.
+fn check_of(width: u32) -> Option<Job> {
+    Some(Job::Check(CheckOptions {
+        width,
+        large: false,
+    }))
+}
+
 /// The place of the first check whose text is not cut so.
 fn wrong_check<R: RandomSource + Threads + Wait + Sync>(rt: &R, alloc: Global) -> Option<usize> {
     for (place, (list, text)) in checking::TIGHT.iter().enumerate() {
-        if !is_cut_anywhere(rt, alloc, Some(Job::Check(4)), list, text) {
+        if !is_cut_anywhere(rt, alloc, check_of(4), list, text) {
             return Some(place);
         }
     }
@@ -250,7 +258,7 @@ fn read_cut_anywhere(rt: HostRuntime) {
     let lines = [
         read_by(&rt, alloc, run, serving::FIVE_ON_ONE_ENTRY),
         read_by(&rt, alloc, replay, replaying::TWO_CLIENTS),
-        read_by(&rt, alloc, Some(Job::Check(4)), checking::TWO_EPOCHS),
+        read_by(&rt, alloc, check_of(4), checking::TWO_EPOCHS),
     ];
     let wanted = [Some((7, true)), Some((8, true)), Some((5, true))];
     assert_eq!(rt; lines, wanted);

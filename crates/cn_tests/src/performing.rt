@@ -8,7 +8,7 @@ use crate::job_texts::{
     ONE_CLIENT_ON_BITONIC_FOUR, ONE_CLIENT_ON_PERIODIC_TWO, ONE_CLIENT_ON_TREE_FOUR, TREE_TWO,
 };
 use crate::writers::{Narrow, Then};
-use cn_renamer::{Fault, Form, Job, Net, Options, end, perform};
+use cn_renamer::{CheckOptions, Fault, Form, Job, Net, Options, end, perform};
 use cn_wiring::{Kind, is_width};
 use std::alloc::Global;
 use std::io;
@@ -48,7 +48,10 @@ fn job(asked: Asked, kind: Kind, width: u32) -> Option<Job> {
     Some(match asked {
         Asked::Run => Job::Run(Options::new(net, 1, 1, Form::Report).ok()?),
         Asked::Replay => Job::Replay(net),
-        Asked::Check => Job::Check(width),
+        Asked::Check => Job::Check(CheckOptions {
+            width,
+            large: false,
+        }),
         Asked::Show => Job::Show(net),
     })
 }
@@ -58,7 +61,7 @@ pub(crate) fn is_built(job: &Job) -> bool
     ensures { IsTrue result → IsBuiltFor job.now }
 {
     match job {
-        Job::Check(width) => is_width(*width),
+        Job::Check(asked) => is_width(asked.width),
         Job::Run(_) | Job::Replay(_) | Job::Show(_) => true,
     }
 }

@@ -4,7 +4,6 @@ use Rattle.std.specs.List.{range_with_len}
 use Rattle.cn_spec.specs.Step.{IsEachBelow, name_of, shares, shares_after}
 use Rattle.cn_spec.specs.Sums.{times}
 use Rattle.cn_spec.specs.Workers.{HandFits, WorkersFit}
-use Rattle.cn_spec.specs.declared.limits.TheConstants.{MOST_CLIENTS}
 use Rattle.cn_wiring.specs.declared.end.End.TheVariants.{Balancer}
 use Rattle.cn_wiring.specs.Faults.{IsFirst}
 use Rattle.cn_wiring.specs.Network.{Network}
@@ -21,25 +20,22 @@ use Rattle.cn_floor.specs.Words.{clients_in, count_in, entered_in}
 abbrev pub ComesByOne : ℕ → List Client → ℕ → Type 0
 ComesByOne entries clients k = (d : Client) → (slice_index_or clients k d).entry < entries
 
--- the number of clients is within its limit
-abbrev pub AreFew : List Client → Type 0
-AreFew clients = length clients ≤ MOST_CLIENTS
-
--- an epoch that may be run
-pub record MayRun (entries : ℕ) (clients : List Client) (workers hand : ℕ) : Type 0 where
+-- an epoch that may be run, of so many clients at most
+pub record MayRun (most entries : ℕ) (clients : List Client) (workers hand : ℕ) : Type 0 where
   pub workers_fit : WorkersFit workers
   pub hand_fits : HandFits hand
-  pub few : AreFew clients
+  pub few : length clients ≤ most
   pub by_entries : All (λ c. c.entry < entries) clients
 
 -- the fault stands, and no earlier kind of fault does; memory is refused only if the epoch may be run
-abbrev pub IsRefused : ℕ → List Client → ℕ → ℕ → RunFault → Type 0
-IsRefused entries clients workers hand Workers = ¬ WorkersFit workers
-IsRefused entries clients workers hand Hand = WorkersFit workers × ¬ HandFits hand
-IsRefused entries clients workers hand TooMany = WorkersFit workers × HandFits hand × ¬ AreFew clients
-IsRefused entries clients workers hand (NoSuchEntry position) =
-    WorkersFit workers × HandFits hand × AreFew clients × IsFirst (length clients) (ComesByOne entries clients) position
-IsRefused entries clients workers hand Memory = MayRun entries clients workers hand
+abbrev pub IsRefused : ℕ → ℕ → List Client → ℕ → ℕ → RunFault → Type 0
+IsRefused most entries clients workers hand Workers = ¬ WorkersFit workers
+IsRefused most entries clients workers hand Hand = WorkersFit workers × ¬ HandFits hand
+IsRefused most entries clients workers hand TooMany = WorkersFit workers × HandFits hand × (most < length clients)
+IsRefused most entries clients workers hand (NoSuchEntry position) =
+    WorkersFit workers × HandFits hand × (length clients ≤ most)
+    × IsFirst (length clients) (ComesByOne entries clients) position
+IsRefused most entries clients workers hand Memory = MayRun most entries clients workers hand
 
 -- a floor that went on from words, on which these clients walked, and nobody else
 pub record IsRunAfter (before : WordsValue) (clients : List Client) (quiet : QuietValue) : Type 0 where

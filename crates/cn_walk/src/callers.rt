@@ -2,7 +2,7 @@
 //! uses [`crate::Runner`], which keeps between epochs what they share, and walks in the same way.
 
 ghost use Rattle.std.specs.Prelude.{◌≡◌, ◌≤◌, IfErr, IfOk, OnOk, length};
-ghost use Rattle.cn_spec.specs.declared.limits.TheConstants.{MOST_CARRIED};
+ghost use Rattle.cn_spec.specs.declared.limits.TheConstants.{MOST_CARRIED, MOST_CLIENTS, MOST_NAMED};
 ghost use Rattle.cn_floor.specs.Carried.{client_count, words_before, zero_words};
 ghost use Rattle.cn_floor.specs.Lane.{empty_lane};
 ghost use Rattle.cn_walk.specs.Runs.{IsRefused, IsRun, IsRunAfter, MayRun};
@@ -12,6 +12,7 @@ use crate::crew::Crew;
 use crate::running::{RunFault, may_run, walk_floor};
 use cn_floor::{Floor, Gate, Lane, Quiet, Words};
 use cn_ledger::Client;
+use cn_spec::limits::MOST_CLIENTS;
 use cn_wiring::Counting;
 use std::alloc::Global;
 use std::sync::Wait;
@@ -44,10 +45,10 @@ pub fn run_epoch<'a, G: Gate + Sync, R: Threads + Wait + Sync>(
         → IfOk result (λ quiet. AreInOrder 0 clients.now quiet.did.grants) }
     ensures zero { IfOk result (λ quiet. IsRunAfter (zero_words network.now) clients.now quiet) }
     ensures refused { IfErr result (λ fault.
-        IsRefused network.now.table.entries clients.now workers hand fault) }
-    ensures allowed { OnOk result (MayRun network.now.table.entries clients.now workers hand) }
+        IsRefused MOST_CLIENTS network.now.table.entries clients.now workers hand fault) }
+    ensures allowed { OnOk result (MayRun MOST_CLIENTS network.now.table.entries clients.now workers hand) }
 {
-    may_run(network, clients, workers, hand)?;
+    may_run(network, clients, workers, hand, MOST_CLIENTS)?;
     let Ok((floor, lane)) = Floor::open(alloc, network, clients.len() as u64) else {
         return Err(RunFault::Memory);
     };
@@ -79,10 +80,10 @@ pub fn run_epoch_after<'a, G: Gate + Sync, R: Threads + Wait + Sync>(
     ensures in_order { workers ≡ 1 → hand ≡ 1
         → IfOk result (λ quiet. AreInOrder 0 clients.now quiet.did.grants) }
     ensures refused { IfErr result (λ fault.
-        IsRefused words.now.network.table.entries clients.now workers hand fault) }
-    ensures allowed { OnOk result (MayRun words.now.network.table.entries clients.now workers hand) }
+        IsRefused MOST_CLIENTS words.now.network.table.entries clients.now workers hand fault) }
+    ensures allowed { OnOk result (MayRun MOST_CLIENTS words.now.network.table.entries clients.now workers hand) }
 {
-    may_run(words.network(), clients, workers, hand)?;
+    may_run(words.network(), clients, workers, hand, MOST_CLIENTS)?;
     let Ok((floor, lane)) = Floor::open_after(alloc, words, clients.len() as u64) else {
         return Err(RunFault::Memory);
     };
@@ -109,7 +110,7 @@ fn walk_to_quiet<'a, G: Gate + Sync, R: Threads + Wait + Sync>(
 ) -> Result<Quiet<'a>, RunFault>
     requires lane { lane ≡ empty_lane floor (length clients.now) }
     requires quota { floor.start.quota ≡ length clients.now }
-    requires allowed { MayRun floor.start.network.table.entries clients.now crew.workers crew.hand }
+    requires allowed { MayRun MOST_NAMED floor.start.network.table.entries clients.now crew.workers crew.hand }
     ensures run { IfOk result (λ quiet.
         IsRunAfter (words_before floor.entry.start) clients.now quiet) }
     ensures in_order { crew.workers ≡ 1 → crew.hand ≡ 1

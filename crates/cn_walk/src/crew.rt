@@ -1,7 +1,7 @@
 //! Workers who run epochs.
 
 ghost use Rattle.std.specs.Prelude.{◌≡◌, ◌+◌, ◌<◌, ◌≤◌};
-ghost use Rattle.cn_spec.specs.declared.limits.TheConstants.{MOST_RECORDS};
+ghost use Rattle.cn_spec.specs.declared.limits.TheConstants.{MOST_NAMED};
 ghost use Rattle.cn_walk.specs.Crew.{IsCrew, nearest_part};
 
 /// Workers whose numbers follow one another, with so many clients in hand each.
@@ -23,7 +23,7 @@ impl Crew {
         requires crew { IsCrew self }
         requires two { 2 ≤ self.workers }
         requires part { (part ≤ whole) × (0 < whole) }
-        requires few { whole ≤ MOST_RECORDS }
+        requires few { whole ≤ MOST_NAMED }
         ensures first { IsCrew result.0 }
         ensures second { IsCrew result.1 }
         ensures all { result.0.workers + result.1.workers ≡ self.workers }

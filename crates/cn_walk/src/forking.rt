@@ -1,7 +1,7 @@
 //! Many workers: their lanes, and the threads that walk them.
 
 ghost use Rattle.std.specs.Prelude.{◌≡◌, ◌+◌, ◌-◌, ◌*◌, ◌/◌, ◌<◌, ◌≤◌, All, IfSome, length};
-ghost use Rattle.cn_spec.specs.declared.limits.TheConstants.{MOST_CLIENTS};
+ghost use Rattle.cn_spec.specs.declared.limits.TheConstants.{MOST_NAMED};
 ghost use Rattle.cn_walk.specs.Halves.{AreOf, AreReady, HasNothing, IsOne, IsPair, MayWalk, first_position, whole};
 ghost use Rattle.cn_walk.specs.Walks.{GrantsInOrder, IsSole, WalksAll};
 ghost use denote.Param.Send.{IsSync};
@@ -46,7 +46,7 @@ pub(crate) fn make_lanes<'a>(
     to: u32,
 ) -> Option<Lanes>
     requires own { lane.home ≡ floor.now }
-    requires range { (from < to) × (to ≤ workers) × (clients ≤ MOST_CLIENTS) }
+    requires range { (from < to) × (to ≤ workers) × (clients ≤ MOST_NAMED) }
     requires nothing { HasNothing lane }
     requires quota { first_position clients workers to - first_position clients workers from
         ≤ lane.view.quota }

@@ -1,7 +1,7 @@
 //! Epochs over one network, one after another.
 
 ghost use Rattle.std.specs.Prelude.{◌≡◌, ◌≤◌, IfErr, IfOk, OnErr, OnOk};
-ghost use Rattle.cn_spec.specs.declared.limits.TheConstants.{MOST_CARRIED};
+ghost use Rattle.cn_spec.specs.declared.limits.TheConstants.{MOST_CARRIED, MOST_NAMED};
 ghost use Rattle.cn_floor.specs.Carried.{client_count, words_before, zero_words};
 ghost use Rattle.cn_walk.specs.Runner.{next_runner};
 ghost use Rattle.cn_walk.specs.Runs.{IsRefused, IsRunAfter, MayRun};
@@ -11,6 +11,7 @@ use crate::crew::Crew;
 use crate::running::{RunFault, may_run, walk_floor};
 use cn_floor::{ClosedFloor, Floor, Gate, Leftovers, Words};
 use cn_ledger::Client;
+use cn_spec::limits::MOST_NAMED;
 use cn_wiring::Counting;
 use std::alloc::{AllocError, Global};
 use std::marker::Model;
@@ -85,13 +86,13 @@ impl<'a> Runner<'a> {
             → IfOk result.1 (λ closed. AreInOrder 0 clients.now closed.did.grants) }
         ensures next { IfOk result.1 (λ closed. result.0 ≡ next_runner self.entry closed) }
         ensures back { OnErr result.1 (result.0 ≡ self.entry) }
-        ensures refused { IfErr result.1 (IsRefused self.entry.words.network.table.entries
+        ensures refused { IfErr result.1 (IsRefused MOST_NAMED self.entry.words.network.table.entries
             clients.now crew.workers crew.hand) }
-        ensures allowed { OnOk result.1 (MayRun self.entry.words.network.table.entries
+        ensures allowed { OnOk result.1 (MayRun MOST_NAMED self.entry.words.network.table.entries
             clients.now crew.workers crew.hand) }
     {
         let network = self.words().network();
-        if let Err(fault) = may_run(network, clients, crew.workers, crew.hand) {
+        if let Err(fault) = may_run(network, clients, crew.workers, crew.hand, MOST_NAMED) {
             return (self, Err(fault));
         }
         let Runner { leftovers, carries } = self;
@@ -113,7 +114,7 @@ fn walk_after<'a, G: Gate + Sync, R: Threads + Wait + Sync>(
     gate: &G,
 ) -> Result<(ClosedFloor<'a>, Leftovers<'a>), Leftovers<'a>>
     requires few { client_count leftovers.words ≤ MOST_CARRIED }
-    requires allowed { MayRun leftovers.words.network.table.entries clients.now crew.workers crew.hand }
+    requires allowed { MayRun MOST_NAMED leftovers.words.network.table.entries clients.now crew.workers crew.hand }
     ensures run { IfOk result (λ r. IsRunAfter leftovers.entry.words clients.now r.0) }
     ensures in_order { crew.workers ≡ 1 → crew.hand ≡ 1
         → IfOk result (λ r. AreInOrder 0 clients.now r.0.did.grants) }

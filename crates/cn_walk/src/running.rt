@@ -1,6 +1,7 @@
 //! An epoch that many workers run.
 
 ghost use Rattle.std.specs.Prelude.{◌≡◌, IfErr, IfOk, OnOk, length};
+ghost use Rattle.cn_spec.specs.declared.limits.TheConstants.{MOST_NAMED};
 ghost use Rattle.cn_floor.specs.Carried.{words_before};
 ghost use Rattle.cn_floor.specs.Lane.{IsIdle, empty_lane};
 ghost use Rattle.cn_walk.specs.Runs.{IsRefused, IsRunAfter, MayRun};
@@ -10,7 +11,7 @@ use crate::crew::Crew;
 use crate::forking::{make_lanes, walk_lanes};
 use cn_floor::{CloseFault, ClosedFloor, Floor, Gate, Lane, Leftovers};
 use cn_ledger::Client;
-use cn_spec::limits::{MOST_CLIENTS, MOST_HAND, MOST_WORKERS};
+use cn_spec::limits::{MOST_HAND, MOST_WORKERS};
 use cn_wiring::Counting;
 use std::alloc::Global;
 use std::sync::Wait;
@@ -23,7 +24,8 @@ pub enum RunFault {
     Workers,
     /// The hand is 0, or more than [`MOST_HAND`].
     Hand,
-    /// There are more clients than [`MOST_CLIENTS`].
+    /// There are more clients than an epoch may have: [`cn_spec::limits::MOST_CLIENTS`], and for a
+    /// [`crate::Runner`] [`cn_spec::limits::MOST_NAMED`].
     TooMany,
     /// The client at this position, counted from 0, comes by an entry that the network lacks, and none before it does.
     NoSuchEntry(u64),
@@ -31,16 +33,17 @@ pub enum RunFault {
     Memory,
 }
 
-/// Whether an epoch may be run.
+/// Whether an epoch may be run, of so many clients at most.
 pub(crate) fn may_run(
     network: &Counting,
     clients: &[Client],
     workers: u32,
     hand: u32,
+    most: u64,
 ) -> Result<(), RunFault>
     ensures refused { IfErr result (λ fault.
-        IsRefused network.now.table.entries clients.now workers hand fault) }
-    ensures allowed { OnOk result (MayRun network.now.table.entries clients.now workers hand) }
+        IsRefused most network.now.table.entries clients.now workers hand fault) }
+    ensures allowed { OnOk result (MayRun most network.now.table.entries clients.now workers hand) }
 {
     if workers == 0 || workers > MOST_WORKERS {
         return Err(RunFault::Workers);
@@ -48,7 +51,7 @@ pub(crate) fn may_run(
     if hand == 0 || hand > MOST_HAND {
         return Err(RunFault::Hand);
     }
-    if clients.len() as u64 > MOST_CLIENTS {
+    if clients.len() as u64 > most {
         return Err(RunFault::TooMany);
     }
     let entries = u64::from(network.entries());
@@ -74,7 +77,7 @@ pub(crate) fn walk_floor<'a, G: Gate + Sync, R: Threads + Wait + Sync>(
     requires lane { lane ≡ record (empty_lane floor (length clients.now)) { yard = lane.yard } }
     requires idle { IsIdle floor.start.network lane.yard.lists }
     requires quota { floor.start.quota ≡ length clients.now }
-    requires allowed { MayRun floor.start.network.table.entries clients.now crew.workers crew.hand }
+    requires allowed { MayRun MOST_NAMED floor.start.network.table.entries clients.now crew.workers crew.hand }
     ensures run { IfOk result (λ r. IsRunAfter (words_before floor.entry.start) clients.now r.0) }
     ensures in_order { crew.workers ≡ 1 → crew.hand ≡ 1
         → IfOk result (λ r. AreInOrder 0 clients.now r.0.did.grants) }

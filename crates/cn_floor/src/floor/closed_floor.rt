@@ -2,7 +2,7 @@
 
 ghost use Rattle.std.specs.Prelude.{◌≡◌, ◌+◌, ◌≤◌, IfOk, [], ◌∷◌, length, map};
 ghost use Rattle.cn_spec.specs.Step.{IsEachBelow};
-ghost use Rattle.cn_spec.specs.declared.limits.TheConstants.{MOST_CARRIED, MOST_CLIENTS};
+ghost use Rattle.cn_spec.specs.declared.limits.TheConstants.{MOST_CARRIED, MOST_NAMED};
 ghost use Rattle.cn_floor.specs.Carried.{client_count, words_before};
 ghost use Rattle.cn_floor.specs.Ends.{IsClosedFloor, ListsHolders, words_after};
 ghost use Rattle.cn_floor.specs.Words.{word_count};
@@ -52,7 +52,7 @@ impl<'a> ClosedFloor<'a> {
     /// It does nothing: its contract is the law.
     pub fn closed_laws(&self)
         ensures closed { IsClosedFloor self.now.start self.now.did self.now.words }
-        ensures few { client_count (words_after self.now) ≤ MOST_CARRIED + MOST_CLIENTS }
+        ensures few { client_count (words_after self.now) ≤ MOST_CARRIED + MOST_NAMED }
     {
         // Opens what each closed floor keeps.
         let _ = &self.grants;

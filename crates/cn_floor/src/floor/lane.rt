@@ -1,13 +1,13 @@
 //! A lane: a worker's own part of a floor.
 
 ghost use Rattle.std.specs.Prelude.{◌≡◌, ℕ, ◌+◌, ◌<◌, ◌≤◌, ◌^◌, ◌↔◌, None, Some, [], max, length, vec_capacity, IfSome, IsSome, IsTrue, OnErr, OnOk};
-ghost use Rattle.cn_spec.specs.declared.limits.TheConstants.{MOST_CLIENTS, MOST_ROOM};
+ghost use Rattle.cn_spec.specs.declared.limits.TheConstants.{MOST_NAMED};
 ghost use Rattle.cn_floor.specs.Rule.{FitsLanes};
 ghost use Rattle.cn_yard.specs.Lists.{IsLowest, IsThere, next_after, first_of, on, standing, times_in, tokens_in};
 
 use crate::view::{Grant, View};
 use atomic_table::Seat;
-use cn_spec::limits::MOST_ROOM;
+use cn_spec::limits::MOST_TOKENS;
 use cn_yard::{Token, Yard};
 use std::alloc::AllocError;
 use std::marker::Model;
@@ -82,9 +82,10 @@ impl Lane {
     }
 
     /// What holds of each lane: its yard has the tokens of its view, wire by wire, and it has a wire for each of the
-    /// network; its floor began with a quota of at most [`MOST_CLIENTS`], after at most
-    /// [`cn_spec::limits::MOST_CARRIED`] clients; those inside and its quota are at most [`MOST_CLIENTS`] together; no
-    /// token stands there twice, and one that does stands on one wire, for one client.
+    /// network; its floor began with a quota of at most [`cn_spec::limits::MOST_NAMED`], after at most
+    /// [`cn_spec::limits::MOST_CARRIED`] clients; those inside and its quota are at most
+    /// [`cn_spec::limits::MOST_NAMED`] together; no token stands there twice, and one that does stands on one wire, for
+    /// one client.
     ///
     /// It does nothing: its contract is the law.
     pub fn lane_laws(&self)
@@ -92,7 +93,7 @@ impl Lane {
         ensures tokens { self.now.yard.lists ≡ self.now.view.tokens }
         ensures wires { length self.now.yard.lists ≡ length self.now.home.start.network.table.ends }
         ensures small { FitsLanes self.now.home.start }
-        ensures few { tokens_in self.now.yard.lists + self.now.view.quota ≤ MOST_CLIENTS }
+        ensures few { tokens_in self.now.yard.lists + self.now.view.quota ≤ MOST_NAMED }
         ensures once { (token : ℕ) → times_in self.now.yard.lists token ≤ 1 }
         ensures there { (token client wire : ℕ)
             → standing self.now.yard.lists token ≡ Some (wire, client)
@@ -101,18 +102,22 @@ impl Lane {
         self.yard.yard_laws();
     }
 
-    /// Makes room for so many clients, at most [`MOST_ROOM`]: as many can come in, and get their grants, with no
-    /// further memory.
+    /// Makes room for so many clients, at most [`cn_spec::limits::MOST_NAMED`]: as many can come in, and get their
+    /// grants, with no further memory.
     ///
     /// # Errors
-    /// `AllocError` if there is less room and the rest gets no memory. Then nothing has changed.
+    /// `AllocError` if there is less room and the rest gets no memory, or if with those inside they are more than
+    /// [`MOST_TOKENS`]. Then nothing has changed.
     pub fn reserve(&mut self, clients: u64) -> Result<(), AllocError>
-        requires { clients ≤ MOST_ROOM }
+        requires { clients ≤ MOST_NAMED }
         ensures ok { OnOk result (self.new ≡ with_room clients self.old) }
         ensures err { OnErr result (self.new ≡ self.old) }
     {
-        let inside = self.yard.len() as usize;
-        self.grants.reserve(inside + clients as usize)?;
+        let inside = u64::from(self.yard.len());
+        if inside + clients > u64::from(MOST_TOKENS) {
+            return Err(AllocError);
+        }
+        self.grants.reserve((inside + clients) as usize)?;
         self.yard.reserve(clients as u32)?;
         self.room = self.room.max(clients);
         Ok(())

@@ -1,7 +1,7 @@
 //! How a floor begins.
 
 ghost use Rattle.std.specs.Prelude.{◌≡◌, ◌+◌, ◌*◌, ◌<◌, ◌≤◌, ◌↔◌, [], length, replicate, IfErr, IfOk, IfSome, IsErrOf};
-ghost use Rattle.cn_spec.specs.declared.limits.TheConstants.{MOST_CARRIED, MOST_CLIENTS};
+ghost use Rattle.cn_spec.specs.declared.limits.TheConstants.{MOST_CARRIED, MOST_CLIENTS, MOST_NAMED};
 ghost use Rattle.cn_wiring.specs.Network.{IsNetwork};
 ghost use Rattle.cn_yard.specs.Lists.{empty, tokens_in};
 ghost use Rattle.cn_floor.specs.Carried.{client_count, start_after, zero_words};
@@ -130,7 +130,7 @@ impl<'a> Floor<'a> {
     /// A floor that goes on from what another left, and takes the words and the yard of that. Over leftovers of nobody
     /// ([`Leftovers::new`]) it is that of [`Floor::open`], over those of a closed floor that of [`Floor::open_words`],
     /// and its lane may have spare records. They count at most [`cn_spec::limits::MOST_CARRIED`] clients, and the quota
-    /// is at most [`MOST_CLIENTS`].
+    /// is at most [`cn_spec::limits::MOST_NAMED`].
     ///
     /// # Errors
     /// The leftovers, if a growth was refused. Their words are as they were.
@@ -139,7 +139,7 @@ impl<'a> Floor<'a> {
         leftovers: Leftovers<'a>,
         quota: u64,
     ) -> Result<(Floor<'a>, Lane), Leftovers<'a>>
-        requires few { (client_count leftovers.words ≤ MOST_CARRIED) × (quota ≤ MOST_CLIENTS) }
+        requires few { (client_count leftovers.words ≤ MOST_CARRIED) × (quota ≤ MOST_NAMED) }
         ensures floor { IfOk result (λ r. r.0.start ≡ start_after leftovers.entry.words quota) }
         ensures lane { IfOk result (λ r. r.1 ≡ record (empty_lane r.0 quota) { yard = r.1.yard }) }
         ensures idle { IfOk result (λ r. IsIdle leftovers.entry.words.network r.1.yard.lists) }
@@ -190,7 +190,7 @@ impl<'a> Floor<'a> {
         quota: u64,
         yard: Yard,
     ) -> Result<(Floor<'a>, Lane), Words<'a>>
-        requires few { (client_count words ≤ MOST_CARRIED) × (quota ≤ MOST_CLIENTS) }
+        requires few { (client_count words ≤ MOST_CARRIED) × (quota ≤ MOST_NAMED) }
         requires idle { IsIdle words.network yard.lists }
         ensures floor { IfOk result (λ r. r.0.start ≡ start_after words.entry quota) }
         ensures lane { IfOk result (λ r. r.1 ≡ record (empty_lane r.0 quota) { yard = yard }) }

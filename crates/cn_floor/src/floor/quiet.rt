@@ -1,7 +1,7 @@
 //! What a closed floor leaves.
 
 ghost use Rattle.std.specs.Prelude.{◌≡◌, ◌+◌, ◌≤◌, length, IfOk};
-ghost use Rattle.cn_spec.specs.declared.limits.TheConstants.{MOST_CARRIED, MOST_CLIENTS};
+ghost use Rattle.cn_spec.specs.declared.limits.TheConstants.{MOST_CARRIED, MOST_NAMED};
 ghost use Rattle.cn_floor.specs.Carried.{client_count};
 ghost use Rattle.cn_floor.specs.Ends.{HasRisen, IsClosedFloor, ListsHolders, counts_by_exit, passes_of, words_after};
 
@@ -42,7 +42,7 @@ impl<'a> Quiet<'a> {
     /// It does nothing: its contract is the law.
     pub fn quiet_laws(&self)
         ensures closed { IsClosedFloor self.now.start self.now.did self.now.words }
-        ensures few { client_count (words_after self.now) ≤ MOST_CARRIED + MOST_CLIENTS }
+        ensures few { client_count (words_after self.now) ≤ MOST_CARRIED + MOST_NAMED }
     {
         // Opens what each quiet floor keeps.
         let _ = &self.grants;

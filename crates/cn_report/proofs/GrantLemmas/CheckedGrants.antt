@@ -1,5 +1,5 @@
 -- The grants that were seen so far.
-use Rattle.cn_report.proofs.Common.{◌≡◌, ◌<◌, ◌≤◌, ◌+◌, ℕ, Bool, List, [], ◌∷◌, ◌++◌, true, false, Option, Some, None, length, refl, arith, suc, sym, ap, ◌∙◌, inl, inr, map, subst, length-append, if◌then◌else◌, ◌==◌, ◌||◌, ◌⊎◌, nat_eq, AllByRecursion, list_any, append-nil, map-append, filter-append, fold-append, lt-ltb, le-ltb, le-leb, lt-leb, ne_eqb, eq-eqb, leb_tells, MOST_RECORDS}
+use Rattle.cn_report.proofs.Common.{◌≡◌, ◌<◌, ◌≤◌, ◌+◌, ℕ, Bool, List, [], ◌∷◌, ◌++◌, true, false, Option, Some, None, length, refl, arith, suc, sym, ap, ◌∙◌, inl, inr, map, subst, length-append, if◌then◌else◌, ◌==◌, ◌||◌, ◌⊎◌, nat_eq, AllByRecursion, list_any, append-nil, map-append, filter-append, fold-append, lt-ltb, le-ltb, le-leb, lt-leb, ne_eqb, eq-eqb, leb_tells}
 use Rattle.std.proofs.Math.Dec.{leb}
 use Rattle.cn_report.specs.Grants.Checked.{AreSeen, HoldsGrants, IsChecked, IsGapBelow, Tells, adding_cause, latest_number, latest_seen}
 use Rattle.cn_report.specs.Grants.Printed.{epoch_numbers, named_epoch, plain_named, with_number}
@@ -59,30 +59,30 @@ turned old new grants h count clients names gap held =
     }
 
 -- the form's cause
-pub form-back : (before : List Granted) (g : Granted) → g.epoch < last_epoch before → form_cause before g ≡ Some Form
+pub form-back : (most : ℕ) (before : List Granted) (g : Granted) → g.epoch < last_epoch before → form_cause most before g ≡ Some Form
 unfolding form_cause
-form-back before g h = rw (lt-ltb g.epoch (last_epoch before) h) refl
+form-back most before g h = rw (lt-ltb g.epoch (last_epoch before) h) refl
 
-pub form-full : (before : List Granted) (g : Granted) → MOST_RECORDS ≤ length before → form_cause before g ≡ Some Form
+pub form-full : (most : ℕ) (before : List Granted) (g : Granted) → most ≤ length before → form_cause most before g ≡ Some Form
 unfolding form_cause
-form-full before g h = each (leb_tells (suc g.epoch) (last_epoch before))
+form-full most before g h = each (leb_tells (suc g.epoch) (last_epoch before))
   where
-    each : ((leb (suc g.epoch) (last_epoch before) ≡ true) × (suc g.epoch ≤ last_epoch before)) ⊎ ((leb (suc g.epoch) (last_epoch before) ≡ false) × (last_epoch before < suc g.epoch)) → form_cause before g ≡ Some Form
+    each : ((leb (suc g.epoch) (last_epoch before) ≡ true) × (suc g.epoch ≤ last_epoch before)) ⊎ ((leb (suc g.epoch) (last_epoch before) ≡ false) × (last_epoch before < suc g.epoch)) → form_cause most before g ≡ Some Form
     each (inl w) = rw w.0 refl
-    each (inr w) = rw (w.0, le-leb MOST_RECORDS (length before) h) refl
+    each (inr w) = rw (w.0, le-leb most (length before) h) refl
 
-pub form-none : (before : List Granted) (g : Granted) → last_epoch before ≤ g.epoch → length before < MOST_RECORDS → form_cause before g ≡ None
+pub form-none : (most : ℕ) (before : List Granted) (g : Granted) → last_epoch before ≤ g.epoch → length before < most → form_cause most before g ≡ None
 unfolding form_cause
-form-none before g h few = rw (le-ltb g.epoch (last_epoch before) h, lt-leb MOST_RECORDS (length before) few) refl
+form-none most before g h few = rw (le-ltb g.epoch (last_epoch before) h, lt-leb most (length before) few) refl
 
 -- the reported cause is that of the grant
-pub reported : (g : Granting) (before : List Granted) (grant : Granted) → HoldsGrants g before → g.latest ≡ grant.epoch → last_epoch before ≤ grant.epoch → length before < MOST_RECORDS
-    → adding_cause g grant ≡ first_cause (form_cause before grant) (twice_cause before grant)
+pub reported : (most : ℕ) (g : Granting) (before : List Granted) (grant : Granted) → HoldsGrants g before → g.latest ≡ grant.epoch → last_epoch before ≤ grant.epoch → length before < most
+    → adding_cause g grant ≡ first_cause (form_cause most before grant) (twice_cause before grant)
 unfolding twice_cause
-reported g before grant held here last few =
+reported most g before grant held here last few =
     let clients = held.clients grant.client in
     let names = held.names grant.name in
-    rw (form-none before grant last few) (rw (clients, names, here) refl)
+    rw (form-none most before grant last few) (rw (clients, names, here) refl)
 
 or_swap : (a b c : Bool) → (a || (b || c)) ≡ (b || (a || c))
 or_swap true true c = refl

@@ -54,11 +54,11 @@ twice-none before g = each (has_client g.client (of_epoch g.epoch before))
 abbrev pub AreOnce : List Granted → Type 0
 AreOnce grants = (e n : ℕ) → times n (map (λ (g : Granted). g.client) (of_epoch e grants)) ≤ 1
 
-pub once-next : (before : List Granted) (g : Granted) → AreOnce before → spelled_cause before (Some g) ≡ None → AreOnce (before ++ g ∷ [])
-once-next before g once none e n = each (eqb_tells g.epoch e)
+pub once-next : (most : ℕ) (before : List Granted) (g : Granted) → AreOnce before → spelled_cause most before (Some g) ≡ None → AreOnce (before ++ g ∷ [])
+once-next most before g once none e n = each (eqb_tells g.epoch e)
   where
     free : has_client g.client (of_epoch g.epoch before) ≡ false
-    free = twice-none before g (first_none (form_cause before g) (twice_cause before g) none).1
+    free = twice-none before g (first_none (form_cause most before g) (twice_cause before g) none).1
 
     here : g.epoch ≡ e → ((eqb g.client n ≡ true) × (g.client ≡ n)) ⊎ ((eqb g.client n ≡ false) × (g.client ≢ n))
         → times n (map (λ (g : Granted). g.client) (of_epoch e before ++ g ∷ [])) ≤ 1
@@ -93,9 +93,9 @@ module _ (header : Record → Option GrantCause) (one other : List Record → Re
       each false true e = less (take at records) (get_or records at []) e
       each false false e = e
 
-form_of : (before : List Granted) (spelled : Option Granted) → spelled_cause before spelled ≡ None → spelled_form before spelled ≡ None
-form_of before None e = e
-form_of before (Some g) e = (first_none (form_cause before g) (twice_cause before g) e).0
+form_of : (most : ℕ) (before : List Granted) (spelled : Option Granted) → spelled_cause most before spelled ≡ None → spelled_form most before spelled ≡ None
+form_of most before None e = e
+form_of most before (Some g) e = (first_none (form_cause most before g) (twice_cause before g) e).0
 
 -- an epoch that lacks no name is tight
 epoch-tight : (grants : List Granted) → ((n : ℕ) → times n (map (λ (g : Granted). g.client) grants) ≤ 1) → ((n : ℕ) → n < length grants → has_name n grants ≡ true) → AreTightGrants grants
@@ -109,9 +109,9 @@ not_false true h = refl
 not_false false h = absurd (h refl)
 
 -- the list is tight where no record has a cause, no client stands twice in an epoch, and no epoch lacks a name
-pub list-tight : (records : List Record) (grants : List Granted) → IsClean grants_cause records → grants_spelled (drop 1 records) ≡ grants → AreOnce grants → ((e n : ℕ) → Lacks grants e n → ⊥) → IsTightList records
-list-tight records grants clean spells once full = record {
-  form = λ at. weaker header_cause record_cause record_form (λ before fields. form_of (grants_spelled (drop 1 before)) (grant_spelled fields)) records at (clean at);
+pub list-tight : (most : ℕ) (records : List Record) (grants : List Granted) → IsClean (grants_cause most) records → grants_spelled (drop 1 records) ≡ grants → AreOnce grants → ((e n : ℕ) → Lacks grants e n → ⊥) → IsTightList most records
+list-tight most records grants clean spells once full = record {
+  form = λ at. weaker header_cause (record_cause most) (record_form most) (λ before fields. form_of most (grants_spelled (drop 1 before)) (grant_spelled fields)) records at (clean at);
   tight = λ e. rw spells (epoch-tight (of_epoch e grants) (once e) (λ n h. not_false (has_name n (of_epoch e grants)) (λ f. full e n (h, f))));
 }
 
@@ -161,46 +161,46 @@ grants-round (r ∷ records) (suc m) g h is = each (grant_spelled r) (grants-rou
     each (Some x) more = ap (λ (l : List Granted). x ∷ l) more
     each None more = more
 
-at-record : (r : Record) (records : List Record) (m : ℕ) → m < length records → ((epoch : ℕ) → AreTightGrants (of_epoch epoch (grants_spelled records)))
-    → spelled_form (grants_spelled (take m records)) (grant_spelled (get_or records m [])) ≡ None → spelled_cause (grants_spelled (take m records)) (grant_spelled (get_or records m [])) ≡ None
-at-record r records m h tight = each (grant_spelled (get_or records m [])) refl
+at-record : (most : ℕ) (r : Record) (records : List Record) (m : ℕ) → m < length records → ((epoch : ℕ) → AreTightGrants (of_epoch epoch (grants_spelled records)))
+    → spelled_form most (grants_spelled (take m records)) (grant_spelled (get_or records m [])) ≡ None → spelled_cause most (grants_spelled (take m records)) (grant_spelled (get_or records m [])) ≡ None
+at-record most r records m h tight = each (grant_spelled (get_or records m [])) refl
   where
-    each : (spelled : Option Granted) → grant_spelled (get_or records m []) ≡ spelled → spelled_form (grants_spelled (take m records)) spelled ≡ None → spelled_cause (grants_spelled (take m records)) spelled ≡ None
+    each : (spelled : Option Granted) → grant_spelled (get_or records m []) ≡ spelled → spelled_form most (grants_spelled (take m records)) spelled ≡ None → spelled_cause most (grants_spelled (take m records)) spelled ≡ None
     each None is e = e
     each (Some g) is e =
         rw e (no-twice (grants_spelled (take m records)) (grants_spelled (drop (suc m) records)) g
         (subst (λ (l : List Granted). AreTightGrants (of_epoch g.epoch l)) (grants-round records m g h is) (tight g.epoch)))
 
-tight_at : (records : List Record) (at : ℕ) → ((epoch : ℕ) → AreTightGrants (of_epoch epoch (grants_spelled (drop 1 records)))) → grants_form records at ≡ None → grants_cause records at ≡ None
+tight_at : (most : ℕ) (records : List Record) (at : ℕ) → ((epoch : ℕ) → AreTightGrants (of_epoch epoch (grants_spelled (drop 1 records)))) → grants_form most records at ≡ None → grants_cause most records at ≡ None
 unfolding cause_by
-tight_at records zero tight e = e
-tight_at [] (suc m) tight e =
+tight_at most records zero tight e = e
+tight_at most [] (suc m) tight e =
     let past : nat_lt (suc m) 0 ≡ false = le-ltb (suc m) 0 (omega arith) in
     let nonzero : (suc m == 0) ≡ false = ne_eqb (suc m) 0 (λ x. omega (arith, x)) in
     rw (nonzero, past) refl
-tight_at (r ∷ records) (suc m) tight e = each (leb_tells (suc m) (length records)) e
+tight_at most (r ∷ records) (suc m) tight e = each (leb_tells (suc m) (length records)) e
   where
-    each : ((leb (suc m) (length records) ≡ true) × (suc m ≤ length records)) ⊎ ((leb (suc m) (length records) ≡ false) × (length records < suc m)) → grants_form (r ∷ records) (suc m) ≡ None → grants_cause (r ∷ records) (suc m) ≡ None
+    each : ((leb (suc m) (length records) ≡ true) × (suc m ≤ length records)) ⊎ ((leb (suc m) (length records) ≡ false) × (length records < suc m)) → grants_form most (r ∷ records) (suc m) ≡ None → grants_cause most (r ∷ records) (suc m) ≡ None
     each (inl w) e =
         let far : nat_lt (suc m) (length (r ∷ records)) ≡ true = lt-ltb (suc m) (length (r ∷ records)) (omega (arith, w.1)) in
         let nonzero : (suc m == 0) ≡ false = ne_eqb (suc m) 0 (λ x. omega (arith, x)) in
-        rw (nonzero, far) (at-record r records m (omega (arith, w.1)) tight (rw (nonzero, far) at e))
+        rw (nonzero, far) (at-record most r records m (omega (arith, w.1)) tight (rw (nonzero, far) at e))
     each (inr w) e =
         let past : nat_lt (suc m) (length (r ∷ records)) ≡ false = le-ltb (suc m) (length (r ∷ records)) (omega (arith, w.1)) in
         let nonzero : (suc m == 0) ≡ false = ne_eqb (suc m) 0 (λ x. omega (arith, x)) in
         rw (nonzero, past) refl
 
-tight-clean : (records : List Record) → IsTightList records → IsClean grants_cause records
-tight-clean records t at = tight_at records at t.tight (t.form at)
+tight-clean : (most : ℕ) (records : List Record) → IsTightList most records → IsClean (grants_cause most) records
+tight-clean most records t at = tight_at most records at t.tight (t.form at)
 
 tight-full : (grants : List Granted) → AreTightGrants grants → (n : ℕ) → n < length grants → has_name n grants ≡ false → ⊥
 tight-full grants t n h e =
     omega (arith, none-times (λ g. g.name) n grants e, once_each (length grants) (map (λ (g : Granted). g.name) grants) t.names n, once-there (length grants) n h)
 
-no_first : (records : List Record) (at : ℕ) (why : GrantCause) → (IsOfReading why → ⊥) → IsFirstWithCause records at why → IsTightList records → ⊥
-no_first records at why inside fault t =
+no_first : (most : ℕ) (records : List Record) (at : ℕ) (why : GrantCause) → (IsOfReading why → ⊥) → IsFirstWithCause most records at why → IsTightList most records → ⊥
+no_first most records at why inside fault t =
     elim fault.reported [
-      | inl e ↦ none-some why (sym (tight-clean records t at) ∙ e)
+      | inl e ↦ none-some why (sym (tight-clean most records t at) ∙ e)
       | inr other ↦ inside other
     ]
 
@@ -217,14 +217,14 @@ is_name (inl e) = cc e
 is_name (inr e) = cc e
 
 -- a tight list has no flaw but a failed read and want of memory
-pub tight-flaw : (records : List Record) (flaw : Flaw) → IsFlaw records flaw → IsTightList records → IsOutside flaw
-tight-flaw records (Read at) h t = tt
-tight-flaw records Memory h t = tt
-tight-flaw records (Form at) h t = no_first records at cause.Form is-form h t
-tight-flaw records (DuplicateClient at) h t = no_first records at cause.DuplicateClient is-client h t
-tight-flaw records (DuplicateName at) h t = no_first records at cause.DuplicateName is_name h t
-tight-flaw records (Gap epoch name) h t = tight-full (of_epoch epoch (grants_spelled (drop 1 records))) (t.tight epoch) name h.1.lacks.0 h.1.lacks.1
+pub tight-flaw : (most : ℕ) (records : List Record) (flaw : Flaw) → IsFlaw most records flaw → IsTightList most records → IsOutside flaw
+tight-flaw most records (Read at) h t = tt
+tight-flaw most records Memory h t = tt
+tight-flaw most records (Form at) h t = no_first most records at cause.Form is-form h t
+tight-flaw most records (DuplicateClient at) h t = no_first most records at cause.DuplicateClient is-client h t
+tight-flaw most records (DuplicateName at) h t = no_first most records at cause.DuplicateName is_name h t
+tight-flaw most records (Gap epoch name) h t = tight-full (of_epoch epoch (grants_spelled (drop 1 records))) (t.tight epoch) name h.1.lacks.0 h.1.lacks.1
 
-pub exact : {T : Type 0} (P : T → Type 0) (records : List Record) (result : Result T Flaw) → MatchResult result P (IsFlaw records) → IfErr result (λ flaw. IsTightList records → IsOutside flaw)
-exact P records (Ok x) h = tt
-exact P records (Err flaw) h = λ t. tight-flaw records flaw h t
+pub exact : {T : Type 0} (P : T → Type 0) (most : ℕ) (records : List Record) (result : Result T Flaw) → MatchResult result P (IsFlaw most records) → IfErr result (λ flaw. IsTightList most records → IsOutside flaw)
+exact P most records (Ok x) h = tt
+exact P most records (Err flaw) h = λ t. tight-flaw most records flaw h t

@@ -1,10 +1,11 @@
 -- The numbers of a batch that was read, and how many clients it has.
-use Rattle.cn_report.proofs.Common.{◌≡◌, ◌<◌, ◌≤◌, ◌+◌, ◌^◌, ℕ, List, [], ◌∷◌, ◌++◌, Option, Some, None, Result, Ok, Err, length, map, take, drop, get_or, refl, arith, suc, sym, ap, ◌∙◌, subst, length-append, All, AllByRecursion, cons_option, flat_map, sum_by, nat_tests, length-map, take_all, take_more, All-cons, All-nil, filter_map-append, sum_by-cons, MOST_RECORDS, Record}
+use Rattle.cn_report.proofs.Common.{◌≡◌, ◌<◌, ◌≤◌, ◌+◌, ◌^◌, ℕ, List, [], ◌∷◌, ◌++◌, Option, Some, None, Result, Ok, Err, length, map, take, drop, get_or, refl, arith, suc, sym, ap, ◌∙◌, subst, length-append, All, AllByRecursion, cons_option, flat_map, sum_by, nat_tests, length-map, take_all, take_more, All-cons, All-nil, filter_map-append, sum_by-cons, Record}
 use Rattle.std.specs.Result.{result_ok}
 use Rattle.std.proofs.lemmas.Option.{none-some}
 use Rattle.cn_ledger.specs.declared.client.Client.{Client}
 use Rattle.cn_report.specs.Reading.Arrival.{arrival_cause, arrival_in, arrival_with_entry, arrivals_in, arriving, entry_by_rule, ruled_arrival, spelled_cause}
 use Rattle.cn_report.specs.Reading.Batch.{IsBatch, arrivals_of, batch_cause, header_cause, record_cause}
+use Rattle.cn_report.specs.declared.reading.bounds.Bounds.{Bounds}
 use Rattle.cn_report.specs.Reading.Heading.{heading_in}
 use Rattle.cn_report.specs.declared.reading.batch.arrival.Heading.{Heading}
 use Rattle.cn_report.specs.declared.reading.batch.arrival.Heading.TheVariants.{WithEntry, ByRule}
@@ -50,16 +51,16 @@ ruled-small entries (e ∷ []) a is = absurd (none-some a is)
 ruled-small entries (e ∷ c ∷ []) a is = arriving-small (number_in e) (number_in c) (entry_by_rule entries (number_in c)) a (number-small e) (number-small c) is
 ruled-small entries (e ∷ c ∷ n ∷ rest) a is = absurd (none-some a is)
 
-arrival-small : (heading : Heading) (entries : ℕ) (fields : Record) (a : Arrival) → result_ok (arrival_in heading entries fields) ≡ Some a → IsSmall a
-arrival-small WithEntry entries fields a is = with-entry-small fields a is
-arrival-small ByRule entries fields a is = ruled-small entries fields a is
+arrival-small : (heading : Heading) (bounds : Bounds) (fields : Record) (a : Arrival) → result_ok (arrival_in heading bounds fields) ≡ Some a → IsSmall a
+arrival-small WithEntry bounds fields a is = with-entry-small fields a is
+arrival-small ByRule bounds fields a is = ruled-small bounds.entries fields a is
 
-arrivals-small : (heading : Heading) (entries : ℕ) (records : List Record) → AllByRecursion IsSmall (arrivals_in heading entries records)
-arrivals-small heading entries [] = tt
-arrivals-small heading entries (fields ∷ records) = by (result_ok (arrival_in heading entries fields)) (arrival-small heading entries fields) (arrivals-small heading entries records)
+arrivals-small : (heading : Heading) (bounds : Bounds) (records : List Record) → AllByRecursion IsSmall (arrivals_in heading bounds records)
+arrivals-small heading bounds [] = tt
+arrivals-small heading bounds (fields ∷ records) = by (result_ok (arrival_in heading bounds fields)) (arrival-small heading bounds fields) (arrivals-small heading bounds records)
   where
-    by : (spelled : Option Arrival) → ((a : Arrival) → spelled ≡ Some a → IsSmall a) → AllByRecursion IsSmall (arrivals_in heading entries records)
-        → AllByRecursion IsSmall (cons_option spelled (arrivals_in heading entries records))
+    by : (spelled : Option Arrival) → ((a : Arrival) → spelled ≡ Some a → IsSmall a) → AllByRecursion IsSmall (arrivals_in heading bounds records)
+        → AllByRecursion IsSmall (cons_option spelled (arrivals_in heading bounds records))
     by None small more = more
     by (Some a) small more = (small a refl, more)
 
@@ -90,40 +91,40 @@ epochs-small (e ∷ epochs) some all =
 -- ---- how many
 
 -- where an arrival has no cause, those before it are few
-few-before : (entries : ℕ) (before : List Arrival) (spelled : Result Arrival BatchCause) → spelled_cause entries before spelled ≡ None → length before < MOST_RECORDS
+few-before : (bounds : Bounds) (before : List Arrival) (spelled : Result Arrival BatchCause) → spelled_cause bounds before spelled ≡ None → length before < bounds.records
 unfolding arrival_cause
-few-before entries before (Err why) none = absurd (none-some why (sym none))
-few-before entries before (Ok a) none = grind (arith, nat_tests, none)
+few-before bounds before (Err why) none = absurd (none-some why (sym none))
+few-before bounds before (Ok a) none = grind (arith, nat_tests, none)
 
 at_most_one : (spelled : Option Arrival) → length (cons_option spelled []) ≤ 1
 at_most_one None = omega arith
 at_most_one (Some a) = omega arith
 
-few-arrivals : (entries : ℕ) (header : Record) (records : List Record) → IsClean (batch_cause entries) (header ∷ records)
-    → length (arrivals_in (heading_in (header ∷ records)) entries records) ≤ MOST_RECORDS
-few-arrivals entries header [] clean = omega arith
-few-arrivals entries header (fields ∷ records) clean =
+few-arrivals : (bounds : Bounds) (header : Record) (records : List Record) → IsClean (batch_cause bounds) (header ∷ records)
+    → length (arrivals_in (heading_in (header ∷ records)) bounds records) ≤ bounds.records
+few-arrivals bounds header [] clean = omega arith
+few-arrivals bounds header (fields ∷ records) clean =
     let all = fields ∷ records in
     let n = length records in
     let last = get_or all n [] in
     let heading = heading_in (header ∷ all) in
     let parted : all ≡ take n all ++ last ∷ [] = sym (take_all (n + 1) all (omega arith)) ∙ take_more all n [] (omega arith) in
-    let none : record_cause entries (header ∷ take n all) last ≡ None =
-    sym (cause_later header_cause (record_cause entries) (header ∷ all) (suc n) (omega arith) (omega arith)) ∙ clean (suc n) in
-    let few = few-before entries (arrivals_in heading entries (take n all)) (arrival_in heading entries last) none in
-    let size : length (arrivals_in heading entries all) ≡ length (arrivals_in heading entries (take n all) ++ arrivals_in heading entries (last ∷ [])) =
-    ap (λ (l : List Record). length (arrivals_in heading entries l)) parted ∙ ap length (filter_map-append (λ r. result_ok (arrival_in heading entries r)) (take n all) (last ∷ [])) in
+    let none : record_cause bounds (header ∷ take n all) last ≡ None =
+    sym (cause_later header_cause (record_cause bounds) (header ∷ all) (suc n) (omega arith) (omega arith)) ∙ clean (suc n) in
+    let few = few-before bounds (arrivals_in heading bounds (take n all)) (arrival_in heading bounds last) none in
+    let size : length (arrivals_in heading bounds all) ≡ length (arrivals_in heading bounds (take n all) ++ arrivals_in heading bounds (last ∷ [])) =
+    ap (λ (l : List Record). length (arrivals_in heading bounds l)) parted ∙ ap length (filter_map-append (λ r. result_ok (arrival_in heading bounds r)) (take n all) (last ∷ [])) in
     omega (
       arith,
       few,
       size,
-      length-append (arrivals_in heading entries (take n all)) (arrivals_in heading entries (last ∷ [])),
-      at_most_one (result_ok (arrival_in heading entries last)),
+      length-append (arrivals_in heading bounds (take n all)) (arrivals_in heading bounds (last ∷ [])),
+      at_most_one (result_ok (arrival_in heading bounds last)),
     )
 
-few-in : (entries : ℕ) (records : List Record) → IsClean (batch_cause entries) records → length (arrivals_in (heading_in records) entries (drop 1 records)) ≤ MOST_RECORDS
-few-in entries [] clean = omega arith
-few-in entries (header ∷ records) clean = few-arrivals entries header records clean
+few-in : (bounds : Bounds) (records : List Record) → IsClean (batch_cause bounds) records → length (arrivals_in (heading_in records) bounds (drop 1 records)) ≤ bounds.records
+few-in bounds [] clean = omega arith
+few-in bounds (header ∷ records) clean = few-arrivals bounds header records clean
 
 abbrev clients_in : BatchEpoch → ℕ
 clients_in e = length e.clients.items
@@ -136,10 +137,10 @@ arrivals-many (e ∷ epochs) =
     ∙ sym (sum_by-cons clients_in e epochs)
 
 -- a batch's numbers are of 64 bits, and its clients are no more than the limit of records
-pub batch-numbers : (entries : ℕ) (records : List Record) (epochs : List BatchEpoch) → IsBatch entries records epochs
-    → AllByRecursion IsSmallEpoch epochs × (sum_by (λ e. length e.clients.items) epochs ≤ MOST_RECORDS)
-batch-numbers entries records epochs batch =
+pub batch-numbers : (bounds : Bounds) (records : List Record) (epochs : List BatchEpoch) → IsBatch bounds records epochs
+    → AllByRecursion IsSmallEpoch epochs × (sum_by (λ e. length e.clients.items) epochs ≤ bounds.records)
+batch-numbers bounds records epochs batch =
     let spells = batch.holds.spells in (
-      epochs-small epochs batch.holds.some (subst (AllByRecursion IsSmall) (sym spells) (arrivals-small (heading_in records) entries (drop 1 records))),
-      omega (arith, ap length spells, arrivals-many epochs, few-in entries records batch.clean),
+      epochs-small epochs batch.holds.some (subst (AllByRecursion IsSmall) (sym spells) (arrivals-small (heading_in records) bounds (drop 1 records))),
+      omega (arith, ap length spells, arrivals-many epochs, few-in bounds records batch.clean),
     )

@@ -1,5 +1,5 @@
 -- A grant list that is written keeps the form.
-use Rattle.cn_report.proofs.Common.{◌≡◌, ◌<◌, ◌≤◌, ◌+◌, ℕ, List, [], ◌∷◌, ◌++◌, Some, None, length, map, refl, arith, sym, ap, append_assoc, length-append, ⊤, nat_le, nat_lt, false, fold, le-ltb, append-nil, map-append, nat_tests, MOST_RECORDS}
+use Rattle.cn_report.proofs.Common.{◌≡◌, ◌<◌, ◌≤◌, ◌+◌, ℕ, List, [], ◌∷◌, ◌++◌, Some, None, length, map, refl, arith, sym, ap, append_assoc, length-append, ⊤, nat_le, nat_lt, false, fold, le-ltb, append-nil, map-append, nat_tests}
 use Rattle.cn_report.specs.Reading.Faults.{IsClean}
 use Rattle.cn_report.specs.Grants.Granted.{form_cause, grant_spelled, grants_spelled, last_epoch}
 use Rattle.cn_report.specs.Grants.TightList.{grants_form, header_cause, record_form}
@@ -30,11 +30,11 @@ last-next before g = from 0 before
     from epoch [] = refl
     from epoch (x ∷ gs) = from x.epoch gs
 
-no-form-cause : (before : List Granted) (g : Granted) → last_epoch before ≤ g.epoch → length before < MOST_RECORDS → form_cause before g ≡ None
+no-form-cause : (most : ℕ) (before : List Granted) (g : Granted) → last_epoch before ≤ g.epoch → length before < most → form_cause most before g ≡ None
 unfolding form_cause
-no-form-cause before g rises room =
+no-form-cause most before g rises room =
     let back : nat_lt g.epoch (last_epoch before) ≡ false = le-ltb g.epoch (last_epoch before) rises in
-    let full : nat_le MOST_RECORDS (length before) ≡ false = grind (arith, nat_tests, room) in
+    let full : nat_le most (length before) ≡ false = grind (arith, nat_tests, room) in
     rw (back, full) refl
 
 small-next : (before : List Granted) (g : Granted) → AllSmall before → IsSmall g → AllSmall (before ++ g ∷ [])
@@ -43,23 +43,23 @@ small-next [] g all small = (small, tt)
 small-next (x ∷ before) g all small = (all.0, small-next before g all.1 small)
 
 -- the records of a written list, one after the other
-clean-from : (before gs : List Granted) → AllSmall before → AllSmall gs → NeverFall (last_epoch before) gs → length before + length gs ≤ MOST_RECORDS
-    → AreClean header_cause record_form (header_record ∷ map record_of before) → AreClean header_cause record_form (header_record ∷ map record_of (before ++ gs))
+clean-from : (most : ℕ) (before gs : List Granted) → AllSmall before → AllSmall gs → NeverFall (last_epoch before) gs → length before + length gs ≤ most
+    → AreClean header_cause (record_form most) (header_record ∷ map record_of before) → AreClean header_cause (record_form most) (header_record ∷ map record_of (before ++ gs))
 unfolding AllSmall NeverFall
-clean-from before [] had small rises few clean = rw (append-nil before) clean
-clean-from before (g ∷ gs) had small rises few clean =
-    let none : record_form (header_record ∷ map record_of before) (record_of g) ≡ None =
-    rw (grants-read before had, granted-back g small.0) (no-form-cause before g rises.0 (omega (arith, few))) in
-    let next = clean-more header_cause record_form (header_record ∷ map record_of before) (record_of g) clean none in
-    let more : AreClean header_cause record_form (header_record ∷ map record_of (before ++ g ∷ [])) = rw (map-append record_of before (g ∷ [])) next in
-    let rest = clean-from (before ++ g ∷ []) gs (small-next before g had small.0) small.1 (rw (last-next before g) rises.1)
+clean-from most before [] had small rises few clean = rw (append-nil before) clean
+clean-from most before (g ∷ gs) had small rises few clean =
+    let none : record_form most (header_record ∷ map record_of before) (record_of g) ≡ None =
+    rw (grants-read before had, granted-back g small.0) (no-form-cause most before g rises.0 (omega (arith, few))) in
+    let next = clean-more header_cause (record_form most) (header_record ∷ map record_of before) (record_of g) clean none in
+    let more : AreClean header_cause (record_form most) (header_record ∷ map record_of (before ++ g ∷ [])) = rw (map-append record_of before (g ∷ [])) next in
+    let rest = clean-from most (before ++ g ∷ []) gs (small-next before g had small.0) small.1 (rw (last-next before g) rises.1)
     (omega (arith, few, length-append before (g ∷ []))) more in
     rw (sym (append_assoc before (g ∷ []) gs)) rest
 
-header-clean : AreClean header_cause record_form (header_record ∷ map record_of [])
-header-clean = clean-header header_cause record_form header_record refl
+header-clean : (most : ℕ) → AreClean header_cause (record_form most) (header_record ∷ map record_of [])
+header-clean most = clean-header header_cause (record_form most) header_record refl
 
-pub form-clean : (gs : List Granted) → AllSmall gs → NeverFall 0 gs → length gs ≤ MOST_RECORDS → IsClean grants_form (header_record ∷ map record_of gs)
+pub form-clean : (most : ℕ) (gs : List Granted) → AllSmall gs → NeverFall 0 gs → length gs ≤ most → IsClean (grants_form most) (header_record ∷ map record_of gs)
 unfolding AllSmall
-form-clean gs small rises few =
-    clean-all header_cause record_form (header_record ∷ map record_of gs) (clean-from [] gs tt small rises (omega (arith, few)) header-clean)
+form-clean most gs small rises few =
+    clean-all header_cause (record_form most) (header_record ∷ map record_of gs) (clean-from most [] gs tt small rises (omega (arith, few)) (header-clean most))

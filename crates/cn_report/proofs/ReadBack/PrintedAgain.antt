@@ -1,8 +1,9 @@
 -- What a check finds of a grant list that is written.
-use Rattle.cn_report.proofs.Common.{◌≡◌, ◌<◌, ◌+◌, ℕ, List, [], ◌∷◌, ◌++◌, Bool, true, false, length, map, refl, arith, suc, zero, sym, ap, ◌∙◌, ◌||◌, drop, nat_eq, AllByRecursion, fold, list_any, range_with_len, eq-eqb, ne_eqb, append-nil, append_assoc, length-map, fold-append, counts_after, counts_of, shares, shares_after, Record, records_of}
+use Rattle.cn_report.proofs.Common.{◌≡◌, ◌<◌, ◌≤◌, ◌+◌, ℕ, List, [], ◌∷◌, ◌++◌, Bool, true, false, length, map, refl, arith, suc, zero, sym, ap, ◌∙◌, ◌||◌, drop, nat_eq, AllByRecursion, fold, list_any, range_with_len, eq-eqb, ne_eqb, append-nil, append_assoc, length-map, fold-append, counts_after, counts_of, shares, shares_after, Record, records_of}
 use Rattle.std.proofs.lemmas.List.FromFn.{length-map-range_with_len}
 use Rattle.std.proofs.lemmas.List.Sorted.{IsPermutation-refl}
 use Rattle.cn_spec.proofs.CallerLemmas.{counts-shares, counts-shares-after}
+use Rattle.cn_spec.specs.declared.limits.TheConstants.{MOST_NAMED}
 use Rattle.cn_record.specs.declared.record.EpochRecord.{EpochRecord}
 use Rattle.cn_report.specs.Grants.Granted.{grants_spelled, of_epoch}
 use Rattle.cn_report.specs.Grants.TightList.{IsTightList}
@@ -112,12 +113,12 @@ printed-each width all [] own = refl
 printed-each width all (r ∷ records) own = λ i. printed-one width all r own.0 i ∷ printed-each width all records own.1 i
 
 -- a check of a written list finds its epochs
-pub printed-back : (width : ℕ) (records : List EpochRecord) → AreTightRecords records → AllByRecursion (λ r. 0 < r.clients) records
+pub printed-back : (most width : ℕ) (records : List EpochRecord) → most ≤ MOST_NAMED → AreTightRecords most records → AllByRecursion (λ r. 0 < r.clients) records
     → printed_epochs width (records_of (grants_text records)) ≡ map (checked_epoch width) records
-printed-back width records tight some =
+printed-back most width records h tight some =
     let all = all_grants records in
     let spells : grants_spelled (drop 1 (records_of (grants_text records))) ≡ all =
-    ap (λ (l : List Record). grants_spelled (drop 1 l)) (records-back records tight) ∙ grants-read all (small-grants records tight) in
+    ap (λ (l : List Record). grants_spelled (drop 1 l)) (records-back most records h tight) ∙ grants-read all (small-grants most records h tight) in
     (λ i. map (printed_epoch width (spells i)) (epoch_numbers (spells i)))
     ∙ ap (map (printed_epoch width all)) (all-numbers [] records tight.rising some (none_below records))
     ∙ printed-each width all records (own-grants records tight.rising)
@@ -125,8 +126,8 @@ printed-back width records tight some =
 -- ---- any tight list
 
 -- each epoch's names are those below their number, so they are shared out, after any number of clients
-pub tight-after : (records : List Record) → IsTightList records → (w m epoch : ℕ) → counts_after m w (names_in epoch records) ≡ shares_after m (length (names_in epoch records)) w
-tight-after records tight w m epoch =
+pub tight-after : (most : ℕ) (records : List Record) → IsTightList most records → (w m epoch : ℕ) → counts_after m w (names_in epoch records) ≡ shares_after m (length (names_in epoch records)) w
+tight-after most records tight w m epoch =
     let grants = of_epoch epoch (grants_spelled (drop 1 records)) in
     let many : length (names_in epoch records) ≡ length grants = length-map grants (λ (g : Granted). g.name) in
     counts-shares-after w m (length grants) (names_in epoch records) (tight.tight epoch).names

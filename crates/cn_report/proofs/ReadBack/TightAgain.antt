@@ -4,6 +4,7 @@ use Rattle.std.proofs.lemmas.List.FromFn.{length-map-range_with_len}
 use Rattle.std.proofs.lemmas.List.Sorted.{IsPermutation-refl}
 use Rattle.std.proofs.Math.Dec.{eqb}
 use Rattle.cn_spec.proofs.CallerLemmas.{times-nil}
+use Rattle.cn_spec.specs.declared.limits.TheConstants.{MOST_NAMED}
 use Rattle.cn_record.specs.declared.record.EpochRecord.{EpochRecord}
 use Rattle.cn_report.specs.Grants.Granted.{of_epoch}
 use Rattle.cn_report.specs.Grants.TightList.{AreTightGrants, IsTightList}
@@ -93,20 +94,20 @@ all_small (r ∷ records) own few =
     (small-names r 0 r.clients own.0 (omega (arith, few, size, length-map-range_with_len (grant_at r) 0 r.clients)))
     (all_small records own.1 (omega (arith, few, size)))
 
-pub small-grants : (records : List EpochRecord) → AreTightRecords records → AllSmall (all_grants records)
-small-grants records tight = all_small records tight.names (omega (arith, tight.few, grants-many records))
+pub small-grants : (most : ℕ) (records : List EpochRecord) → most ≤ MOST_NAMED → AreTightRecords most records → AllSmall (all_grants records)
+small-grants most records h tight = all_small records tight.names (omega (arith, h, tight.few, grants-many records))
 
 -- the records of the written list, and the grants that they spell
-pub records-back : (records : List EpochRecord) → AreTightRecords records → records_of (grants_text records) ≡ header_record ∷ map record_of (all_grants records)
-records-back records tight =
+pub records-back : (most : ℕ) (records : List EpochRecord) → most ≤ MOST_NAMED → AreTightRecords most records → records_of (grants_text records) ≡ header_record ∷ map record_of (all_grants records)
+records-back most records h tight =
     ap (λ (more : List ℕ). records_of (grants_header ++ more)) (lines-of-all records)
-    ∙ grants-back (all_grants records) (small-grants records tight)
+    ∙ grants-back (all_grants records) (small-grants most records h tight)
 
-pub written-tight : (records : List EpochRecord) → AreTightRecords records → IsTightList (records_of (grants_text records))
-written-tight records tight =
-    let small = small-grants records tight in
+pub written-tight : (most : ℕ) (records : List EpochRecord) → most ≤ MOST_NAMED → AreTightRecords most records → IsTightList most (records_of (grants_text records))
+written-tight most records h tight =
+    let small = small-grants most records h tight in
     let falls = all-fall 0 records (any-number records) tight.rising in
-    rw (records-back records tight) (record {
-      form = form-clean (all_grants records) small falls (omega (arith, tight.few, grants-many records));
+    rw (records-back most records h tight) (record {
+      form = form-clean most (all_grants records) small falls (omega (arith, tight.few, grants-many records));
       tight = λ e. rw (grants-read (all_grants records) small) (each-tight records tight.rising tight.names e);
     })

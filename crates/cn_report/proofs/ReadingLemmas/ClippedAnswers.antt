@@ -15,6 +15,7 @@ use Rattle.cn_report.specs.declared.grants.record.GrantCause.TheVariants as gran
 use Rattle.cn_report.specs.declared.reading.batch.Batch.{Batch}
 use Rattle.cn_report.specs.declared.reading.batch_fault.BatchCause.TheVariants as batch_cause
 use Rattle.cn_report.specs.declared.reading.batch_fault.BatchFault.{BatchFault}
+use Rattle.cn_report.specs.declared.reading.bounds.Bounds.{Bounds}
 use Rattle.cn_report.specs.declared.reading.schedule_fault.ScheduleCause.TheVariants as schedule_cause
 use Rattle.cn_report.specs.declared.reading.schedule_fault.ScheduleFault.{ScheduleFault}
 use Rattle.cn_record.specs.declared.command.Command.{Command}
@@ -49,36 +50,40 @@ schedule-moves commands (Err fault) a b none_a none_b is =
     fault-moves schedule.header_cause schedule.record_cause schedule.IsOfReading a b _ (no-schedule _ none_a)
     (no-schedule _ none_b) fault.at fault.cause is
 
-pub batch-moves : (entries : ℕ) (result : Result Batch BatchFault) (a b : List Record) → IsNone (get_or a 0 []) → IsNone (get_or b 0 [])
-    → AnswersBatch entries a result → AnswersBatch entries b result
-batch-moves entries (Ok v) a b none_a none_b is =
-    absurd (no-clean batch.header_cause (batch.record_cause entries) a _ (no-batch _ none_a) is.clean)
-batch-moves entries (Err fault) a b none_a none_b is =
-    fault-moves batch.header_cause (batch.record_cause entries) batch.IsOfReading a b _ (no-batch _ none_a)
+pub batch-moves : (bounds : Bounds) (result : Result Batch BatchFault) (a b : List Record)
+    → IsNone (get_or a 0 []) → IsNone (get_or b 0 [])
+    → AnswersBatch bounds a result → AnswersBatch bounds b result
+batch-moves bounds (Ok v) a b none_a none_b is =
+    absurd (no-clean batch.header_cause (batch.record_cause bounds) a _ (no-batch _ none_a) is.clean)
+batch-moves bounds (Err fault) a b none_a none_b is =
+    fault-moves batch.header_cause (batch.record_cause bounds) batch.IsOfReading a b _ (no-batch _ none_a)
     (no-batch _ none_b) fault.at fault.cause is
 
-module _ (a b : List Record) (none_a : IsNone (get_or a 0 [])) (none_b : IsNone (get_or b 0 [])) where
-  first-moves : (at : ℕ) (why : GrantCause) → list.IsFirstWithCause a at why → list.IsFirstWithCause b at why
-  first-moves = fault-moves list.header_cause list.record_cause list.IsOfReading a b _ (no-list _ none_a) (no-list _ none_b)
+module _ (most : ℕ) (a b : List Record) (none_a : IsNone (get_or a 0 [])) (none_b : IsNone (get_or b 0 [])) where
+  first-moves : (at : ℕ) (why : GrantCause) → list.IsFirstWithCause most a at why → list.IsFirstWithCause most b at why
+  first-moves =
+      fault-moves list.header_cause (list.record_cause most) list.IsOfReading a b _ (no-list _ none_a) (no-list _ none_b)
 
-  flaw-moves : (flaw : Flaw) → IsFlaw a flaw → IsFlaw b flaw
+  flaw-moves : (flaw : Flaw) → IsFlaw most a flaw → IsFlaw most b flaw
   flaw-moves (Read at) is = first-moves at _ is
   flaw-moves (Form at) is = first-moves at _ is
   flaw-moves (DuplicateClient at) is = first-moves at _ is
   flaw-moves (DuplicateName at) is = first-moves at _ is
-  flaw-moves (Gap epoch name) is = absurd (no-clean list.header_cause list.record_cause a _ (no-list _ none_a) is.0)
+  flaw-moves (Gap epoch name) is = absurd (no-clean list.header_cause (list.record_cause most) a _ (no-list _ none_a) is.0)
   flaw-moves Memory is = tt
 
-no-tight : (records : List Record) → IsNone (get_or records 0 []) → ¬ (IsTightList records)
-no-tight records none is = no-clean list.header_cause list.record_form records _ (no-list _ none) is.form
+no-tight : (most : ℕ) (records : List Record) → IsNone (get_or records 0 []) → ¬ (IsTightList most records)
+no-tight most records none is = no-clean list.header_cause (list.record_form most) records _ (no-list _ none) is.form
 
-pub list-moves : {V : Type 0} (epochs : V → List NamedEpoch) (result : Result V Flaw) (a b : List Record) → IsNone (get_or a 0 [])
+pub list-moves : {V : Type 0} (most : ℕ) (epochs : V → List NamedEpoch) (result : Result V Flaw) (a b : List Record)
+    → IsNone (get_or a 0 []) → IsNone (get_or b 0 [])
+    → MatchResult result (λ v. IsNamedList most a (epochs v)) (IsFlaw most a)
+    → MatchResult result (λ v. IsNamedList most b (epochs v)) (IsFlaw most b)
+list-moves most epochs (Ok v) a b none_a none_b is = absurd (no-tight most a none_a is.tight)
+list-moves most epochs (Err flaw) a b none_a none_b is = flaw-moves most a b none_a none_b flaw is
+
+pub exact-moves : {V : Type 0} (most : ℕ) (result : Result V Flaw) (a b : List Record) → IsNone (get_or a 0 [])
     → IsNone (get_or b 0 [])
-    → MatchResult result (λ v. IsNamedList a (epochs v)) (IsFlaw a) → MatchResult result (λ v. IsNamedList b (epochs v)) (IsFlaw b)
-list-moves epochs (Ok v) a b none_a none_b is = absurd (no-tight a none_a is.tight)
-list-moves epochs (Err flaw) a b none_a none_b is = flaw-moves a b none_a none_b flaw is
-
-pub exact-moves : {V : Type 0} (result : Result V Flaw) (a b : List Record) → IsNone (get_or a 0 []) → IsNone (get_or b 0 [])
-    → IfErr result (λ flaw. IsTightList a → IsOutside flaw) → IfErr result (λ flaw. IsTightList b → IsOutside flaw)
-exact-moves (Ok v) a b none_a none_b is = tt
-exact-moves (Err flaw) a b none_a none_b is = λ tight. absurd (no-tight b none_b tight)
+    → IfErr result (λ flaw. IsTightList most a → IsOutside flaw) → IfErr result (λ flaw. IsTightList most b → IsOutside flaw)
+exact-moves most (Ok v) a b none_a none_b is = tt
+exact-moves most (Err flaw) a b none_a none_b is = λ tight. absurd (no-tight most b none_b tight)

@@ -1,5 +1,5 @@
 -- The epochs that were gathered, as arrivals.
-use Rattle.cn_report.proofs.Common.{◌≡◌, ◌<◌, ◌≤◌, ◌+◌, ℕ, List, [], ◌∷◌, ◌++◌, true, false, Some, length, map, refl, arith, sym, ap, ◌∙◌, inl, inr, append_assoc, subst, length-append, ◌==◌, nat_eq, nat_le, nat_lt, ◌⊎◌, AllByRecursion, flat_map, list_any, map-append, length-map, append-nil, filter-append, fold-append, lt-ltb, le-ltb, le-leb, lt-leb, ne_eqb, eq-eqb, leb_tells, MOST_RECORDS}
+use Rattle.cn_report.proofs.Common.{◌≡◌, ◌<◌, ◌≤◌, ◌+◌, ℕ, List, [], ◌∷◌, ◌++◌, true, false, Some, length, map, refl, arith, sym, ap, ◌∙◌, inl, inr, append_assoc, subst, length-append, ◌==◌, nat_eq, nat_le, nat_lt, ◌⊎◌, AllByRecursion, flat_map, list_any, map-append, length-map, append-nil, filter-append, fold-append, lt-ltb, le-ltb, le-leb, lt-leb, ne_eqb, eq-eqb, leb_tells}
 use Rattle.std.proofs.lemmas.Grind.{flat_map-append}
 use Rattle.std.proofs.Math.Dec.{eqb, leb}
 use Rattle.cn_ledger.specs.declared.client.Client.{Client}
@@ -9,6 +9,7 @@ use Rattle.cn_report.specs.declared.reading.batch.BatchEpoch.{BatchEpoch}
 use Rattle.cn_report.specs.declared.reading.batch.gathering.Gathering.{Gathering}
 use Rattle.cn_report.specs.Reading.Arrival.{arrival_cause, last_epoch, of_epoch}
 use Rattle.cn_report.specs.Reading.Batch.{AreEpochsOf, AreRising, arrivals_of}
+use Rattle.cn_report.specs.declared.reading.bounds.Bounds.{Bounds}
 use Rattle.cn_report.specs.Reading.Gathered.{HoldsArrivals, IsGathered, adding_cause, ended_after}
 
 -- an arrival of this client
@@ -38,14 +39,14 @@ same_clients n x [] = refl
 same_clients n x (c ∷ cs) = rw (same_clients n x cs) refl
 
 -- an arrival of an epoch below the last goes backwards
-pub backwards : (entries : ℕ) (before : List Arrival) (a : Arrival) → a.epoch < last_epoch before → arrival_cause entries before a ≡ Some EpochBackwards
+pub backwards : (bounds : Bounds) (before : List Arrival) (a : Arrival) → a.epoch < last_epoch before → arrival_cause bounds before a ≡ Some EpochBackwards
 unfolding arrival_cause
-backwards entries before a h = rw (lt-ltb a.epoch (last_epoch before) h) refl
+backwards bounds before a h = rw (lt-ltb a.epoch (last_epoch before) h) refl
 
 -- the entry of another is out of range
-pub out_of_range : (entries : ℕ) (before : List Arrival) (a : Arrival) → last_epoch before ≤ a.epoch → entries ≤ a.entry → arrival_cause entries before a ≡ Some EntryRange
+pub out_of_range : (bounds : Bounds) (before : List Arrival) (a : Arrival) → last_epoch before ≤ a.epoch → bounds.entries ≤ a.entry → arrival_cause bounds before a ≡ Some EntryRange
 unfolding arrival_cause
-out_of_range entries before a h out = rw (le-ltb a.epoch (last_epoch before) h, le-leb entries a.entry out) refl
+out_of_range bounds before a h out = rw (le-ltb a.epoch (last_epoch before) h, le-leb bounds.entries a.entry out) refl
 
 module _ (g : Gathering) (before : List Arrival) (held : HoldsArrivals g before) where
   -- the arrivals of the latest epoch
@@ -57,13 +58,13 @@ module _ (g : Gathering) (before : List Arrival) (held : HoldsArrivals g before)
       ∙ same-epoch g.latest.number g.latest.clients.items
 
   -- the cause reported of a client of the latest epoch is that of the arrival
-  pub reported : (entries : ℕ) (c : Client) → last_epoch before ≤ g.latest.number → c.entry < entries → length before + 1 ≡ g.next
-      → adding_cause g c ≡ arrival_cause entries before (arrival_at g.latest.number c)
+  pub reported : (bounds : Bounds) (c : Client) → last_epoch before ≤ g.latest.number → c.entry < bounds.entries → length before + 1 ≡ g.next
+      → adding_cause bounds g c ≡ arrival_cause bounds before (arrival_at g.latest.number c)
   unfolding arrival_cause
-  reported entries c last within size =
+  reported bounds c last within size =
       rw (
         le-ltb g.latest.number (last_epoch before) last,
-        lt-leb entries c.entry within,
+        lt-leb bounds.entries c.entry within,
         latest-only,
         held.standing,
         same_clients g.latest.number c.id g.latest.clients.items,
@@ -71,13 +72,13 @@ module _ (g : Gathering) (before : List Arrival) (held : HoldsArrivals g before)
         ← size,
       ) (rw full refl)
     where
-      full : nat_lt MOST_RECORDS (length before + 1) ≡ nat_le MOST_RECORDS (length before)
-      full = each (leb_tells MOST_RECORDS (length before))
+      full : nat_lt bounds.records (length before + 1) ≡ nat_le bounds.records (length before)
+      full = each (leb_tells bounds.records (length before))
         where
-          each : ((leb MOST_RECORDS (length before) ≡ true) × (MOST_RECORDS ≤ length before)) ⊎ ((leb MOST_RECORDS (length before) ≡ false) × (length before < MOST_RECORDS))
-              → nat_lt MOST_RECORDS (length before + 1) ≡ nat_le MOST_RECORDS (length before)
-          each (inl w) = lt-ltb MOST_RECORDS (length before + 1) (omega (arith, w.1)) ∙ sym w.0
-          each (inr w) = le-ltb MOST_RECORDS (length before + 1) (omega (arith, w.1)) ∙ sym w.0
+          each : ((leb bounds.records (length before) ≡ true) × (bounds.records ≤ length before)) ⊎ ((leb bounds.records (length before) ≡ false) × (length before < bounds.records))
+              → nat_lt bounds.records (length before + 1) ≡ nat_le bounds.records (length before)
+          each (inl w) = lt-ltb bounds.records (length before + 1) (omega (arith, w.1)) ∙ sym w.0
+          each (inr w) = le-ltb bounds.records (length before + 1) (omega (arith, w.1)) ∙ sym w.0
 
 all_more : (P : BatchEpoch → Type 0) (es : List BatchEpoch) (e : BatchEpoch) → AllByRecursion P es → P e → AllByRecursion P (es ++ e ∷ [])
 all_more P [] e all last = (last, tt)
@@ -172,10 +173,10 @@ as-arrival : (n : ℕ) (a : Arrival) → n ≡ a.epoch → arrival_at n (client_
 as-arrival n a e = λ i. record { epoch = e i; client = a.client; entry = a.entry }
 
 -- the cause of an arrival in whose epoch the gathering has come
-pub reported-of : (g : Gathering) (before : List Arrival) (entries : ℕ) (a : Arrival) → HoldsArrivals g before → g.latest.number ≡ a.epoch → last_epoch before ≤ a.epoch → a.entry < entries
-    → length before + 1 ≡ g.next → adding_cause g (client_of a) ≡ arrival_cause entries before a
-reported-of g before entries a held number last within size =
-    reported g before held entries (client_of a) (omega (arith, number, last)) within size ∙ ap (arrival_cause entries before) (as-arrival g.latest.number a number)
+pub reported-of : (g : Gathering) (before : List Arrival) (bounds : Bounds) (a : Arrival) → HoldsArrivals g before → g.latest.number ≡ a.epoch → last_epoch before ≤ a.epoch → a.entry < bounds.entries
+    → length before + 1 ≡ g.next → adding_cause bounds g (client_of a) ≡ arrival_cause bounds before a
+reported-of g before bounds a held number last within size =
+    reported g before held bounds (client_of a) (omega (arith, number, last)) within size ∙ ap (arrival_cause bounds before) (as-arrival g.latest.number a number)
 
 -- that arrival more
 pub taken_of : (old new : Gathering) (before : List Arrival) (a : Arrival) → HoldsArrivals old before → old.latest.number ≡ a.epoch → new.ended ≡ old.ended → new.latest.number ≡ old.latest.number

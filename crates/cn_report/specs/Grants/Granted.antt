@@ -1,7 +1,6 @@
 -- What the records of a grant list say, one by one.
 use Rattle.std.specs.Prelude.{ℕ, ◌==◌, ◌∷◌, [], Bool, List, length, nat_lt, nat_le, Option, Some, None, if◌then◌else◌}
 use Rattle.std.specs.List.{filter, filter_map, fold, list_any}
-use Rattle.cn_spec.specs.declared.limits.TheConstants.{MOST_RECORDS}
 use Rattle.cn_report.specs.Reading.Number.{number_in}
 use Rattle.cn_report.specs.Reading.Records.{Record}
 use Rattle.cn_report.specs.declared.grants.record.Granted.{Granted}
@@ -32,11 +31,11 @@ of_epoch epoch grants = filter (λ g. g.epoch == epoch) grants
 abbrev pub last_epoch : List Granted → ℕ
 last_epoch grants = fold (λ epoch g. g.epoch) 0 grants
 
--- what is wrong with the form of a grant after those before it
-unfoldable pub form_cause : List Granted → Granted → Option GrantCause
-form_cause before g =
+-- what is wrong with the form of a grant after those before it, of so many at most
+unfoldable pub form_cause : ℕ → List Granted → Granted → Option GrantCause
+form_cause most before g =
     if nat_lt g.epoch (last_epoch before) then Some Form
-    else if nat_le MOST_RECORDS (length before) then Some Form
+    else if nat_le most (length before) then Some Form
     else None
 
 -- whether the client stands among these
@@ -60,11 +59,11 @@ first_cause (Some cause) other = Some cause
 first_cause None other = other
 
 -- the form's cause of what a record spells, after the grants before it
-abbrev pub spelled_form : List Granted → Option Granted → Option GrantCause
-spelled_form before None = Some Form
-spelled_form before (Some g) = form_cause before g
+abbrev pub spelled_form : ℕ → List Granted → Option Granted → Option GrantCause
+spelled_form most before None = Some Form
+spelled_form most before (Some g) = form_cause most before g
 
 -- its first cause
-abbrev pub spelled_cause : List Granted → Option Granted → Option GrantCause
-spelled_cause before None = Some Form
-spelled_cause before (Some g) = first_cause (form_cause before g) (twice_cause before g)
+abbrev pub spelled_cause : ℕ → List Granted → Option Granted → Option GrantCause
+spelled_cause most before None = Some Form
+spelled_cause most before (Some g) = first_cause (form_cause most before g) (twice_cause before g)

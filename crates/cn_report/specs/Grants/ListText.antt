@@ -4,7 +4,6 @@ use Rattle.std.specs.Prelude.{ℕ, All, ◌≡◌, ◌<◌, ◌≤◌, ◌^◌, 
 use Rattle.std.specs.List.{AllByRecursion, flat_map, range_with_len}
 use Rattle.cn_spec.specs.Step.{shares}
 use Rattle.cn_spec.specs.Sums.{times}
-use Rattle.cn_spec.specs.declared.limits.TheConstants.{MOST_RECORDS}
 use Rattle.cn_record.specs.declared.record.EpochRecord.{EpochRecord}
 use Rattle.cn_report.specs.Writing.Report.{clients_of_records}
 
@@ -41,11 +40,11 @@ unfoldable pub AreRisingRecords : List EpochRecord → Type 0
 AreRisingRecords [] = ⊤
 AreRisingRecords (r ∷ later) = AllByRecursion (λ s. r.number < s.number) later × AreRisingRecords later
 
--- the epochs can be written as a tight list, which takes no more grants than the limit of records
-pub record AreTightRecords (records : List EpochRecord) : Type 0 where
+-- the epochs can be written as a tight list of so many grants at most
+pub record AreTightRecords (most : ℕ) (records : List EpochRecord) : Type 0 where
   pub rising : AreRisingRecords records
   pub names : AllByRecursion HasOwnNames records
-  pub few : clients_of_records records ≤ MOST_RECORDS
+  pub few : clients_of_records records ≤ most
 
 -- what a check says of an epoch: its number, its number of clients, and how many of its names are those of each exit
 abbrev pub checked_epoch : ℕ → EpochRecord → ℕ × ℕ × List ℕ

@@ -42,6 +42,6 @@ printed_epochs width records =
     map (printed_epoch width (grants_spelled (drop 1 records))) (epoch_numbers (grants_spelled (drop 1 records)))
 
 -- the records are a tight list, and these are its epochs: by any width the counts of each are shares
-pub record IsNamedList (records : List Record) (epochs : List NamedEpoch) : Type 0 where
-  pub tight : IsTightList records
+pub record IsNamedList (most : ℕ) (records : List Record) (epochs : List NamedEpoch) : Type 0 where
+  pub tight : IsTightList most records
   pub printed : (width : ℕ) → map (with_shares width) epochs ≡ printed_epochs width records

@@ -45,21 +45,21 @@ is_grants_header fields = pointwise bytes_eq fields (codes "epoch" ∷ codes "cl
 abbrev pub header_cause : Record → Option GrantCause
 header_cause fields = if is_grants_header fields then None else Some cause.Form
 
--- what is wrong with the form of a record after those before it, the header first
-abbrev pub record_form : List Record → Record → Option GrantCause
-record_form before fields = spelled_form (grants_spelled (drop 1 before)) (grant_spelled fields)
+-- what is wrong with the form of a record after those before it, the header first, in a list of so many grants at most
+abbrev pub record_form : ℕ → List Record → Record → Option GrantCause
+record_form most before fields = spelled_form most (grants_spelled (drop 1 before)) (grant_spelled fields)
 
 -- the first cause of a record after those before it
-abbrev pub record_cause : List Record → Record → Option GrantCause
-record_cause before fields = spelled_cause (grants_spelled (drop 1 before)) (grant_spelled fields)
+abbrev pub record_cause : ℕ → List Record → Record → Option GrantCause
+record_cause most before fields = spelled_cause most (grants_spelled (drop 1 before)) (grant_spelled fields)
 
 -- the same of the record with this number
-abbrev pub grants_form : List Record → ℕ → Option GrantCause
-grants_form = cause_by header_cause record_form
+abbrev pub grants_form : ℕ → List Record → ℕ → Option GrantCause
+grants_form most = cause_by header_cause (record_form most)
 
 -- the first cause of the record with this number, if it has one
-abbrev pub grants_cause : List Record → ℕ → Option GrantCause
-grants_cause = cause_by header_cause record_cause
+abbrev pub grants_cause : ℕ → List Record → ℕ → Option GrantCause
+grants_cause most = cause_by header_cause (record_cause most)
 
 -- no record's fault: the reader failed, or a growth was refused
 abbrev pub IsOfReading : GrantCause → Type 0
@@ -85,17 +85,18 @@ IsEndFlaw grants (DuplicateClient at) = ⊥
 IsEndFlaw grants (DuplicateName at) = ⊥
 
 -- the record has this cause, and it is the first with one
-abbrev pub IsFirstWithCause : List Record → ℕ → GrantCause → Type 0
-IsFirstWithCause records at why = IsFirstFault grants_cause IsOfReading records at why
+abbrev pub IsFirstWithCause : ℕ → List Record → ℕ → GrantCause → Type 0
+IsFirstWithCause most records at why = IsFirstFault (grants_cause most) IsOfReading records at why
 
 -- the first record with a cause, and its first cause; or the first gap if no record has one
-abbrev pub IsFlaw : List Record → Flaw → Type 0
-IsFlaw records (Read at) = IsFirstWithCause records at cause.Read
-IsFlaw records (Form at) = IsFirstWithCause records at cause.Form
-IsFlaw records (DuplicateClient at) = IsFirstWithCause records at cause.DuplicateClient
-IsFlaw records (DuplicateName at) = IsFirstWithCause records at cause.DuplicateName
-IsFlaw records (Gap epoch name) = IsClean grants_cause records × IsGap (grants_spelled (drop 1 records)) epoch name
-IsFlaw records Memory = ⊤
+abbrev pub IsFlaw : ℕ → List Record → Flaw → Type 0
+IsFlaw most records (Read at) = IsFirstWithCause most records at cause.Read
+IsFlaw most records (Form at) = IsFirstWithCause most records at cause.Form
+IsFlaw most records (DuplicateClient at) = IsFirstWithCause most records at cause.DuplicateClient
+IsFlaw most records (DuplicateName at) = IsFirstWithCause most records at cause.DuplicateName
+IsFlaw most records (Gap epoch name) =
+    IsClean (grants_cause most) records × IsGap (grants_spelled (drop 1 records)) epoch name
+IsFlaw most records Memory = ⊤
 
 -- the flaw is no fault of the records
 abbrev pub IsOutside : Flaw → Type 0
@@ -111,9 +112,9 @@ pub record AreTightGrants (grants : List Granted) : Type 0 where
   pub clients : (client : ℕ) → times client (map (λ g. g.client) grants) ≤ 1
   pub names : IsEachBelow (length grants) (map (λ g. g.name) grants)
 
--- the form holds, and each epoch is tight
-pub record IsTightList (records : List Record) : Type 0 where
-  pub form : IsClean grants_form records
+-- the form holds, of a list of so many grants at most, and each epoch is tight
+pub record IsTightList (most : ℕ) (records : List Record) : Type 0 where
+  pub form : IsClean (grants_form most) records
   pub tight : (epoch : ℕ) → AreTightGrants (of_epoch epoch (grants_spelled (drop 1 records)))
 
 -- the least number below the count that is not among these

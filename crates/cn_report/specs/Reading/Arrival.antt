@@ -2,9 +2,9 @@
 use Rattle.std.specs.Prelude.{ℕ, ◌%◌, ◌==◌, ◌∷◌, [], List, length, nat_lt, nat_le, Option, Some, None, Result, Ok, Err, if◌then◌else◌}
 use Rattle.std.specs.List.{filter, filter_map, fold, list_any}
 use Rattle.std.specs.Result.{result_ok}
-use Rattle.cn_spec.specs.declared.limits.TheConstants.{MOST_CLIENTS, MOST_RECORDS}
 use Rattle.cn_report.specs.Reading.Number.{number_in}
 use Rattle.cn_report.specs.Reading.Records.{Record}
+use Rattle.cn_report.specs.declared.reading.bounds.Bounds.{Bounds}
 use Rattle.cn_report.specs.declared.reading.batch.arrival.Arrival.{Arrival}
 use Rattle.cn_report.specs.declared.reading.batch.arrival.Heading.{Heading}
 use Rattle.cn_report.specs.declared.reading.batch.arrival.Heading.TheVariants.{WithEntry, ByRule}
@@ -35,13 +35,13 @@ ruled_arrival entries (epoch ∷ client ∷ []) =
 ruled_arrival entries fields = Err FieldCount
 
 -- the arrival that a record spells under a heading, or what is wrong with it
-abbrev pub arrival_in : Heading → ℕ → Record → Result Arrival BatchCause
-arrival_in WithEntry entries fields = arrival_with_entry fields
-arrival_in ByRule entries fields = ruled_arrival entries fields
+abbrev pub arrival_in : Heading → Bounds → Record → Result Arrival BatchCause
+arrival_in WithEntry bounds fields = arrival_with_entry fields
+arrival_in ByRule bounds fields = ruled_arrival bounds.entries fields
 
 -- the arrivals of these records
-abbrev pub arrivals_in : Heading → ℕ → List Record → List Arrival
-arrivals_in heading entries records = filter_map (λ fields. result_ok (arrival_in heading entries fields)) records
+abbrev pub arrivals_in : Heading → Bounds → List Record → List Arrival
+arrivals_in heading bounds records = filter_map (λ fields. result_ok (arrival_in heading bounds fields)) records
 
 -- those of them that come in this epoch
 abbrev pub of_epoch : ℕ → List Arrival → List Arrival
@@ -52,16 +52,16 @@ abbrev pub last_epoch : List Arrival → ℕ
 last_epoch arrivals = fold (λ epoch a. a.epoch) 0 arrivals
 
 -- the cause of an arrival after those before it
-unfoldable pub arrival_cause : ℕ → List Arrival → Arrival → Option BatchCause
-arrival_cause entries before a =
+unfoldable pub arrival_cause : Bounds → List Arrival → Arrival → Option BatchCause
+arrival_cause bounds before a =
     if nat_lt a.epoch (last_epoch before) then Some EpochBackwards
-    else if nat_le entries a.entry then Some EntryRange
+    else if nat_le bounds.entries a.entry then Some EntryRange
     else if list_any (λ b. a.client == b.client) (of_epoch a.epoch before) then Some Duplicate
-    else if nat_le MOST_CLIENTS (length (of_epoch a.epoch before)) then Some EpochFull
-    else if nat_le MOST_RECORDS (length before) then Some BatchFull
+    else if nat_le bounds.clients (length (of_epoch a.epoch before)) then Some EpochFull
+    else if nat_le bounds.records (length before) then Some BatchFull
     else None
 
 -- the cause of what a record spells, after the arrivals before it
-abbrev pub spelled_cause : ℕ → List Arrival → Result Arrival BatchCause → Option BatchCause
-spelled_cause entries before (Err cause) = Some cause
-spelled_cause entries before (Ok arrival) = arrival_cause entries before arrival
+abbrev pub spelled_cause : Bounds → List Arrival → Result Arrival BatchCause → Option BatchCause
+spelled_cause bounds before (Err cause) = Some cause
+spelled_cause bounds before (Ok arrival) = arrival_cause bounds before arrival

@@ -3,11 +3,11 @@ use Rattle.std.specs.Prelude.{ℕ, ◌≡◌, ◌<◌, ◌≤◌, ◌⊎◌, ◌
 use Rattle.std.specs.List.{AllByRecursion, flat_map, sum_by}
 use Rattle.cn_ledger.specs.declared.client.Client.{Client}
 use Rattle.cn_spec.specs.Sums.{times}
-use Rattle.cn_spec.specs.declared.limits.TheConstants.{MOST_CLIENTS}
 use Rattle.cn_report.specs.Reading.Arrival.{arrival_in, arrivals_in, spelled_cause}
 use Rattle.cn_report.specs.Reading.Faults.{IsClean, IsFirstFault, cause_by}
 use Rattle.cn_report.specs.Reading.Heading.{heading_in, heading_of}
 use Rattle.cn_report.specs.Reading.Records.{Record}
+use Rattle.cn_report.specs.declared.reading.bounds.Bounds.{Bounds}
 use Rattle.cn_report.specs.declared.reading.batch.arrival.Arrival.{Arrival}
 use Rattle.cn_report.specs.declared.reading.batch.arrival.Heading.{Heading}
 use Rattle.cn_report.specs.declared.reading.records.RecordFault.{RecordFault}
@@ -48,14 +48,14 @@ abbrev pub header_cause : Record → Option BatchCause
 header_cause fields = cause_of_heading (heading_of fields)
 
 -- the cause of a record after those before it, the header first
-abbrev pub record_cause : ℕ → List Record → Record → Option BatchCause
-record_cause entries before fields =
-    spelled_cause entries (arrivals_in (heading_in before) entries (drop 1 before))
-    (arrival_in (heading_in before) entries fields)
+abbrev pub record_cause : Bounds → List Record → Record → Option BatchCause
+record_cause bounds before fields =
+    spelled_cause bounds (arrivals_in (heading_in before) bounds (drop 1 before))
+    (arrival_in (heading_in before) bounds fields)
 
 -- the first cause of the record with this number, if it has one
-abbrev pub batch_cause : ℕ → List Record → ℕ → Option BatchCause
-batch_cause entries = cause_by header_cause (record_cause entries)
+abbrev pub batch_cause : Bounds → List Record → ℕ → Option BatchCause
+batch_cause bounds = cause_by header_cause (record_cause bounds)
 
 -- no record's fault: the reader failed, or a growth was refused
 abbrev pub IsOfReading : BatchCause → Type 0
@@ -77,36 +77,36 @@ pub record AreEpochsOf (epochs : List BatchEpoch) (arrivals : List Arrival) : Ty
   pub some : AllByRecursion (λ e. 0 < length e.clients.items) epochs
   pub spells : flat_map arrivals_of epochs ≡ arrivals
 
--- these clients may come in one epoch to a network with so many entries: no more than an epoch takes, each by one of
--- the entries, and none twice
-pub record MayCome (entries : ℕ) (clients : List Client) : Type 0 where
-  pub few : length clients ≤ MOST_CLIENTS
-  pub within : All (λ c. c.entry < entries) clients
+-- these clients may come in one epoch within these bounds: no more than an epoch takes, each by one of the network's
+-- entries, and none twice
+pub record MayCome (bounds : Bounds) (clients : List Client) : Type 0 where
+  pub few : length clients ≤ bounds.clients
+  pub within : All (λ c. c.entry < bounds.entries) clients
   pub once : (client : ℕ) → times client (map (λ c. c.id) clients) ≤ 1
 
 -- these epochs can be served, one after another: the numbers rise, each has some client, and its clients may come
-pub record AreServable (entries : ℕ) (epochs : List BatchEpoch) : Type 0 where
+pub record AreServable (bounds : Bounds) (epochs : List BatchEpoch) : Type 0 where
   pub rising : AreRising epochs
   pub some : All (λ e. 0 < length e.clients.items) epochs
-  pub come : All (λ e. MayCome entries e.clients.items) epochs
+  pub come : All (λ e. MayCome bounds e.clients.items) epochs
 
 -- how many clients epochs have
 abbrev pub clients_of_epochs : List BatchEpoch → ℕ
 clients_of_epochs epochs = sum_by (λ e. length e.clients.items) epochs
 
 -- the records are a batch of these epochs: none has a cause, and the epochs spell those after the header
-pub record IsBatch (entries : ℕ) (records : List Record) (epochs : List BatchEpoch) : Type 0 where
-  pub clean : IsClean (batch_cause entries) records
-  pub holds : AreEpochsOf epochs (arrivals_in (heading_in records) entries (drop 1 records))
+pub record IsBatch (bounds : Bounds) (records : List Record) (epochs : List BatchEpoch) : Type 0 where
+  pub clean : IsClean (batch_cause bounds) records
+  pub holds : AreEpochsOf epochs (arrivals_in (heading_in records) bounds (drop 1 records))
 
 -- the fault gives the first record with a cause, and its first cause
-abbrev pub IsBatchFault : ℕ → List Record → BatchFault → Type 0
-IsBatchFault entries records fault = IsFirstFault (batch_cause entries) IsOfReading records fault.at fault.cause
+abbrev pub IsBatchFault : Bounds → List Record → BatchFault → Type 0
+IsBatchFault bounds records fault = IsFirstFault (batch_cause bounds) IsOfReading records fault.at fault.cause
 
 -- what these records answer: the epochs that they are a batch of, or their fault
-abbrev pub AnswersBatch : ℕ → List Record → Result Batch BatchFault → Type 0
-AnswersBatch entries records result =
-    MatchResult result (λ batch. IsBatch entries records batch.epochs.items) (IsBatchFault entries records)
+abbrev pub AnswersBatch : Bounds → List Record → Result Batch BatchFault → Type 0
+AnswersBatch bounds records result =
+    MatchResult result (λ batch. IsBatch bounds records batch.epochs.items) (IsBatchFault bounds records)
 
 -- what an epoch is: its number and its clients
 abbrev pub plain_epoch : BatchEpoch → ℕ × List Client

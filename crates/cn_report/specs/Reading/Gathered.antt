@@ -2,9 +2,10 @@
 use Rattle.std.specs.Prelude.{ℕ, ◌≡◌, ◌<◌, ◌≤◌, ◌+◌, ◌++◌, ◌∷◌, [], List, length, map, nat_eq, nat_lt, nat_le, Option, Some, None, if◌then◌else◌}
 use Rattle.std.specs.List.{AllByRecursion, flat_map, list_any}
 use Rattle.cn_ledger.specs.declared.client.Client.{Client}
-use Rattle.cn_spec.specs.declared.limits.TheConstants.{MOST_CLIENTS, MOST_RECORDS}
 use Rattle.cn_report.specs.Reading.Arrival.{last_epoch}
 use Rattle.cn_report.specs.Reading.Batch.{AreRising, AreServable, MayCome, arrivals_of, clients_of_epochs}
+use Rattle.cn_report.specs.Reading.Bounds.{AreBounds}
+use Rattle.cn_report.specs.declared.reading.bounds.Bounds.{Bounds}
 use Rattle.cn_report.specs.declared.reading.batch.BatchEpoch.{BatchEpoch}
 use Rattle.cn_report.specs.declared.reading.batch.arrival.Arrival.{Arrival}
 use Rattle.cn_report.specs.declared.reading.batch.gathering.Gathering.{Gathering}
@@ -27,22 +28,23 @@ pub record IsGathered (g : Gathering) (arrivals : List Arrival) : Type 0 where
 
 -- what the gathering keeps whatever was read: the epochs that ended can be served, and the clients of the latest, whose
 -- number is greater, may come; all of them are as many as the records so far, and no more than a batch has
-pub record StaysServable (entries : ℕ) (g : Gathering) : Type 0 where
-  pub ended : AreServable entries g.ended.items
+pub record StaysServable (bounds : Bounds) (g : Gathering) : Type 0 where
+  pub within : AreBounds bounds
+  pub ended : AreServable bounds g.ended.items
   pub below : AllByRecursion (λ e. e.number < g.latest.number) g.ended.items
-  pub latest : MayCome entries g.latest.clients.items
+  pub latest : MayCome bounds g.latest.clients.items
   pub standing : g.standing.keys ≡ map (λ c. c.id) g.latest.clients.items
   pub count : clients_of_epochs g.ended.items + length g.latest.clients.items + 1 ≡ g.next
-  pub few : g.next ≤ MOST_RECORDS + 1
+  pub few : g.next ≤ bounds.records + 1
 
 -- the epochs that have ended once the latest does
 abbrev pub ended_after : Gathering → List BatchEpoch
 ended_after g = if nat_lt 0 (length g.latest.clients.items) then g.ended.items ++ g.latest ∷ [] else g.ended.items
 
 -- the cause of a client of the latest epoch that is the next record
-abbrev pub adding_cause : Gathering → Client → Option BatchCause
-adding_cause g c =
+abbrev pub adding_cause : Bounds → Gathering → Client → Option BatchCause
+adding_cause bounds g c =
     if list_any (nat_eq c.id) g.standing.keys then Some Duplicate
-    else if nat_le MOST_CLIENTS (length g.latest.clients.items) then Some EpochFull
-    else if nat_lt MOST_RECORDS g.next then Some BatchFull
+    else if nat_le bounds.clients (length g.latest.clients.items) then Some EpochFull
+    else if nat_lt bounds.records g.next then Some BatchFull
     else None

@@ -3,6 +3,7 @@
 ghost use Rattle.std.specs.Prelude.{◌≡◌, IfErr, IfOk, IfSome, map};
 ghost use Rattle.std.specs.List.{flat_map, sum_by};
 ghost use Rattle.cn_spec.specs.Step.{shares};
+ghost use Rattle.cn_spec.specs.declared.limits.TheConstants.{MOST_RECORDS};
 ghost use Rattle.cn_wiring.specs.Widths.{IsWidth};
 ghost use Rattle.cn_report.specs.Callers.{AnswersTight, plain_tight};
 ghost use Rattle.cn_report.specs.Grants.TightList.{IsOutside, IsTightList};
@@ -80,7 +81,7 @@ pub fn check_grants<R: Read + Drop>(alloc: Global, reader: R, width: u32) -> Res
     ensures answer { IfSome (R.remaining reader) (λ text.
         AnswersTight width (records_of text) result) }
     ensures exact { IfSome (R.remaining reader) (λ text.
-        IfErr result (λ flaw. IsTightList (records_of text) → IsOutside flaw)) }
+        IfErr result (λ flaw. IsTightList MOST_RECORDS (records_of text) → IsOutside flaw)) }
 {
     let named = named_grants(alloc, reader)?;
     let epochs = with_shares(alloc, width, &named)?;

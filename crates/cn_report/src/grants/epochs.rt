@@ -7,11 +7,10 @@ ghost use Rattle.cn_report.specs.Grants.Checked.{HoldsGrants, IsGapBelow, IsChec
 ghost use Rattle.cn_report.specs.Grants.Printed.{epoch_numbers, named_epoch, plain_named};
 ghost use Rattle.cn_report.specs.Grants.TightList.{IsEndFlaw, Lacks};
 ghost use Rattle.cn_report.specs.Grants.Sets.{has};
-ghost use Rattle.cn_spec.specs.declared.limits.TheConstants.{MOST_RECORDS};
+ghost use Rattle.cn_spec.specs.declared.limits.TheConstants.{MOST_NAMED};
 
 use crate::grants::record::{Flaw, GrantCause, Granted};
 use crate::grants::sets::Numbers;
-use cn_spec::limits::MOST_RECORDS;
 use std::alloc::{AllocError, Global};
 
 /// A name that an epoch lacks.
@@ -75,7 +74,7 @@ impl Granting {
 
     /// Ends the latest epoch, and adds it to those that ended if it has grants and no gap was found.
     fn end_latest(&mut self) -> Result<(), AllocError>
-        requires few { self.old.count ≤ MOST_RECORDS }
+        requires few { self.old.count ≤ MOST_NAMED }
         ensures same { OnOk result ((self.new.latest ≡ self.old.latest)
             × (self.new.count ≡ self.old.count)) }
         ensures gap { OnOk result ((grants : List Granted) → HoldsGrants self.old grants
@@ -97,7 +96,7 @@ impl Granting {
 
     /// Comes to this epoch.
     fn turn_to(&mut self, epoch: u64) -> Result<(), AllocError>
-        requires few { self.old.count ≤ MOST_RECORDS }
+        requires few { self.old.count ≤ MOST_NAMED }
         requires later { self.old.latest ≤ epoch }
         ensures here { OnOk result (self.new.latest ≡ epoch) }
         ensures holds { OnOk result ((grants : List Granted) → HoldsGrants self.old grants
@@ -119,7 +118,7 @@ impl Granting {
 
     /// Adds a grant of the latest epoch, if it has no cause.
     fn add_to_latest(&mut self, grant: Granted) -> Result<(), GrantCause>
-        requires { self.old.count < MOST_RECORDS }
+        requires { self.old.count < MOST_NAMED }
         ensures ok { OnOk result ((adding_cause self.old grant ≡ None)
             × (self.new.ended ≡ self.old.ended) × (self.new.gap ≡ self.old.gap)
             × (self.new.latest ≡ self.old.latest)
@@ -143,20 +142,21 @@ impl Granting {
         Ok(())
     }
 
-    /// Adds a grant, which is record `at`, if it has no cause.
-    pub(crate) fn add(&mut self, at: u64, grant: Granted) -> Result<(), GrantCause>
+    /// Adds a grant, which is record `at` of so many at most, if it has no cause.
+    pub(crate) fn add(&mut self, most: u64, at: u64, grant: Granted) -> Result<(), GrantCause>
+        requires most { most ≤ MOST_NAMED }
         requires count { self.old.count < at }
         ensures ok { OnOk result ((before : List Granted) → IsChecked self.old before
             → length before + 1 ≡ at
-            → (spelled_cause before (Some grant) ≡ None)
+            → (spelled_cause most before (Some grant) ≡ None)
             × IsChecked self.new (before ++ grant ∷ [])) }
-        ensures few { OnOk result (at ≤ MOST_RECORDS) }
+        ensures few { OnOk result (at ≤ most) }
         ensures count { OnOk result (self.new.count ≤ at) }
         ensures err { IfErr result (λ cause. (before : List Granted)
             → IsChecked self.old before → length before + 1 ≡ at
-            → (spelled_cause before (Some grant) ≡ Some cause) ⊎ (cause ≡ GrantCause.Memory)) }
+            → (spelled_cause most before (Some grant) ≡ Some cause) ⊎ (cause ≡ GrantCause.Memory)) }
     {
-        if grant.epoch < self.latest || at > MOST_RECORDS {
+        if grant.epoch < self.latest || at > most {
             return Err(GrantCause::Form);
         }
         self.turn_to(grant.epoch)?;
@@ -165,7 +165,7 @@ impl Granting {
 
     /// The epochs, if none lacks a name.
     pub(crate) fn finish(self) -> Result<Vec<NamedEpoch>, Flaw>
-        requires few { self.count ≤ MOST_RECORDS }
+        requires few { self.count ≤ MOST_NAMED }
         ensures answer { (grants : List Granted) → HoldsGrants self grants
             → MatchResult result (λ _. (e n : ℕ) → Lacks grants e n → ⊥) (IsEndFlaw grants) }
         ensures found { IfOk result (λ epochs. (grants : List Granted) → HoldsGrants self grants

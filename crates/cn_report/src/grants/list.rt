@@ -2,19 +2,20 @@
 
 ghost use Rattle.std.specs.Prelude.{◌≡◌, ◌<◌, ◌≤◌, ◌+◌, ◌⊎◌, ◌∷◌, ◌++◌, [], ℕ, List, IfErr, IfOk, IfSome, MatchResult, OnOk, None, Some, length, true};
 ghost use Rattle.std.specs.Bool.{MatchBool};
-ghost use Rattle.cn_spec.specs.declared.limits.TheConstants.{MOST_RECORDS};
+ghost use Rattle.cn_spec.specs.declared.limits.TheConstants.{MOST_NAMED, MOST_RECORDS};
 ghost use Rattle.cn_report.specs.declared.grants.record.Granted.{Granted};
 ghost use Rattle.cn_report.specs.Grants.Granted.{grant_spelled, spelled_cause};
 ghost use Rattle.cn_report.specs.Grants.TightList.{IsFirstWithCause, IsFlaw, IsOutside, IsTightList, header_cause};
 ghost use Rattle.cn_report.specs.Grants.Checked.{IsChecked};
 ghost use Rattle.cn_report.specs.Grants.Printed.{IsNamedList};
+ghost use Rattle.cn_report.specs.Reading.Bounds.{bounds_of};
 ghost use Rattle.cn_report.specs.Reading.Records.{HasRead, IsPlain, Record, records_of};
 
 use crate::grants::epochs::{Granting, NamedEpoch};
 use crate::grants::record::{Flaw, GrantCause, flaw_at, granted_of};
+use crate::reading::Bounds;
 use crate::reading::clipped::Clipped;
 use crate::reading::records::{is_header, next_record, open_records};
-use cn_spec::limits::MOST_RECORDS;
 use csv::{ByteRecord, Reader};
 use std::alloc::Global;
 use std::io::Read;
@@ -26,8 +27,8 @@ fn take_header<R: Read>(records: &mut Reader<R>, fields: &mut ByteRecord) -> Res
     ensures ok { IfOk result (λ _. (text : List ℕ) → HasRead R.remaining records.old text []
         → (fields : Record) × HasRead R.remaining records.new text (fields ∷ [])
         × (header_cause fields ≡ None)) }
-    ensures err { IfErr result (λ cause. (text : List ℕ) → HasRead R.remaining records.old text []
-        → IsFirstWithCause (records_of text) 0 cause) }
+    ensures err { IfErr result (λ cause. (most : ℕ) (text : List ℕ) → HasRead R.remaining records.old text []
+        → IsFirstWithCause most (records_of text) 0 cause) }
 {
     if next_record(records, fields)? && is_header(fields, b"epoch", b"client", b"name") {
         Ok(())
@@ -36,14 +37,16 @@ fn take_header<R: Read>(records: &mut Reader<R>, fields: &mut ByteRecord) -> Res
     }
 }
 
-/// Takes the grant of record `at`, and returns whether there was one.
+/// Takes the grant of record `at`, of so many at most, and returns whether there was one.
 fn take_grant<R: Read>(
     records: &mut Reader<R>,
     fields: &mut ByteRecord,
+    most: u64,
     at: u64,
     granting: &mut Granting,
 ) -> Result<bool, GrantCause>
     requires plain { IsPlain records.old }
+    requires most { most ≤ MOST_NAMED }
     requires count { granting.old.count < at }
     ensures plain { OnOk result (IsPlain records.new) }
     ensures found { IfOk result (λ found.
@@ -52,7 +55,7 @@ fn take_grant<R: Read>(
         → IsChecked granting.old grants → length grants + 1 ≡ at
         → MatchBool found ((fields : Record) × (grant : Granted)
         × HasRead R.remaining records.new text (before ++ fields ∷ [])
-        × (grant_spelled fields ≡ Some grant) × (spelled_cause grants (Some grant) ≡ None)
+        × (grant_spelled fields ≡ Some grant) × (spelled_cause most grants (Some grant) ≡ None)
         × IsChecked granting.new (grants ++ grant ∷ []))
         ((records_of text ≡ before) × IsChecked granting.new grants)) }
     ensures refused { IfErr result (λ cause.
@@ -60,9 +63,9 @@ fn take_grant<R: Read>(
         → HasRead R.remaining records.old text before
         → IsChecked granting.old grants → length grants + 1 ≡ at
         → ((fields : Record) × HasRead R.remaining records.new text (before ++ fields ∷ [])
-        × (spelled_cause grants (grant_spelled fields) ≡ Some cause))
+        × (spelled_cause most grants (grant_spelled fields) ≡ Some cause))
         ⊎ (cause ≡ GrantCause.Read) ⊎ (cause ≡ GrantCause.Memory)) }
-    ensures few { IfOk result (λ found. found ≡ true → at ≤ MOST_RECORDS) }
+    ensures few { IfOk result (λ found. found ≡ true → at ≤ most) }
     ensures count { IfOk result (λ found.
         MatchBool found (granting.new.count ≤ at) (granting.new.count < at)) }
 {
@@ -72,33 +75,35 @@ fn take_grant<R: Read>(
     let Some(grant) = granted_of(fields) else {
         return Err(GrantCause::Form);
     };
-    granting.add(at, grant)?;
+    granting.add(most, at, grant)?;
     Ok(true)
 }
 
-/// Takes the header and the grants.
+/// Takes the header and the grants, of which there are so many at most.
 fn take_grants<R: Read>(
     alloc: Global,
     records: &mut Reader<R>,
     fields: &mut ByteRecord,
+    most: u64,
 ) -> Result<Vec<NamedEpoch>, Flaw>
     requires plain { IsPlain records.old }
+    requires most { most ≤ MOST_NAMED }
     ensures answer { (text : List ℕ) → HasRead R.remaining records.old text []
         → let records = records_of text in
-        MatchResult result (λ epochs. IsNamedList records epochs.items) (IsFlaw records) }
+        MatchResult result (λ epochs. IsNamedList most records epochs.items) (IsFlaw most records) }
 {
     let mut granting = Granting::new(alloc);
     if let Err(cause) = take_header(records, fields) {
         return Err(flaw_at(0, cause));
     }
-    for at in 1..MOST_RECORDS + 2 {
-        match take_grant(records, fields, at, &mut granting) {
+    for at in 1..most + 2 {
+        match take_grant(records, fields, most, at, &mut granting) {
             Ok(true) => {}
             Ok(false) => return granting.finish(),
             Err(cause) => return Err(flaw_at(at, cause)),
         }
     }
-    // Record MOST_RECORDS + 1 is the last that is read.
+    // Record `most + 1` is the last that is read.
     unreachable!()
 }
 
@@ -110,14 +115,35 @@ fn take_grants<R: Read>(
 /// # Errors
 ///
 /// The first record that has a cause, with its first cause; if no record has one, the first name that is missing. A
-/// failed read is reported at the record that was being read. `Memory` if a growth was refused.
+/// failed read is reported at the record that was being read. `Memory` if a growth was refused. A record after
+/// [`cn_spec::limits::MOST_RECORDS`] others has the cause `Form`.
 pub fn named_grants<R: Read + Drop>(alloc: Global, reader: R) -> Result<Vec<NamedEpoch>, Flaw>
     ensures answer { IfSome (R.remaining reader) (λ text. let records = records_of text in
-        MatchResult result (λ epochs. IsNamedList records epochs.items) (IsFlaw records)) }
+        MatchResult result (λ epochs. IsNamedList MOST_RECORDS records epochs.items) (IsFlaw MOST_RECORDS records)) }
     ensures exact { IfSome (R.remaining reader) (λ text.
-        IfErr result (λ flaw. IsTightList (records_of text) → IsOutside flaw)) }
+        IfErr result (λ flaw. IsTightList MOST_RECORDS (records_of text) → IsOutside flaw)) }
+{
+    named_grants_within(alloc, reader, false)
+}
+
+/// As [`named_grants`], of a list which is large or not, and has as many grants as its bounds say ([`Bounds::of`]).
+///
+/// # Errors
+///
+/// As there.
+pub fn named_grants_within<R: Read + Drop>(
+    alloc: Global,
+    reader: R,
+    large: bool,
+) -> Result<Vec<NamedEpoch>, Flaw>
+    ensures answer { IfSome (R.remaining reader) (λ text. let most = (bounds_of large 0).records in
+        MatchResult result (λ epochs. IsNamedList most (records_of text) epochs.items)
+        (IsFlaw most (records_of text))) }
+    ensures exact { IfSome (R.remaining reader) (λ text.
+        IfErr result (λ flaw. IsTightList (bounds_of large 0).records (records_of text) → IsOutside flaw)) }
 {
     let mut records = open_records(alloc, Clipped::new(reader))?;
     let mut fields = ByteRecord::new(alloc);
-    take_grants(alloc, &mut records, &mut fields)
+    let bounds = Bounds::of(large, 0);
+    take_grants(alloc, &mut records, &mut fields, bounds.records)
 }

@@ -5,9 +5,10 @@ mod arrivals;
 mod gathering;
 mod readers;
 
-ghost use Rattle.std.specs.Prelude.{◌≡◌, ◌↔◌, ◌<◌, ◌≤◌, [], ℕ, IfOk, IfSome, List, MatchResult, Ok, true};
+ghost use Rattle.std.specs.Prelude.{◌≡◌, ◌↔◌, ◌<◌, ◌≤◌, [], ℕ, IfOk, IfSome, List, MatchResult, Ok, false, true};
 ghost use Rattle.cn_spec.specs.declared.limits.TheConstants.{MOST_RECORDS};
 ghost use Rattle.cn_report.specs.Reading.Batch.{AnswersBatch, AreServable, IsBatch, IsBatchFault, clients_of_epochs};
+ghost use Rattle.cn_report.specs.Reading.Bounds.{AreBounds, bounds_of};
 ghost use Rattle.cn_report.specs.Reading.Gathered.{IsGathered, StaysServable};
 ghost use Rattle.cn_report.specs.Reading.Records.{records_of};
 ghost use Rattle.cn_report.specs.Reading.Stretch.{HasHeader, IsOpen};
@@ -16,6 +17,7 @@ use crate::reading::batch::arrivals::ArrivalReader;
 use crate::reading::batch::gathering::Gathering;
 use crate::reading::batch::readers::{OneThread, Readers, STRETCH, TwoThreads};
 use crate::reading::batch_fault::{BatchCause, BatchFault};
+use crate::reading::bounds::Bounds;
 use crate::reading::clipped::Clipped;
 use cn_ledger::Client;
 use std::alloc::Global;
@@ -57,12 +59,12 @@ fn read_epochs<I: Read + Drop, T: Readers>(
 ) -> Result<Vec<BatchEpoch>, BatchFault>
     requires open { IsOpen source.old }
     requires none { IsGathered gathering [] }
-    requires keeps { StaysServable source.old.entries gathering }
+    requires keeps { StaysServable source.old.bounds gathering }
     ensures answer { (text : List ℕ) → HasHeader I.remaining source.old text
-        → MatchResult result (λ epochs. IsBatch source.old.entries (records_of text) epochs.items)
-        (IsBatchFault source.old.entries (records_of text)) }
-    ensures fits { IfOk result (λ epochs. AreServable source.old.entries epochs.items) }
-    ensures few { IfOk result (λ epochs. clients_of_epochs epochs.items ≤ MOST_RECORDS) }
+        → MatchResult result (λ epochs. IsBatch source.old.bounds (records_of text) epochs.items)
+        (IsBatchFault source.old.bounds (records_of text)) }
+    ensures fits { IfOk result (λ epochs. AreServable source.old.bounds epochs.items) }
+    ensures few { IfOk result (λ epochs. clients_of_epochs epochs.items ≤ source.old.bounds.records) }
 {
     let mut gathering = gathering;
     let (mut stretch, mut next) = (Vec::new(alloc), Vec::new(alloc));
@@ -79,7 +81,7 @@ fn read_epochs<I: Read + Drop, T: Readers>(
         mem::swap(&mut stretch, &mut next);
         end = next_end;
     }
-    gathering.gather(alloc, source.entries(), &stretch)?;
+    gathering.gather(alloc, source.bounds(), &stretch)?;
     match end {
         Ok(_) => gathering.finish(alloc),
         Err(cause) => Err(BatchFault {
@@ -94,30 +96,25 @@ fn read_by<R: Read + Drop, T: Readers>(
     readers: &T,
     alloc: Global,
     reader: R,
-    entries: u32,
+    bounds: Bounds,
     state: RandomState,
 ) -> Result<Batch, BatchFault>
-    requires { 0 < entries }
+    requires { AreBounds bounds }
     ensures answer { IfSome (R.remaining reader) (λ text.
-        AnswersBatch entries (records_of text) result) }
-    ensures fits { IfOk result (λ batch. AreServable entries batch.epochs.items) }
-    ensures few { IfOk result (λ batch. clients_of_epochs batch.epochs.items ≤ MOST_RECORDS) }
+        AnswersBatch bounds (records_of text) result) }
+    ensures fits { IfOk result (λ batch. AreServable bounds batch.epochs.items) }
+    ensures few { IfOk result (λ batch. clients_of_epochs batch.epochs.items ≤ bounds.records) }
 {
-    let mut source = ArrivalReader::open(alloc, reader, entries)?;
+    let mut source = ArrivalReader::open(alloc, reader, bounds)?;
     let epochs = read_epochs(readers, alloc, &mut source, Gathering::new(alloc, state))?;
     Ok(Batch { epochs })
 }
 
-/// The epochs of a batch: a header `epoch,client,entry`, and then a record of three numbers for each client, as `csv`
-/// reads them; or a header `epoch,client`, and then a record of two numbers for each, whose entry is the client modulo
-/// `entries`, which is at least 1. An epoch is a run of records of one number, and the numbers rise. Whatever the
-/// reader gives, the epochs are such as a network with `entries` entries can serve, and all of them have no more
-/// clients than a batch has records.
+/// The epochs of a batch that is not large: those that [`read_batch_within`] reads within its bounds.
 ///
 /// # Errors
 ///
-/// The first record that has a cause, with its first cause. A failed read is reported at the record that was being
-/// read, want of memory at the one that was being read or gathered.
+/// Those of [`read_batch_within`].
 pub fn read_batch<R: Read + Drop>(
     alloc: Global,
     reader: R,
@@ -126,30 +123,56 @@ pub fn read_batch<R: Read + Drop>(
 ) -> Result<Batch, BatchFault>
     requires { 0 < entries }
     ensures answer { IfSome (R.remaining reader) (λ text.
-        AnswersBatch entries (records_of text) result) }
-    ensures fits { IfOk result (λ batch. AreServable entries batch.epochs.items) }
+        AnswersBatch (bounds_of false entries) (records_of text) result) }
+    ensures fits { IfOk result (λ batch. AreServable (bounds_of false entries) batch.epochs.items) }
     ensures few { IfOk result (λ batch. clients_of_epochs batch.epochs.items ≤ MOST_RECORDS) }
 {
-    read_by(&OneThread, alloc, Clipped::new(reader), entries, state)
+    read_batch_within(alloc, reader, Bounds::of(false, entries), state)
 }
 
-/// The epochs of a batch, as [`read_batch`] reads them, by two threads: one gathers records while the other reads on.
+/// The epochs of a batch that keeps within these bounds: a header `epoch,client,entry`, and then a record of three
+/// numbers for each client, as `csv` reads them; or a header `epoch,client`, and then a record of two numbers for each,
+/// whose entry is the client modulo the number of entries, which is at least 1. An epoch is a run of records of one
+/// number, and the numbers rise. Whatever the reader gives, the epochs are such as a network with so many entries can
+/// serve, and all of them have no more clients than the batch may have records.
 ///
 /// # Errors
 ///
-/// Those of [`read_batch`].
+/// The first record that has a cause, with its first cause. A failed read is reported at the record that was being
+/// read, want of memory at the one that was being read or gathered.
+pub fn read_batch_within<R: Read + Drop>(
+    alloc: Global,
+    reader: R,
+    bounds: Bounds,
+    state: RandomState,
+) -> Result<Batch, BatchFault>
+    requires { AreBounds bounds }
+    ensures answer { IfSome (R.remaining reader) (λ text.
+        AnswersBatch bounds (records_of text) result) }
+    ensures fits { IfOk result (λ batch. AreServable bounds batch.epochs.items) }
+    ensures few { IfOk result (λ batch. clients_of_epochs batch.epochs.items ≤ bounds.records) }
+{
+    read_by(&OneThread, alloc, Clipped::new(reader), bounds, state)
+}
+
+/// The epochs of a batch, as [`read_batch_within`] reads them, by two threads: one gathers records while the other
+/// reads on.
+///
+/// # Errors
+///
+/// Those of [`read_batch_within`].
 pub fn read_batch_by_two<R: Read + Drop, T: Threads + Wait + Sync>(
     rt: &T,
     alloc: Global,
     reader: R,
-    entries: u32,
+    bounds: Bounds,
     state: RandomState,
 ) -> Result<Batch, BatchFault>
-    requires { 0 < entries }
+    requires { AreBounds bounds }
     ensures answer { IfSome (R.remaining reader) (λ text.
-        AnswersBatch entries (records_of text) result) }
-    ensures fits { IfOk result (λ batch. AreServable entries batch.epochs.items) }
-    ensures few { IfOk result (λ batch. clients_of_epochs batch.epochs.items ≤ MOST_RECORDS) }
+        AnswersBatch bounds (records_of text) result) }
+    ensures fits { IfOk result (λ batch. AreServable bounds batch.epochs.items) }
+    ensures few { IfOk result (λ batch. clients_of_epochs batch.epochs.items ≤ bounds.records) }
 {
-    read_by(&TwoThreads(rt), alloc, Clipped::new(reader), entries, state)
+    read_by(&TwoThreads(rt), alloc, Clipped::new(reader), bounds, state)
 }

@@ -30,9 +30,9 @@ pub enum BatchCause {
     EntryRange,
     /// The client stands in this epoch already.
     Duplicate,
-    /// The epoch has as many clients as it takes ([`cn_spec::limits::MOST_CLIENTS`]).
+    /// The epoch has as many clients as it takes ([`crate::Bounds`]).
     EpochFull,
-    /// There are more than 1,048,576 records after the header.
+    /// There are more records after the header than the batch takes.
     BatchFull,
     /// A growth was refused.
     Memory,

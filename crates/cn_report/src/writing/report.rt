@@ -4,7 +4,7 @@ ghost use Rattle.std.specs.Prelude.{◌≡◌, ◌+◌, ◌≤◌, ◌++◌, Lis
 ghost use Rattle.std.specs.List.{flat_map};
 ghost use Rattle.cn_spec.specs.Step.{shares_after};
 ghost use Rattle.cn_spec.specs.Sums.{when};
-ghost use Rattle.cn_spec.specs.declared.limits.TheConstants.{MOST_ENDS, MOST_RECORDS};
+ghost use Rattle.cn_spec.specs.declared.limits.TheConstants.{MOST_ENDS, MOST_NAMED};
 ghost use Rattle.cn_record.specs.declared.record.EpochRecord.{EpochRecord};
 ghost use Rattle.cn_report.specs.Reading.Batch.{clients_of_epochs};
 ghost use Rattle.cn_report.specs.Writing.EpochRecords.{AreRecordsOf};
@@ -18,7 +18,7 @@ use crate::writing::emitting::EmitFault;
 use crate::writing::line::{send_heading, send_line, send_number};
 use crate::writing::outcome::{send_counts, send_holders};
 use crate::writing::pieces::Pieces;
-use cn_spec::limits::{MOST_ENDS, MOST_RECORDS};
+use cn_spec::limits::{MOST_ENDS, MOST_NAMED};
 use cn_wiring::Counting;
 use std::io::Write;
 
@@ -44,7 +44,7 @@ fn send_epoch<W: Write>(
     holders: &[u64],
 )
     requires width { width ≤ MOST_ENDS }
-    requires few { before + length holders.now ≤ MOST_RECORDS }
+    requires few { before + length holders.now ≤ MOST_NAMED }
     ensures { let clients = length holders.now in
         Puts W.contents writer.old writer.new pieces.old pieces.new (epoch_line number clients
         ++ (exit_lines width (shares_after before clients width) ++ name_lines clients holders.now)) }
@@ -72,7 +72,7 @@ fn send_epochs<W: Write>(
 )
     requires width { width ≤ MOST_ENDS }
     requires as_many { clients_of_epochs epochs.now ≡ length holders.now }
-    requires few { clients_of_epochs epochs.now ≤ MOST_RECORDS }
+    requires few { clients_of_epochs epochs.now ≤ MOST_NAMED }
     ensures { (records : List EpochRecord)
         → AreRecordsOf carries width 0 epochs.now records holders.now
         → Puts W.contents writer.old writer.new pieces.old pieces.new
@@ -120,7 +120,7 @@ pub fn write_report<W: Write>(
 ) -> Result<(), EmitFault>
     requires fresh { pieces ≡ nothing_put }
     requires as_many { clients_of_epochs epochs.now ≡ length holders.now }
-    requires few { clients_of_epochs epochs.now ≤ MOST_RECORDS }
+    requires few { clients_of_epochs epochs.now ≤ MOST_NAMED }
     ensures { (records : List EpochRecord)
         → AreRecordsOf carries network.now.table.width 0 epochs.now records holders.now
         → let written = written_by (λ fault. First fault.written) result in

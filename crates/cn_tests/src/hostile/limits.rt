@@ -6,7 +6,7 @@ use crate::serving::Asked;
 use cn_renamer::{
     BatchCause, CheckFault, Flaw, Net, ReplayFault, ScheduleCause, ScheduleFault, check, replay,
 };
-use cn_report::{Batch, read_batch};
+use cn_report::{Batch, Bounds, read_batch, read_batch_within};
 use cn_walk::OpenGate;
 use cn_wiring::{Kind, is_width};
 use std::alloc::Global;
@@ -91,6 +91,22 @@ fn largest_batch(alloc: Global, state: RandomState) -> Option<(usize, usize)> {
     }
 }
 
+/// The same of a large batch, whose one epoch has a client more than one of another batch may have.
+fn large_batch(alloc: Global, state: RandomState) -> Option<(usize, usize)> {
+    let reader = full_epochs(262_144, b"1,262144,0\n");
+    match read_batch_within(alloc, reader, Bounds::of(true, 1), state) {
+        Ok(batch) => Some(sizes_of(&batch)),
+        Err(_) => None,
+    }
+}
+
+#[test]
+fn large_batches(rt: HostRuntime) -> Result<(), Fail> {
+    let (alloc, state) = (rt.alloc(), RandomState::new(&rt)?);
+    assert_eq!(rt; large_batch(alloc, state), Some((1, 0)));
+    Ok(())
+}
+
 #[test]
 fn batch_limits(rt: HostRuntime) -> Result<(), Fail> {
     let (alloc, state) = (rt.alloc(), RandomState::new(&rt)?);
@@ -151,11 +167,15 @@ fn full_list(last: &'static [u8]) -> Computed {
     )
 }
 
-/// How a check of such a list for width 2 ends, and what it writes.
-fn checked(alloc: Global, last: &'static [u8]) -> Option<(Result<(), CheckFault>, Vec<u8>)> {
+/// How a check of such a list for width 2, which is large or not, ends, and what it writes.
+fn checked(
+    alloc: Global,
+    last: &'static [u8],
+    large: bool,
+) -> Option<(Result<(), CheckFault>, Vec<u8>)> {
     let mut written = Vec::new(alloc);
     if is_width(2) {
-        let done = check(alloc, full_list(last), &mut written, 2);
+        let done = check(alloc, full_list(last), &mut written, 2, large);
         Some((done, written))
     } else {
         None
@@ -167,8 +187,19 @@ const FULL_LIST_TIGHT: &[u8] = b"epoch 1 clients 1048576 counts 524288 524288\n\
 
 /// Whether such a list is tight if nothing follows.
 fn is_tight(alloc: Global) -> bool {
-    match checked(alloc, b"") {
+    match checked(alloc, b"", false) {
         Some((done, written)) => done == Ok(()) && written.as_slice() == FULL_LIST_TIGHT,
+        None => false,
+    }
+}
+
+const LARGE_LIST_TIGHT: &[u8] = b"epoch 1 clients 1048577 counts 524289 524288\n\
+      tight epochs 1 grants 1048577\n";
+
+/// Whether such a list is tight as a large one if another grant follows.
+fn is_tight_if_large(alloc: Global) -> bool {
+    match checked(alloc, b"1,1048576,1048576\n", true) {
+        Some((done, written)) => done == Ok(()) && written.as_slice() == LARGE_LIST_TIGHT,
         None => false,
     }
 }
@@ -185,7 +216,7 @@ const LAST_GRANTS: [&[u8]; 4] = [
 fn wrong_last_grant(alloc: Global) -> Option<&'static [u8]> {
     let flaw = Err(CheckFault::Flaw(Flaw::Form(1_048_577)));
     for last in &LAST_GRANTS {
-        let is_refused = match checked(alloc, *last) {
+        let is_refused = match checked(alloc, *last, false) {
             Some((done, written)) => done == flaw && written.is_empty(),
             None => false,
         };
@@ -200,4 +231,9 @@ fn wrong_last_grant(alloc: Global) -> Option<&'static [u8]> {
 fn grant_list_limits(rt: HostRuntime) {
     let wrong = wrong_last_grant(rt.alloc());
     assert_eq!(rt; (is_tight(rt.alloc()), wrong), (true, None));
+}
+
+#[test]
+fn large_grant_lists(rt: HostRuntime) {
+    assert_eq!(rt; is_tight_if_large(rt.alloc()), true);
 }

@@ -2,7 +2,7 @@
 
 use super::computed::Computed;
 use super::limits::full_epochs;
-use cn_report::{Batch, BatchFault, read_batch, read_batch_by_two};
+use cn_report::{Batch, BatchFault, Bounds, read_batch, read_batch_by_two};
 use std::alloc::Global;
 use std::hash::RandomState;
 use std::sync::Wait;
@@ -26,7 +26,7 @@ fn read<R: Threads + Wait + Sync>(
     let reader: Computed = full_epochs(786_432, b"");
     match by {
         ReadBy::One => read_batch(alloc, reader, 4, state),
-        ReadBy::Two => read_batch_by_two(rt, alloc, reader, 4, state),
+        ReadBy::Two => read_batch_by_two(rt, alloc, reader, Bounds::of(false, 4), state),
     }
 }
 

@@ -1,8 +1,7 @@
-use Rattle.std.proofs.Common.{◌≡◌, ◌∙◌, ap₂, refl}
+use Rattle.std.proofs.Common.{◌≡◌, refl}
 use Rattle.std.specs.Prelude.{codes, IfOk}
-use Rattle.std.proofs.lemmas.Result.{IfOk-weaker}
 use Rattle.clap.specs.Words.{app_of, with_rule}
-use Rattle.cn_cli.specs.CommandLine.{network_words, option_with, run_with_values}
+use Rattle.cn_cli.specs.CommandLine.{network_words, flag_rule, option_with, run_with_values}
 use Rattle.cn_cli.proofs.Drafts.{argued}
 use Rattle.cn_cli.proofs.command_line.run_command.Goals as goal
 
@@ -19,6 +18,9 @@ returns c =
     let with_form : IfOk c.with_option-command-3.result (λ draft. app_of draft ≡ run_with_values) =
     argued app_of c.with_option-command-2.result c.with_option-command-3.result
     (with_rule (with_rule run workers) hand) form form with_hand refl c.with_option-command-3.ensures in
-    let was : app_of c.in_ok-command.field-0 ≡ run_with_values = rw c.in_ok-command.was at with_form in
-    IfOk-weaker c.arg.result _ _
-    (λ whole adds. adds.shape c.flag.ensures.local ∙ ap₂ with_rule was c.flag.ensures.rule) c.arg.ensures
+    let carry = flag_rule (codes "carry") in
+    let large = flag_rule (codes "large") in
+    let with_carry = argued app_of c.with_option-command-3.result c.with_flag-command.result run_with_values
+    carry carry with_form refl c.with_flag-command.ensures in
+    argued app_of c.with_flag-command.result c.with_flag.result (with_rule run_with_values carry)
+    large large with_carry refl c.with_flag.ensures

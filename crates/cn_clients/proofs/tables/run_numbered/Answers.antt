@@ -2,6 +2,7 @@ use Rattle.std.proofs.Common.{◌≡◌, ℕ, ◌<◌, All, List, length, map, a
 use Rattle.std.proofs.lemmas.List.{length-map}
 use Rattle.std.proofs.lemmas.List.Elements.{All-map}
 use Rattle.cn_ledger.specs.declared.client.Client.{Client}
+use Rattle.cn_spec.specs.declared.limits.TheConstants.{MOST_CLIENTS}
 use Rattle.cn_walk.specs.Runs.{IsRun, MayRun}
 use Rattle.cn_clients.proofs.tables.run_numbered.Goals as goal
 
@@ -13,7 +14,7 @@ pub returns-clause-allowed : goal.returns-clause-allowed
 returns-clause-allowed g c =
     let entries : ℕ = c.args.network.now.table.entries in
     let clients : List Client = c.in-Some.clients.items in
-    let may : MayRun entries clients c.args.workers 1 = subst (λ (cs : List Client). MayRun entries cs c.args.workers 1) c.deref.ensures.value c.in-Ok.ensures.allowed in
+    let may : MayRun MOST_CLIENTS entries clients c.args.workers 1 = subst (λ (cs : List Client). MayRun MOST_CLIENTS entries cs c.args.workers 1) c.deref.ensures.value c.in-Ok.ensures.allowed in
     let each : map (λ (k : Client). k.entry) clients ≡ c.args.entries.now = c.in-Some.ensures.1 in (
       may.workers_fit.0,
       may.workers_fit.1,

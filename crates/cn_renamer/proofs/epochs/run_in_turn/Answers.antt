@@ -1,4 +1,4 @@
-use Rattle.std.proofs.Common.{rules, ◌≡◌, ◌≤◌, ◌+◌, ◌-◌, ◌∷◌, ◌++◌, [], ℕ, List, ap, arith, drop, length, subst, sym, take, ◌∙◌}
+use Rattle.std.proofs.Common.{rules, ◌≡◌, ◌≤◌, ◌+◌, ◌-◌, ◌∷◌, ◌++◌, [], ℕ, List, ap, arith, drop, length, subst, sym, take, true, ◌∙◌}
 use Rattle.std.proofs.lemmas.Grind.{common_steps}
 use Rattle.std.proofs.lemmas.List.{length-drop, length-take-le}
 use Rattle.std.proofs.lemmas.List.Sums.{sum_by_push, sum_by-take-le}
@@ -8,6 +8,7 @@ use Rattle.cn_wiring.specs.Network.{Network}
 use Rattle.cn_floor.specs.Carried.{client_count}
 use Rattle.cn_floor.specs.Ends.{QuietValue}
 use Rattle.cn_walk.specs.Runner.{RunnerValue}
+use Rattle.cn_report.specs.Reading.Bounds.{bounds_of}
 use Rattle.cn_report.specs.Reading.Batch.{MayCome, clients_of_epochs}
 use Rattle.cn_report.specs.declared.reading.batch.BatchEpoch.{BatchEpoch}
 use Rattle.cn_renamer.specs.Floors.{HaveWalked, runner_after}
@@ -66,8 +67,8 @@ serve_epoch-requires-clause-come g c κs within =
     let before = c.loop-epoch.invariant in
     let same : c.loop-epoch.runner.words.network ≡ c.args.first.words.network =
     ap (λ (r : RunnerValue). r.words.network) before.runner ∙ same-network c.args.first c.loop-epoch.receipts before.walked.began in
-    let come : MayCome c.args.first.words.network.table.entries c.epoch-item.result.clients.items = search rules in
-    subst (λ (n : Network). MayCome n.table.entries c.epoch-item.result.clients.items) (sym same) come
+    let come : MayCome (bounds_of true c.args.first.words.network.table.entries) c.epoch-item.result.clients.items = search rules in
+    subst (λ (n : Network). MayCome (bounds_of true n.table.entries) c.epoch-item.result.clients.items) (sym same) come
 
 pub serve_epoch-requires-clause-few : goal.serve_epoch-requires-clause-few
 serve_epoch-requires-clause-few g c κs within =

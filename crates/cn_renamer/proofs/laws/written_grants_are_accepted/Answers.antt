@@ -5,7 +5,7 @@ pub returns-clause-tight : goal.returns-clause-tight
 returns-clause-tight c = accepted
 
 pub returns-clause-printed : goal.returns-clause-printed
-returns-clause-printed c = λ net carry bytes text run. (run.epochs, run.batch, printed net carry bytes text run)
+returns-clause-printed c = λ net carry large bytes text run. (run.epochs, run.batch, printed net carry large bytes text run)
 
 pub returns-clause-after : goal.returns-clause-after
 returns-clause-after c = counted_after

@@ -7,6 +7,7 @@ ghost use Rattle.cn_report.specs.Reading.Heading.{heading_of};
 ghost use Rattle.cn_report.specs.Reading.Number.{number_in};
 
 use crate::reading::batch_fault::BatchCause;
+use crate::reading::bounds::Bounds;
 use crate::reading::number::number_of;
 use crate::reading::records::{field, is_header, is_short_header};
 use csv::ByteRecord;
@@ -91,17 +92,17 @@ fn ruled_arrival(fields: &ByteRecord, entries: u32) -> Result<Arrival, BatchCaus
     arrival_by_rule(field(fields, 0), field(fields, 1), entries)
 }
 
-/// The arrival of a record, of a batch with this heading for a network with so many entries.
+/// The arrival of a record, of a batch with this heading within these bounds.
 pub(crate) fn arrival_of(
     fields: &ByteRecord,
     heading: Heading,
-    entries: u32,
+    bounds: Bounds,
 ) -> Result<Arrival, BatchCause>
-    requires { 0 < entries }
-    ensures { result ≡ arrival_in heading entries (fields_of fields.now) }
+    requires { 0 < bounds.entries }
+    ensures { result ≡ arrival_in heading bounds (fields_of fields.now) }
 {
     match heading {
         Heading::WithEntry => arrival_with_entry(fields),
-        Heading::ByRule => ruled_arrival(fields, entries),
+        Heading::ByRule => ruled_arrival(fields, bounds.entries),
     }
 }

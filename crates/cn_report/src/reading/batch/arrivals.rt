@@ -3,12 +3,15 @@
 ghost use Rattle.std.specs.Prelude.{◌≡◌, ◌<◌, ◌⊎◌, ◌∷◌, ◌++◌, [], ℕ, Err, IfErr, IfOk, IfSome, List, MatchOption, MatchResult, Ok, OnOk, Some};
 ghost use Rattle.cn_report.specs.Reading.Arrival.{arrival_in};
 ghost use Rattle.cn_report.specs.Reading.Batch.{IsBatchFault, IsOfReading};
+ghost use Rattle.cn_report.specs.Reading.Bounds.{AreBounds};
+ghost use Rattle.cn_report.specs.declared.reading.bounds.Bounds.{Bounds};
 ghost use Rattle.cn_report.specs.Reading.Heading.{heading_of};
 ghost use Rattle.cn_report.specs.Reading.Records.{HasRead, IsPlain, Record, records_of};
 ghost use Rattle.cn_report.specs.Reading.Stretch.{HasHeader, HasSameHeader, IsFull, IsOpen, ReadsStretch};
 
 use crate::reading::batch::arrival::{Arrival, Heading, arrival_of, heading_of};
 use crate::reading::batch_fault::{BatchCause, BatchFault};
+use crate::reading::bounds::Bounds;
 use crate::reading::records::{next_record, open_records};
 use csv::{ByteRecord, Reader};
 use std::alloc::Global;
@@ -20,8 +23,8 @@ pub(crate) struct ArrivalReader<R: Read + Drop> {
     records: Box<Reader<R>>,
     fields: ByteRecord,
     heading: Heading,
-    /// How many entries the network has.
-    entries: u32,
+    /// Within what it keeps.
+    bounds: Bounds,
 }
 
 /// Reads the header.
@@ -34,9 +37,9 @@ fn read_header<R: Read>(
     ensures ok { IfOk result (λ heading. (text : List ℕ) → HasRead R.remaining records.old text []
         → (fields : Record) × HasRead R.remaining records.new text (fields ∷ [])
         × (heading_of fields ≡ Some heading)) }
-    ensures err { IfErr result (λ cause. (entries : ℕ) (text : List ℕ)
+    ensures err { IfErr result (λ cause. (bounds : Bounds) (text : List ℕ)
         → HasRead R.remaining records.old text []
-        → IsBatchFault entries (records_of text) (record { at = 0; cause = cause })) }
+        → IsBatchFault bounds (records_of text) (record { at = 0; cause = cause })) }
 {
     if !next_record(records, fields)? {
         return Err(BatchCause::Header);
@@ -48,16 +51,16 @@ fn read_header<R: Read>(
 }
 
 impl<R: Read + Drop> ArrivalReader<R> {
-    /// Opens a batch for a network with so many entries, one at least, and reads its header.
+    /// Opens a batch that keeps within these bounds, and reads its header.
     ///
     /// # Errors
     /// The fault of the batch at record 0, if it has one. A failed read and want of memory are reported there.
-    pub(crate) fn open(alloc: Global, reader: R, entries: u32) -> Result<Self, BatchFault>
-        requires { 0 < entries }
+    pub(crate) fn open(alloc: Global, reader: R, bounds: Bounds) -> Result<Self, BatchFault>
+        requires { AreBounds bounds }
         ensures open { IfOk result IsOpen }
         ensures header { IfSome (R.remaining reader) (λ text. MatchResult result
-            (λ source. HasHeader R.remaining source text) (IsBatchFault entries (records_of text))) }
-        ensures entries { IfOk result (λ source. source.entries ≡ entries) }
+            (λ source. HasHeader R.remaining source text) (IsBatchFault bounds (records_of text))) }
+        ensures bounds { IfOk result (λ source. source.bounds ≡ bounds) }
     {
         let mut records = open_records(alloc, reader)?;
         let mut fields = ByteRecord::new(alloc);
@@ -66,17 +69,17 @@ impl<R: Read + Drop> ArrivalReader<R> {
                 records,
                 fields,
                 heading,
-                entries,
+                bounds,
             }),
             Err(cause) => Err(BatchFault { at: 0, cause }),
         }
     }
 
-    /// How many entries the network has.
-    pub(crate) fn entries(&self) -> u32
-        ensures { result ≡ self.now.entries }
+    /// Within what the batch keeps.
+    pub(crate) fn bounds(&self) -> Bounds
+        ensures { result ≡ self.now.bounds }
     {
-        self.entries
+        self.bounds
     }
 
     /// The arrival of the next record, if there is one.
@@ -88,16 +91,16 @@ impl<R: Read + Drop> ArrivalReader<R> {
             → HasRead R.remaining self.old.records.value text before
             → MatchOption next (records_of text ≡ before) (λ arrival.
             (fields : Record) × HasRead R.remaining self.new.records.value text (before ++ fields ∷ [])
-            × (arrival_in self.old.heading self.old.entries fields ≡ Ok arrival))) }
+            × (arrival_in self.old.heading self.old.bounds fields ≡ Ok arrival))) }
         ensures refused { IfErr result (λ cause. (text : List ℕ) (before : List Record)
             → HasRead R.remaining self.old.records.value text before
             → ((fields : Record) × HasRead R.remaining self.new.records.value text (before ++ fields ∷ [])
-            × (arrival_in self.old.heading self.old.entries fields ≡ Err cause)) ⊎ IsOfReading cause) }
+            × (arrival_in self.old.heading self.old.bounds fields ≡ Err cause)) ⊎ IsOfReading cause) }
     {
         if !next_record(&mut self.records, &mut self.fields)? {
             return Ok(None);
         }
-        Ok(Some(arrival_of(&self.fields, self.heading, self.entries)?))
+        Ok(Some(arrival_of(&self.fields, self.heading, self.bounds)?))
     }
 
     /// Reads a stretch in place of the arrivals that were there: `most` arrivals, or fewer if the text ends or a record

@@ -1,11 +1,12 @@
 //! The epochs of a batch, as its records come.
 
 ghost use Rattle.std.specs.Prelude.{◌≡◌, ℕ, ◌≤◌, ◌+◌, ◌⊎◌, ◌∷◌, ◌++◌, [], List, None, Some, MatchResult, OnErr, OnOk, IfErr, IfOk, vec_capacity};
-ghost use Rattle.cn_spec.specs.declared.limits.TheConstants.{MOST_RECORDS};
 ghost use Rattle.cn_report.specs.declared.reading.batch.arrival.Arrival.{Arrival};
 ghost use Rattle.cn_report.specs.declared.reading.batch.arrival.Heading.{Heading};
 ghost use Rattle.cn_report.specs.Reading.Arrival.{arrival_cause};
 ghost use Rattle.cn_report.specs.Reading.Batch.{AreServable, IsBatch, IsBatchFault, clients_of_epochs};
+ghost use Rattle.cn_report.specs.Reading.Bounds.{AreBounds};
+ghost use Rattle.cn_report.specs.declared.reading.bounds.Bounds.{Bounds};
 ghost use Rattle.cn_report.specs.Reading.Gathered.{HoldsArrivals, IsGathered, StaysServable, adding_cause, ended_after};
 ghost use Rattle.cn_report.specs.Reading.Records.{Record};
 ghost use Rattle.cn_report.specs.Reading.Stretch.{AreTaken, Gathers};
@@ -13,9 +14,9 @@ ghost use Rattle.cn_report.specs.Reading.Stretch.{AreTaken, Gathers};
 use crate::reading::batch::BatchEpoch;
 use crate::reading::batch::arrival::Arrival;
 use crate::reading::batch_fault::{BatchCause, BatchFault};
+use crate::reading::bounds::Bounds;
 use crate::reading::scatter::Scatter;
 use cn_ledger::Client;
-use cn_spec::limits::{MOST_CLIENTS, MOST_RECORDS};
 use indexmap::IndexSet;
 use std::alloc::{AllocError, Global};
 use std::hash::RandomState;
@@ -34,7 +35,7 @@ pub(crate) struct Gathering {
 impl Gathering {
     pub(crate) fn new(alloc: Global, state: RandomState) -> Self
         ensures none { IsGathered result [] }
-        ensures keeps { (entries : ℕ) → StaysServable entries result }
+        ensures keeps { (bounds : Bounds) → AreBounds bounds → StaysServable bounds result }
     {
         Gathering {
             ended: Vec::new(alloc),
@@ -81,8 +82,8 @@ impl Gathering {
         requires { self.old.latest.number ≤ epoch }
         ensures holds { OnOk result ((self.new.latest.number ≡ epoch)
             × ((before : List Arrival) → HoldsArrivals self.old before → HoldsArrivals self.new before)) }
-        ensures keeps { OnOk result ((entries : ℕ) → StaysServable entries self.old
-            → StaysServable entries self.new) }
+        ensures keeps { OnOk result ((bounds : Bounds) → StaysServable bounds self.old
+            → StaysServable bounds self.new) }
         ensures next { self.new.next ≡ self.old.next }
     {
         if self.latest.number == epoch {
@@ -94,8 +95,9 @@ impl Gathering {
 
     /// Adds a client of the latest epoch, which is the next record, if nothing is wrong with it. One look-up finds
     /// whether it stands there and puts it in.
-    fn add_to_latest(&mut self, client: Client) -> Result<(), BatchCause>
-        ensures ok { OnOk result ((adding_cause self.old client ≡ None)
+    fn add_to_latest(&mut self, bounds: Bounds, client: Client) -> Result<(), BatchCause>
+        requires { AreBounds bounds }
+        ensures ok { OnOk result ((adding_cause bounds self.old client ≡ None)
             × (self.new.ended ≡ self.old.ended)
             × (self.new.latest.number ≡ self.old.latest.number)
             × (self.new.latest.clients.items ≡ self.old.latest.clients.items ++ client ∷ [])
@@ -103,17 +105,17 @@ impl Gathering {
             × (self.new.next ≡ self.old.next + 1)) }
         ensures stays { OnErr result (self.new.next ≡ self.old.next) }
         ensures err { IfErr result (λ cause.
-            (adding_cause self.old client ≡ Some cause) ⊎ (cause ≡ BatchCause.Memory)) }
+            (adding_cause bounds self.old client ≡ Some cause) ⊎ (cause ≡ BatchCause.Memory)) }
     {
         match self.standing.insert(client.id) {
             Ok(true) => {}
             Ok(false) => return Err(BatchCause::Duplicate),
             Err(_) => return Err(BatchCause::Memory),
         }
-        if self.latest.clients.len() as u64 >= MOST_CLIENTS {
+        if self.latest.clients.len() as u64 >= bounds.clients {
             return Err(BatchCause::EpochFull);
         }
-        if self.next > MOST_RECORDS {
+        if self.next > bounds.records {
             return Err(BatchCause::BatchFull);
         }
         if self.latest.clients.push(client).is_err() {
@@ -124,21 +126,21 @@ impl Gathering {
     }
 
     /// Adds an arrival, which is the next record, if nothing is wrong with it.
-    fn add(&mut self, alloc: Global, entries: u32, arrival: Arrival) -> Result<(), BatchCause>
-        requires { StaysServable entries self.old }
+    fn add(&mut self, alloc: Global, bounds: Bounds, arrival: Arrival) -> Result<(), BatchCause>
+        requires { StaysServable bounds self.old }
         ensures ok { OnOk result ((before : List Arrival) → IsGathered self.old before
-            → (arrival_cause entries before arrival ≡ None)
+            → (arrival_cause bounds before arrival ≡ None)
             × IsGathered self.new (before ++ arrival ∷ [])) }
-        ensures keeps { OnOk result (StaysServable entries self.new) }
+        ensures keeps { OnOk result (StaysServable bounds self.new) }
         ensures next { OnOk result (self.new.next ≡ self.old.next + 1) }
         ensures stays { OnErr result (self.new.next ≡ self.old.next) }
         ensures err { IfErr result (λ cause. (before : List Arrival) → IsGathered self.old before
-            → (arrival_cause entries before arrival ≡ Some cause) ⊎ (cause ≡ BatchCause.Memory)) }
+            → (arrival_cause bounds before arrival ≡ Some cause) ⊎ (cause ≡ BatchCause.Memory)) }
     {
         if arrival.epoch < self.latest.number {
             return Err(BatchCause::EpochBackwards);
         }
-        if arrival.entry >= u64::from(entries) {
+        if arrival.entry >= u64::from(bounds.entries) {
             return Err(BatchCause::EntryRange);
         }
         self.turn_to(alloc, arrival.epoch)?;
@@ -146,7 +148,7 @@ impl Gathering {
             id: arrival.client,
             entry: arrival.entry,
         };
-        self.add_to_latest(client)
+        self.add_to_latest(bounds, client)
     }
 
     /// Gathers arrivals, those of the next records.
@@ -156,15 +158,15 @@ impl Gathering {
     pub(crate) fn gather(
         &mut self,
         alloc: Global,
-        entries: u32,
+        bounds: Bounds,
         arrivals: &[Arrival],
     ) -> Result<(), BatchFault>
-        requires { StaysServable entries self.old }
-        ensures { Gathers entries arrivals.now self.old self.new result }
+        requires { StaysServable bounds self.old }
+        ensures { Gathers bounds arrivals.now self.old self.new result }
     {
         for arrival in arrivals {
             let at = self.next;
-            if let Err(cause) = self.add(alloc, entries, *arrival) {
+            if let Err(cause) = self.add(alloc, bounds, *arrival) {
                 return Err(BatchFault { at, cause });
             }
         }
@@ -176,13 +178,13 @@ impl Gathering {
     /// # Errors
     /// Want of memory, at the record that is not there.
     pub(crate) fn finish(self, alloc: Global) -> Result<Vec<BatchEpoch>, BatchFault>
-        ensures answer { (heading : Heading) (entries : ℕ) (records : List Record) (arrivals : List Arrival)
-            → AreTaken heading entries records arrivals → IsGathered self arrivals
-            → MatchResult result (λ epochs. IsBatch entries records epochs.items) (IsBatchFault entries records) }
-        ensures fits { IfOk result (λ epochs. (entries : ℕ) → StaysServable entries self
-            → AreServable entries epochs.items) }
-        ensures few { IfOk result (λ epochs. (entries : ℕ) → StaysServable entries self
-            → clients_of_epochs epochs.items ≤ MOST_RECORDS) }
+        ensures answer { (heading : Heading) (bounds : Bounds) (records : List Record) (arrivals : List Arrival)
+            → AreTaken heading bounds records arrivals → IsGathered self arrivals
+            → MatchResult result (λ epochs. IsBatch bounds records epochs.items) (IsBatchFault bounds records) }
+        ensures fits { IfOk result (λ epochs. (bounds : Bounds) → StaysServable bounds self
+            → AreServable bounds epochs.items) }
+        ensures few { IfOk result (λ epochs. (bounds : Bounds) → StaysServable bounds self
+            → clients_of_epochs epochs.items ≤ bounds.records) }
         ensures memory { IfErr result (λ fault. fault ≡ record { at = self.next; cause = BatchCause.Memory }) }
     {
         let mut gathering = self;

@@ -28,8 +28,8 @@ pub(crate) trait Readers {
         gathering: &mut Gathering,
     ) -> (Result<(), BatchFault>, Result<bool, BatchCause>)
         requires open { IsOpen source.old }
-        requires keeps { StaysServable source.old.entries gathering.old }
-        ensures gathers { Gathers source.old.entries stretch.now gathering.old gathering.new result.0 }
+        requires keeps { StaysServable source.old.bounds gathering.old }
+        ensures gathers { Gathers source.old.bounds stretch.now gathering.old gathering.new result.0 }
         ensures reads { ReadsStretch I.remaining source.old source.new next.new.items result.1 }
         ensures full { IsFull STRETCH next.new.items result.1 };
 }
@@ -48,7 +48,7 @@ impl Readers for OneThread {
         next: &mut Vec<Arrival>,
         gathering: &mut Gathering,
     ) -> (Result<(), BatchFault>, Result<bool, BatchCause>) {
-        let gathered = gathering.gather(alloc, source.entries(), stretch);
+        let gathered = gathering.gather(alloc, source.bounds(), stretch);
         (gathered, source.read_stretch(STRETCH, next))
     }
 }
@@ -66,13 +66,13 @@ impl<'r, R: Threads + Wait + Sync> Readers for TwoThreads<'r, R> {
         next: &mut Vec<Arrival>,
         gathering: &mut Gathering,
     ) -> (Result<(), BatchFault>, Result<bool, BatchCause>) {
-        let entries = source.entries();
+        let bounds = source.bounds();
         join_mut(
             self.0,
             &mut ||
-                requires { StaysServable entries gathering.now }
-                ensures { Gathers entries stretch.entry.now gathering.entry.now gathering.exit.now result }
-            { gathering.gather(alloc, entries, stretch) },
+                requires { StaysServable bounds gathering.now }
+                ensures { Gathers bounds stretch.entry.now gathering.entry.now gathering.exit.now result }
+            { gathering.gather(alloc, bounds, stretch) },
             &mut ||
                 requires { IsOpen source.now }
                 ensures { ReadsStretch I.remaining source.entry.now source.exit.now next.exit.now.items result

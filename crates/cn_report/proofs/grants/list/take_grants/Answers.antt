@@ -12,20 +12,20 @@ loop-at-init g c = record {
   plain = c.in_default.ensures.plain;
   taken = λ text read.
       let (fields, now, e) = c.in_default.ensures.ok text read in
-      (fields ∷ [], [], now, refl, taken-header fields e, c.new-granting.ensures.checked);
+      (fields ∷ [], [], now, refl, taken-header c.args.most fields e, c.new-granting.ensures.checked);
 }
 
 pub finish-requires : goal.finish-requires
 finish-requires g c =
     let count = rw c.in-Ok-false.field-0-test at c.in-Ok-false.ensures.count in
-    omega (arith, count, c.loop-at.invariant.few)
+    omega (arith, count, c.loop-at.invariant.few, c.requires.most)
 
 pub returns-in-Ok-false : goal.returns-in-Ok-false
 returns-in-Ok-false g c = record {
   answer = λ text read.
       let (before, grants, now, size, t, checked) = c.loop-at.invariant.taken text read in
       let (all, ended) = rw c.in-Ok-false.field-0-test at (c.in-Ok-false.ensures.found text before grants now checked (omega (arith, t.counted, size))) in
-      taken-end (λ epochs. epochs.items) (records_of text) before grants c.finish.result t all (c.finish.ensures.answer grants ended.holds)
+      taken-end (λ epochs. epochs.items) c.args.most (records_of text) before grants c.finish.result t all (c.finish.ensures.answer grants ended.holds)
       (if_ok-map c.finish.result c.finish.ensures.found (λ epochs found. found grants ended.holds ended.tells));
 }
 
@@ -33,13 +33,13 @@ pub returns-in-Err-take_grant : goal.returns-in-Err-take_grant
 returns-in-Err-take_grant g c = record {
   answer = λ text read.
       let (before, grants, now, size, t, checked) = c.loop-at.invariant.taken text read in
-      rw c.flaw_at-in-Err-take_grant.ensures (first-flaw (records_of text) c.loop-at.at c.in-Err-take_grant.cause
+      rw c.flaw_at-in-Err-take_grant.ensures (first-flaw c.args.most (records_of text) c.loop-at.at c.in-Err-take_grant.cause
       (elim (c.in-Err-take_grant.ensures.refused text before grants now checked (omega (arith, t.counted, size))) [
         | inl w ↦
             let (fields, next, e) = w in
-            rw (← size) (stop_at header_cause record_cause IsOfReading g.R.Read.remaining c.take_grant.new.records text before fields c.in-Err-take_grant.cause t.clean next
-            (at-grants before grants fields t c.in-Err-take_grant.cause e))
-        | inr w ↦ rw (← size) (stop-before header_cause record_cause IsOfReading g.R.Read.remaining c.loop-at.records text before c.in-Err-take_grant.cause t.clean now w)
+            rw (← size) (stop_at header_cause (record_cause c.args.most) IsOfReading g.R.Read.remaining c.take_grant.new.records text before fields c.in-Err-take_grant.cause t.clean next
+            (at-grants c.args.most before grants fields t c.in-Err-take_grant.cause e))
+        | inr w ↦ rw (← size) (stop-before header_cause (record_cause c.args.most) IsOfReading g.R.Read.remaining c.loop-at.records text before c.in-Err-take_grant.cause t.clean now w)
       ]));
 }
 
@@ -57,7 +57,7 @@ loop-at-preserved g c =
             grants ++ grant ∷ [],
             next,
             omega (arith, size, length-append before (fields ∷ [])),
-            taken-next before grants fields grant t is none,
+            taken-next c.args.most before grants fields grant t is none,
             more,
           );
     }

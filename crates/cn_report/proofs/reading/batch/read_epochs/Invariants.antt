@@ -1,4 +1,4 @@
-use Rattle.cn_report.proofs.Common.{◌+◌, ◌-◌, ℕ, List, OnOk, MOST_RECORDS, IsPlain}
+use Rattle.cn_report.proofs.Common.{◌+◌, ◌-◌, ℕ, List, OnOk, IsPlain}
 use Rattle.cn_report.specs.Reading.Gathered.{StaysServable}
 use Rattle.cn_report.specs.Reading.Stretch.{HasHeader, HasSameHeader, IsFull}
 use Rattle.cn_report.specs.declared.reading.batch.readers.TheConstants.{STRETCH}
@@ -10,10 +10,10 @@ invariant-loop-end g l = record {
   plain : OnOk l.end (IsPlain l.source.records.value);
   same : HasSameHeader l.fn.source l.source;
   full : IsFull STRETCH l.stretch.items l.end;
-  keeps : StaysServable l.fn.source.entries l.gathering;
+  keeps : StaysServable l.fn.source.bounds l.gathering;
   ahead : (text : List ℕ) → HasHeader g.I.Read.remaining l.fn.source text
-      → IsAhead g.I.Read.remaining l.fn.source.heading l.fn.source.entries text l.source.records.value l.gathering l.stretch.items l.end;
+      → IsAhead g.I.Read.remaining l.fn.source.heading l.fn.source.bounds text l.source.records.value l.gathering l.stretch.items l.end;
 }
 
 abbrev pub decreases-loop-end : goal.decreases-loop-end
-decreases-loop-end g l = MOST_RECORDS + 2 - l.gathering.next
+decreases-loop-end g l = l.fn.source.bounds.records + 2 - l.gathering.next

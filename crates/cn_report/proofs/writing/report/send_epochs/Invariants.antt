@@ -1,4 +1,5 @@
-use Rattle.cn_report.proofs.Common.{◌≡◌, ◌+◌, ◌++◌, ◌≤◌, ℕ, List, drop, length, flat_map, MOST_RECORDS, Puts}
+use Rattle.cn_spec.specs.declared.limits.TheConstants.{MOST_NAMED}
+use Rattle.cn_report.proofs.Common.{◌≡◌, ◌+◌, ◌++◌, ◌≤◌, ℕ, List, drop, length, flat_map, Puts}
 use Rattle.cn_record.specs.declared.record.EpochRecord.{EpochRecord}
 use Rattle.cn_report.specs.Reading.Batch.{clients_of_epochs}
 use Rattle.cn_report.specs.Writing.EpochRecords.{AreRecordsOf}
@@ -10,7 +11,7 @@ abbrev pub invariant-loop-epoch : goal.invariant-loop-epoch
 invariant-loop-epoch g l =
     record {
       as_many : clients_of_epochs (drop l.epoch-index l.epochs) ≡ length l.left;
-      few : l.before + length l.left ≤ MOST_RECORDS;
+      few : l.before + length l.left ≤ MOST_NAMED;
       put : (records : List EpochRecord) → AreRecordsOf l.carries l.width 0 l.epochs records l.holders
           → (later : List EpochRecord) × AreRecordsOf l.carries l.width l.before (drop l.epoch-index l.epochs) later l.left
           × (sofar : List ℕ) × (flat_map (epoch_lines l.width) records ≡ sofar ++ flat_map (epoch_lines l.width) later)
