@@ -6,8 +6,8 @@ use Rattle.cn_spec.specs.declared.limits.TheConstants.{MOST_CARRIED, MOST_CLIENT
 use Rattle.cn_wiring.specs.Network.{IsNetwork}
 use Rattle.cn_wiring.specs.Table.{Table}
 use Rattle.cn_core.specs.declared.position.Position.TheVariants.{Holds}
-use Rattle.cn_record.specs.declared.reply.EnterFault.TheVariants.{NoSuchEntry, AlreadyIn, EpochFull}
-use Rattle.cn_record.specs.declared.reply.Reply.TheVariants.{Entered, EnterRefused}
+use Rattle.cn_ledger.specs.declared.reply.EnterFault.TheVariants.{NoSuchEntry, AlreadyIn, EpochFull}
+use Rattle.cn_ledger.specs.declared.reply.Reply.TheVariants.{Entered, EnterRefused}
 use Rattle.cn_core.specs.History.{Agrees, HasOneHolder, AreEpochs, ByHistories, IsHistory, enters_of, is_accepted, step_answer}
 use Rattle.cn_core.specs.Tight.{HasShares}
 use Rattle.cn_core.proofs.CarryLemmas.{IsCore-after_carry, visits-after-carry}

@@ -7,10 +7,10 @@ use Rattle.cn_spec.specs.declared.limits.TheConstants.{MOST_CLIENTS}
 use Rattle.cn_spec.proofs.CallerLemmas.{one_more-at, zero_at}
 use Rattle.cn_wiring.specs.Table.{Table, is_end}
 use Rattle.cn_core.specs.declared.position.Position.TheVariants.{Holds}
-use Rattle.cn_record.specs.declared.reply.EnterFault.TheVariants.{NoSuchEntry, AlreadyIn, EpochFull, Memory}
-use Rattle.cn_record.specs.declared.reply.StepFault.TheVariants.{Stranger, HasName}
-use Rattle.cn_record.specs.declared.reply.Reply.{Reply}
-use Rattle.cn_record.specs.declared.reply.Reply.TheVariants.{Entered, EnterRefused, Stepped, StepRefused}
+use Rattle.cn_ledger.specs.declared.reply.EnterFault.TheVariants.{NoSuchEntry, AlreadyIn, EpochFull, Memory}
+use Rattle.cn_ledger.specs.declared.reply.StepFault.TheVariants.{Stranger, HasName}
+use Rattle.cn_ledger.specs.declared.reply.Reply.{Reply}
+use Rattle.cn_ledger.specs.declared.reply.Reply.TheVariants.{Entered, EnterRefused, Stepped, StepRefused}
 use Rattle.cn_core.specs.State.{is_named, is_inside}
 use Rattle.cn_core.specs.History.{leaves_of, inside_of, end_at, is_leave, IsHistory, Agrees, MayAnswerAll, history_after, steps_before}
 use Rattle.cn_core.specs.Calls.{EntersTo, StepsTo, TakesTo, IsLedgerEvent, AnswersByHistory, RunsByHistory, RunsTo}

@@ -10,7 +10,7 @@ use Rattle.cn_wiring.specs.Network.{IsNetwork}
 use Rattle.cn_core.specs.History.{ByHistories, moved_past}
 use Rattle.cn_ledger.specs.Ledger.{IsSound}
 use Rattle.cn_ledger.specs.declared.moved.Moved.{Moved}
-use Rattle.cn_record.specs.declared.reply.Reply.TheVariants.{Stepped}
+use Rattle.cn_ledger.specs.declared.reply.Reply.TheVariants.{Stepped}
 use Rattle.cn_ledger.specs.Moves.{IsMoveOf}
 use Rattle.cn_core.specs.Calls.{IsLedgerEvent, StepsTo}
 use Rattle.cn_core.specs.StateLedger.{given_in_state, HasSoundLedger}

@@ -12,8 +12,7 @@ ghost use Rattle.cn_wiring.specs.declared.end.End.TheVariants.{Balancer};
 use crate::clients::{Clients, Found};
 use cn_balancer::output_of;
 use cn_exit::{Exits, Leave};
-use cn_ledger::Moved;
-use cn_record::{EnterFault, StepFault};
+use cn_ledger::{EnterFault, Moved, StepFault};
 use cn_spec::limits::{MOST_ARRIVALS, MOST_CLIENTS};
 use cn_wiring::{Counting, End};
 use std::alloc::{AllocError, Global};
@@ -74,7 +73,7 @@ impl<'a> Core<'a> {
     ghost use Rattle.cn_core.specs.StateLedger.{HasSoundLedger};
     ghost use Rattle.cn_core.specs.Tight.{BringsAll, HasShares, IsBoundedState, IsTightState, ListsStateHolders};
     ghost use Rattle.cn_core.specs.Calls.{AnswersByHistory, CarriesByHistory, EntersTo, IsLedgerEvent, StepsTo};
-    ghost use Rattle.cn_record.specs.Answers.{entered_reply, stepped_reply};
+    ghost use Rattle.cn_ledger.specs.Answers.{entered_reply, stepped_reply};
 
     /// A network that nobody has entered. The table of its clients hashes by `state`.
     ///

@@ -7,10 +7,10 @@ ghost use Rattle.cn_ledger.specs.WorkedNetworks.{tree_of_four, two_wide};
 ghost use Rattle.cn_core.specs.History.{AreEpochs, HasOneHolder, IsHistory, answers_to, carried_by, enters_of, inside_of};
 ghost use Rattle.cn_core.specs.declared.event.Event.{Event};
 ghost use Rattle.cn_core.specs.declared.event.Event.TheVariants.{Enter, Step};
-ghost use Rattle.cn_record.specs.declared.reply.EnterFault.TheVariants.{AlreadyIn, NoSuchEntry};
+ghost use Rattle.cn_ledger.specs.declared.reply.EnterFault.TheVariants.{AlreadyIn, NoSuchEntry};
 ghost use Rattle.cn_ledger.specs.declared.moved.Moved.TheVariants.{On as Passed, Out};
-ghost use Rattle.cn_record.specs.declared.reply.Reply.TheVariants.{Entered, EnterRefused, StepRefused, Stepped};
-ghost use Rattle.cn_record.specs.declared.reply.StepFault.TheVariants.{HasName, Stranger};
+ghost use Rattle.cn_ledger.specs.declared.reply.Reply.TheVariants.{Entered, EnterRefused, StepRefused, Stepped};
+ghost use Rattle.cn_ledger.specs.declared.reply.StepFault.TheVariants.{HasName, Stranger};
 
 /// After any history two clients that hold one name are one client. The earlier epochs, if there are any, were
 /// accepted, and have no more clients than may be carried.

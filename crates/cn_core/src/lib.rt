@@ -7,8 +7,7 @@ mod event;
 pub mod laws;
 mod position;
 
-pub use cn_ledger::{Client, Moved};
-pub use cn_record::{EnterFault, Reply, StepFault};
+pub use cn_ledger::{Client, EnterFault, Moved, Reply, StepFault};
 pub use core_state::Core;
 pub use event::Event;
 pub use position::Position;

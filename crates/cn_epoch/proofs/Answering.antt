@@ -7,19 +7,19 @@ use Rattle.cn_core.specs.declared.event.Event.{Event}
 use Rattle.cn_core.specs.declared.event.Event.TheVariants.{Enter as EnterEvent, Step as StepEvent}
 use Rattle.cn_core.specs.declared.position.Position.{Position}
 use Rattle.cn_core.specs.declared.position.Position.TheVariants.{On, Holds}
-use Rattle.cn_record.specs.declared.reply.Reply.{Reply}
+use Rattle.cn_ledger.specs.declared.reply.Reply.{Reply}
 use Rattle.cn_core.specs.History as core
 use Rattle.cn_core.specs.History.{AgreesAfter, Carried, inside_of, carried_by}
 use Rattle.cn_core.specs.Calls.{AnswersByHistory}
 use Rattle.cn_core.specs.State.{State, came_in, inside_in, name_at, position_in}
 use Rattle.cn_core.specs.Tight.{HasShares, IsTightState}
 use Rattle.cn_core.proofs.CallerLemmas.{came-after as event-after, Agrees-after_carry, Agrees-start, inside-by_history}
-use Rattle.cn_record.specs.declared.answer.Answer.{Answer}
-use Rattle.cn_record.specs.declared.answer.Answer.TheVariants.{Replied, Turned, TurnRefused}
-use Rattle.cn_record.specs.declared.answer.TurnFault.TheVariants.{Memory, NotQuiet}
-use Rattle.cn_record.specs.declared.command.Command.{Command}
-use Rattle.cn_record.specs.declared.command.Command.TheVariants.{Enter, Step, Turn}
-use Rattle.cn_record.specs.declared.record.EpochRecord.{EpochRecord}
+use Rattle.cn_ledger.specs.declared.answer.Answer.{Answer}
+use Rattle.cn_ledger.specs.declared.answer.Answer.TheVariants.{Replied, Turned, TurnRefused}
+use Rattle.cn_ledger.specs.declared.answer.TurnFault.TheVariants.{Memory, NotQuiet}
+use Rattle.cn_ledger.specs.declared.command.Command.{Command}
+use Rattle.cn_ledger.specs.declared.command.Command.TheVariants.{Enter, Step, Turn}
+use Rattle.cn_ledger.specs.declared.record.EpochRecord.{EpochRecord}
 use Rattle.cn_epoch.specs.Calls.{AnswersCommandByHistory, RepliesByHistory, RunsCommandsByHistory, RunsCommandsTo, TakesCommandTo, TellsEpoch}
 use Rattle.cn_epoch.specs.History.{ByEpochHistories, Epochs, EpochsAgree, IsRecordOf, earlier_after, earlier_in, kept_after, next}
 use Rattle.cn_epoch.specs.Turns.{IsTightRecord}

@@ -9,17 +9,17 @@ use Rattle.cn_wiring.specs.Network.{Network, IsNetwork}
 use Rattle.cn_wiring.specs.Table.{Table}
 use Rattle.cn_core.specs.declared.event.Event.{Event}
 use Rattle.cn_core.specs.declared.event.Event.TheVariants.{Enter as EnterEvent, Step as StepEvent}
-use Rattle.cn_record.specs.declared.reply.Reply.{Reply}
+use Rattle.cn_ledger.specs.declared.reply.Reply.{Reply}
 use Rattle.cn_core.specs.History as core
 use Rattle.cn_core.specs.History.{AreEpochs, Carried, HasOneHolder, IsHistory, answer_to, carried_by, is_accepted}
 use Rattle.cn_core.proofs.CallerLemmas.{one-holder-after}
-use Rattle.cn_record.specs.declared.answer.Answer.{Answer}
-use Rattle.cn_record.specs.declared.answer.Answer.TheVariants.{Replied, Turned, TurnRefused}
-use Rattle.cn_record.specs.declared.answer.TurnFault.TheVariants.{NotQuiet, Memory}
-use Rattle.cn_record.specs.declared.command.Command.{Command}
-use Rattle.cn_record.specs.declared.command.Command.TheVariants.{Enter, Step, Turn}
+use Rattle.cn_ledger.specs.declared.answer.Answer.{Answer}
+use Rattle.cn_ledger.specs.declared.answer.Answer.TheVariants.{Replied, Turned, TurnRefused}
+use Rattle.cn_ledger.specs.declared.answer.TurnFault.TheVariants.{NotQuiet, Memory}
+use Rattle.cn_ledger.specs.declared.command.Command.{Command}
+use Rattle.cn_ledger.specs.declared.command.Command.TheVariants.{Enter, Step, Turn}
 use Rattle.cn_epoch.specs.History.{MayAnswerCommand, MayReply, MayTurn, cut_by, earlier_after, earlier_by, earlier_in, history_after_command, history_by_commands, kept_after, kept_by, replied_to, turns_after, turns_by}
-use Rattle.cn_record.specs.Answers.{HadMemory, IsSameAnswer}
+use Rattle.cn_ledger.specs.Answers.{HadMemory, IsSameAnswer}
 use Rattle.cn_epoch.specs.Turns.{HasOneRecord, HaveOneAnswer}
 
 module _ (network : Network) (is : IsNetwork network) where

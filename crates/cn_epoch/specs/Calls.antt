@@ -7,14 +7,14 @@ use Rattle.cn_core.specs.Calls as core
 use Rattle.cn_core.specs.Calls.{IsLedgerEvent}
 use Rattle.cn_core.specs.History.{MayAnswer, history_after, carried_by}
 use Rattle.cn_core.specs.State.{inside_in}
-use Rattle.cn_record.specs.declared.reply.Reply.{Reply}
+use Rattle.cn_ledger.specs.declared.reply.Reply.{Reply}
 use Rattle.cn_core.specs.Tight.{ListsStateHolders}
-use Rattle.cn_record.specs.declared.answer.Answer.{Answer}
-use Rattle.cn_record.specs.declared.answer.Answer.TheVariants.{Replied, Turned, TurnRefused}
-use Rattle.cn_record.specs.declared.answer.TurnFault.TheVariants.{NotQuiet, Memory}
-use Rattle.cn_record.specs.declared.command.Command.{Command}
-use Rattle.cn_record.specs.declared.command.Command.TheVariants.{Enter, Step, Turn}
-use Rattle.cn_record.specs.declared.record.EpochRecord.{EpochRecord}
+use Rattle.cn_ledger.specs.declared.answer.Answer.{Answer}
+use Rattle.cn_ledger.specs.declared.answer.Answer.TheVariants.{Replied, Turned, TurnRefused}
+use Rattle.cn_ledger.specs.declared.answer.TurnFault.TheVariants.{NotQuiet, Memory}
+use Rattle.cn_ledger.specs.declared.command.Command.{Command}
+use Rattle.cn_ledger.specs.declared.command.Command.TheVariants.{Enter, Step, Turn}
+use Rattle.cn_ledger.specs.declared.record.EpochRecord.{EpochRecord}
 use Rattle.cn_epoch.specs.History.{EpochsAgree, Epochs, MayAnswerCommands, MayAnswerCommand, MayTurn, cut_by, history_after_command, history_by_commands, kept_after, kept_by, next, turns_after, turns_by, earlier_in}
 use Rattle.cn_epoch.specs.Turns.{IsTightRecord}
 

@@ -10,12 +10,12 @@ use Rattle.cn_core.specs.declared.position.Position.TheVariants.{Holds}
 use Rattle.cn_core.specs.History as core
 use Rattle.cn_core.specs.History.{Carried, carried_by, enters_of, inside_of, position_after, steps_before}
 use Rattle.cn_core.specs.State.{State, after_carry, start}
-use Rattle.cn_record.specs.declared.answer.Answer.{Answer}
-use Rattle.cn_record.specs.declared.answer.Answer.TheVariants.{Replied, Turned, TurnRefused}
-use Rattle.cn_record.specs.declared.answer.TurnFault.TheVariants.{NotQuiet, Memory}
-use Rattle.cn_record.specs.declared.command.Command.{Command}
-use Rattle.cn_record.specs.declared.command.Command.TheVariants.{Enter, Step, Turn}
-use Rattle.cn_record.specs.declared.record.EpochRecord.{EpochRecord}
+use Rattle.cn_ledger.specs.declared.answer.Answer.{Answer}
+use Rattle.cn_ledger.specs.declared.answer.Answer.TheVariants.{Replied, Turned, TurnRefused}
+use Rattle.cn_ledger.specs.declared.answer.TurnFault.TheVariants.{NotQuiet, Memory}
+use Rattle.cn_ledger.specs.declared.command.Command.{Command}
+use Rattle.cn_ledger.specs.declared.command.Command.TheVariants.{Enter, Step, Turn}
+use Rattle.cn_ledger.specs.declared.record.EpochRecord.{EpochRecord}
 
 -- epochs as contracts see them: how many have ended, whether a turn carries the counts on, and the state of the epoch
 -- that stands open

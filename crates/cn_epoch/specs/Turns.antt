@@ -6,10 +6,10 @@ use Rattle.cn_spec.specs.declared.limits.TheConstants.{MOST_CARRIED}
 use Rattle.cn_wiring.specs.Table.{Table}
 use Rattle.cn_core.specs.declared.event.Event.{Event}
 use Rattle.cn_core.specs.History.{Carried, carried_by}
-use Rattle.cn_record.specs.declared.answer.Answer.{Answer}
-use Rattle.cn_record.specs.declared.command.Command.{Command}
-use Rattle.cn_record.specs.declared.record.EpochRecord.{EpochRecord}
-use Rattle.cn_record.specs.Answers.{HadMemory, IsSameAnswer, IsSameRecord}
+use Rattle.cn_ledger.specs.declared.answer.Answer.{Answer}
+use Rattle.cn_ledger.specs.declared.command.Command.{Command}
+use Rattle.cn_ledger.specs.declared.record.EpochRecord.{EpochRecord}
+use Rattle.cn_ledger.specs.Answers.{HadMemory, IsSameAnswer, IsSameRecord}
 use Rattle.cn_epoch.specs.History.{IsRecordOf, MayAnswerCommands, kept_by, earlier_in}
 
 -- what a record says is tight after so many clients: each exit has let out what its share has grown by, and each name

@@ -6,7 +6,7 @@ ghost use Rattle.std.specs.Prelude.{◌≡◌, ℕ, ◌+◌, ◌<◌, ◌≤◌,
 ghost use Rattle.cn_spec.specs.Step.{share};
 ghost use Rattle.cn_spec.specs.declared.limits.TheConstants.{MOST_CARRIED, MOST_CLIENTS};
 ghost use Rattle.cn_core.specs.Calls.{EntersTo, IsLedgerEvent, StepsTo};
-ghost use Rattle.cn_record.specs.Answers.{entered_reply, stepped_reply, turned_answer};
+ghost use Rattle.cn_ledger.specs.Answers.{entered_reply, stepped_reply, turned_answer};
 ghost use Rattle.cn_core.specs.History as core;
 ghost use Rattle.cn_core.specs.History.{enters_of, inside_of};
 ghost use Rattle.cn_core.specs.State.{came_in, inside_in, start};
@@ -17,7 +17,7 @@ ghost use Rattle.cn_epoch.specs.History.{ByEpochHistories, EpochsAgree, next};
 
 use cn_core::{Core, EnterFault, Moved, StepFault};
 use cn_exit::expected;
-use cn_record::{Answer, EpochRecord, TurnFault};
+use cn_ledger::{Answer, EpochRecord, TurnFault};
 use cn_wiring::Counting;
 use std::alloc::{AllocError, Global};
 use std::hash::RandomState;

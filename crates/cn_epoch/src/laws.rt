@@ -5,7 +5,7 @@ ghost use Rattle.cn_spec.specs.declared.limits.TheConstants.{MOST_CARRIED};
 ghost use Rattle.cn_wiring.specs.Network.{Network, IsNetwork};
 ghost use Rattle.cn_core.specs.History.{AreEpochs, IsHistory, carried_by};
 ghost use Rattle.cn_core.specs.declared.event.Event.{Event};
-ghost use Rattle.cn_record.specs.declared.command.Command.{Command};
+ghost use Rattle.cn_ledger.specs.declared.command.Command.{Command};
 ghost use Rattle.cn_epoch.specs.History.{earlier_in};
 ghost use Rattle.cn_epoch.specs.Turns.{HasOneRecord, HaveOneAnswer};
 

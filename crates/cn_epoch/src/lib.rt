@@ -4,5 +4,5 @@
 mod epochs;
 pub mod laws;
 
-pub use cn_record::{Answer, Command, EpochRecord, TurnFault};
+pub use cn_ledger::{Answer, Command, EpochRecord, TurnFault};
 pub use epochs::Epochs;

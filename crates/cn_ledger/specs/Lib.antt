@@ -4,3 +4,4 @@ pub mod Grants
 pub mod WorkedNetworks
 pub mod Laws
 pub mod Moves
+pub mod Answers

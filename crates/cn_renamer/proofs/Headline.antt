@@ -4,7 +4,7 @@ use Rattle.std.specs.List.{AllZip}
 use Rattle.std.proofs.lemmas.List.{length-map}
 use Rattle.std.proofs.lemmas.List.Sorted.{length_permutation}
 use Rattle.cn_ledger.specs.declared.client.Client.{Client}
-use Rattle.cn_record.specs.declared.record.EpochRecord.{EpochRecord}
+use Rattle.cn_ledger.specs.declared.record.EpochRecord.{EpochRecord}
 use Rattle.cn_report.specs.declared.reading.batch.BatchEpoch.{BatchEpoch}
 use Rattle.cn_report.specs.Writing.Written.{HasWritten, First, Nothing, Whole, Written}
 use Rattle.cn_renamer.specs.Headline.{AreServed, IsServed, clients_before_next}

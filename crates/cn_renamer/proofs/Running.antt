@@ -9,7 +9,7 @@ use Rattle.cn_spec.specs.Sums.{when}
 use Rattle.cn_spec.specs.declared.limits.TheConstants.{MOST_CLIENTS, MOST_NAMED}
 use Rattle.cn_wiring.specs.Network.{Network}
 use Rattle.cn_ledger.specs.declared.client.Client.{Client}
-use Rattle.cn_record.specs.declared.record.EpochRecord.{EpochRecord}
+use Rattle.cn_ledger.specs.declared.record.EpochRecord.{EpochRecord}
 use Rattle.cn_floor.specs.Carried.{zero_words}
 use Rattle.cn_floor.specs.Ends.{QuietValue}
 use Rattle.cn_floor.proofs.CallerLemmas.{none-came}

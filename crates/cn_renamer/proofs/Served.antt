@@ -11,7 +11,7 @@ use Rattle.cn_spec.specs.declared.limits.TheConstants.{MOST_ENDS}
 use Rattle.cn_spec.proofs.CallerLemmas.{order-times, times-map, times-order}
 use Rattle.cn_ledger.specs.declared.client.Client.{Client}
 use Rattle.cn_wiring.specs.Network.{Network}
-use Rattle.cn_record.specs.declared.record.EpochRecord.{EpochRecord}
+use Rattle.cn_ledger.specs.declared.record.EpochRecord.{EpochRecord}
 use Rattle.cn_floor.specs.declared.view.Grant.{Grant}
 use Rattle.cn_floor.specs.Carried.{WordsValue, client_count}
 use Rattle.cn_floor.specs.Ends.{ListsHolders, QuietValue, counts_by_exit}

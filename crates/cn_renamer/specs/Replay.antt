@@ -3,12 +3,12 @@ use Rattle.std.specs.Prelude.{ℕ, ◌≡◌, ◌≢◌, All, IfSome, List, [], 
 use Rattle.std.specs.List.{AllZip}
 use Rattle.cn_wiring.specs.Network.{Network}
 use Rattle.cn_core.specs.History.{carried_by, enters_of, inside_of}
-use Rattle.cn_record.specs.declared.answer.Answer.{Answer}
-use Rattle.cn_record.specs.declared.answer.Answer.TheVariants.{Replied, Turned, TurnRefused}
-use Rattle.cn_record.specs.declared.command.Command.{Command}
+use Rattle.cn_ledger.specs.declared.answer.Answer.{Answer}
+use Rattle.cn_ledger.specs.declared.answer.Answer.TheVariants.{Replied, Turned, TurnRefused}
+use Rattle.cn_ledger.specs.declared.command.Command.{Command}
 use Rattle.cn_epoch.specs.Calls.{AnswersCommandByHistory, RunsCommandsByHistory}
 use Rattle.cn_epoch.specs.History.{Epochs, MayAnswerCommands, history_by_commands, turns_by}
-use Rattle.cn_record.specs.Answers.{HadMemory}
+use Rattle.cn_ledger.specs.Answers.{HadMemory}
 use Rattle.cn_report.specs.Reading.Records.{records_of}
 use Rattle.cn_report.specs.Writing.Replay.{IsKept, IsWholeKept, replay_text}
 use Rattle.cn_report.specs.Reading.Schedule.{IsSchedule, IsScheduleFault}

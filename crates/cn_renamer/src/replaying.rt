@@ -3,8 +3,8 @@
 ghost use Rattle.std.specs.Prelude.{◌≡◌, ◌↔◌, ◌+◌, ◌<◌, ◌≤◌, ◌^◌, [], false, IfErr, IfOk, IsTrue, List, None, length};
 ghost use Rattle.cn_core.specs.State.{start};
 ghost use Rattle.cn_epoch.specs.History.{EpochsAgree};
-ghost use Rattle.cn_record.specs.Answers.{HadMemory};
-ghost use Rattle.cn_record.specs.declared.answer.Answer.{Answer};
+ghost use Rattle.cn_ledger.specs.Answers.{HadMemory};
+ghost use Rattle.cn_ledger.specs.declared.answer.Answer.{Answer};
 ghost use Rattle.cn_report.specs.Writing.Written.{HasWritten, written_by};
 ghost use Rattle.cn_renamer.specs.Outputs.{until_output};
 ghost use Rattle.cn_renamer.specs.Replay.{AreAnsweredAs, IsAnsweredAs, IsReplayFault, IsReplayOfCommands, IsReplayOfKnown, IsReplayText, IsWithoutCounts, fault_of_output, fault_of_schedule, status_of_replay, until_replay};
@@ -12,8 +12,8 @@ ghost use Rattle.cn_renamer.specs.Replay.{AreAnsweredAs, IsAnsweredAs, IsReplayF
 use crate::output_fault::OutputFault;
 use cn_core::EnterFault;
 use cn_epoch::{Epochs, TurnFault};
+use cn_ledger::{Answer, Command, Reply};
 use cn_nets::Net;
-use cn_record::{Answer, Command, Reply};
 use cn_report::{OpenEpoch, Pieces, ScheduleCause, ScheduleFault, read_schedule, write_replay};
 use cn_wiring::Counting;
 use std::alloc::Global;

@@ -2,7 +2,7 @@
 
 ghost use Rattle.std.specs.Prelude.{◌≡◌, ◌≤◌, IfErr, IfOk, IfSome, List, length};
 ghost use Rattle.cn_spec.specs.declared.limits.TheConstants.{MOST_NAMED};
-ghost use Rattle.cn_record.specs.declared.record.EpochRecord.{EpochRecord};
+ghost use Rattle.cn_ledger.specs.declared.record.EpochRecord.{EpochRecord};
 ghost use Rattle.cn_report.specs.Reading.Batch.{AnswersBatch, AreServable, clients_of_epochs};
 ghost use Rattle.cn_report.specs.Reading.Bounds.{bounds_of};
 ghost use Rattle.cn_report.specs.Reading.Records.{records_of};

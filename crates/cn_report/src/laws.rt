@@ -6,7 +6,7 @@ ghost use Rattle.cn_spec.specs.declared.limits.TheConstants.{MOST_NAMED};
 ghost use Rattle.cn_report.specs.declared.reading.batch.BatchEpoch.{BatchEpoch};
 ghost use Rattle.cn_report.specs.Reading.Batch.{IsBatch, plain_epoch};
 ghost use Rattle.cn_report.specs.declared.reading.bounds.Bounds.{Bounds};
-ghost use Rattle.cn_record.specs.declared.record.EpochRecord.{EpochRecord};
+ghost use Rattle.cn_ledger.specs.declared.record.EpochRecord.{EpochRecord};
 ghost use Rattle.cn_report.specs.Grants.TightList.{IsTightList};
 ghost use Rattle.cn_report.specs.Reading.Records.{Record, records_of};
 ghost use Rattle.cn_report.specs.Grants.Printed.{printed_epochs};

@@ -1,7 +1,7 @@
 //! The caller of the page of cn_report.
 
 ghost use Rattle.std.specs.Prelude.{◌≡◌, IfOk, List, length};
-ghost use Rattle.cn_record.specs.declared.command.Command.{Command};
+ghost use Rattle.cn_ledger.specs.declared.command.Command.{Command};
 ghost use Rattle.cn_report.specs.Reading.Records.{records_of};
 ghost use Rattle.cn_report.specs.Reading.Schedule.{IsSchedule};
 

@@ -5,7 +5,7 @@ ghost use Rattle.cn_core.specs.Calls.{AnswersByHistory, IsLedgerEvent, RunsByHis
 
 use super::Core;
 use crate::event::Event;
-use cn_record::Reply;
+use cn_ledger::Reply;
 use std::alloc::AllocError;
 
 impl<'a> Core<'a> {

@@ -5,7 +5,7 @@ ghost use Rattle.cn_spec.specs.declared.limits.TheConstants.{MOST_CARRIED};
 ghost use Rattle.cn_epoch.specs.Calls.{AnswersCommandByHistory, RunsCommandsTo, TakesCommandTo, RunsCommandsByHistory};
 
 use super::Epochs;
-use cn_record::{Answer, Command};
+use cn_ledger::{Answer, Command};
 use std::alloc::AllocError;
 
 impl<'a> Epochs<'a> {

@@ -4,7 +4,7 @@ use Rattle.std.proofs.lemmas.List.FromFn.{length-map-range_with_len}
 use Rattle.std.proofs.lemmas.List.Sorted.{IsPermutation-refl}
 use Rattle.cn_spec.proofs.CallerLemmas.{counts-shares, counts-shares-after}
 use Rattle.cn_spec.specs.declared.limits.TheConstants.{MOST_NAMED}
-use Rattle.cn_record.specs.declared.record.EpochRecord.{EpochRecord}
+use Rattle.cn_ledger.specs.declared.record.EpochRecord.{EpochRecord}
 use Rattle.cn_report.specs.Grants.Granted.{grants_spelled, of_epoch}
 use Rattle.cn_report.specs.Grants.TightList.{IsTightList}
 use Rattle.cn_report.specs.Grants.Printed.{epoch_numbers, names_in, printed_epoch, printed_epochs, with_number}

@@ -5,7 +5,7 @@ use Rattle.std.proofs.lemmas.List.Sorted.{IsPermutation-refl}
 use Rattle.std.proofs.Math.Dec.{eqb}
 use Rattle.cn_spec.proofs.CallerLemmas.{times-nil}
 use Rattle.cn_spec.specs.declared.limits.TheConstants.{MOST_NAMED}
-use Rattle.cn_record.specs.declared.record.EpochRecord.{EpochRecord}
+use Rattle.cn_ledger.specs.declared.record.EpochRecord.{EpochRecord}
 use Rattle.cn_report.specs.Grants.Granted.{of_epoch}
 use Rattle.cn_report.specs.Grants.TightList.{AreTightGrants, IsTightList}
 use Rattle.cn_report.specs.declared.grants.record.Granted.{Granted}

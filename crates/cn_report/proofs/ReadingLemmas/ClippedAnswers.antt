@@ -18,7 +18,7 @@ use Rattle.cn_report.specs.declared.reading.batch_fault.BatchFault.{BatchFault}
 use Rattle.cn_report.specs.declared.reading.bounds.Bounds.{Bounds}
 use Rattle.cn_report.specs.declared.reading.schedule_fault.ScheduleCause.TheVariants as schedule_cause
 use Rattle.cn_report.specs.declared.reading.schedule_fault.ScheduleFault.{ScheduleFault}
-use Rattle.cn_record.specs.declared.command.Command.{Command}
+use Rattle.cn_ledger.specs.declared.command.Command.{Command}
 use Rattle.cn_spec.specs.Sums.{times}
 use Rattle.cn_report.proofs.ReadingLemmas.Clipping.{IsNone, none-is}
 use Rattle.cn_report.proofs.ReadingLemmas.Commas.{weight}

@@ -1,6 +1,6 @@
 -- The records of a schedule that were taken so far, and that they spell one list of commands.
 use Rattle.cn_report.proofs.Common.{◌≡◌, ℕ, List, ◌∷◌, [], ◌++◌, None, Result, Ok, Err, length, drop, map, refl, arith, sym, ap, ap₂, ◌∙◌, map-append, Record}
-use Rattle.cn_record.specs.declared.command.Command.{Command}
+use Rattle.cn_ledger.specs.declared.command.Command.{Command}
 use Rattle.cn_report.specs.Reading.Command.{command_in}
 use Rattle.cn_report.specs.Reading.Schedule.{IsSchedule, command_cause, header_cause, record_cause}
 use Rattle.cn_report.specs.declared.reading.schedule_fault.ScheduleCause.{ScheduleCause}

@@ -1,10 +1,10 @@
 -- Answers that say the same have the same lines.
 use Rattle.cn_report.proofs.Common.{◌≡◌, ◌<◌, ◌∙◌, ℕ, List, [], ◌∷◌, ◌++◌, refl, ap, ap₂, arith, get_or, length, suc, sym, zero, AllByRecursion, AllZip}
-use Rattle.cn_record.specs.declared.answer.Answer.{Answer}
-use Rattle.cn_record.specs.declared.answer.Answer.TheVariants.{Replied, Turned, TurnRefused}
-use Rattle.cn_record.specs.declared.command.Command.{Command}
-use Rattle.cn_record.specs.declared.command.Command.TheVariants.{Enter, Step, Turn}
-use Rattle.cn_record.specs.Answers.{IsSameAnswer}
+use Rattle.cn_ledger.specs.declared.answer.Answer.{Answer}
+use Rattle.cn_ledger.specs.declared.answer.Answer.TheVariants.{Replied, Turned, TurnRefused}
+use Rattle.cn_ledger.specs.declared.command.Command.{Command}
+use Rattle.cn_ledger.specs.declared.command.Command.TheVariants.{Enter, Step, Turn}
+use Rattle.cn_ledger.specs.Answers.{IsSameAnswer}
 use Rattle.cn_report.specs.Writing.Replay.{IsKept, IsWhole, IsWholeKept, answer_line, answer_lines, counts_or_shares, kept_line, kept_lines}
 
 line-same : (width : ℕ) (command : Command) (answer other : Answer) → IsSameAnswer answer other → answer_line width command answer ≡ answer_line width command other

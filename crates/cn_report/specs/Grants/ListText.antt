@@ -4,7 +4,7 @@ use Rattle.std.specs.Prelude.{ℕ, All, ◌≡◌, ◌<◌, ◌≤◌, ◌^◌, 
 use Rattle.std.specs.List.{AllByRecursion, flat_map, range_with_len}
 use Rattle.cn_spec.specs.Step.{shares}
 use Rattle.cn_spec.specs.Sums.{times}
-use Rattle.cn_record.specs.declared.record.EpochRecord.{EpochRecord}
+use Rattle.cn_ledger.specs.declared.record.EpochRecord.{EpochRecord}
 use Rattle.cn_report.specs.Writing.Report.{clients_of_records}
 
 -- a record has a holder for each client

@@ -1,8 +1,8 @@
 -- The command that a record of a schedule spells.
 use Rattle.std.specs.Prelude.{ℕ, ◌∷◌, [], List, Option, Some, None, Result, Ok, Err, codes, if◌then◌else◌}
 use Rattle.std.specs.Str.{bytes_eq}
-use Rattle.cn_record.specs.declared.command.Command.{Command}
-use Rattle.cn_record.specs.declared.command.Command.TheVariants.{Enter, Step, Turn}
+use Rattle.cn_ledger.specs.declared.command.Command.{Command}
+use Rattle.cn_ledger.specs.declared.command.Command.TheVariants.{Enter, Step, Turn}
 use Rattle.cn_report.specs.Reading.Number.{number_in}
 use Rattle.cn_report.specs.Reading.Records.{Record}
 use Rattle.cn_report.specs.declared.reading.schedule_fault.ScheduleCause.{ScheduleCause}

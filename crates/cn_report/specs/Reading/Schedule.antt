@@ -2,7 +2,7 @@
 use Rattle.std.specs.Prelude.{ℕ, ◌≡◌, ◌⊎◌, ◌∷◌, [], Bool, List, drop, length, map, nat_lt, Option, Some, None, Result, Ok, Err, codes, if◌then◌else◌}
 use Rattle.std.specs.Cmp.Lexicographic.{pointwise}
 use Rattle.std.specs.Str.{bytes_eq}
-use Rattle.cn_record.specs.declared.command.Command.{Command}
+use Rattle.cn_ledger.specs.declared.command.Command.{Command}
 use Rattle.cn_spec.specs.declared.limits.TheConstants.{MOST_RECORDS}
 use Rattle.cn_report.specs.Reading.Command.{command_in}
 use Rattle.cn_report.specs.Reading.Faults.{IsClean, IsFirstFault, cause_by}

@@ -3,7 +3,7 @@
 use Rattle.std.specs.Prelude.{ℕ, ◌≡◌, ◌+◌, Bool, List, [], ◌∷◌, drop, length, take, ⊤}
 use Rattle.cn_spec.specs.Step.{shares_after}
 use Rattle.cn_spec.specs.Sums.{when}
-use Rattle.cn_record.specs.declared.record.EpochRecord.{EpochRecord}
+use Rattle.cn_ledger.specs.declared.record.EpochRecord.{EpochRecord}
 use Rattle.cn_report.specs.declared.reading.batch.BatchEpoch.{BatchEpoch}
 
 -- the record is that of an epoch whose clients came after m others: each of w exits has its share of all of them, less

@@ -1,7 +1,7 @@
 -- What an epoch gave out, as texts show it: its exits and their counts, its names and their holders.
 use Rattle.std.specs.Prelude.{ℕ, ◌≡◌, List, [], ◌∷◌, ◌++◌, length, slice_index, codes, decimal}
 use Rattle.std.specs.List.{flat_map, range_with_len}
-use Rattle.cn_record.specs.declared.record.EpochRecord.{EpochRecord}
+use Rattle.cn_ledger.specs.declared.record.EpochRecord.{EpochRecord}
 use Rattle.cn_report.specs.Writing.Text.{line}
 
 -- a record has a count for each exit, and a holder for each client

@@ -3,18 +3,18 @@ use Rattle.std.specs.Prelude.{ℕ, ◌≡◌, ◌≤◌, List, [], ◌∷◌, �
 use Rattle.std.specs.List.{AllZip, flat_map, zip}
 use Rattle.cn_spec.specs.Step.{shares_after}
 use Rattle.cn_spec.specs.declared.limits.TheConstants.{MOST_ARRIVALS}
-use Rattle.cn_record.specs.declared.reply.EnterFault.TheVariants.{NoSuchEntry, AlreadyIn, EpochFull}
+use Rattle.cn_ledger.specs.declared.reply.EnterFault.TheVariants.{NoSuchEntry, AlreadyIn, EpochFull}
 use Rattle.cn_ledger.specs.declared.moved.Moved.{Moved}
 use Rattle.cn_ledger.specs.declared.moved.Moved.TheVariants.{On, Out}
-use Rattle.cn_record.specs.declared.reply.Reply.{Reply}
-use Rattle.cn_record.specs.declared.reply.Reply.TheVariants.{Entered, EnterRefused, Stepped, StepRefused}
-use Rattle.cn_record.specs.declared.reply.StepFault.TheVariants.{Stranger, HasName}
-use Rattle.cn_record.specs.declared.answer.Answer.{Answer}
-use Rattle.cn_record.specs.declared.answer.Answer.TheVariants.{Replied, Turned, TurnRefused}
-use Rattle.cn_record.specs.declared.answer.TurnFault.TheVariants.{NotQuiet}
-use Rattle.cn_record.specs.declared.command.Command.{Command}
-use Rattle.cn_record.specs.declared.command.Command.TheVariants.{Enter, Step, Turn}
-use Rattle.cn_record.specs.declared.record.EpochRecord.{EpochRecord}
+use Rattle.cn_ledger.specs.declared.reply.Reply.{Reply}
+use Rattle.cn_ledger.specs.declared.reply.Reply.TheVariants.{Entered, EnterRefused, Stepped, StepRefused}
+use Rattle.cn_ledger.specs.declared.reply.StepFault.TheVariants.{Stranger, HasName}
+use Rattle.cn_ledger.specs.declared.answer.Answer.{Answer}
+use Rattle.cn_ledger.specs.declared.answer.Answer.TheVariants.{Replied, Turned, TurnRefused}
+use Rattle.cn_ledger.specs.declared.answer.TurnFault.TheVariants.{NotQuiet}
+use Rattle.cn_ledger.specs.declared.command.Command.{Command}
+use Rattle.cn_ledger.specs.declared.command.Command.TheVariants.{Enter, Step, Turn}
+use Rattle.cn_ledger.specs.declared.record.EpochRecord.{EpochRecord}
 use Rattle.cn_wiring.specs.Network.{Network}
 use Rattle.cn_report.specs.Writing.Outcome.{IsWholeRecord, exit_lines, name_lines, outcome_lines}
 use Rattle.cn_report.specs.Writing.Text.{heading, line}

@@ -1,7 +1,7 @@
 -- The text of a report: the heading, each epoch and what it gave out, and the end line.
 use Rattle.std.specs.Prelude.{ℕ, List, [], ◌∷◌, ◌++◌, length, codes, decimal}
 use Rattle.std.specs.List.{flat_map, sum_by}
-use Rattle.cn_record.specs.declared.record.EpochRecord.{EpochRecord}
+use Rattle.cn_ledger.specs.declared.record.EpochRecord.{EpochRecord}
 use Rattle.cn_wiring.specs.Network.{Network}
 use Rattle.cn_report.specs.Writing.Outcome.{outcome_lines}
 use Rattle.cn_report.specs.Writing.Text.{heading, line}

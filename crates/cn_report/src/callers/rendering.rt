@@ -2,8 +2,8 @@
 
 ghost use Rattle.std.specs.Prelude.{◌≡◌, All, IfOk};
 ghost use Rattle.std.specs.List.{flat_map, sum_by};
-ghost use Rattle.cn_record.specs.Answers.{HadMemory};
-ghost use Rattle.cn_record.specs.declared.record.EpochRecord.{EpochRecord};
+ghost use Rattle.cn_ledger.specs.Answers.{HadMemory};
+ghost use Rattle.cn_ledger.specs.declared.record.EpochRecord.{EpochRecord};
 ghost use Rattle.cn_report.specs.Grants.ListText.{HasHolders, grant_lines, grants_text};
 ghost use Rattle.cn_report.specs.Writing.Outcome.{IsWholeRecord};
 ghost use Rattle.cn_report.specs.Writing.Pieces.{Puts};
@@ -17,7 +17,7 @@ use crate::writing::outcome::{send_exits, send_holders};
 use crate::writing::pieces::Pieces;
 use crate::writing::report::{send_end, send_epoch_line};
 use crate::writing::{OpenEpoch, write_replay, write_wiring};
-use cn_record::{Answer, Command, EpochRecord};
+use cn_ledger::{Answer, Command, EpochRecord};
 use cn_wiring::Counting;
 use std::alloc::{AllocError, Global};
 use std::io::Write;

@@ -2,7 +2,7 @@
 
 ghost use Rattle.std.specs.Prelude.{◌≡◌, ℕ, Bool, List, length};
 ghost use Rattle.std.specs.List.{flat_map};
-ghost use Rattle.cn_record.specs.declared.record.EpochRecord.{EpochRecord};
+ghost use Rattle.cn_ledger.specs.declared.record.EpochRecord.{EpochRecord};
 ghost use Rattle.cn_report.specs.Grants.ListText.{grant_lines, grants_header, grants_text};
 ghost use Rattle.cn_report.specs.Reading.Batch.{clients_of_epochs};
 ghost use Rattle.cn_report.specs.Writing.EpochRecords.{AreRecordsOf};

@@ -8,7 +8,7 @@ ghost use Rattle.cn_report.specs.Reading.Number.{number_in};
 use crate::reading::number::number_of;
 use crate::reading::records::field;
 use crate::reading::schedule_fault::ScheduleCause;
-use cn_record::Command;
+use cn_ledger::Command;
 use csv::ByteRecord;
 
 fn enter_from(client: &[u8], wire: &[u8]) -> Result<Command, ScheduleCause>

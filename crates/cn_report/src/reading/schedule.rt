@@ -10,7 +10,7 @@ use crate::reading::clipped::Clipped;
 use crate::reading::command::command_of;
 use crate::reading::records::{is_header, next_record, open_records};
 use crate::reading::schedule_fault::{ScheduleCause, ScheduleFault};
-use cn_record::Command;
+use cn_ledger::Command;
 use cn_spec::limits::MOST_RECORDS;
 use csv::{ByteRecord, Reader};
 use std::alloc::Global;

@@ -1,14 +1,13 @@
 //! The lines of enters and steps in a replay.
 
-ghost use Rattle.cn_record.specs.Answers.{HadMemory};
-ghost use Rattle.cn_record.specs.declared.answer.Answer.{Answer};
+ghost use Rattle.cn_ledger.specs.Answers.{HadMemory};
+ghost use Rattle.cn_ledger.specs.declared.answer.Answer.{Answer};
 ghost use Rattle.cn_report.specs.Writing.Pieces.{Puts};
 ghost use Rattle.cn_report.specs.Writing.Replay.{IsEnterReply, IsStepReply, enter_line, moved_line, step_line};
 
 use crate::writing::line::{send_line, send_number, send_numbered};
 use crate::writing::pieces::Pieces;
-use cn_ledger::Moved;
-use cn_record::{EnterFault, Reply, StepFault};
+use cn_ledger::{EnterFault, Moved, Reply, StepFault};
 use std::io::Write;
 
 fn send_pass<W: Write>(

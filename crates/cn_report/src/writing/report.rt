@@ -5,7 +5,7 @@ ghost use Rattle.std.specs.List.{flat_map};
 ghost use Rattle.cn_spec.specs.Step.{shares_after};
 ghost use Rattle.cn_spec.specs.Sums.{when};
 ghost use Rattle.cn_spec.specs.declared.limits.TheConstants.{MOST_ENDS, MOST_NAMED};
-ghost use Rattle.cn_record.specs.declared.record.EpochRecord.{EpochRecord};
+ghost use Rattle.cn_ledger.specs.declared.record.EpochRecord.{EpochRecord};
 ghost use Rattle.cn_report.specs.Reading.Batch.{clients_of_epochs};
 ghost use Rattle.cn_report.specs.Writing.EpochRecords.{AreRecordsOf};
 ghost use Rattle.cn_report.specs.Writing.Outcome.{exit_lines, name_lines};

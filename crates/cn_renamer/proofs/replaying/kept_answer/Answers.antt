@@ -1,5 +1,5 @@
 use Rattle.std.proofs.Common.{◌≡◌, ◌∙◌, rules, sym}
-use Rattle.cn_record.specs.Answers.{HadMemory}
+use Rattle.cn_ledger.specs.Answers.{HadMemory}
 use Rattle.cn_renamer.proofs.Kept.{kept-same, kept-whole}
 use Rattle.cn_renamer.proofs.replaying.kept_answer.Goals as goal
 

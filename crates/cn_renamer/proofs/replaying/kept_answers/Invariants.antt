@@ -1,7 +1,7 @@
 use Rattle.std.proofs.Common.{◌≡◌, ◌+◌, ◌≤◌, ◌++◌, List, false, drop, length, vec_capacity, vec_len}
 use Rattle.std.specs.List.{All, AllZip}
-use Rattle.cn_record.specs.Answers.{HadMemory}
-use Rattle.cn_record.specs.declared.answer.Answer.{Answer}
+use Rattle.cn_ledger.specs.Answers.{HadMemory}
+use Rattle.cn_ledger.specs.declared.answer.Answer.{Answer}
 use Rattle.cn_epoch.specs.Calls.{RunsCommandsByHistory}
 use Rattle.cn_epoch.specs.History.{Epochs}
 use Rattle.cn_report.specs.Writing.Replay.{IsKept, IsWholeKept}

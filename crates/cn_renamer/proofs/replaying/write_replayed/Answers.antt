@@ -1,7 +1,7 @@
 use Rattle.std.proofs.Common.{[], None, ap}
 use Rattle.std.proofs.lemmas.List.Elements.{All-from_recursion, recursion_from_All}
 use Rattle.std.proofs.lemmas.Result.{err_from_is_err_and}
-use Rattle.cn_record.specs.Answers.{HadMemory}
+use Rattle.cn_ledger.specs.Answers.{HadMemory}
 use Rattle.cn_report.proofs.CallerLemmas.{written-map}
 use Rattle.cn_report.specs.Writing.Written.{First}
 use Rattle.cn_epoch.specs.History.{Epochs}

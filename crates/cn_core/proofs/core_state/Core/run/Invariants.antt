@@ -2,7 +2,7 @@ use Rattle.std.proofs.Common.{◌≡◌, ◌≤◌, ◌++◌, List, drop, length
 use Rattle.std.specs.Vec.{vec_capacity}
 use Rattle.cn_core.proofs.Common.{State}
 use Rattle.cn_core.specs.Calls.{RunsByHistory, RunsTo}
-use Rattle.cn_record.specs.declared.reply.Reply.{Reply}
+use Rattle.cn_ledger.specs.declared.reply.Reply.{Reply}
 use Rattle.cn_core.proofs.core_state.Core.run.Given as goal
 
 -- a run of what is left completes the run

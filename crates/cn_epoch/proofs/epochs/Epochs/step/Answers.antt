@@ -1,5 +1,5 @@
 use Rattle.std.proofs.Common.{◌∙◌, [], refl}
-use Rattle.cn_record.specs.Answers.{stepped_reply}
+use Rattle.cn_ledger.specs.Answers.{stepped_reply}
 use Rattle.cn_core.specs.History as core
 use Rattle.cn_core.specs.declared.event.Event.TheVariants.{Step}
 use Rattle.cn_epoch.specs.InsideEpochs.{epochs_of}

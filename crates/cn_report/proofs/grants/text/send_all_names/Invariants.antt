@@ -1,5 +1,5 @@
 use Rattle.cn_report.proofs.Common.{◌≡◌, ◌++◌, ℕ, Bool, List, drop, length, flat_map, Puts}
-use Rattle.cn_record.specs.declared.record.EpochRecord.{EpochRecord}
+use Rattle.cn_ledger.specs.declared.record.EpochRecord.{EpochRecord}
 use Rattle.cn_report.specs.Reading.Batch.{clients_of_epochs}
 use Rattle.cn_report.specs.Grants.ListText.{grant_lines}
 use Rattle.cn_report.specs.Writing.EpochRecords.{AreRecordsOf}

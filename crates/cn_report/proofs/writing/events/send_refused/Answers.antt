@@ -1,6 +1,6 @@
 use Rattle.cn_report.proofs.Common.{ap, sym}
-use Rattle.cn_record.specs.declared.reply.EnterFault.{EnterFault}
-use Rattle.cn_record.specs.declared.reply.Reply.TheVariants.{EnterRefused}
+use Rattle.cn_ledger.specs.declared.reply.EnterFault.{EnterFault}
+use Rattle.cn_ledger.specs.declared.reply.Reply.TheVariants.{EnterRefused}
 use Rattle.cn_report.specs.Writing.Replay.{enter_line}
 use Rattle.cn_report.proofs.WritingLemmas.Putting.{put-same}
 use Rattle.cn_report.proofs.writing.events.send_refused.Goals as goal

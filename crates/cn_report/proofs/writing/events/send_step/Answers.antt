@@ -1,7 +1,7 @@
 use Rattle.cn_report.proofs.Common.{◌≡◌, ◌∙◌, ap, sym}
-use Rattle.cn_record.specs.declared.reply.Reply.TheVariants.{StepRefused}
-use Rattle.cn_record.specs.declared.reply.StepFault.{StepFault}
-use Rattle.cn_record.specs.declared.reply.StepFault.TheVariants.{HasName, Stranger}
+use Rattle.cn_ledger.specs.declared.reply.Reply.TheVariants.{StepRefused}
+use Rattle.cn_ledger.specs.declared.reply.StepFault.{StepFault}
+use Rattle.cn_ledger.specs.declared.reply.StepFault.TheVariants.{HasName, Stranger}
 use Rattle.cn_report.specs.Writing.Replay.{step_line}
 use Rattle.cn_report.proofs.WritingLemmas.Putting.{put-same}
 use Rattle.cn_report.proofs.writing.events.send_step.Goals as goal

@@ -1,9 +1,9 @@
 use Rattle.cn_report.proofs.Common.{◌≡◌, ◌<◌, ◌∙◌, ap, arith, get_or, length, sym, zip, All-get_or}
 use Rattle.std.proofs.lemmas.Slice.Zip.{AllZip-long, get_or-zip, length-zip}
-use Rattle.cn_record.specs.declared.answer.Answer.{Answer}
-use Rattle.cn_record.specs.declared.command.Command.{Command}
-use Rattle.cn_record.specs.declared.command.Command.TheVariants.{Enter}
-use Rattle.cn_record.specs.Answers.{HadMemory}
+use Rattle.cn_ledger.specs.declared.answer.Answer.{Answer}
+use Rattle.cn_ledger.specs.declared.command.Command.{Command}
+use Rattle.cn_ledger.specs.declared.command.Command.TheVariants.{Enter}
+use Rattle.cn_ledger.specs.Answers.{HadMemory}
 use Rattle.cn_report.specs.Writing.Replay.{Fits, IsWholeKept, kept_line}
 use Rattle.cn_report.proofs.WritingLemmas.Putting.{put-cut, put-last, put-next}
 use Rattle.cn_report.proofs.WritingLemmas.SameLines.{zipped_at}

@@ -1,7 +1,7 @@
 use Rattle.cn_report.proofs.Common.{◌≡◌, ◌+◌, ◌++◌, ◌∙◌, ℕ, Bool, List, [], ap, append_assoc, append-nil, arith, drop, length, refl, subst, sym, take, flat_map, sum_by-drop_more, shares_after}
 use Rattle.cn_spec.specs.Sums.{when}
 use Rattle.cn_report.specs.declared.reading.batch.BatchEpoch.{BatchEpoch}
-use Rattle.cn_record.specs.declared.record.EpochRecord.{EpochRecord}
+use Rattle.cn_ledger.specs.declared.record.EpochRecord.{EpochRecord}
 use Rattle.cn_report.specs.Writing.Outcome.{exit_lines, name_lines}
 use Rattle.cn_report.specs.Writing.EpochRecords.{AreRecordsOf}
 use Rattle.cn_report.specs.Writing.Report.{epoch_line, epoch_lines}

@@ -1,6 +1,6 @@
 use Rattle.cn_spec.specs.declared.limits.TheConstants.{MOST_NAMED}
 use Rattle.cn_report.proofs.Common.{◌≡◌, ◌+◌, ◌++◌, ◌≤◌, ℕ, List, drop, length, flat_map, Puts}
-use Rattle.cn_record.specs.declared.record.EpochRecord.{EpochRecord}
+use Rattle.cn_ledger.specs.declared.record.EpochRecord.{EpochRecord}
 use Rattle.cn_report.specs.Reading.Batch.{clients_of_epochs}
 use Rattle.cn_report.specs.Writing.EpochRecords.{AreRecordsOf}
 use Rattle.cn_report.specs.Writing.Report.{epoch_lines}

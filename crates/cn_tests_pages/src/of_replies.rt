@@ -1,9 +1,9 @@
-//! The caller of the page of cn_record.
+//! The second caller of the page of cn_ledger.
 
 ghost use Rattle.std.specs.Prelude.{◌≡◌};
-ghost use Rattle.cn_record.specs.Answers.{entered_reply};
+ghost use Rattle.cn_ledger.specs.Answers.{entered_reply};
 
-use cn_record::{EnterFault, Reply};
+use cn_ledger::{EnterFault, Reply};
 
 /// The reply that the result of an enter is.
 pub fn reply_of(entered: Result<(), EnterFault>) -> Reply

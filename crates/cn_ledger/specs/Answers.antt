@@ -1,16 +1,16 @@
 -- What replies, answers and records say.
 use Rattle.std.specs.Prelude.{◌≡◌, ◌≢◌, Result, Ok, Err}
 use Rattle.cn_ledger.specs.declared.moved.Moved.{Moved}
-use Rattle.cn_record.specs.declared.reply.EnterFault.{EnterFault}
-use Rattle.cn_record.specs.declared.reply.EnterFault.TheVariants.{Memory as EnterMemory}
-use Rattle.cn_record.specs.declared.reply.StepFault.{StepFault}
-use Rattle.cn_record.specs.declared.reply.Reply.{Reply}
-use Rattle.cn_record.specs.declared.reply.Reply.TheVariants.{Entered, EnterRefused, Stepped, StepRefused}
-use Rattle.cn_record.specs.declared.answer.Answer.{Answer}
-use Rattle.cn_record.specs.declared.answer.Answer.TheVariants.{Replied, Turned, TurnRefused}
-use Rattle.cn_record.specs.declared.answer.TurnFault.{TurnFault}
-use Rattle.cn_record.specs.declared.answer.TurnFault.TheVariants.{Memory}
-use Rattle.cn_record.specs.declared.record.EpochRecord.{EpochRecord}
+use Rattle.cn_ledger.specs.declared.reply.EnterFault.{EnterFault}
+use Rattle.cn_ledger.specs.declared.reply.EnterFault.TheVariants.{Memory as EnterMemory}
+use Rattle.cn_ledger.specs.declared.reply.StepFault.{StepFault}
+use Rattle.cn_ledger.specs.declared.reply.Reply.{Reply}
+use Rattle.cn_ledger.specs.declared.reply.Reply.TheVariants.{Entered, EnterRefused, Stepped, StepRefused}
+use Rattle.cn_ledger.specs.declared.answer.Answer.{Answer}
+use Rattle.cn_ledger.specs.declared.answer.Answer.TheVariants.{Replied, Turned, TurnRefused}
+use Rattle.cn_ledger.specs.declared.answer.TurnFault.{TurnFault}
+use Rattle.cn_ledger.specs.declared.answer.TurnFault.TheVariants.{Memory}
+use Rattle.cn_ledger.specs.declared.record.EpochRecord.{EpochRecord}
 
 -- the reply of an enter
 abbrev pub entered_reply : {U : Type 0} → Result U EnterFault → Reply

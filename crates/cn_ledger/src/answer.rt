@@ -1,7 +1,7 @@
 //! What epochs answer.
 
 ghost use Rattle.std.specs.Prelude.{◌≡◌};
-ghost use Rattle.cn_record.specs.Answers.{turned_answer};
+ghost use Rattle.cn_ledger.specs.Answers.{turned_answer};
 
 use crate::record::EpochRecord;
 use crate::reply::Reply;

@@ -1,9 +1,9 @@
 //! What a core replies.
 
 ghost use Rattle.std.specs.Prelude.{◌≡◌};
-ghost use Rattle.cn_record.specs.Answers.{entered_reply, stepped_reply};
+ghost use Rattle.cn_ledger.specs.Answers.{entered_reply, stepped_reply};
 
-use cn_ledger::Moved;
+use crate::moved::Moved;
 
 /// Why an enter is refused; of several causes the first in this order is given.
 #[derive(Clone, Copy, Debug, PartialEq, Eq)]
