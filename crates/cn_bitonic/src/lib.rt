@@ -7,5 +7,6 @@ mod bitonic_network;
 mod merging;
 
 pub use bitonic_network::bitonic;
+// The older name of this type: it stands in cn_wiring.
 pub use cn_wiring::BuildFault;
 pub use merging::merger;

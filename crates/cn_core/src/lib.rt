@@ -7,6 +7,7 @@ mod event;
 pub mod laws;
 mod position;
 
+// The older names of these types: they stand in cn_ledger.
 pub use cn_ledger::{Client, EnterFault, Moved, Reply, StepFault};
 pub use core_state::Core;
 pub use event::Event;

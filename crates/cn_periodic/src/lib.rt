@@ -7,5 +7,4 @@ mod blocks;
 mod periodic_network;
 
 pub use blocks::block;
-pub use cn_wiring::BuildFault;
 pub use periodic_network::periodic;

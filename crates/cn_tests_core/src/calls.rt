@@ -2,8 +2,9 @@
 
 ghost use Rattle.std.specs.Prelude.{◌≡◌, ◌+◌, length};
 
-use cn_core::{Core, Event, Reply};
-use cn_epoch::{Answer, Command, Epochs};
+use cn_core::{Core, Event};
+use cn_epoch::Epochs;
+use cn_ledger::{Answer, Command, Reply};
 use std::alloc::{AllocError, Global};
 
 /// How a list of events or commands is given.

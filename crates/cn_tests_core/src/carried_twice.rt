@@ -1,4 +1,5 @@
-//! One client in two epochs, one after the other, whose counts are carried on or cleared, on the bitonic network of width 2.
+//! One client in two epochs, one after the other, whose counts are carried on or cleared, on the bitonic network of
+//! width 2.
 
 ghost use Rattle.std.specs.Prelude.{◌≡◌, ◌+◌, length};
 ghost use Rattle.cn_core.specs.State.{inside_in};
@@ -6,8 +7,9 @@ ghost use Rattle.cn_core.specs.State.{inside_in};
 use crate::calls::{Calls, answers_to};
 use crate::holders::clear;
 use cn_bitonic::bitonic;
-use cn_core::{Core, Event, Moved, Reply};
-use cn_epoch::{Answer, Command, EpochRecord, Epochs};
+use cn_core::{Core, Event};
+use cn_epoch::Epochs;
+use cn_ledger::{Answer, Command, EpochRecord, Moved, Reply};
 use cn_wiring::Counting;
 use std::alloc::Global;
 use std::hash::RandomState;
@@ -31,8 +33,8 @@ const COMMANDS: [Command; 8] = [
     Command::Turn,
 ];
 
-/// An answer in numbers: the wire and number of a passage, the exit, visit and name of a leave, the number and the two counts
-/// of a record with only client 7.
+/// An answer in numbers: the wire and number of a passage, the exit, visit and name of a leave, the number and the two
+/// counts of a record with only client 7.
 #[derive(Clone, Copy, Debug, PartialEq, Eq)]
 enum Said {
     Entered,

@@ -2,8 +2,8 @@
 
 use crate::calls::{Calls, answers_to};
 use cn_bitonic::bitonic;
-use cn_core::{EnterFault, Moved, Reply, StepFault};
-use cn_epoch::{Answer, Command, EpochRecord, Epochs, TurnFault};
+use cn_epoch::Epochs;
+use cn_ledger::{Answer, Command, EnterFault, EpochRecord, Moved, Reply, StepFault, TurnFault};
 use cn_wiring::Counting;
 use std::alloc::Global;
 use std::hash::RandomState;
@@ -57,6 +57,7 @@ enum Wanted {
     Alone,
 }
 
+/// Whether the record is that of the first epoch, with client 7 alone, which left by exit 0.
 fn is_alone(record: &EpochRecord) -> bool {
     record.number == 0
         && record.clients == 1
@@ -124,8 +125,8 @@ const LEFT: Wanted = Wanted::Replied(Reply::Stepped(Moved::Out {
     name: 0,
 }));
 
-/// A turn while client 7 is inside, and one when it has left; and then client 7 again, which is a stranger to the new epoch
-/// until it enters.
+/// A turn while client 7 is inside, and one when it has left; and then client 7 again, which is a stranger to the new
+/// epoch until it enters.
 const TURNS: [Command; 7] = [
     Command::Enter {
         client: 7,

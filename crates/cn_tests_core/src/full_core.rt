@@ -1,6 +1,7 @@
 //! A core that is full.
 
-use cn_core::{Core, EnterFault};
+use cn_core::Core;
+use cn_ledger::EnterFault;
 use cn_tree::tree;
 use cn_wiring::Counting;
 use std::alloc::Global;

@@ -4,7 +4,8 @@ ghost use Rattle.std.specs.Prelude.{◌≡◌};
 
 use crate::two_wide::{Said, TWO_CLIENTS, TWO_CLIENTS_REPLIES, said_by};
 use cn_bitonic::bitonic;
-use cn_core::{Core, Reply};
+use cn_core::Core;
+use cn_ledger::Reply;
 use cn_wiring::Counting;
 use std::alloc::{AllocError, Global};
 use std::hash::RandomState;

@@ -1,5 +1,5 @@
-//! Tests of the core and of epochs: worked rows by single calls and by runs, lists of some thousand clients, an epoch at
-//! its limit, and one that is walked out in reverse. They show what no clause can name.
+//! Tests of the core and of epochs: worked rows by single calls and by runs, lists of some thousand clients, an epoch
+//! at its limit, and one that is walked out in reverse. They show what no clause can name.
 #![tactic(auto)]
 
 #[cfg(test)]

@@ -3,7 +3,8 @@
 use crate::calls::{Calls, answers_to};
 use crate::holders::has_holders;
 use cn_core::{Core, Event};
-use cn_epoch::{Answer, Command, EpochRecord, Epochs};
+use cn_epoch::Epochs;
+use cn_ledger::{Answer, Command, EpochRecord};
 use cn_tree::tree;
 use cn_wiring::Counting;
 use std::alloc::{AllocError, Global};
@@ -106,6 +107,7 @@ fn are_ended(answers: Option<Vec<Answer>>, clients: &[u64]) -> bool {
     }
 }
 
+/// Whether an answer is there, and is that of a turn after all clients.
 fn is_ended(answer: Option<&Answer>, clients: &[u64]) -> bool {
     match answer {
         Some(Answer::Turned(record)) => is_of_all(record, clients),
@@ -113,6 +115,7 @@ fn is_ended(answer: Option<&Answer>, clients: &[u64]) -> bool {
     }
 }
 
+/// Whether the record is that of the first epoch, with all clients, each by its name.
 fn is_of_all(record: &EpochRecord, clients: &[u64]) -> bool {
     record.number == 0
         && record.clients == MANY

@@ -2,8 +2,9 @@
 
 use crate::calls::{Calls, answers_to, replies_to};
 use crate::holders::has_holders;
-use cn_core::{Core, Event, Moved, Reply};
-use cn_epoch::{Answer, Command, EpochRecord, Epochs};
+use cn_core::{Core, Event};
+use cn_epoch::Epochs;
+use cn_ledger::{Answer, Command, EpochRecord, Moved, Reply};
 use cn_tree::tree;
 use cn_wiring::Counting;
 use std::alloc::Global;

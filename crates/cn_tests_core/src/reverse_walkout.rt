@@ -1,7 +1,8 @@
 //! An epoch of 65,536 clients on the tree of width 64, walked out from the client that came last down to the first.
 
 use crate::holders::has_holders;
-use cn_core::{Core, Event, Moved, Reply};
+use cn_core::{Core, Event};
+use cn_ledger::{Moved, Reply};
 use cn_tree::tree;
 use cn_wiring::Counting;
 use std::alloc::{AllocError, Global};

@@ -4,7 +4,8 @@ ghost use Rattle.std.specs.Prelude.{◌≡◌};
 
 use crate::calls::{Calls, replies_to};
 use cn_bitonic::bitonic;
-use cn_core::{Core, EnterFault, Event, Moved, Reply, StepFault};
+use cn_core::{Core, Event};
+use cn_ledger::{EnterFault, Moved, Reply, StepFault};
 use cn_wiring::Counting;
 use std::alloc::Global;
 use std::hash::RandomState;
@@ -33,6 +34,7 @@ pub(crate) type Said = (
     (Option<u64>, Option<u64>),
 );
 
+/// What a core answers, on a network that may have other balancers and exits.
 pub(crate) fn said_by(core: &Core<'_>, network: &Counting) -> Said
     requires { core.now.network ≡ network.now }
 {

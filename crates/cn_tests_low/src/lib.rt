@@ -1,5 +1,5 @@
-//! Tests of the crates below the core: worked rows, tables of networks wire by wire, limits at their last good and first
-//! bad value, and that memory that is there is used. They show what no clause can name.
+//! Tests of the crates below the core: worked rows, tables of networks wire by wire, limits at their last good and
+//! first bad value, and that memory that is there is used. They show what no clause can name.
 #![tactic(auto)]
 
 #[cfg(test)]

@@ -152,8 +152,8 @@ fn astray(ends: &[End], joins: &[(u32, usize, usize)]) -> Option<u32> {
     None
 }
 
-/// Of the network of width 8, the first balancer that does not join its two wires, and whether the wires from this one on
-/// are those of the exits.
+/// Of the network of width 8, the first balancer that does not join its two wires, and whether the wires from this one
+/// on are those of the exits.
 fn seen_of_eight(
     alloc: Global,
     kind: Kind,
@@ -199,8 +199,8 @@ fn merger_of_width_eight(rt: HostRuntime) {
     assert_eq!(rt; seen, Some((None, true)));
 }
 
-/// Balancers 0 to 11 are the first block, with the outputs 24 to 31, over which the second block begins. The last layer of
-/// the third gives the exits.
+/// Balancers 0 to 11 are the first block, with the outputs 24 to 31, over which the second block begins. The last layer
+/// of the third gives the exits.
 const BLOCK_OF_EIGHT: [(u32, usize, usize); 16] = [
     (0, 0, 7),
     (1, 3, 4),

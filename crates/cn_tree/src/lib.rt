@@ -6,5 +6,4 @@
 
 mod counting_tree;
 
-pub use cn_wiring::BuildFault;
 pub use counting_tree::tree;
