@@ -11,8 +11,9 @@ ghost use Rattle.cn_walk.specs.Crew.{IsCrew};
 ghost use denote.Param.Send.{IsSync};
 
 use cn_cli::Options;
+use cn_floor::{Gate, OpenGate, Receipts};
 use cn_report::BatchEpoch;
-use cn_walk::{Crew, Gate, OpenGate, Receipts, RunFault, Runner};
+use cn_walk::{Crew, RunFault, Runner};
 use cn_wiring::Counting;
 use std::alloc::{AllocError, Global};
 use std::sync::Wait;

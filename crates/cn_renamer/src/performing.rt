@@ -12,7 +12,7 @@ use crate::serving::serve_with_receipts;
 use crate::showing::show;
 use crate::writing::write_text;
 use cn_cli::{Job, WordsFault, parse_words};
-use cn_walk::OpenGate;
+use cn_floor::OpenGate;
 use std::alloc::Global;
 use std::hash::RandomState;
 use std::io::{Read, Write};

@@ -10,9 +10,8 @@ ghost use Rattle.cn_renamer.specs.Outputs.{until_output};
 ghost use Rattle.cn_renamer.specs.Replay.{AreAnsweredAs, IsAnsweredAs, IsReplayFault, IsReplayOfCommands, IsReplayOfKnown, IsReplayText, IsWithoutCounts, fault_of_output, fault_of_schedule, status_of_replay, until_replay};
 
 use crate::output_fault::OutputFault;
-use cn_core::EnterFault;
-use cn_epoch::{Epochs, TurnFault};
-use cn_ledger::{Answer, Command, Reply};
+use cn_epoch::Epochs;
+use cn_ledger::{Answer, Command, EnterFault, Reply, TurnFault};
 use cn_nets::Net;
 use cn_report::{OpenEpoch, Pieces, ScheduleCause, ScheduleFault, read_schedule, write_replay};
 use cn_wiring::Counting;

@@ -17,11 +17,11 @@ ghost use Rattle.cn_renamer.specs.Serve.{IsServeFault, until_serve};
 use crate::epochs::run_epochs;
 use crate::serve_fault::ServeFault;
 use cn_cli::{Form, Options};
+use cn_floor::{Gate, Receipts};
 use cn_report::{
     Batch, BatchEpoch, BatchFault, Bounds, EmitFault, Pieces, read_batch_by_two, read_batch_within,
     write_grants, write_report,
 };
-use cn_walk::{Gate, Receipts};
 use cn_wiring::Counting;
 use std::alloc::Global;
 use std::hash::RandomState;

@@ -3,8 +3,9 @@
 use crate::replaying::joined;
 use crate::serving::{Asked, FIVE_ON_ONE_ENTRY, FIVE_ON_ONE_ENTRY_SERVED, options_of};
 use crate::writers::{Narrow, Then};
-use cn_renamer::{Form, serve};
-use cn_walk::OpenGate;
+use cn_cli::Form;
+use cn_floor::OpenGate;
+use cn_renamer::serve;
 use cn_wiring::Kind;
 use std::alloc::Global;
 use std::hash::RandomState;

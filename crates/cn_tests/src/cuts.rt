@@ -8,10 +8,10 @@ use crate::replaying::{self, joined};
 use crate::serving::{self, options_of};
 use crate::writers::{Broken, Narrow, Then};
 use crate::{checking, grants_form, showing};
-use cn_renamer::{
-    BatchCause, BatchFault, CheckFault, CheckOptions, Fault, Flaw, Form, Job, Net, OutputFault,
-    ReplayFault, ScheduleCause, ScheduleFault, ServeFault, perform,
-};
+use cn_cli::{CheckOptions, Form, Job};
+use cn_nets::Net;
+use cn_renamer::{CheckFault, Fault, OutputFault, ReplayFault, ServeFault, perform};
+use cn_report::{BatchCause, BatchFault, Flaw, ScheduleCause, ScheduleFault};
 use cn_wiring::Kind;
 use std::alloc::Global;
 use std::random::RandomSource;

@@ -2,10 +2,8 @@
 
 use crate::performing::ends_with;
 use crate::writers::{Narrow, Then};
-use cn_renamer::{
-    BatchCause, BatchFault, CheckFault, Fault, Flaw, OutputFault, ReplayFault, RuntimeFault,
-    ScheduleCause, ScheduleFault, ServeFault, end,
-};
+use cn_renamer::{CheckFault, Fault, OutputFault, ReplayFault, RuntimeFault, ServeFault, end};
+use cn_report::{BatchCause, BatchFault, Flaw, ScheduleCause, ScheduleFault};
 use std::alloc::Global;
 
 /// Whether a fault is printed with this line, and ends with this status; also if the one write that fails is the first,

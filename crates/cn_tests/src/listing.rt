@@ -1,7 +1,7 @@
 //! A grant list of records that are at hand.
 
 use crate::reports::record;
-use cn_epoch::EpochRecord;
+use cn_ledger::EpochRecord;
 use cn_report::render_grants;
 use std::alloc::Global;
 

@@ -4,8 +4,9 @@
 use crate::serving::served;
 use crate::waiting::comes_to;
 use cn_bitonic::bitonic;
-use cn_core::Client;
-use cn_walk::{Gate, Moment, Quiet, run_epoch};
+use cn_floor::{Gate, Moment, Quiet};
+use cn_ledger::Client;
+use cn_walk::run_epoch;
 use cn_wiring::Kind;
 use std::alloc::Global;
 use std::hash::RandomState;

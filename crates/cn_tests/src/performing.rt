@@ -8,7 +8,9 @@ use crate::job_texts::{
     ONE_CLIENT_ON_BITONIC_FOUR, ONE_CLIENT_ON_PERIODIC_TWO, ONE_CLIENT_ON_TREE_FOUR, TREE_TWO,
 };
 use crate::writers::{Narrow, Then};
-use cn_renamer::{CheckOptions, Fault, Form, Job, Net, Options, end, perform};
+use cn_cli::{CheckOptions, Form, Job, Options};
+use cn_nets::Net;
+use cn_renamer::{Fault, end, perform};
 use cn_wiring::{Kind, is_width};
 use std::alloc::Global;
 use std::io;

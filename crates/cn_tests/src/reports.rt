@@ -1,7 +1,7 @@
 //! Reports of records that are at hand.
 
 use cn_bitonic::bitonic;
-use cn_epoch::EpochRecord;
+use cn_ledger::EpochRecord;
 use cn_report::render_report;
 use cn_wiring::Counting;
 use std::alloc::Global;

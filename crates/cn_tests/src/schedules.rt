@@ -2,7 +2,7 @@
 
 use crate::replaying::TWO_CLIENTS;
 use crate::writers::Broken;
-use cn_epoch::Command;
+use cn_ledger::Command;
 use cn_report::{ScheduleCause, ScheduleFault, read_schedule};
 use std::alloc::Global;
 use std::io;

@@ -2,8 +2,10 @@
 
 use crate::replaying::joined;
 use crate::writers::{Narrow, Then};
-use cn_renamer::{Form, Net, Options, serve};
-use cn_walk::{Gate, OpenGate};
+use cn_cli::{Form, Options};
+use cn_floor::{Gate, OpenGate};
+use cn_nets::Net;
+use cn_renamer::serve;
 use cn_wiring::Kind;
 use std::alloc::Global;
 use std::hash::RandomState;

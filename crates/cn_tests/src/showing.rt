@@ -1,6 +1,7 @@
 //! Wirings, shown end to end by the library.
 
-use cn_renamer::{Net, show};
+use cn_nets::Net;
+use cn_renamer::show;
 use cn_wiring::Kind;
 use std::alloc::Global;
 

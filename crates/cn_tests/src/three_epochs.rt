@@ -1,6 +1,7 @@
 //! A schedule of three epochs, replayed end to end by the library.
 
-use cn_renamer::{Net, replay};
+use cn_nets::Net;
+use cn_renamer::replay;
 use cn_wiring::Kind;
 use std::alloc::Global;
 use std::hash::RandomState;

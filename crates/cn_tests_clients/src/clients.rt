@@ -5,8 +5,8 @@ ghost use Rattle.std.specs.Prelude.{◌≡◌};
 mod threads;
 
 use cn_clients::{Named, name_by_two};
+use cn_floor::{Floor, Lane};
 use cn_tree::tree;
-use cn_walk::{Floor, Lane};
 use std::alloc::Global;
 use std::thread::Threads;
 

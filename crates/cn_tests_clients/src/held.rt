@@ -2,8 +2,8 @@
 
 ghost use Rattle.std.specs.Prelude.{◌≡◌};
 
+use cn_floor::{Floor, Lane, Words};
 use cn_tree::tree;
-use cn_walk::{Floor, Lane, Words};
 use cn_wiring::Counting;
 use std::alloc::Global;
 use std::sync::Arc;
@@ -43,8 +43,8 @@ impl Pool {
         })
     }
 
-    /// The names of three clients, and the holders of all names once the floor is closed. The floor keeps the network when
-    /// the pool lets it go.
+    /// The names of three clients, and the holders of all names once the floor is closed. The floor keeps the network
+    /// when the pool lets it go.
     fn name_three(self) -> Option<([u64; 3], Vec<u64>)> {
         let Pool {
             network,

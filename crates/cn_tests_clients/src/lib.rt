@@ -1,5 +1,5 @@
-//! Tests of callers of a floor: those of cn_clients, in threads, a floor that a struct keeps, and naming by one call. They show
-//! what no clause can name.
+//! Tests of callers of a floor: those of cn_clients, in threads, a floor that a struct keeps, and naming by one call.
+//! They show what no clause can name.
 #![tactic(auto)]
 
 #[cfg(test)]

@@ -3,7 +3,7 @@
 ghost use Rattle.std.specs.Prelude.{◌≡◌};
 
 use cn_bitonic::bitonic;
-use cn_walk::{Floor, Grant, Lane, LaneFault};
+use cn_floor::{Floor, Grant, Lane, LaneFault};
 use std::alloc::Global;
 
 /// The grants of two lanes, how many came in, and why each client was refused who was.
@@ -25,8 +25,8 @@ fn name(
     floor.name(lane, client, entry).map_err(Some)
 }
 
-/// On bitonic 2 client 7 comes in by entry 1, client 8 by entry 0, on a lane of its own; both lanes are looked at, and are
-/// what they were.
+/// On bitonic 2 client 7 comes in by entry 1, client 8 by entry 0, on a lane of its own; both lanes are looked at, and
+/// are what they were.
 fn by_two_lanes(alloc: Global) -> Option<Outcome> {
     let network = bitonic(alloc, 2).ok()?;
     let (floor, mut first) = Floor::open(alloc, &network, 2).ok()?;

@@ -2,8 +2,8 @@
 
 use crate::tables::started;
 use cn_clients::{Filled, fill_by_two};
+use cn_floor::Floor;
 use cn_tree::tree;
-use cn_walk::Floor;
 use cn_wiring::Counting;
 use std::alloc::Global;
 use std::rt::Files;

@@ -3,9 +3,9 @@
 ghost use Rattle.std.specs.Prelude.{◌≡◌};
 
 use cn_bitonic::bitonic;
-use cn_floor::{Floor, Lane};
+use cn_floor::{Floor, Lane, OpenGate};
 use cn_ledger::Client;
-use cn_walk::{OpenGate, run_epoch};
+use cn_walk::run_epoch;
 use std::alloc::Global;
 use std::sync::Wait;
 use std::thread::Threads;

@@ -3,7 +3,8 @@
 ghost use Rattle.std.specs.Prelude.{IfOk};
 ghost use Rattle.cn_renamer.specs.Replay.{IsReplayOf};
 
-use cn_renamer::{Net, ReplayFault, replay};
+use cn_nets::Net;
+use cn_renamer::{ReplayFault, replay};
 use std::alloc::Global;
 use std::hash::RandomState;
 

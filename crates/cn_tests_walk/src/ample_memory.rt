@@ -4,9 +4,9 @@ ghost use Rattle.std.specs.Prelude.{◌≡◌};
 
 use crate::one_lane::step;
 use crate::walks::{close, enter, join, open, split};
+use cn_floor::{Floor, Lane, Quiet};
 use cn_spec::limits::{MOST_CLIENTS, MOST_ROOM};
 use cn_tree::tree;
-use cn_walk::{Floor, Lane, Quiet};
 use cn_wiring::Counting;
 use std::alloc::Global;
 
@@ -64,8 +64,8 @@ fn are_in_order(quiet: &Quiet<'_>) -> bool {
     }
 }
 
-/// The room of a lane before and after it is taken and after the walk, and whether client n has name n, for all clients of
-/// a full floor over the tree of width 64.
+/// The room of a lane before and after it is taken and after the walk, and whether client n has name n, for all clients
+/// of a full floor over the tree of width 64.
 type Outcome = ([u64; 3], bool);
 
 /// The room of a lane, as an outcome has it.

@@ -1,6 +1,6 @@
 //! How often each worker of an epoch asks.
 
-use cn_walk::{Gate, Moment};
+use cn_floor::{Gate, Moment};
 use std::alloc::Global;
 use std::sync::Wait;
 use std::sync::atomic::{AtomicU64, Ordering};

@@ -6,8 +6,8 @@ ghost use Rattle.std.specs.Prelude.{◌≡◌, IfSome};
 use crate::one_lane::step;
 use crate::walks::{enter, join, open, split};
 use cn_bitonic::bitonic;
-use cn_core::Moved;
-use cn_walk::{CloseFault, Floor, Grant, Lane, LaneFault, Quiet};
+use cn_floor::{CloseFault, Floor, Grant, Lane, LaneFault, Quiet};
+use cn_ledger::Moved;
 use cn_wiring::Counting;
 use std::alloc::Global;
 

@@ -2,9 +2,10 @@
 
 use crate::asking::{Often, Tally, new_tally, wrong_asker};
 use cn_bitonic::bitonic;
-use cn_core::Client;
+use cn_floor::{Gate, OpenGate, Quiet};
+use cn_ledger::Client;
 use cn_tree::tree;
-use cn_walk::{Gate, OpenGate, Quiet, RunFault, run_epoch};
+use cn_walk::{RunFault, run_epoch};
 use cn_wiring::Counting;
 use std::alloc::Global;
 use std::sync::Wait;
@@ -30,8 +31,8 @@ pub(crate) fn are_named(quiet: &Quiet<'_>, counts: &[u64], clients: &[u64]) -> O
     Some([quiet.counts() == counts, named.as_slice() == clients])
 }
 
-/// Clients on bitonic 4, how many workers, and the hand; how many leave by each exit, who has names, and which workers ask
-/// how often.
+/// Clients on bitonic 4, how many workers, and the hand; how many leave by each exit, who has names, and which workers
+/// ask how often.
 pub(crate) type Row<'a> = (&'a [Client], u32, u32, [u64; 4], &'a [u64], &'a [Often]);
 
 pub(crate) const THREE_CLIENTS: &[Client] = &[

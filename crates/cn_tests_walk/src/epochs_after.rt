@@ -3,9 +3,10 @@
 ghost use Rattle.std.specs.Prelude.{◌≡◌, IfOk};
 
 use cn_bitonic::bitonic;
-use cn_core::Client;
+use cn_floor::{Gate, OpenGate, Quiet, Words};
+use cn_ledger::Client;
 use cn_spec::limits::MOST_CARRIED;
-use cn_walk::{Gate, OpenGate, Quiet, RunFault, Words, run_epoch_after};
+use cn_walk::{RunFault, run_epoch_after};
 use cn_wiring::Counting;
 use std::alloc::Global;
 use std::sync::Wait;
@@ -46,8 +47,8 @@ const THREE: [Client; 3] = [
     Client { id: 3, entry: 0 },
 ];
 
-/// An epoch of bitonic 4 by one worker: its clients, how many leave by each exit, the clients by name, and how many came by
-/// its words.
+/// An epoch of bitonic 4 by one worker: its clients, how many leave by each exit, the clients by name, and how many
+/// came by its words.
 type Row = (&'static [Client], [u64; 4], &'static [u64], u64);
 
 const FIVE_AT_FIRST: Row = (&FIVE, [2, 1, 1, 1], &[17, 5, 99, 23, 42], 5);

@@ -1,5 +1,5 @@
-//! Tests of the floor: worked rows on one lane, on two and in sweeps, runs of epochs, carried words, every refusal, room
-//! and quota at their limits, and that lanes and floors cross threads. They show what no clause can name.
+//! Tests of the floor: worked rows on one lane, on two and in sweeps, runs of epochs, carried words, every refusal,
+//! room and quota at their limits, and that lanes and floors cross threads. They show what no clause can name.
 #![tactic(auto)]
 
 #[cfg(test)]

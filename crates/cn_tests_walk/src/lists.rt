@@ -4,9 +4,8 @@ ghost use Rattle.std.specs.Prelude.{◌≡◌};
 
 use crate::walks::{close, open};
 use cn_bitonic::bitonic;
-use cn_floor::LaneFault;
+use cn_floor::{Floor, Lane, LaneFault};
 use cn_tree::tree;
-use cn_walk::{Floor, Lane};
 use cn_wiring::Counting;
 use std::alloc::Global;
 use std::test::Fail;
@@ -28,8 +27,8 @@ fn name_all(
     }
 }
 
-/// Whether the quiet floor has these counts, after a refused list by entry 8, one of eight clients, and a list of the six by
-/// this entry, and each of the six has a name below 6.
+/// Whether the quiet floor has these counts, after a refused list by entry 8, one of eight clients, and a list of the
+/// six by this entry, and each of the six has a name below 6.
 fn six_are_named(
     alloc: Global,
     network: &Counting,

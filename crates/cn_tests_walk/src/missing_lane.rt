@@ -5,8 +5,8 @@ ghost use Rattle.std.specs.Prelude.{◌≡◌, IfSome};
 use crate::one_lane::step;
 use crate::walks::{enter, entered, open, split};
 use cn_bitonic::bitonic;
-use cn_core::Moved;
-use cn_walk::{CloseFault, Floor, Grant, JoinFault, Lane, LaneFault, SplitFault};
+use cn_floor::{CloseFault, Floor, Grant, JoinFault, Lane, LaneFault, SplitFault};
+use cn_ledger::Moved;
 use std::alloc::Global;
 use std::test::Fail;
 

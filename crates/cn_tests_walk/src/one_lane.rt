@@ -3,9 +3,9 @@
 
 ghost use Rattle.std.specs.Prelude.{◌≡◌};
 
-use cn_core::Moved;
+use cn_floor::{Floor, Lane, Quiet};
+use cn_ledger::Moved;
 use cn_tree::tree;
-use cn_walk::{Floor, Lane, Quiet};
 use cn_yard::Token;
 use std::alloc::Global;
 

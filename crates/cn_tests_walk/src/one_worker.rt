@@ -2,9 +2,9 @@
 
 use crate::epochs::run;
 use cn_bitonic::bitonic;
-use cn_core::Client;
+use cn_floor::{OpenGate, Quiet};
+use cn_ledger::Client;
 use cn_periodic::periodic;
-use cn_walk::{OpenGate, Quiet};
 use cn_wiring::{BuildFault, Counting};
 use std::alloc::Global;
 use std::sync::Wait;
@@ -150,8 +150,8 @@ const FOUR: &[Client] = &[
     Client { id: 40, entry: 0 },
 ];
 
-/// Of the clients in a hand, the lowest wire goes first: so each hand has its own order of names, and each client's name
-/// is that of its own entry.
+/// Of the clients in a hand, the lowest wire goes first: so each hand has its own order of names, and each client's
+/// name is that of its own entry.
 const HANDS: [Row; 8] = [
     (TWO, 1, [1, 1, 0, 0], &[1, 1, 1, 1, 2, 0], &[100, 200]),
     (TWO, 2, [1, 1, 0, 0], &[1, 1, 1, 1, 2, 0], &[200, 100]),

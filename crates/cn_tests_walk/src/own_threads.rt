@@ -3,8 +3,8 @@
 ghost use Rattle.std.specs.Prelude.{◌≡◌, IfSome};
 
 use cn_bitonic::bitonic;
-use cn_core::Moved;
-use cn_walk::{Floor, Lane, Quiet};
+use cn_floor::{Floor, Lane, Quiet};
+use cn_ledger::Moved;
 use std::alloc::Global;
 use std::sync::Wait;
 use std::thread;

@@ -1,9 +1,10 @@
 //! Epochs one after another on one runner.
 
 use cn_bitonic::bitonic;
-use cn_core::Client;
+use cn_floor::OpenGate;
+use cn_ledger::Client;
 use cn_spec::limits::MOST_CARRIED;
-use cn_walk::{Crew, OpenGate, RunFault, Runner};
+use cn_walk::{Crew, RunFault, Runner};
 use std::alloc::Global;
 use std::sync::Wait;
 use std::thread::Threads;
@@ -15,7 +16,8 @@ const ONE: Crew = Crew {
     hand: 1,
 };
 
-/// An epoch on bitonic 2: how many left by each exit of the words with which the next begins, and how many came by them.
+/// An epoch on bitonic 2: how many left by each exit of the words with which the next begins, and how many came by
+/// them.
 type Seen = ([u64; 2], u64);
 
 /// An epoch of only client 7, who gets its one name.

@@ -1,14 +1,15 @@
 //! A worker that is held before one of its steps while two clients of another lane walk out: what they meet shows which
-//! steps the worker has made. So it asks before a step, not after it: when it lets a client in, when its only token passes
-//! a balancer, and when it sweeps a wire.
+//! steps the worker has made. So it asks before a step, not after it: when it lets a client in, when its only token
+//! passes a balancer, and when it sweeps a wire.
 
 ghost use Rattle.std.specs.Prelude.{◌≡◌, IfSome};
 
 use crate::one_lane::step;
 use crate::walks::{enter, entered, split};
 use cn_bitonic::bitonic;
-use cn_core::{Client, Moved};
-use cn_walk::{Floor, Gate, Lane, Moment, walk_all};
+use cn_floor::{Floor, Gate, Lane, Moment};
+use cn_ledger::{Client, Moved};
+use cn_walk::walk_all;
 use cn_wiring::Counting;
 use std::alloc::Global;
 use std::sync::atomic::{AtomicU64, Ordering};

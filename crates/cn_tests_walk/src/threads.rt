@@ -1,7 +1,7 @@
 //! A lane can be sent to a thread, and a floor can be shared by threads: that this file compiles shows it.
 
+use cn_floor::{Floor, Lane};
 use cn_tree::tree;
-use cn_walk::{Floor, Lane};
 use std::alloc::Global;
 use std::test::Fail;
 

@@ -4,9 +4,9 @@ ghost use Rattle.std.specs.Prelude.{◌≡◌};
 
 use crate::one_lane::step;
 use crate::walks::{close, enter, entered, join, open, split};
-use cn_core::Moved;
+use cn_floor::{Floor, Grant, Lane, Quiet};
+use cn_ledger::Moved;
 use cn_tree::tree;
-use cn_walk::{Floor, Grant, Lane, Quiet};
 use cn_yard::Token;
 use std::alloc::Global;
 use std::test::Fail;

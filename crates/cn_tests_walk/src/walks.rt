@@ -2,7 +2,7 @@
 
 ghost use Rattle.std.specs.Prelude.{◌≡◌, IfSome};
 
-use cn_walk::{Floor, Lane, LaneFault, Quiet};
+use cn_floor::{Floor, Lane, LaneFault, Quiet};
 use cn_wiring::Counting;
 use cn_yard::Token;
 use std::alloc::Global;

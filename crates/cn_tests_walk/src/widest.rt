@@ -2,9 +2,9 @@
 
 use crate::epochs::run;
 use cn_bitonic::bitonic;
-use cn_core::Client;
+use cn_floor::{OpenGate, Quiet};
+use cn_ledger::Client;
 use cn_periodic::periodic;
-use cn_walk::{OpenGate, Quiet};
 use cn_wiring::{BuildFault, Counting};
 use std::alloc::Global;
 use std::sync::Wait;

@@ -4,7 +4,7 @@ use crate::asking::{Tally, new_tally, wrong_asker};
 use crate::epochs::{ONE_CLIENT, Row, THREE_CLIENTS, TWO_AT_ONCE, are_named};
 use crate::epochs_after::run_after;
 use cn_bitonic::bitonic;
-use cn_walk::Words;
+use cn_floor::Words;
 use cn_wiring::Counting;
 use std::alloc::Global;
 use std::sync::Wait;

@@ -4,7 +4,8 @@
 mod retried;
 
 use crate::retried::Retried;
-use cn_renamer::{Fault, Job, end, parse_words, run};
+use cn_cli::{Job, parse_words};
+use cn_renamer::{Fault, end, run};
 use std::alloc::Global;
 use std::env::{self, Env};
 use std::io::{self, IsTerminal, Write};

@@ -3,8 +3,8 @@
 
 use super::runs::{Answer, is_answered};
 use crate::serving::{BITONIC_FOUR, FIVE_ON_ONE_ENTRY};
-use cn_renamer::BatchCause;
-use cn_walk::OpenGate;
+use cn_floor::OpenGate;
+use cn_report::BatchCause;
 use std::alloc::Global;
 use std::hash::RandomState;
 use std::sync::Wait;

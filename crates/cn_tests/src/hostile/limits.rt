@@ -3,11 +3,12 @@
 use super::computed::Computed;
 use super::runs::{Answer, is_answered};
 use crate::serving::Asked;
-use cn_renamer::{
-    BatchCause, CheckFault, Flaw, Net, ReplayFault, ScheduleCause, ScheduleFault, check, replay,
+use cn_floor::OpenGate;
+use cn_nets::Net;
+use cn_renamer::{CheckFault, ReplayFault, check, replay};
+use cn_report::{
+    Batch, BatchCause, Bounds, Flaw, ScheduleCause, ScheduleFault, read_batch, read_batch_within,
 };
-use cn_report::{Batch, Bounds, read_batch, read_batch_within};
-use cn_walk::OpenGate;
 use cn_wiring::{Kind, is_width};
 use std::alloc::Global;
 use std::hash::RandomState;

@@ -3,8 +3,9 @@
 use super::limits::{ONE_WORKER, full_epochs};
 use crate::serving::options_of;
 use crate::writers::{Narrow, Then};
-use cn_renamer::{Form, serve};
-use cn_walk::OpenGate;
+use cn_cli::Form;
+use cn_floor::OpenGate;
+use cn_renamer::serve;
 use std::alloc::Global;
 use std::hash::RandomState;
 use std::sync::Wait;

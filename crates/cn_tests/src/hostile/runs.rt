@@ -1,8 +1,10 @@
 //! The run of a batch by the library, for the modules beside this one.
 
 use crate::serving::{Asked, options_of};
-use cn_renamer::{BatchCause, BatchFault, Form, ServeFault, serve};
-use cn_walk::Gate;
+use cn_cli::Form;
+use cn_floor::Gate;
+use cn_renamer::{ServeFault, serve};
+use cn_report::{BatchCause, BatchFault};
 use std::alloc::Global;
 use std::hash::RandomState;
 use std::io;

@@ -6,7 +6,7 @@ ghost use Rattle.std.specs.Prelude.{◌≡◌, IfSome};
 use super::{Shared, name_by_two, name_of};
 use crate::walks::{close, entered, join, open, split};
 use cn_bitonic::bitonic;
-use cn_walk::{Floor, Lane, Quiet};
+use cn_floor::{Floor, Lane, Quiet};
 use std::alloc::Global;
 use std::sync::Wait;
 use std::sync::atomic::{AtomicU64, Ordering};
