@@ -112,6 +112,7 @@ fn number_named(alloc: Global, word: &str) -> Result<Option<u32>, AllocError>
     }
 }
 
+/// The word that an option has, if it was given or has a default.
 fn value_of<'a>(options: &ArgMatches<'a>, name: &str) -> Option<&'a str>
     ensures { option_map (λ value. value.now) result
         ≡ first_of name.now (rows_of (found_of options.now)) }

@@ -35,6 +35,7 @@ fn option<'a>(
     }
 }
 
+/// An option that has no word.
 fn flag<'a>(alloc: Global, name: &'a str, help: &'a str) -> Arg<'a>
     ensures rule { rule_of result ≡ flag_rule name.entry.now }
     ensures local { result.global ≡ false }
@@ -96,6 +97,7 @@ fn network_command<'a>(
     with_option(command, alloc, "width", "W", None, &help.width)
 }
 
+/// The subcommand `run`.
 fn run_command<'a>(alloc: Global, help: &'a HelpTexts) -> Draft<'a>
     ensures { IfOk result (λ command. app_of command ≡ run_words) }
 {
@@ -110,6 +112,7 @@ fn run_command<'a>(alloc: Global, help: &'a HelpTexts) -> Draft<'a>
     with_flag(command, alloc, "large", large)
 }
 
+/// The subcommand `check`.
 fn check_command<'a>(alloc: Global, help: &'a HelpTexts) -> Draft<'a>
     ensures { IfOk result (λ command. app_of command ≡ check_words) }
 {

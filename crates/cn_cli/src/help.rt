@@ -71,6 +71,7 @@ Status:
 
 // ---- run
 
+/// The long help of `run`, with the names of causes.
 fn run_help(alloc: Global) -> Result<String, AllocError> {
     let causes = batch_causes(alloc)?;
     format!(in alloc;
@@ -153,6 +154,7 @@ Status:
 
 // ---- replay
 
+/// The long help of `replay`, with the names of causes.
 fn replay_help(alloc: Global) -> Result<String, AllocError> {
     let causes = schedule_causes(alloc)?;
     format!(in alloc;
@@ -221,6 +223,7 @@ Status:
 
 // ---- check
 
+/// The long help of `check`, with the names of causes.
 fn check_help(alloc: Global) -> Result<String, AllocError> {
     let causes = grant_causes(alloc)?;
     format!(in alloc;

@@ -67,6 +67,7 @@ impl WordsFault {
         }
     }
 
+    /// What is said of words that clap does not take, or of a request for help.
     fn of_parse(alloc: Global, words: &[String], error: clap::Error) -> WordsFault
         ensures { IsFaultBy (kind_of error) result }
     {
@@ -81,6 +82,7 @@ impl WordsFault {
         }
     }
 
+    /// What is said of words that clap takes and the choice of a job refuses.
     fn of_choice(alloc: Global, fault: ChoiceFault<'_>) -> WordsFault
         ensures { IsRefusalBy fault.entry result }
     {
@@ -111,6 +113,7 @@ fn chosen_job<'a>(alloc: Global, matches: &ArgMatches<'a>) -> Result<Job, Choice
     }
 }
 
+/// The job that words ask for which clap took.
 fn asked_job(alloc: Global, matches: &ArgMatches<'_>) -> Result<Job, WordsFault>
     ensures { let asked = subcommand_rows_of matches.now in
         MatchResult result (Asks asked) (IsRefusalOf asked) }
@@ -121,6 +124,7 @@ fn asked_job(alloc: Global, matches: &ArgMatches<'_>) -> Result<Job, WordsFault>
     }
 }
 
+/// The job that words ask for, with these texts of help.
 fn read_words<'a>(
     alloc: Global,
     words: &'a [String],

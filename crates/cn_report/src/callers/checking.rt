@@ -88,6 +88,7 @@ pub fn check_grants<R: Read + Drop>(alloc: Global, reader: R, width: u32) -> Res
     Ok(Tight { epochs })
 }
 
+/// Sends a space and a count for each, as ` 2 1 1 1`.
 fn send_tight_counts<W: Write>(pieces: &mut Pieces, writer: &mut W, counts: &[u64])
     ensures { Puts W.contents writer.old writer.new pieces.old pieces.new (tight_counts counts.now) }
 {
@@ -96,6 +97,7 @@ fn send_tight_counts<W: Write>(pieces: &mut Pieces, writer: &mut W, counts: &[u6
     }
 }
 
+/// Sends the line of an epoch, as `epoch 1 clients 5 counts 2 1 1 1`.
 fn send_tight_epoch<W: Write>(pieces: &mut Pieces, writer: &mut W, epoch: &TightEpoch)
     ensures { Puts W.contents writer.old writer.new pieces.old pieces.new (tight_line (plain_tight epoch.now)) }
 {
@@ -104,6 +106,7 @@ fn send_tight_epoch<W: Write>(pieces: &mut Pieces, writer: &mut W, epoch: &Tight
     pieces.put(writer, b"\n");
 }
 
+/// Sends the line of each epoch.
 fn send_tight_epochs<W: Write>(pieces: &mut Pieces, writer: &mut W, epochs: &[TightEpoch])
     ensures { Puts W.contents writer.old writer.new pieces.old pieces.new
         (flat_map tight_line (map plain_tight epochs.now)) }

@@ -22,6 +22,7 @@ use cn_wiring::Counting;
 use std::alloc::{AllocError, Global};
 use std::io::Write;
 
+/// Sends the grants of all records.
 fn send_names_of<W: Write>(pieces: &mut Pieces, writer: &mut W, records: &[EpochRecord])
     requires { All HasHolders records.now }
     ensures { Puts W.contents writer.old writer.new pieces.old pieces.new
@@ -51,6 +52,7 @@ pub fn render_grants(alloc: Global, records: &[EpochRecord]) -> Result<Vec<u8>, 
     }
 }
 
+/// Sends what an epoch gave out: its line, its exits and its names.
 fn send_whole_record<W: Write>(pieces: &mut Pieces, writer: &mut W, width: u32, epoch: &EpochRecord)
     requires { IsWholeRecord width epoch.now }
     ensures { Puts W.contents writer.old writer.new pieces.old pieces.new
@@ -61,6 +63,7 @@ fn send_whole_record<W: Write>(pieces: &mut Pieces, writer: &mut W, width: u32, 
     send_holders(pieces, writer, &epoch.holders);
 }
 
+/// Sends what each epoch gave out.
 fn send_whole_records<W: Write>(
     pieces: &mut Pieces,
     writer: &mut W,

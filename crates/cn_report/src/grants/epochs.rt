@@ -42,6 +42,7 @@ pub(crate) struct Granting {
 }
 
 impl Granting {
+    /// What is known before the first record: no epoch, no gap.
     pub(crate) fn new(alloc: Global) -> Self
         ensures checked { IsChecked result [] }
         ensures count { result.count ≡ 0 }

@@ -112,6 +112,7 @@ pub(crate) fn flaw_at(at: u64, cause: GrantCause) -> Flaw
     }
 }
 
+/// The grant that three fields spell, if each is a number.
 fn granted_from(epoch: &[u8], client: &[u8], name: &[u8]) -> Option<Granted>
     ensures { result ≡ granted_from (number_in epoch.now) (number_in client.now) (number_in name.now) }
 {

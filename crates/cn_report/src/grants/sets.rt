@@ -21,6 +21,7 @@ impl Marks {
     ghost use Rattle.cn_report.specs.Grants.Sets.{is_marked};
     ghost use Rattle.cn_spec.specs.declared.limits.TheConstants.{MOST_RECORDS};
 
+    /// The empty set.
     pub(crate) fn new(alloc: Global) -> Self
         ensures { (n : ℕ) → is_marked result n ≡ false }
     {
@@ -30,6 +31,7 @@ impl Marks {
         }
     }
 
+    /// Empties the set: no place has the next stamp. Once the stamps are used up, the places go.
     pub(crate) fn clear(&mut self)
         ensures { (n : ℕ) → is_marked self.new n ≡ false }
     {
@@ -40,6 +42,7 @@ impl Marks {
         self.stamp += 1;
     }
 
+    /// Whether a number is in the set.
     pub(crate) fn has(&self, number: u64) -> bool
         ensures { result ≡ is_marked self.now number }
     {
@@ -82,6 +85,7 @@ impl Numbers {
     ghost use Rattle.cn_report.specs.Grants.Sets.{has};
     ghost use Rattle.cn_report.specs.Grants.TightList.{IsLeastMissing};
 
+    /// The empty set.
     pub(crate) fn new(alloc: Global) -> Self
         ensures { (n : ℕ) → has result n ≡ false }
     {
@@ -92,6 +96,7 @@ impl Numbers {
         }
     }
 
+    /// Empties the set.
     pub(crate) fn clear(&mut self)
         ensures { (n : ℕ) → has self.new n ≡ false }
     {
@@ -100,6 +105,7 @@ impl Numbers {
         self.others.clear();
     }
 
+    /// Whether a number is in the set.
     fn has(&self, number: u64) -> bool
         ensures { result ≡ has self.now number }
     {

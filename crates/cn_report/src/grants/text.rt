@@ -33,6 +33,7 @@ pub(crate) fn send_names<W: Write>(pieces: &mut Pieces, writer: &mut W, epoch: u
     }
 }
 
+/// Sends the grants of all epochs. The holders of each follow those of the one before.
 fn send_all_names<W: Write>(
     pieces: &mut Pieces,
     writer: &mut W,

@@ -26,6 +26,7 @@ pub(crate) fn send_head<W: Write>(pieces: &mut Pieces, writer: &mut W, number: u
     pieces.put(writer, b" counts");
 }
 
+/// Sends a space and a share for each exit, as ` 2 1 1 1` of 5 clients.
 fn send_shares<W: Write>(pieces: &mut Pieces, writer: &mut W, width: u32, clients: u32)
     requires { width ≤ MOST_ENDS }
     ensures { Puts W.contents writer.old writer.new pieces.old pieces.new (tight_counts (shares clients width)) }
@@ -40,6 +41,7 @@ fn send_shares<W: Write>(pieces: &mut Pieces, writer: &mut W, width: u32, client
     }
 }
 
+/// Sends the line of an epoch, as `epoch 1 clients 5 counts 2 1 1 1`.
 fn send_named<W: Write>(pieces: &mut Pieces, writer: &mut W, width: u32, epoch: NamedEpoch)
     requires { width ≤ MOST_ENDS }
     ensures { Puts W.contents writer.old writer.new pieces.old pieces.new (tight_line (with_shares width epoch)) }
@@ -58,6 +60,7 @@ pub(crate) fn send_end<W: Write>(pieces: &mut Pieces, writer: &mut W, epochs: us
     pieces.put(writer, b"\n");
 }
 
+/// Sends the line of each epoch, until a write fails.
 fn send_named_epochs<W: Write>(
     pieces: &mut Pieces,
     writer: &mut W,

@@ -60,6 +60,7 @@ pub(crate) struct Clipped<R: Read + Drop> {
 }
 
 impl<R: Read + Drop> Clipped<R> {
+    /// The reader at the first byte of its text.
     pub(crate) fn new(reader: R) -> Self
         ensures { clipped_remaining R.remaining result ≡ option_map (clipped (Line.Header 0)) (R.remaining reader) }
     {

@@ -11,6 +11,7 @@ use crate::reading::schedule_fault::ScheduleCause;
 use cn_ledger::Command;
 use csv::ByteRecord;
 
+/// The enter of a client by an entry.
 fn enter_from(client: &[u8], wire: &[u8]) -> Result<Command, ScheduleCause>
     ensures { result ≡ entering (number_in client.now) (number_in wire.now) }
 {
@@ -19,6 +20,7 @@ fn enter_from(client: &[u8], wire: &[u8]) -> Result<Command, ScheduleCause>
     Ok(Command::Enter { client, entry })
 }
 
+/// The step of a client, whose record has no wire.
 fn step_from(client: &[u8], wire: &[u8]) -> Result<Command, ScheduleCause>
     ensures { result ≡ stepping (number_in client.now) wire.now }
 {
@@ -30,6 +32,7 @@ fn step_from(client: &[u8], wire: &[u8]) -> Result<Command, ScheduleCause>
     }
 }
 
+/// The turn, whose record has no client and no wire.
 fn turn_from(client: &[u8], wire: &[u8]) -> Result<Command, ScheduleCause>
     ensures { result ≡ turning client.now wire.now }
 {
@@ -42,6 +45,7 @@ fn turn_from(client: &[u8], wire: &[u8]) -> Result<Command, ScheduleCause>
     }
 }
 
+/// The command that three fields spell, as `enter`, `7` and `0`.
 #[tactic(auto, unfolding(crate::specs::Reading::Command::spelled))]
 fn command_from(op: &[u8], client: &[u8], wire: &[u8]) -> Result<Command, ScheduleCause>
     ensures { result ≡ spelled op.now client.now wire.now }

@@ -21,6 +21,7 @@ pub(crate) enum RecordFault {
     Memory,
 }
 
+/// Why no record came, of an error of `csv`.
 fn fault_of(error: Error) -> RecordFault
     requires { IsOfReader (error_kind error) }
     ensures { (result ≡ RecordFault.Memory) ↔ (error_kind error ≡ ErrorKind.OutOfMemory) }

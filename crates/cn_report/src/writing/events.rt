@@ -10,6 +10,7 @@ use crate::writing::pieces::Pieces;
 use cn_ledger::{EnterFault, Moved, Reply, StepFault};
 use std::io::Write;
 
+/// Sends a line as `pass 7 balancer 0 number 0 wire 2`.
 fn send_pass<W: Write>(
     pieces: &mut Pieces,
     writer: &mut W,
@@ -28,6 +29,7 @@ fn send_pass<W: Write>(
     pieces.put(writer, b"\n");
 }
 
+/// Sends a line as `leave 7 exit 0 visit 0 name 0`.
 fn send_leave<W: Write>(
     pieces: &mut Pieces,
     writer: &mut W,
@@ -46,6 +48,7 @@ fn send_leave<W: Write>(
     pieces.put(writer, b"\n");
 }
 
+/// Sends the line of a step that was taken.
 fn send_moved<W: Write>(pieces: &mut Pieces, writer: &mut W, client: u64, moved: Moved)
     ensures { Puts W.contents writer.old writer.new pieces.old pieces.new (moved_line client moved) }
 {
@@ -59,6 +62,7 @@ fn send_moved<W: Write>(pieces: &mut Pieces, writer: &mut W, client: u64, moved:
     }
 }
 
+/// Sends a line as `refused enter 7 AlreadyIn`.
 #[tactic(auto, unfolding(crate::specs::Writing::Replay::enter_line))]
 fn send_refused<W: Write>(
     pieces: &mut Pieces,

@@ -12,6 +12,7 @@ use cn_exit::expected;
 use cn_spec::limits::{MOST_ARRIVALS, MOST_ENDS};
 use std::io::Write;
 
+/// Sends a line as `exit 0 count 2`.
 #[tactic(auto, unfolding(crate::specs::Writing::Outcome::exit_line))]
 fn send_count<W: Write>(pieces: &mut Pieces, writer: &mut W, exit: u32, count: u64)
     ensures { Puts W.contents writer.old writer.new pieces.old pieces.new (exit_line exit count) }
@@ -59,6 +60,7 @@ pub(crate) fn send_counts<W: Write>(
     }
 }
 
+/// Sends a line as `name 0 client 7`.
 #[tactic(auto, unfolding(crate::specs::Writing::Outcome::name_line))]
 fn send_holder<W: Write>(pieces: &mut Pieces, writer: &mut W, name: u64, client: u64)
     ensures { Puts W.contents writer.old writer.new pieces.old pieces.new (name_line name client) }

@@ -31,6 +31,7 @@ pub struct OpenEpoch {
     pub inside: u64,
 }
 
+/// Sends a line as `turn epoch 0 clients 1`.
 #[tactic(auto, unfolding(crate::specs::Writing::Replay::turn_line))]
 fn send_turn<W: Write>(pieces: &mut Pieces, writer: &mut W, number: u64, clients: u64)
     ensures { Puts W.contents writer.old writer.new pieces.old pieces.new (turn_line number clients) }
@@ -52,6 +53,7 @@ fn send_kept_counts<W: Write>(pieces: &mut Pieces, writer: &mut W, width: u32, e
     }
 }
 
+/// Sends what an epoch gave out: the line of its turn, its exits and its names.
 fn send_record<W: Write>(pieces: &mut Pieces, writer: &mut W, width: u32, epoch: &EpochRecord)
     requires width { width ≤ MOST_ENDS }
     requires whole { IsWholeKeptRecord width epoch.now }
@@ -62,6 +64,7 @@ fn send_record<W: Write>(pieces: &mut Pieces, writer: &mut W, width: u32, epoch:
     send_holders(pieces, writer, &epoch.holders);
 }
 
+/// Sends a line as `refused turn NotQuiet 1`.
 #[tactic(auto, unfolding(crate::specs::Writing::Replay::not_quiet_line))]
 fn send_not_quiet<W: Write>(pieces: &mut Pieces, writer: &mut W, inside: u64)
     ensures { Puts W.contents writer.old writer.new pieces.old pieces.new (not_quiet_line inside) }
@@ -69,6 +72,7 @@ fn send_not_quiet<W: Write>(pieces: &mut Pieces, writer: &mut W, inside: u64)
     send_numbered(pieces, writer, "refused turn NotQuiet ", inside, "\n");
 }
 
+/// Sends the lines of a command and its answer.
 #[tactic(auto, unfolding(crate::specs::Writing::Replay::answer_line))]
 fn send_answer<W: Write>(
     pieces: &mut Pieces,
@@ -98,6 +102,7 @@ fn send_answer<W: Write>(
     }
 }
 
+/// Sends the lines of all commands and their answers, until a write fails.
 fn send_answers<W: Write>(
     pieces: &mut Pieces,
     writer: &mut W,
@@ -120,6 +125,7 @@ fn send_answers<W: Write>(
     }
 }
 
+/// Sends a line as `end epoch 1 entered 0 inside 0`.
 fn send_end<W: Write>(pieces: &mut Pieces, writer: &mut W, last: OpenEpoch)
     ensures { Puts W.contents writer.old writer.new pieces.old pieces.new
         (end_line last.number last.entered last.inside) }

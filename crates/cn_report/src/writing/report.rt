@@ -35,6 +35,7 @@ pub(crate) fn send_epoch_line<W: Write>(
     send_line(pieces, writer, "epoch ", number, " clients ", clients);
 }
 
+/// Sends what an epoch gave out after `before` clients: its line, its exits and its names.
 fn send_epoch<W: Write>(
     pieces: &mut Pieces,
     writer: &mut W,
@@ -62,6 +63,7 @@ fn carried(carries: bool, clients: u64) -> u64
     if carries { clients } else { 0 }
 }
 
+/// Sends what each epoch gave out, until a write fails. The holders of each follow those of the one before.
 fn send_epochs<W: Write>(
     pieces: &mut Pieces,
     writer: &mut W,

@@ -11,6 +11,7 @@ use crate::writing::pieces::Pieces;
 use cn_wiring::{Counting, End};
 use std::io::Write;
 
+/// Sends a line as `wire 0 balancer 0` or `wire 3 exit 0`.
 #[tactic(auto, unfolding(crate::specs::Writing::Wiring::wire_line))]
 fn send_wire<W: Write>(pieces: &mut Pieces, writer: &mut W, wire: u32, end: End)
     ensures { Puts W.contents writer.old writer.new pieces.old pieces.new (wire_line (wire, end)) }
@@ -31,6 +32,7 @@ fn send_wire<W: Write>(pieces: &mut Pieces, writer: &mut W, wire: u32, end: End)
     }
 }
 
+/// Sends the line of each wire.
 fn send_wires<W: Write>(pieces: &mut Pieces, writer: &mut W, network: &Counting)
     ensures { Puts W.contents writer.old writer.new pieces.old pieces.new (wire_lines network.now.table.ends) }
 {
@@ -40,6 +42,7 @@ fn send_wires<W: Write>(pieces: &mut Pieces, writer: &mut W, network: &Counting)
     }
 }
 
+/// Sends a line as `end wires 7`.
 #[tactic(auto, unfolding(crate::specs::Writing::Wiring::wires_line))]
 fn send_end<W: Write>(pieces: &mut Pieces, writer: &mut W, wires: u32)
     ensures { Puts W.contents writer.old writer.new pieces.old pieces.new (wires_line wires) }

@@ -42,6 +42,7 @@ pub(crate) struct Arrival {
     pub(crate) entry: u64,
 }
 
+/// The arrival that three fields spell. The first that is no number is the cause.
 fn arrival_from(epoch: &[u8], client: &[u8], entry: &[u8]) -> Result<Arrival, BatchCause>
     ensures { result ≡ arriving (number_in epoch.now) (number_in client.now) (number_in entry.now) }
 {
@@ -66,6 +67,7 @@ fn arrival_with_entry(fields: &ByteRecord) -> Result<Arrival, BatchCause>
     arrival_from(field(fields, 0), field(fields, 1), field(fields, 2))
 }
 
+/// The arrival that two fields spell, by the entry that is the identity modulo the entries.
 fn arrival_by_rule(epoch: &[u8], client: &[u8], entries: u32) -> Result<Arrival, BatchCause>
     requires { 0 < entries }
     ensures { result

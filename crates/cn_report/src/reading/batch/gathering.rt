@@ -33,6 +33,7 @@ pub(crate) struct Gathering {
 }
 
 impl Gathering {
+    /// What is known before the first record: no epoch.
     pub(crate) fn new(alloc: Global, state: RandomState) -> Self
         ensures none { IsGathered result [] }
         ensures keeps { (bounds : Bounds) → AreBounds bounds → StaysServable bounds result }
