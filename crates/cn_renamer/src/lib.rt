@@ -15,10 +15,9 @@ mod showing;
 mod writing;
 
 pub use checking::{CheckFault, check};
-pub use cn_cli::{CheckOptions, Form, Job, OptionFault, Options, WordsFault, parse_words};
+// The older names of these: they stand in cn_cli and cn_nets.
+pub use cn_cli::{Form, Job, OptionFault, Options, WordsFault, parse_words};
 pub use cn_nets::{Net, NetFault};
-pub use cn_report::{BatchCause, BatchFault, Flaw, ScheduleCause, ScheduleFault};
-pub use cn_walk::Receipts;
 pub use epochs::{CLIENTS_FOR_A_THREAD, workers_that_pay};
 pub use fault::{Fault, end};
 pub use output_fault::OutputFault;

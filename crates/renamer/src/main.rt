@@ -14,6 +14,7 @@ use std::random::RandomSource;
 use std::sync::Wait;
 use std::thread::Threads;
 
+/// The words with which the program was called, its name first.
 fn words_of(rt: &(impl Alloc<A = Global> + Env)) -> Result<Vec<String>, Fault> {
     Ok(env::args(rt)?.collect(rt.alloc())?)
 }
@@ -45,6 +46,7 @@ fn say_input(rt: &HostRuntime) -> Result<(), Fault> {
     Ok(())
 }
 
+/// Does what the words ask for, on the streams of the process.
 fn run_words(
     rt: &(impl Alloc<A = Global> + Env + Input + Print + RandomSource + Threads + Wait + Sync),
 ) -> Result<(), Fault> {

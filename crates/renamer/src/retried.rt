@@ -9,6 +9,7 @@ pub(crate) struct Retried<S> {
 }
 
 impl<S> Retried<S> {
+    /// The stream, so that a call that a signal interrupts is made once more.
     pub(crate) fn new(stream: S) -> Self {
         Retried { stream }
     }
