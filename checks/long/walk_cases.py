@@ -5,17 +5,11 @@ import pathlib
 import re
 import subprocess
 
-from picture_parts.layout import Crowd, lay_out
-from picture_parts.lines import Lines
-from picture_parts.wiring import read_wiring
-
 ROOT = pathlib.Path(__file__).resolve().parent.parent.parent
 PROGRAM = pathlib.Path(os.environ.get("RENAMER", ROOT / "renamer")).resolve()
 NETWORKS = ("bitonic", "periodic", "tree")
 WIDTHS = tuple(2**level for level in range(1, 9))
 DRAWN = WIDTHS[:5]
-# The room for tokens of the page: labels of so many letters, so many tokens before each level, and before a tree.
-LETTERS, TOKENS, TREE_TOKENS = 3, 2, 5
 SCHEDULES, CARRIED, TEXTS = 200, 20, 400
 # What is put into texts, so that some are no schedules, and others are in an unusual form.
 CHANGES = ('"', '""', ",", "\n", "\r", "\r\n", "\n\n", " ", "0", "+", "x", str(2**64 - 1), "\ufeff", "turn", "é")
@@ -94,7 +88,6 @@ class Cases:
 
     def __init__(self, chance):
         self.wirings = [(network, width) for network in NETWORKS for width in WIDTHS]
-        self.layouts = [(network, width) for network in NETWORKS for width in DRAWN]
         self.texts = [*ODD_TEXTS, *(changed_text(chance) for _ in range(TEXTS - len(ODD_TEXTS)))]
         self.schedules, self.answers = [], []
         for at in range(SCHEDULES + CARRIED):
@@ -107,8 +100,7 @@ class Cases:
             self.answers.append(answer)
 
     def given(self):
-        return json.dumps({"wirings": self.wirings, "layouts": self.layouts, "schedules": self.schedules,
-                           "texts": self.texts})
+        return json.dumps({"wirings": self.wirings, "schedules": self.schedules, "texts": self.texts})
 
     def by_hand(self):
         """A schedule on bitonic 8 that is written into the page, and its answers."""
@@ -129,9 +121,6 @@ class Cases:
         for (network, width), lines in zip(self.wirings, found["wirings"], strict=True):
             if lines != printed("show", network, width):
                 yield f"the wiring of {network} {width}"
-        for (network, width), places in zip(self.layouts, found["layouts"], strict=True):
-            if max(map(abs, map(float.__sub__, map(float, places), expected_layout(network, width)))) > 1e-6:
-                yield f"the layout of {network} {width}"
         for case, wanted, answer in zip(self.schedules, self.answers, found["answers"], strict=True):
             kept = records_of_turns(answer) if case["carries"] else answer
             if kept != (records_of_turns(wanted) if case["carries"] else wanted):
@@ -144,15 +133,6 @@ class Cases:
         if found["pages"][0] != found["pages"][1]:
             yield f"memory grows: {found['pages']} pages"
         yield from found["wrong"]
-
-
-def expected_layout(network, width):
-    """The numbers of a layout, in the order in which the page's script has them."""
-    wiring = read_wiring(Lines("show", printed("show", network, width).splitlines()))
-    most = {wire: TREE_TOKENS if wiring.is_tree and wire == 0 else TOKENS for wire in range(len(wiring.ends))}
-    it = lay_out(wiring, Crowd(LETTERS, most))
-    gaps = [at for gap in it.gaps for at in gap]
-    return [*map(float, it.rows), *it.bars, *gaps, it.left, it.right, it.after_exits, it.bottom]
 
 
 def records_of_turns(text):

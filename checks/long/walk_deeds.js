@@ -193,11 +193,11 @@ async function wrongEnds(kind, width) {
     const frame = element("frame"), wrong = [];
     for (const share of [0, 0.5, 1]) {
         frame.scrollLeft = share * (frame.scrollWidth - frame.clientWidth);
-        await tick(100);
         const left = boxOf(frame).left + frame.clientLeft, right = left + frame.clientWidth;
-        const ends = [...document.querySelectorAll(".entry .body, .exit")].map(boxOf);
         const isIn = it => it.left >= left - 0.5 && it.right <= right + 0.5;
-        if (!ends.every(isIn)) wrong.push(`of ${kind} ${width} the ends are not in sight at ${share}`);
+        const areIn = () => [...document.querySelectorAll(".entry .body, .exit")].map(boxOf).every(isIn);
+        await until(areIn);
+        if (!areIn()) wrong.push(`of ${kind} ${width} the ends are not in sight at ${share}`);
     }
     return wrong;
 }

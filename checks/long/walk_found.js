@@ -11,12 +11,6 @@ function wiringLines(library, kind, width) {
     ].map(line => `${line}\n`).join("");
 }
 
-function layout(library, kind, width) {
-    const wiring = wiringOf(library, kind, width);
-    const {rows, bars, gaps, left, right, afterExits, bottom} = placesOf(wiring);
-    return [...rows, ...bars, ...gaps.flat(), left, right, afterExits, bottom];
-}
-
 // What a floor answers to a schedule.
 function answered(library, {kind, width, carries, schedule}) {
     const floor = new Floor(library, wiringOf(library, kind, width), carries);
@@ -61,7 +55,6 @@ function foundByNode(cases) {
     const library = new Library(new WebAssembly.Instance(module).exports);
     return {
         wirings: cases.wirings.map(([kind, width]) => wiringLines(library, kind, width)),
-        layouts: cases.layouts.map(([kind, width]) => layout(library, kind, width)),
         answers: cases.schedules.map(it => answered(library, it)),
         texts: cases.texts.map(text => answeredText(library, text)),
         pages: [pagesAfter(library, 10), pagesAfter(library, 2000)],

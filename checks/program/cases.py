@@ -82,7 +82,8 @@ def lines_of(rest, given):
         if form == "*":
             return (unescaped(line) + b"\n") * int(count)
         first, parts = (0 if form == "#" else 1), unescaped(line + "\n").split(b"&")
-        return b"".join(b"%d".join(parts) % ((at,) * (len(parts) - 1)) for at in range(first, first + int(count)))
+        numbers = range(first, first + int(count))
+        return b"".join(map(b"%d".join(parts).__mod__, zip(*[numbers] * (len(parts) - 1))))
     raise NoCase(rest)
 
 

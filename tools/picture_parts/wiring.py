@@ -2,6 +2,7 @@
 import dataclasses
 import functools
 import re
+import subprocess
 
 from picture_parts.lines import Fault, Lines
 
@@ -67,6 +68,16 @@ class Wiring:
         for balancer, level in enumerate(self.level_of):
             found[level].append(balancer)
         return found
+
+
+def shown(program: object, name: str) -> Wiring:
+    """Returns a network by its name, as tree-64, as the program shows it."""
+    kind, _, width = name.partition("-")
+    words = [program, "show", "--network", kind, "--width", width]
+    done = subprocess.run(words, stdin=subprocess.DEVNULL, capture_output=True, text=True)
+    if done.returncode:
+        raise Fault(" ".join(done.stderr.split()) or f"there is no network {name}")
+    return read_wiring(Lines(name, done.stdout.splitlines()))
 
 
 def read_wiring(lines: Lines) -> Wiring:

@@ -28,7 +28,7 @@ class Drawing {
     wires() {
         const {places, wiring} = this, half = places.isTree ? places.boxWidth(wiring.outputs.length - 1) / 2 : 0;
         return wiring.ends.map((_, wire) => {
-            const begin = places.wireBegin(wire), y = places.wireY(wire), x = begin + half + WIRE_AWAY * places.font;
+            const begin = places.wireBegin(wire), y = places.wireY(wire), x = begin + half + places.away;
             return `<path class="wire" d="M${begin} ${y}H${places.wireEnd(wire)}"/>`
                 + text(x, y - places.numberAway, wire, 'class="number"');
         });
@@ -38,7 +38,7 @@ class Drawing {
     countsOfWires() {
         const {places, wiring} = this, half = places.boxWidth(wiring.outputs.length - 1) / 2;
         return wiring.ends.map((_, wire) => {
-            const away = wire < wiring.entries ? WIRE_AWAY * places.font : half + 0.2 * places.font;
+            const away = wire < wiring.entries ? places.away : half + 0.2 * places.font;
             return text(places.wireBegin(wire) + away, places.wireY(wire) + places.countAway, "", 'class="count"');
         });
     }

@@ -1,15 +1,5 @@
 "use strict";
 // The page: which network, which commands so far and at what moment of them, and what buttons, keys and clicks do.
-const WIDTHS = [2, 4, 8, 16, 32];
-// Tokens have room for labels of so many letters. There is room for so many before each level, but for five where all
-// come into a tree; for fingers there is room for one and a number.
-const LETTERS = 3, TOKENS = 2, TREE_TOKENS = 5, FINGER_TOKENS = 1.7;
-
-function placesOf(wiring, finger = 0) {
-    const tokens = finger ? FINGER_TOKENS : TOKENS, first = wiring.entries > 1 ? tokens : finger ? TOKENS : TREE_TOKENS;
-    return new Places(wiring, LETTERS, level => level ? tokens : first, finger);
-}
-
 // So many commands a schedule has at most.
 const MOST_COMMANDS = 20000;
 // A finger wants so many pixels.
@@ -45,10 +35,10 @@ class Page {
 
     // The layout, in which entries are as high and wide as a finger wants them if the window is narrow.
     places() {
-        if (!this.narrow.matches) return placesOf(this.wiring);
-        const first = placesOf(this.wiring, FINGER), least = getComputedStyle($("network")).getPropertyValue("--least");
+        if (!this.narrow.matches) return new Places(this.wiring);
+        const first = new Places(this.wiring, FINGER), least = getComputedStyle($("network")).getPropertyValue("--least");
         const scale = Math.max(Number(least) / first.font, Math.min(1, $("frame").clientWidth / first.width));
-        return placesOf(this.wiring, 1.05 * FINGER / scale);
+        return new Places(this.wiring, 1.05 * FINGER / scale);
     }
 
     // Does the commands before a moment again, from nothing: at once, or after this is said.
@@ -192,7 +182,7 @@ class Page {
         const [network, done, schedule] = address.slice(1).replaceAll(/%2c/gi, ",").split("/");
         const [kind, word, carry] = network.split("-"), width = Number(word);
         if (kind === "lesson" && LESSON[width - 1]) return this.openLesson(width - 1);
-        if (!KINDS.includes(kind) || !WIDTHS.includes(width)) throw Error("the address has no network of this page");
+        if (!KINDS.includes(kind) || !(width in PLACES[kind])) throw Error("the address has no network of this page");
         this.open(kind, width, carry === "carry", commandsOf(schedule ?? ""), Number(done) || 0);
     }
 }

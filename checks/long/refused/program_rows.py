@@ -11,6 +11,8 @@ TREE_FOUR = "0 balancer 0,1 balancer 1,2 balancer 2,3 exit 0,4 exit 2,5 exit 1,6
 EPOCHS = [(1, 5), (3, 100), (4, 1)]
 # The row of limits, a full epoch, with so few that each growth can be refused in a minute.
 FULL = [(1, 640)]
+# An epoch and a list that are larger than may be without the flag.
+LARGE_EPOCH, LARGE_LIST = [(1, 262_145)], [(1, 1_048_577)]
 
 
 def batch_of(epochs):
@@ -133,6 +135,18 @@ def wide_rows():
     ]
 
 
+def large_rows():
+    """Runs of a large epoch, and a check of a large list."""
+    run, batch = ["run", "--network", "tree", "--width", "2", "--large"], short_batch_of(LARGE_EPOCH)
+    report, grants = report_of("tree", 2, (1, 1), LARGE_EPOCH), grants_of(LARGE_EPOCH)
+    check, tight = ["check", "--width", "2", "--large"], tight_of(2, LARGE_LIST)
+    return [
+        ("renamer run, a large epoch", run, batch, report, same),
+        ("renamer run, a large epoch, four workers", [*run, "--workers", "4", "--form", "grants"], batch, grants, same),
+        ("renamer check, a large list", check, grants_of(LARGE_LIST), tight, same),
+    ]
+
+
 def refused_rows():
     """Words and input that are refused: each with a name, the words, the input, the status and the line."""
     tree = ["--network", "tree", "--width", "4"]
@@ -155,6 +169,7 @@ def program_rows():
         ("renamer, the stored run", (STORED / "args").read_text().split(), *stored, same),
         *narrow_rows(),
         *wide_rows(),
+        *large_rows(),
         ("renamer check", ["check", "--width", "4"], grants_of(EPOCHS), tight_of(4, EPOCHS), same),
         ("renamer check, width 256", ["check", "--width", "256"], grants_of(EPOCHS), tight_of(256, EPOCHS), same),
         ("renamer replay", ["replay", "--network", "tree", "--width", "2"], schedule_of(100), replay_of(100), same),

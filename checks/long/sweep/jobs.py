@@ -217,6 +217,20 @@ def replay_jobs(network, width):
         yield replay_job(network, width, size)
 
 
+def large(job):
+    """The same job, whose input is larger than may be without the flag."""
+    return Job([*job.words, "--large"], job.given, job.is_right)
+
+
+def large_jobs():
+    yield large(run_job("tree", 2, 1, MOST_RECORDS + 1, 1, 1, False))
+    yield large(run_job("bitonic", 64, 3, MOST_CLIENTS + 1, 64, 64, False))
+    yield large(run_job("periodic", 256, 2, MOST_CLIENTS + 1, 2, 1, True))
+    yield large(list_job("tree", 2, MOST_RECORDS + 1, 1, 64, 1))
+    yield large(check_job(2, 1, MOST_RECORDS + 1))
+    yield large(check_job(256, MOST_RECORDS + 1, 1))
+
+
 def refusals():
     """Records of many fields are refused as that."""
     for head, words, line in (
@@ -233,6 +247,7 @@ def is_help(text):
 
 def jobs():
     """All jobs, the longest first."""
+    yield from large_jobs()
     yield run_job("tree", 2, MOST_RECORDS, 1, 1, 1, False)
     yield run_job("bitonic", 2, MOST_RECORDS, 1, 1, 1, True)
     yield list_job("periodic", 4, MOST_RECORDS, 1, 1, 1)
