@@ -2,6 +2,7 @@
 
 mod epochs;
 mod list;
+mod marks;
 mod record;
 mod sets;
 pub(crate) mod text;

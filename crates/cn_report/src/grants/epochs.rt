@@ -117,8 +117,8 @@ impl Granting {
         Ok(())
     }
 
-    /// Adds a grant of the latest epoch, if it has no cause.
-    fn add_to_latest(&mut self, grant: Granted) -> Result<(), GrantCause>
+    /// Adds a grant of the latest epoch, which is record `at`, if it has no cause.
+    fn add_to_latest(&mut self, at: u64, grant: Granted) -> Result<(), GrantCause>
         requires { self.old.count < MOST_NAMED }
         ensures ok { OnOk result ((adding_cause self.old grant ≡ None)
             × (self.new.ended ≡ self.old.ended) × (self.new.gap ≡ self.old.gap)
@@ -129,12 +129,12 @@ impl Granting {
         ensures err { IfErr result (λ cause.
             (adding_cause self.old grant ≡ Some cause) ⊎ (cause ≡ GrantCause.Memory)) }
     {
-        match self.clients.add(grant.client) {
+        match self.clients.add(at, grant.client) {
             Ok(true) => {}
             Ok(false) => return Err(GrantCause::DuplicateClient),
             Err(_) => return Err(GrantCause::Memory),
         }
-        match self.names.add(grant.name) {
+        match self.names.add(at, grant.name) {
             Ok(true) => {}
             Ok(false) => return Err(GrantCause::DuplicateName),
             Err(_) => return Err(GrantCause::Memory),
@@ -161,7 +161,7 @@ impl Granting {
             return Err(GrantCause::Form);
         }
         self.turn_to(grant.epoch)?;
-        self.add_to_latest(grant)
+        self.add_to_latest(at, grant)
     }
 
     /// The epochs, if none lacks a name.
