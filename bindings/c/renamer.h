@@ -35,9 +35,11 @@
  * of a process with threads. A fork copies floors: parent and child both give name 1, to two clients.
  *
  * WAITING. No call starts a thread, and in the library's own code no call waits for another thread, wherever that is
- * stopped. But malloc and free of the C library may make threads wait for one another. Calls that open, split, hand
- * back, join, close or free use them. Calls that name clients or let them in use them only if the lane has no room,
- * which renamer_reserve makes. Calls that step, sweep, take names or only ask never use them.
+ * stopped. But malloc and free of the C library may make threads wait for one another. Calls that open, split, join or
+ * close use them, and those that free a quiet floor or a taker. Calls that name clients or let them in use them only if
+ * the lane has no room, which renamer_reserve makes. Calls that step, sweep, take names, hand a lane back or only ask
+ * never use them; nor does renamer_free of a lane, which hands it back, if no client is inside. But if the lane is the
+ * floor's last, its floor is freed.
  *
  * THE CALLER'S SIDE. What no call can check is the caller's: no pointer is NULL but one that is freed, and that of an
  * array of size 0. An array is as long as its size says; a number or an array that a call writes overlaps nothing else
@@ -297,9 +299,9 @@ RENAMER_LIST_CALL uint32_t renamer_grants(const renamer_lane *lane, uint64_t fir
 /* Hands the lane back to its floor, from any thread: its quota, its grants and all that it did. The lane is none then,
    and another lane of the floor may take it in by renamer_join. Any number of lanes may be back.
 
-   A hand-back takes no memory. In the library's own code it is at most a dozen atomic steps, whatever other threads do
-   and wherever they are stopped. Then it frees the memory of the handle, by free of the C library. If the lane was the
-   only one, the floor is freed.
+   A hand-back takes no memory and frees none: it is at most a dozen atomic steps, whatever other threads do and
+   wherever they are stopped. The memory of the lane and its handle is freed by the call that takes the lane in, or with
+   the floor. If the lane was the only one, the floor is freed.
    RENAMER_NONE, _STILL_WALKING. One thread at a time. */
 RENAMER_CALL uint32_t renamer_hand_back(renamer_lane *lane);
 

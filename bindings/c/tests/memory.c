@@ -183,6 +183,23 @@ static void few_growths(uint32_t kind, uint32_t width) {
     renamer_free(&lane);
 }
 
+/* A hand-back and a free of a lane take no memory and free none: who takes the lane in frees that of its handle. */
+static void free_nothing(uint32_t kind, uint32_t width) {
+    renamer_lane lane = RENAMER_NO_LANE_YET, other = RENAMER_NO_LANE_YET;
+    open_one(&lane, kind, width, 10);
+    for (int is_freed = 0; is_freed < 2; is_freed++) {
+        CHECK(renamer_split(&lane, 1, &other) == RENAMER_DONE);
+        long live = growths_live(), asked = growths_asked();
+        if (is_freed)
+            renamer_free(&other);
+        else
+            CHECK(renamer_hand_back(&other) == RENAMER_DONE);
+        CHECK(!other.at && growths_live() == live && growths_asked() == asked);
+        CHECK(renamer_join(&lane) == RENAMER_DONE && growths_live() == live - 1);
+    }
+    renamer_free(&lane);
+}
+
 static void run_floor(uint32_t kind, uint32_t width) {
     renamer_lane lane = RENAMER_NO_LANE_YET, other = RENAMER_NO_LANE_YET;
     renamer_quiet quiet = RENAMER_NO_QUIET_YET;
@@ -226,7 +243,8 @@ int main(void) {
     long live = growths_live();
     for (uint32_t kind = 0; kind < KINDS; kind++)
         for (uint32_t level = 1; level <= 4; level++)
-            run_floor(kind, 1u << level), give_back(kind, 1u << level), join_all(kind, 1u << level);
+            run_floor(kind, 1u << level), give_back(kind, 1u << level), join_all(kind, 1u << level),
+                free_nothing(kind, 1u << level);
     for (uint32_t kind = 0; kind < KINDS; kind++)
         for (uint32_t level = 1; level <= LEVELS; level++)
             few_growths(kind, 1u << level);

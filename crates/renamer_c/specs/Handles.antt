@@ -1,7 +1,8 @@
 -- What handles have.
 use Rattle.std.specs.Prelude.{Option, None, Some}
+use Rattle.cn_floor.specs.Lane.{LaneValue}
 use Rattle.renamer_c.specs.declared.held.Held.{Held}
-use Rattle.renamer_c.specs.declared.held.Held.TheVariants.{Nothing, Lane, Closed, Taker}
+use Rattle.renamer_c.specs.declared.held.Held.TheVariants.{Nothing, Lane, Closed, Taker, Back}
 
 -- the lane there, if one is
 abbrev pub lane_held : {L R K : Type 0} → Held L R K → Option L
@@ -9,6 +10,7 @@ lane_held Nothing = None
 lane_held (Lane l) = Some l
 lane_held (Closed r) = None
 lane_held (Taker t) = None
+lane_held (Back l) = None
 
 -- the record of a closed floor there, if one is
 abbrev pub record_held : {L R K : Type 0} → Held L R K → Option R
@@ -16,6 +18,7 @@ record_held Nothing = None
 record_held (Lane l) = None
 record_held (Closed r) = Some r
 record_held (Taker t) = None
+record_held (Back l) = None
 
 -- the taker there, if one is
 abbrev pub taker_held : {L R K : Type 0} → Held L R K → Option K
@@ -23,6 +26,15 @@ taker_held Nothing = None
 taker_held (Lane l) = None
 taker_held (Closed r) = None
 taker_held (Taker t) = Some t
+taker_held (Back l) = None
+
+-- the lane there, if one is that was handed back
+abbrev pub back_held : {L R K : Type 0} → Held L R K → Option LaneValue
+back_held Nothing = None
+back_held (Lane l) = None
+back_held (Closed r) = None
+back_held (Taker t) = None
+back_held (Back l) = Some l
 
 -- the lane there, if a handle has one
 abbrev pub lane_in : {L R K : Type 0} → Option (Held L R K) → Option L

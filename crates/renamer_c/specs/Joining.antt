@@ -7,6 +7,7 @@ use Rattle.renamer_c.specs.Refusals.{WithLane}
 use Rattle.renamer_c.specs.Returns.{IsBack, JoinsTimes}
 use Rattle.renamer_c.specs.declared.floor_with_places.Handed.{Handed}
 use Rattle.renamer_c.specs.declared.floor_with_places.Handed.TheVariants.{AtPlace, NotItsOwn, WithFloor}
+use Rattle.renamer_c.specs.Statuses.{status_of_refusal}
 use Rattle.renamer_c.specs.declared.held_lane.returning.JoinStop.{JoinStop}
 use Rattle.renamer_c.specs.declared.held_lane.returning.JoinStop.TheVariants.{Nothing, NothingBack, Memory}
 use Rattle.renamer_c.specs.declared.refusal.Refusal.{Refusal}
@@ -32,6 +33,10 @@ abbrev pub refusal_of : JoinStop → Refusal
 refusal_of Nothing = why.Nothing
 refusal_of (NothingBack none) = why.NothingBack
 refusal_of (Memory handed) = why.Memory
+
+-- the status of a join that stopped
+abbrev pub IsStatusOfJoin : Option LaneValue → ℕ → Type 0
+IsStatusOfJoin lane status = (s : JoinStop) × (status ≡ status_of_refusal (refusal_of s)) × StopsWith lane s
 
 -- each lane was taken in that a search found which went through all places; or lanes were found for centuries
 abbrev pub AreAllIn : Option LaneValue → Option LaneValue → Search → Type 0

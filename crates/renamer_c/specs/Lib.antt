@@ -1,4 +1,5 @@
 pub mod Calls
+pub mod Closing
 pub mod Handles
 pub mod Holding
 pub mod InsideFloorRecord

@@ -2,6 +2,7 @@
 use Rattle.std.specs.Arc.{arc_value}
 use Rattle.std.specs.Prelude.{◌≡◌, ◌≢◌, ℕ, ◌*◌, ◌^◌, ◌<◌, ◌≤◌, All, List, Option, IsSomeAnd, MatchOption, length}
 use Rattle.cn_floor.specs.Lane.{FloorValue, LaneValue}
+use Rattle.renamer_c.specs.Handles.{back_held}
 use Rattle.renamer_c.specs.Returns.{IsBack}
 use Rattle.renamer_c.specs.declared.places.Place.{Place}
 use Rattle.renamer_c.specs.declared.places.Returned.{Returned}
@@ -46,7 +47,7 @@ IsNotIn at state u = (u.at ≡ at) × IsUnturned state u
 
 -- what stood at a place in this state: a lane of this floor, if the state is that of places with one
 abbrev pub IsFound : FloorValue → ℕ → Option Returned → Type 0
-IsFound floor state there = MatchOption there (state ≢ 1) (λ r. IsSomeAnd r.boxed.value (IsBack floor))
+IsFound floor state there = MatchOption there (state ≢ 1) (λ r. IsSomeAnd (back_held r.boxed.value) (IsBack floor))
 
 -- this lane was put into a place, whose word then says that it has one
 abbrev pub IsPut : LaneValue → Put → Type 0

@@ -1,11 +1,13 @@
 //! Calls that close a floor, and ask what it leaves.
 
-ghost use Rattle.std.specs.Prelude.{◌≡◌, ◌<◌, None, Some, IfErr, IfOk};
+ghost use Rattle.std.specs.Prelude.{◌≡◌, ◌<◌, None, Some, IfErr, IfOk, OnErr, OnOk};
 ghost use Rattle.renamer_c.specs.Calls.{Closes, OpensAfter};
+ghost use Rattle.renamer_c.specs.Closing.{IsStatusOfClose, StopsClose, refusal_of_close};
 ghost use Rattle.renamer_c.specs.Handles.{lane_in, lane_held, record_in, record_held};
 ghost use Rattle.renamer_c.specs.Refusals.{IsRefusal, NotClosed, NotOpenedAfter};
 ghost use Rattle.renamer_c.specs.declared.refusal.TheConstants.{DONE};
 
+use crate::closes::CloseStop;
 use crate::floor_record::FloorRecord;
 use crate::handle::Handle;
 use crate::held::Held;
@@ -15,27 +17,44 @@ use cn_spec::limits::{MOST_CARRIED, MOST_CLIENTS};
 use std::alloc::Global;
 
 /// Closes the floor of the lane.
-#[unsafe(no_mangle)]
-pub extern "C" fn renamer_close(alloc: Global, lane: &mut Handle, quiet: &mut Handle) -> u32
-    ensures closed { result ≡ DONE → Closes (lane_in lane.old.held) (record_in quiet.new.held) }
-    ensures taken { result ≡ DONE → lane.new.held ≡ None }
-    ensures kept { 0 < result → (lane.new.held ≡ lane.old.held) × (quiet.new.held ≡ quiet.old.held) }
-    ensures refused { 0 < result → IsRefusal (NotClosed (lane_in lane.old.held)) result }
+///
+/// # Errors
+/// The first that stands: `Nothing`, `StillWalking`, `LanesMissing`, `Memory`, `LanesThere`. Then nothing has changed.
+fn close(alloc: Global, lane: &mut Handle, quiet: &mut Handle) -> Result<(), CloseStop>
+    ensures closed { OnOk result (Closes (lane_in lane.old.held) (record_in quiet.new.held)) }
+    ensures taken { OnOk result (lane.new.held ≡ None) }
+    ensures kept { OnErr result ((lane.new.held ≡ lane.old.held) × (quiet.new.held ≡ quiet.old.held)) }
+    ensures stop { IfErr result (StopsClose (lane_in lane.old.held)) }
+    ensures refused { IfErr result (λ s. NotClosed (lane_in lane.old.held) (refusal_of_close s)) }
 {
-    let (held, mut boxed) = match lane.take_lane(alloc) {
-        Ok(taken) => taken,
-        Err(refusal) => return refusal.status(),
+    let Ok((held, mut boxed)) = lane.take_lane(alloc) else {
+        return Err(CloseStop::Nothing);
     };
     match held.close(alloc) {
         Ok(closed) => {
             *boxed = Held::Closed(closed);
             quiet.put(boxed);
-            DONE
+            Ok(())
         }
-        Err((refusal, held)) => {
+        Err((stop, held)) => {
             lane.put_lane(held, boxed);
-            refusal.status()
+            Err(stop)
         }
+    }
+}
+
+/// Closes the floor of the lane.
+#[unsafe(no_mangle)]
+pub extern "C" fn renamer_close(alloc: Global, lane: &mut Handle, quiet: &mut Handle) -> u32
+    ensures closed { result ≡ DONE → Closes (lane_in lane.old.held) (record_in quiet.new.held) }
+    ensures taken { result ≡ DONE → lane.new.held ≡ None }
+    ensures kept { 0 < result → (lane.new.held ≡ lane.old.held) × (quiet.new.held ≡ quiet.old.held) }
+    ensures stop { 0 < result → IsStatusOfClose (lane_in lane.old.held) result }
+    ensures refused { 0 < result → IsRefusal (NotClosed (lane_in lane.old.held)) result }
+{
+    match close(alloc, lane, quiet) {
+        Ok(()) => DONE,
+        Err(stop) => stop.refusal().status(),
     }
 }
 

@@ -33,17 +33,24 @@ pub(crate) enum RecordList {
     Holders,
 }
 
+/// Lists for a record.
+#[derive(Drop)]
+pub(crate) struct RecordLists {
+    pub(crate) counts: Vec<u64>,
+    pub(crate) holders: Vec<u64>,
+}
+
 impl FloorRecord {
     /// That of a closed floor, in lists that are long enough.
-    pub(crate) fn of(
-        quiet: Quiet<'static>,
-        mut counts: Vec<u64>,
-        mut holders: Vec<u64>,
-    ) -> FloorRecord
-        requires counts { length counts.items ≡ quiet.start.network.table.width }
-        requires holders { length holders.items ≡ length quiet.did.grants }
+    pub(crate) fn of(quiet: Quiet<'static>, lists: RecordLists) -> FloorRecord
+        requires counts { length lists.counts.items ≡ quiet.start.network.table.width }
+        requires holders { length lists.holders.items ≡ length quiet.did.grants }
         ensures { IsRecordOfClosed quiet.entry result }
     {
+        let RecordLists {
+            mut counts,
+            mut holders,
+        } = lists;
         counts.copy_from_slice(quiet.counts());
         quiet.list_holders(&mut holders);
         FloorRecord {

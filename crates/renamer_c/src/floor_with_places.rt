@@ -1,22 +1,21 @@
 //! A floor that lanes own together, and the places for lanes that are handed back to it.
 
+pub(crate) mod closing;
 mod searching;
 
 ghost use Rattle.std.specs.Arc.{arc_value};
-ghost use Rattle.std.specs.Prelude.{◌≡◌, ◌+◌, ◌<◌, Some, length, IfErr, IfOk};
-ghost use Rattle.cn_yard.specs.Lists.{tokens_in};
+ghost use Rattle.std.specs.Prelude.{◌≡◌, ◌<◌, Some, length, IfOk};
 ghost use Rattle.cn_floor.specs.Lane.{FloorValue};
 ghost use Rattle.renamer_c.specs.Joining.{EndsSomewhere};
 ghost use Rattle.renamer_c.specs.Placing.{AreSlotsOf, IsPlaceOf};
-ghost use Rattle.renamer_c.specs.Refusals.{NotClosed};
 ghost use Rattle.renamer_c.specs.Returns.{IsBack};
 
+use crate::kept::Kept;
 use crate::places::Place;
 use crate::reading_rows::RowSlot;
-use crate::refusal::Refusal;
 use crate::row::Counts;
 use crate::turns::{Put, Unturned};
-use cn_floor::{CloseFault, Floor, Lane, Quiet};
+use cn_floor::{Floor, Lane};
 use counted_slot::{Counted, FREE, PRESENT};
 use std::alloc::{AllocError, Global};
 use std::marker::Model;
@@ -129,7 +128,7 @@ impl FloorWithPlaces {
     }
 
     /// Hands a lane back to its place, in its box: by as many steps as there are counts of the place, and four.
-    pub(crate) fn hand_back(&self, place: Place, lane: Lane, boxed: Box<Option<Lane>>) -> Handed
+    pub(crate) fn hand_back(&self, place: Place, lane: Lane, boxed: Box<Kept>) -> Handed
         requires place { IsPlaceOf self.now place }
         requires lane { IsBack self.now lane }
         ensures { EndsSomewhere lane result }
@@ -140,37 +139,6 @@ impl FloorWithPlaces {
         match put {
             Ok(put) => Handed::AtPlace(put),
             Err((other, lane)) => Handed::NotItsOwn(other, lane),
-        }
-    }
-
-    /// Closes the floor by a lane that has the whole of its quota, spent or not, and nobody inside. Lanes that were
-    /// handed back have nothing of it, and are let go.
-    ///
-    /// # Errors
-    /// All as it was, if there is no memory.
-    fn close(self, lane: Lane) -> Result<Quiet<'static>, (FloorWithPlaces, Lane)>
-        requires own { lane.home ≡ self }
-        requires out { tokens_in lane.yard.lists ≡ 0 }
-        requires all { lane.view.quota + length lane.view.grants ≡ lane.home.start.quota }
-        ensures ok { IfOk result (λ quiet. (quiet.start ≡ self.start) × (quiet.did ≡ lane.view)) }
-        ensures err { IfErr result (λ back. (back.0 ≡ self) × (back.1 ≡ lane)) }
-    {
-        let FloorWithPlaces {
-            floor,
-            slots,
-            returns,
-        } = self;
-        match floor.close(lane) {
-            Ok(quiet) => Ok(quiet),
-            Err(CloseFault::StillWalking(floor, lane) | CloseFault::Memory(floor, lane)) => {
-                let floor = FloorWithPlaces {
-                    floor,
-                    slots,
-                    returns,
-                };
-                Err((floor, lane))
-            }
-            Err(CloseFault::LanesMissing { .. }) => unreachable!(),
         }
     }
 }
@@ -192,31 +160,4 @@ pub(crate) fn floor_of(share: &FloorShare) -> &Floor<'static>
     ensures { arc_value share.now ≡ Some result.now }
 {
     with_places(share).floor()
-}
-
-/// Closes the floor by a lane that has the whole of its quota, spent or not, and nobody inside, and takes it out.
-///
-/// # Errors
-/// `LanesThere` if there are other owners, and `Memory`, with all as it was.
-pub(crate) fn close(share: &mut FloorShare, lane: Lane) -> Result<Quiet<'static>, (Refusal, Lane)>
-    requires own { arc_value share.old ≡ Some lane.home }
-    requires out { tokens_in lane.yard.lists ≡ 0 }
-    requires all { lane.view.quota + length lane.view.grants ≡ lane.home.start.quota }
-    ensures ok { IfOk result (λ quiet. (quiet.start ≡ lane.home.start) × (quiet.did ≡ lane.view)) }
-    ensures err { IfErr result (λ r. (arc_value share.new ≡ arc_value share.old) × (r.1 ≡ lane)) }
-    ensures refused { IfErr result (λ r. NotClosed (Some lane) r.0) }
-{
-    let Some(slot) = Arc::get_mut(share) else {
-        return Err((Refusal::LanesThere, lane));
-    };
-    let Some(floor) = slot.take() else {
-        unreachable!()
-    };
-    match floor.close(lane) {
-        Ok(quiet) => Ok(quiet),
-        Err((floor, lane)) => {
-            *slot = Some(floor);
-            Err((Refusal::Memory, lane))
-        }
-    }
 }

@@ -87,7 +87,7 @@ impl Handle {
     ///
     /// # Errors
     /// `Nothing` if there was none.
-    pub(crate) fn take(&mut self, alloc: Global) -> Result<Box<Held>, Refusal>
+    fn take(&mut self, alloc: Global) -> Result<Box<Held>, Refusal>
         ensures left { self.new.held ≡ None }
         ensures taken { IfOk result (λ b. self.old.held ≡ Some b.value) }
         ensures none { IfErr result (λ r. (r ≡ Refusal.Nothing) × (self.old.held ≡ None)) }
@@ -96,6 +96,13 @@ impl Handle {
             Some(held) => Ok(held),
             None => Err(Refusal::Nothing),
         }
+    }
+
+    /// Leaves none, and lets go what was there.
+    pub(crate) fn clear(&mut self, alloc: Global)
+        ensures { self.new.held ≡ None }
+    {
+        *self = Handle::none(alloc);
     }
 
     /// Takes the lane that is there, and its box, and leaves none.
@@ -136,10 +143,14 @@ impl Handle {
 }
 
 impl Drop for Handle {
+    /// Hands a lane back if it can, so that its floor can be closed without it.
     fn drop(self) {
-        match self.into_box() {
-            Some(held) => drop(held),
-            None => {}
+        let Some(mut boxed) = self.into_box() else {
+            return;
+        };
+        match replace(boxed.as_mut(), Held::Nothing) {
+            Held::Lane(lane) => drop(lane.hand_back(boxed)),
+            other => drop(other),
         }
     }
 }

@@ -23,6 +23,8 @@ pub enum Held<L = HeldLane, R = FloorRecord, K = HeldTaker> {
     Closed(R),
     /// A taker.
     Taker(K),
+    /// A lane that was handed back, without its share of its floor.
+    Back(cn_floor::Lane),
 }
 
 impl<L, R, K> Held<L, R, K> {

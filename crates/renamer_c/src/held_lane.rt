@@ -30,15 +30,14 @@ use std::alloc::{AllocError, Global};
 use std::marker::Model;
 use std::sync::Arc;
 
-/// A lane with its share of its floor. To contracts it is the lane. It is handed back where it is dropped.
+/// A lane with its share of its floor. To contracts it is the lane. What lies so in memory, `Unshared` says too.
 pub struct HeldLane {
     floor: FloorShare,
     lane: Lane,
     /// How many clients the floor may let in.
     most: u64,
-    /// Its place, to which it is handed back, and its box there.
+    /// Its place, to which it is handed back.
     place: Place,
-    boxed: Box<Option<Lane>>,
 }
 
 impl Model for HeldLane {
@@ -77,13 +76,7 @@ fn floor_over(
 
 impl HeldLane {
     /// A lane with its share of its floor.
-    fn of(
-        floor: FloorShare,
-        lane: Lane,
-        most: u64,
-        place: Place,
-        boxed: Box<Option<Lane>>,
-    ) -> HeldLane
+    fn of(floor: FloorShare, lane: Lane, most: u64, place: Place) -> HeldLane
         requires own { arc_value floor ≡ Some lane.home }
         requires most { most ≡ lane.home.start.quota }
         requires place { IsPlaceOf lane.home place }
@@ -94,7 +87,6 @@ impl HeldLane {
             lane,
             most,
             place,
-            boxed,
         }
     }
 
@@ -116,14 +108,11 @@ impl HeldLane {
         let Ok(floor) = FloorWithPlaces::new(alloc, floor) else {
             return Err(Refusal::Memory);
         };
-        let Ok(boxed) = Box::new(alloc, None) else {
-            return Err(Refusal::Memory);
-        };
         let Ok(place) = floor.claim_place(alloc) else {
             return Err(Refusal::Memory);
         };
         match Arc::new(alloc, Some(floor)) {
-            Ok(floor) => Ok(HeldLane::of(floor, lane, most, place, boxed)),
+            Ok(floor) => Ok(HeldLane::of(floor, lane, most, place)),
             Err(_) => {
                 place.go_with_floor();
                 Err(Refusal::Memory)
@@ -176,18 +165,17 @@ impl HeldLane {
         }
     }
 
-    /// Another share of the floor, and a place for another lane, with a box.
+    /// Another share of the floor, and a place for another lane.
     ///
     /// # Errors
     /// `AllocError` if they get no memory.
-    fn share(&self, alloc: Global) -> Result<(FloorShare, Place, Box<Option<Lane>>), AllocError>
+    fn share(&self, alloc: Global) -> Result<(FloorShare, Place), AllocError>
         ensures floor { IfOk result (λ r. arc_value r.0 ≡ Some self.now.home) }
         ensures place { IfOk result (λ r. IsPlaceOf self.now.home r.1) }
     {
         let floor = Arc::try_clone(&self.floor)?;
-        let boxed = Box::new(alloc, None)?;
         let place = with_places(&self.floor).claim_place(alloc)?;
-        Ok((floor, place, boxed))
+        Ok((floor, place))
     }
 
     /// Splits off a lane with some of the quota.
@@ -200,11 +188,11 @@ impl HeldLane {
         ensures err { OnErr result (self.new ≡ self.old) }
         ensures memory { IfErr result (λ r. r ≡ Refusal.Memory) }
     {
-        let Ok((floor, place, boxed)) = self.share(alloc) else {
+        let Ok((floor, place)) = self.share(alloc) else {
             return Err(Refusal::Memory);
         };
         match floor_of(&floor).split_off(&mut self.lane, quota) {
-            Ok(other) => Ok(HeldLane::of(floor, other, self.most, place, boxed)),
+            Ok(other) => Ok(HeldLane::of(floor, other, self.most, place)),
             Err(_) => {
                 with_places(&floor).free(place);
                 Err(Refusal::Memory)
@@ -282,10 +270,14 @@ impl HeldLane {
 }
 
 impl Drop for HeldLane {
-    /// Hands the lane back if it can, so that the floor can be closed without it.
+    /// Lets the lane go, and what it has of its floor.
     fn drop(self) {
-        if let Err((_, lane)) = self.hand_back() {
-            lane.let_go();
-        }
+        let HeldLane {
+            floor,
+            lane: _lane,
+            most: _most,
+            place,
+        } = self;
+        with_places(&floor).free(place);
     }
 }

@@ -2,7 +2,7 @@
 
 ghost use Rattle.std.specs.Prelude.{◌≡◌, ◌<◌, None, IfErr, IfOk, OnErr, OnOk};
 ghost use Rattle.renamer_c.specs.Handles.{lane_in};
-ghost use Rattle.renamer_c.specs.Joining.{AreAllIn, StopsWith, refusal_of};
+ghost use Rattle.renamer_c.specs.Joining.{AreAllIn, IsStatusOfJoin, StopsWith, refusal_of};
 ghost use Rattle.renamer_c.specs.Refusals.{IsRefusal, NotHandedBack, NotJoined, NotJoinedAll};
 ghost use Rattle.renamer_c.specs.Returns.{HandsBack, Joins, JoinsAll};
 ghost use Rattle.renamer_c.specs.declared.refusal.TheConstants.{DONE};
@@ -25,9 +25,9 @@ pub extern "C" fn renamer_hand_back(alloc: Global, lane: &mut Handle) -> u32
         Ok(taken) => taken,
         Err(refusal) => return refusal.status(),
     };
-    match held.hand_back() {
+    match held.hand_back(boxed) {
         Ok(_) => DONE,
-        Err((refusal, held)) => {
+        Err((refusal, held, boxed)) => {
             lane.put_lane(held, boxed);
             refusal.status()
         }
@@ -64,6 +64,7 @@ fn join_one(alloc: Global, lane: &mut Handle) -> Result<(), JoinStop>
 pub extern "C" fn renamer_join(alloc: Global, lane: &mut Handle) -> u32
     ensures joined { result ≡ DONE → Joins (lane_in lane.old.held) (lane_in lane.new.held) }
     ensures kept { 0 < result → lane.new.held ≡ lane.old.held }
+    ensures stop { 0 < result → IsStatusOfJoin (lane_in lane.old.held) result }
     ensures refused { 0 < result → IsRefusal (NotJoined (lane_in lane.old.held)) result }
 {
     match join_one(alloc, lane) {
@@ -102,6 +103,7 @@ fn join_all(alloc: Global, lane: &mut Handle) -> Result<Search, JoinStop>
 #[unsafe(no_mangle)]
 pub extern "C" fn renamer_join_all(alloc: Global, lane: &mut Handle) -> u32
     ensures joined { JoinsAll (lane_in lane.old.held) (lane_in lane.new.held) }
+    ensures stop { 0 < result → IsStatusOfJoin (lane_in lane.new.held) result }
     ensures refused { 0 < result → IsRefusal (NotJoinedAll (lane_in lane.new.held)) result }
 {
     match join_all(alloc, lane) {

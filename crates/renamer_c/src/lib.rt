@@ -4,6 +4,7 @@
 mod answer;
 mod asking;
 mod client;
+mod closes;
 mod closing;
 mod floor_record;
 mod floor_with_places;
@@ -13,6 +14,7 @@ mod held;
 mod held_lane;
 mod held_taker;
 mod joining;
+mod kept;
 mod loose;
 mod moved;
 mod naming;

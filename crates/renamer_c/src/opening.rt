@@ -169,7 +169,7 @@ pub extern "C" fn renamer_split(
 pub extern "C" fn renamer_free(alloc: Global, lane: &mut Handle)
     ensures { lane.new.held ≡ None }
 {
-    let _ = lane.take(alloc);
+    lane.clear(alloc);
 }
 
 /// Frees what the handle has.
@@ -177,5 +177,5 @@ pub extern "C" fn renamer_free(alloc: Global, lane: &mut Handle)
 pub extern "C" fn renamer_free_quiet(alloc: Global, quiet: &mut Handle)
     ensures { quiet.new.held ≡ None }
 {
-    let _ = quiet.take(alloc);
+    quiet.clear(alloc);
 }

@@ -2,9 +2,11 @@
 
 ghost use Rattle.std.specs.Arc.{arc_value};
 ghost use Rattle.std.specs.Prelude.{◌≡◌, ◌<◌, IfErr, IfOk, IsSomeAnd};
+ghost use Rattle.renamer_c.specs.Handles.{back_held};
 ghost use Rattle.renamer_c.specs.Placing.{IsNotIn, IsPlaceOf, IsPut};
 ghost use Rattle.renamer_c.specs.Returns.{IsBack};
 
+use crate::kept::Kept;
 use crate::loose::Loose;
 use crate::row::{Row, SharedRow};
 use crate::turns::{Put, Unturned, put_at, take_from};
@@ -12,14 +14,14 @@ use cn_floor::{Floor, Lane};
 use counted_slot::{FREE, Fits, MARKED};
 use std::alloc::Global;
 
-/// A lane that was handed back, in a box that was made for it. It stands there as a pointer, of which a `&` shows
-/// nothing, since places are shared by threads, and a lane is not.
+/// A lane that was handed back, in the box of its handle. It stands there as a pointer, of which a `&` shows nothing,
+/// since places are shared by threads, and a lane is not.
 pub(crate) struct Returned {
-    boxed: Loose<Option<Lane>, Global>,
+    boxed: Loose<Kept, Global>,
 }
 
 impl Returned {
-    pub(crate) fn of(boxed: Box<Option<Lane>>) -> Returned
+    pub(crate) fn of(boxed: Box<Kept>) -> Returned
         ensures { result.boxed.value ≡ boxed.value }
     {
         Returned {
@@ -27,7 +29,7 @@ impl Returned {
         }
     }
 
-    pub(crate) fn into_boxed(self) -> Box<Option<Lane>>
+    pub(crate) fn into_boxed(self) -> Box<Kept>
         ensures { result.value ≡ self.boxed.value }
     {
         let Returned { boxed } = self;
@@ -44,7 +46,7 @@ impl Drop for Returned {
 impl Fits for Returned {
     type Tag = Floor<'static>;
 
-    ghost fits = { λ floor r. IsSomeAnd r.boxed.value (IsBack floor) };
+    ghost fits = { λ floor r. IsSomeAnd (back_held r.boxed.value) (IsBack floor) };
 }
 
 /// The number of a row, and of a place there.
@@ -90,7 +92,7 @@ impl Place {
         self,
         floor: &Floor<'static>,
         lane: Lane,
-        boxed: Box<Option<Lane>>,
+        boxed: Box<Kept>,
     ) -> Result<Put, (Unturned, Lane)>
         requires place { IsPlaceOf floor.now self }
         requires lane { IsBack floor.now lane }

@@ -1,11 +1,14 @@
 //! Lanes that are taken out of their places.
 
 ghost use Rattle.std.specs.Prelude.{◌≡◌, ◌<◌, IfErr, IfOk, IsSomeAnd, length};
+ghost use Rattle.renamer_c.specs.Handles.{back_held};
 ghost use Rattle.renamer_c.specs.Joining.{EndsSomewhere};
 ghost use Rattle.renamer_c.specs.Placing.{IsPlaceOf};
 ghost use Rattle.renamer_c.specs.Returns.{IsBack, IsJoined};
 
 use crate::floor_with_places::{FloorWithPlaces, Handed};
+use crate::held::Held;
+use crate::kept::Kept;
 use crate::places::{Place, Returned};
 use cn_floor::{Floor, JoinFault, Lane};
 use std::mem::replace;
@@ -13,21 +16,21 @@ use std::mem::replace;
 /// A lane that was taken out of a place, and its box there. Only a join lets it go, or its place has it again.
 pub(crate) struct Taken {
     lane: Lane,
-    boxed: Box<Option<Lane>>,
+    boxed: Box<Kept>,
 }
 
 impl Taken {
     /// What stood at a place of this floor.
     pub(crate) fn of(returned: Returned, floor: &Floor<'static>) -> Taken
-        requires { IsSomeAnd returned.boxed.value (IsBack floor.now) }
+        requires { IsSomeAnd (back_held returned.boxed.value) (IsBack floor.now) }
         ensures { IsBack floor.now result.lane }
     {
         // Only the contract reads it: whose lane it is.
         let _ = floor;
         let mut boxed = returned.into_boxed();
-        match replace(&mut *boxed, None) {
-            Some(lane) => Taken { lane, boxed },
-            None => unreachable!(),
+        match replace(boxed.as_mut(), Held::Nothing) {
+            Held::Back(lane) => Taken { lane, boxed },
+            _ => unreachable!(),
         }
     }
 

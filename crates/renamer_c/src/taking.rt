@@ -171,5 +171,5 @@ pub extern "C" fn renamer_takes_entered(taker: &mut Handle, entered: &mut u64) -
 pub extern "C" fn renamer_free_taker(alloc: Global, taker: &mut Handle)
     ensures { taker.new.held ≡ None }
 {
-    let _ = taker.take(alloc);
+    taker.clear(alloc);
 }

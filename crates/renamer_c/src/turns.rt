@@ -6,6 +6,8 @@ ghost use Rattle.std.specs.Prelude.{◌≡◌, ◌≢◌, ◌<◌, IfErr, IfOk, 
 ghost use Rattle.renamer_c.specs.Placing.{AreTagsOf, IsFound, IsNotIn, IsPut};
 ghost use Rattle.renamer_c.specs.Returns.{IsBack};
 
+use crate::held::Held;
+use crate::kept::Kept;
 use crate::places::Returned;
 use cn_floor::{Floor, Lane};
 use counted_slot::{Claim, Counted, MARKED, PRESENT, TAKEN};
@@ -95,7 +97,7 @@ pub(crate) fn put_at(
     at: usize,
     floor: &Floor<'static>,
     lane: Lane,
-    mut boxed: Box<Option<Lane>>,
+    mut boxed: Box<Kept>,
 ) -> Result<Put, (Unturned, Lane)>
     requires row { AreTagsOf floor.now row.now }
     requires at { at < length row.now }
@@ -111,7 +113,7 @@ pub(crate) fn put_at(
         lane: Snapshot::of(&lane),
         word: PRESENT,
     };
-    *boxed = Some(lane);
+    *boxed = Held::Back(lane);
     let _ = claim.put(Some(Returned::of(boxed)), PRESENT);
     Ok(put)
 }

@@ -3,12 +3,14 @@
 ghost use Rattle.std.specs.Prelude.{◌≡◌, ◌≢◌, ◌+◌, Some, false, length, IfErr, IfOk, IsTrue};
 ghost use Rattle.cn_yard.specs.Lists.{tokens_in};
 ghost use Rattle.renamer_c.specs.Calls.{IsClosedBy};
+ghost use Rattle.renamer_c.specs.Closing.{HaveLengths, StopsClose, refusal_of_close};
 ghost use Rattle.renamer_c.specs.Refusals.{NotClosed};
 
 use super::HeldLane;
-use crate::floor_record::FloorRecord;
-use crate::floor_with_places::{close, floor_of};
-use crate::refusal::Refusal;
+use crate::closes::{CloseStop, close};
+use crate::floor_record::{FloorRecord, RecordLists};
+use crate::floor_with_places::closing::record_lists;
+use crate::floor_with_places::floor_of;
 use std::alloc::Global;
 
 impl HeldLane {
@@ -27,35 +29,28 @@ impl HeldLane {
     ///
     /// # Errors
     /// `LanesThere` if other lanes are, and `Memory`, with the lane as it was.
-    fn close_into(
-        self,
-        counts: Vec<u64>,
-        holders: Vec<u64>,
-    ) -> Result<FloorRecord, (Refusal, HeldLane)>
+    fn close_into(self, lists: RecordLists) -> Result<FloorRecord, (CloseStop, HeldLane)>
         requires out { tokens_in self.yard.lists ≡ 0 }
         requires all { self.view.quota + length self.view.grants ≡ self.home.start.quota }
-        requires counts { length counts.items ≡ self.home.start.network.table.width }
-        requires holders { length holders.items ≡ length self.view.grants }
+        requires lists { HaveLengths self.home.start.network.table.width (length self.view.grants) lists }
         ensures ok { IfOk result (IsClosedBy self) }
         ensures err { IfErr result (λ r. r.1 ≡ self) }
-        ensures refused { IfErr result (λ r. NotClosed (Some self) r.0) }
+        ensures stop { IfErr result (λ r. StopsClose (Some self) r.0) }
+        ensures refused { IfErr result (λ r. NotClosed (Some self) (refusal_of_close r.0)) }
     {
         let HeldLane {
             mut floor,
             lane,
             most,
             place,
-            boxed,
         } = self;
-        match close(&mut floor, lane) {
-            Ok(quiet) => {
+        match close(&mut floor, lane, lists) {
+            Ok((quiet, lists)) => {
                 place.go_with_floor();
                 quiet.quiet_laws();
-                Ok(FloorRecord::of(quiet, counts, holders))
+                Ok(FloorRecord::of(quiet, lists))
             }
-            Err((refusal, lane)) => {
-                Err((refusal, HeldLane::of(floor, lane, most, place, boxed)))
-            }
+            Err((stop, lane)) => Err((stop, HeldLane::of(floor, lane, most, place))),
         }
     }
 
@@ -63,23 +58,22 @@ impl HeldLane {
     ///
     /// # Errors
     /// The first that stands, with the lane as it was: `StillWalking`, `LanesMissing`, `Memory`, `LanesThere`.
-    pub(crate) fn close(self, alloc: Global) -> Result<FloorRecord, (Refusal, HeldLane)>
+    pub(crate) fn close(self, alloc: Global) -> Result<FloorRecord, (CloseStop, HeldLane)>
         ensures ok { IfOk result (IsClosedBy self) }
         ensures err { IfErr result (λ r. r.1 ≡ self) }
-        ensures refused { IfErr result (λ r. NotClosed (Some self) r.0) }
+        ensures stop { IfErr result (λ r. StopsClose (Some self) r.0) }
+        ensures refused { IfErr result (λ r. NotClosed (Some self) (refusal_of_close r.0)) }
     {
         if self.lane.inside() != 0 {
-            return Err((Refusal::StillWalking, self));
+            return Err((CloseStop::StillWalking, self));
         }
         if !self.has_all() {
-            return Err((Refusal::LanesMissing, self));
+            return Err((CloseStop::LanesMissing, self));
         }
         let width = floor_of(&self.floor).network().width() as usize;
-        let counts = Vec::from_elem(alloc, 0u64, width);
-        let holders = Vec::from_elem(alloc, 0u64, self.lane.grants().len());
-        match (counts, holders) {
-            (Ok(counts), Ok(holders)) => self.close_into(counts, holders),
-            _ => Err((Refusal::Memory, self)),
+        match record_lists(alloc, width, self.lane.grants().len()) {
+            Ok(lists) => self.close_into(lists),
+            Err(none) => Err((CloseStop::Memory(none), self)),
         }
     }
 }

@@ -8,6 +8,8 @@ ghost use Rattle.renamer_c.specs.Returns.{IsBack, IsJoined, Joins, JoinsAll};
 
 use super::HeldLane;
 use crate::floor_with_places::{Handed, floor_of, with_places};
+use crate::held::Held;
+use crate::kept::keep;
 use crate::places::Place;
 use crate::refusal::Refusal;
 use crate::searches::{NoneBack, Search};
@@ -42,24 +44,27 @@ impl JoinStop {
 }
 
 impl HeldLane {
-    /// Hands the lane back to its floor. If no other lane is there, the floor is let go.
+    /// Hands the lane back to its floor, in the box of its handle: nothing is freed. If no other lane is there, box and
+    /// floor are let go.
     ///
     /// # Errors
     /// `StillWalking`, with the lane as it was.
-    pub(crate) fn hand_back(self) -> Result<Handed, (Refusal, HeldLane)>
+    pub(crate) fn hand_back(
+        self,
+        boxed: Box<Held>,
+    ) -> Result<Handed, (Refusal, HeldLane, Box<Held>)>
         ensures ok { IfOk result (λ handed. IsBack self.home self × EndsSomewhere self handed) }
         ensures err { IfErr result (λ r. r.1 ≡ self) }
         ensures refused { IfErr result (λ r. NotHandedBack (Some self) r.0) }
     {
         if self.lane.inside() != 0 {
-            return Err((Refusal::StillWalking, self));
+            return Err((Refusal::StillWalking, self, boxed));
         }
         let HeldLane {
             floor,
             lane,
             most: _most,
             place,
-            boxed,
         } = self;
         match Arc::try_unwrap(floor) {
             Ok(Some(floor)) => {
@@ -67,7 +72,7 @@ impl HeldLane {
                 Ok(Handed::WithFloor(floor))
             }
             Ok(None) => unreachable!(),
-            Err(floor) => Ok(with_places(&floor).hand_back(place, lane, boxed)),
+            Err(floor) => Ok(with_places(&floor).hand_back(place, lane, keep(boxed))),
         }
     }
 
@@ -87,16 +92,15 @@ impl HeldLane {
             lane,
             most,
             place,
-            boxed,
         } = self;
         match other.join(floor_of(&floor), lane) {
             Ok(lane) => {
                 with_places(&floor).free(other_place);
-                Ok(HeldLane::of(floor, lane, most, place, boxed))
+                Ok(HeldLane::of(floor, lane, most, place))
             }
             Err((lane, other)) => {
                 let handed = other.put_back(with_places(&floor), other_place);
-                Err((HeldLane::of(floor, lane, most, place, boxed), handed))
+                Err((HeldLane::of(floor, lane, most, place), handed))
             }
         }
     }
@@ -145,17 +149,5 @@ impl HeldLane {
             search = next;
         }
         Ok((lane, search))
-    }
-
-    /// Lets the lane go, and what it has of its floor.
-    pub(super) fn let_go(self) {
-        let HeldLane {
-            floor,
-            lane: _lane,
-            most: _most,
-            place,
-            boxed: _boxed,
-        } = self;
-        with_places(&floor).free(place);
     }
 }

@@ -1,0 +1,84 @@
+//! Closes of floors that lanes own together. That a floor has other owners only this file says, and nothing copies it:
+//! so a close is refused for that cause only where `close` is called, and the floor was not its lane's alone.
+
+ghost use Rattle.std.specs.Arc.{arc_value};
+ghost use Rattle.std.specs.Prelude.{◌≡◌, ◌+◌, Some, length, IfErr, IfOk};
+ghost use Rattle.cn_yard.specs.Lists.{tokens_in};
+ghost use Rattle.renamer_c.specs.Closing.{HaveLengths, StopsClose, refusal_of_close};
+ghost use Rattle.renamer_c.specs.Refusals.{NotClosed};
+
+use crate::floor_record::{FloorRecord, RecordLists};
+use crate::floor_with_places::FloorShare;
+use crate::floor_with_places::closing::NoMemory;
+use crate::refusal::Refusal;
+use cn_floor::{Lane, Quiet};
+use std::sync::Arc;
+
+/// A floor has other owners.
+#[derive(Drop)]
+pub(crate) struct OtherOwners {
+    lists: RecordLists,
+}
+
+/// Why a floor is not closed.
+#[derive(Drop)]
+pub(crate) enum CloseStop {
+    /// There is no lane.
+    Nothing,
+    /// The lane has clients inside.
+    StillWalking,
+    /// Other lanes have a part of the floor's quota, spent or not.
+    LanesMissing,
+    /// The lists of its record got no memory, or the floor.
+    Memory(NoMemory),
+    /// The lists got memory, and the floor has other owners.
+    LanesThere(OtherOwners),
+}
+
+impl CloseStop {
+    /// The refusal.
+    pub(crate) fn refusal(&self) -> Refusal
+        ensures { result ≡ refusal_of_close self.now }
+    {
+        match self {
+            CloseStop::Nothing => Refusal::Nothing,
+            CloseStop::StillWalking => Refusal::StillWalking,
+            CloseStop::LanesMissing => Refusal::LanesMissing,
+            CloseStop::Memory(_) => Refusal::Memory,
+            CloseStop::LanesThere(_) => Refusal::LanesThere,
+        }
+    }
+}
+
+/// Closes the floor by a lane that has the whole of its quota, spent or not, and nobody inside, and takes it out.
+///
+/// # Errors
+/// `LanesThere` if there are other owners, and `Memory`, with all as it was.
+pub(crate) fn close(
+    share: &mut FloorShare,
+    lane: Lane,
+    lists: RecordLists,
+) -> Result<(Quiet<'static>, RecordLists), (CloseStop, Lane)>
+    requires own { arc_value share.old ≡ Some lane.home }
+    requires out { tokens_in lane.yard.lists ≡ 0 }
+    requires all { lane.view.quota + length lane.view.grants ≡ lane.home.start.quota }
+    requires lists { HaveLengths lane.home.start.network.table.width (length lane.view.grants) lists }
+    ensures ok { IfOk result (λ r. (r.0.start ≡ lane.home.start) × (r.0.did ≡ lane.view) × (r.1 ≡ lists)) }
+    ensures err { IfErr result (λ r. (arc_value share.new ≡ arc_value share.old) × (r.1 ≡ lane)) }
+    ensures stop { IfErr result (λ r. StopsClose (Some lane) r.0) }
+    ensures refused { IfErr result (λ r. NotClosed (Some lane) (refusal_of_close r.0)) }
+{
+    let Some(slot) = Arc::get_mut(share) else {
+        return Err((CloseStop::LanesThere(OtherOwners { lists }), lane));
+    };
+    let Some(floor) = slot.take() else {
+        unreachable!()
+    };
+    match floor.close(lane) {
+        Ok(quiet) => Ok((quiet, lists)),
+        Err((none, floor, lane)) => {
+            *slot = Some(floor);
+            Err((CloseStop::Memory(none), lane))
+        }
+    }
+}

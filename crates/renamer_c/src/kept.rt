@@ -1,0 +1,43 @@
+//! The box of a handle whose lane was handed back. A place keeps it, and who takes the lane in frees it: so a hand-back
+//! frees nothing.
+
+ghost use Rattle.std.specs.Prelude.{◌≡◌};
+ghost use Rattle.renamer_c.specs.declared.held.Held.TheVariants.{Nothing};
+
+use crate::held::Held;
+use crate::loose::Loose;
+use crate::places::Spot;
+use cn_floor::Lane;
+use std::alloc::Global;
+use std::sync::Arc;
+
+/// What lies in memory as a `HeldLane` does, but shares no floor and no row of places, since these cannot own
+/// themselves. None is ever made.
+#[derive(Drop)]
+pub(crate) struct Unshared {
+    floor: Arc<u8, Global>,
+    lane: Lane,
+    most: u64,
+    place: ((Arc<u8, Global>,), Spot),
+}
+
+/// What the box of a handle may have once its lane was handed back.
+pub(crate) type Kept = Held<Unshared>;
+
+/// The same box, by the other type. The two lie alike in memory, which the proof finds by the fields of both.
+fn retype(loose: Loose<Held, Global>) -> Loose<Kept, Global>
+    requires { loose.value ≡ Nothing }
+    ensures { result.value ≡ Nothing }
+{
+    let Loose { at, alloc } = loose;
+    Loose {
+        at: at as *mut Kept,
+        alloc,
+    }
+}
+
+/// The box of a handle, for a place.
+pub(crate) fn keep(mut boxed: Box<Held>) -> Box<Kept> {
+    *boxed = Held::Nothing;
+    retype(Loose::of(boxed)).into_box()
+}
